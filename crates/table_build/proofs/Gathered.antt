@@ -1,7 +1,11 @@
 -- The rows of a store, of which those of the lines are known.
 use Rattle.std.proofs.Common.{◌≡◌, ◌≢◌, inl, inr, ℕ, zero, suc, ◌+◌, ◌<◌, ◌≤◌, Bool, true, false, List, [], ◌∷◌, length, map, slice_get, Option, Some, None, refl, sym, ap, subst, ◌∙◌, arith, option_map}
 use Rattle.std.specs.Option.{option_map_or}
+use Rattle.std.proofs.lemmas.List.{length-reverse}
+use Rattle.pid_types.specs.declared.plain.Name.{Name}
 use Rattle.pid_types.specs.declared.plain.Row.{Row}
+use Rattle.pid_types.specs.State.{root_name}
+use Rattle.pid_numbers.specs.Numbering.{number_of}
 use Rattle.pid_types.specs.Membership.{IsIn}
 use Rattle.pid_types.specs.Names.{root_number}
 use Rattle.pid_types.specs.Sound.{IsRising}
@@ -9,12 +13,13 @@ use Rattle.task_tree.specs.declared.Task.{Task}
 use Rattle.task_tree.specs.Tree.{task_at}
 use Rattle.task_table.specs.Store.{Store}
 use Rattle.task_table.specs.Collect.{collect}
-use Rattle.task_table.specs.View.{name_at, row_of, row_with, row_numbered, state_of}
+use Rattle.task_table.specs.View.{name_of, name_at, row_of, row_with, row_numbered, state_of}
 use Rattle.task_table.specs.Lawful.{IsLawful}
-use Rattle.task_table.proofs.LookUps.{row-from, rooted, keyed}
+use Rattle.task_table.proofs.LookUps.{named, root-number, row-from, rooted, keyed}
 use Rattle.table_build.proofs.Steps.{task-of}
 use Rattle.table_build.specs.declared.placed.Placed.{Placed}
 use Rattle.table_build.specs.Lines.{AreLines, IsLine, is_held}
+use Rattle.table_build.specs.Sorted.{IsNotBelow}
 
 abbrev number_of_row : Row → ℕ
 number_of_row r = root_number r.name
@@ -71,6 +76,21 @@ gathered f rows from (suc len) rise there back = go (λ rs r t b. gathered f rs 
     go again None e = again rows rise (none e) (λ n r above at. back n r (omega (arith, above)) at)
     go again (Some x) e = found again x e rows rise there back
 
+below_length : (xs : List Row) (j : ℕ) (r : Row) → slice_get xs j ≡ Some r → j < length xs
+below_length [] j r e = absurd (cc)
+below_length (x ∷ xs) zero r e = omega arith
+below_length (x ∷ xs) (suc j) r e = let lt = below_length xs j r e in omega (arith, lt)
+
+-- each is below the next, so below all that follow
+rising : (rows : List Row) → ((i : ℕ) (a b : Row) → slice_get rows i ≡ Some a → slice_get rows (suc i) ≡ Some b → number_of_row a < number_of_row b) → IsRising (map number_of_row rows)
+rising [] next = tt
+rising (r ∷ rs) next = (over rs (λ b e. next 0 r b refl e) (rising rs (λ i a b x y. next (suc i) a b x y)), rising rs (λ i a b x y. next (suc i) a b x y))
+  where
+    over : (rs : List Row) → ((b : Row) → slice_get rs 0 ≡ Some b → number_of_row r < number_of_row b) → IsRising (map number_of_row rs) → (m : ℕ) → IsIn m (map number_of_row rs) → number_of_row r < m
+    over [] first rise m i = absurd i
+    over (b ∷ bs) first rise m (inl e) = let up = first b refl in omega (arith, up, e)
+    over (b ∷ bs) first rise m (inr i) = let up = first b refl in let more = rise.0 m i in omega (arith, up, more)
+
 place_of : (rows : List Row) (r : Row) → IsIn r rows → (j : ℕ) × (slice_get rows j ≡ Some r) × (j < length rows)
 place_of [] r i = absurd i
 place_of (x ∷ xs) r (inl same) = (zero, ap Some (sym same), omega arith)
@@ -116,3 +136,37 @@ module _ (s : Store) (l : IsLawful s) (p : Placed) (rows : List Row) (lines : Ar
   -- they are all its rows
   pub rows-are : (state_of s).rows ≡ rows
   rows-are = gathered (row_numbered s 0) rows 0 s.numbering.pid_max rise there back
+
+-- the numbers of the lines rise where none is below the one before it
+module _ (s : Store) (l : IsLawful s) (p : Placed) (rows : List Row) (lines : AreLines s p (slice_get rows)) (few : length p.keys.items ≡ length rows) where
+  line_of : (j : ℕ) (r : Row) → slice_get rows j ≡ Some r → (k : ℕ) × (slice_get p.keys.items j ≡ Some k) × (row_with s k ≡ Some r)
+  line_of j r e =
+      let k = key_in p.keys.items j (let lt = below_length rows j r e in omega (arith, lt, few)) in
+      let line = lines.each j k.0 k.1 in
+      let same : line.0 ≡ r = (let z = sym line.1 ∙ e in let y : line.0 ≡ r = cc in y) in
+      (k.0, k.1, line.2.shown ∙ ap Some same)
+
+  numbered : (k : ℕ) (r : Row) → row_with s k ≡ Some r → (number_of s.numbering k 0 ≡ Some (number_of_row r)) × (0 < length r.name.numbers.items)
+  numbered k r e =
+      let t = task-of s k r e in
+      let u = named s l k t.0 t.1 in
+      let some = (l.numbering.full k u.0 u.1).0 in
+      let long = length-reverse u.0.numbers in
+      let name : name_of s.numbering u.0 ≡ r.name = sym (ap (λ o. option_map_or (name_of s.numbering) o root_name) u.1) ∙ ap (λ (x : Row). x.name) t.2 in
+      (root-number s l k u.0 u.1 ∙ ap (λ (x : Row). Some (number_of_row x)) t.2, let z = ap (λ (n : Name). length n.numbers.items) name in omega (arith, some, long, z))
+
+  next_above : ((j : ℕ) → j < length rows → IsNotBelow rows j) → (i : ℕ) (a b : Row) → slice_get rows i ≡ Some a → slice_get rows (suc i) ≡ Some b → number_of_row a < number_of_row b
+  next_above sorted i a b x y =
+      let m = line_of i a x in
+      let n = line_of (suc i) b y in
+      let at_m = numbered m.0 a m.2 in
+      let at_n = numbered n.0 b n.2 in
+      let up = sorted (suc i) (below_length rows (suc i) b y) i a b refl x y at_m.1 at_n.1 in
+      let differs : number_of_row a ≢ number_of_row b = (λ same.
+        let key : m.0 ≡ n.0 = l.numbering.distinct m.0 n.0 0 (number_of_row b) (at_m.0 ∙ ap Some same) at_n.0 in
+        let place : i ≡ suc i = lines.apart i (suc i) n.0 (m.1 ∙ ap Some key) n.1 in
+        omega (arith, place)) in
+      omega (arith, up, differs)
+
+  pub rows-rise : ((j : ℕ) → j < length rows → IsNotBelow rows j) → IsRising (map number_of_row rows)
+  rows-rise sorted = rising rows (next_above sorted)

@@ -5,3 +5,4 @@ pub mod Steps
 pub mod Moves
 pub mod Gathered
 pub mod LineSteps
+pub mod SpaceFalls

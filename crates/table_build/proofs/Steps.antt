@@ -1,19 +1,20 @@
 -- What each step of the making leaves as it was.
 use Rattle.std.proofs.Common.{◌≡◌, ◌≢◌, inl, inr, ℕ, false, List, [], Option, Some, None, IsSome, is_some, refl, sym, ap, ◌∙◌, option_map, unwrap_or}
 use Rattle.std.proofs.lemmas.Bool.{cases_eq}
-use Rattle.std.specs.Prelude.{reverse, slice_index_or}
-use Rattle.std.specs.Option.{option_map_or}
+use Rattle.std.specs.Prelude.{reverse, slice_index_or, position, ◌==◌, option_and_then}
+use Rattle.std.specs.Option.{option_map_or, option_eq}
 use Rattle.pid_types.proofs.General.{held}
 use Rattle.pid_types.specs.declared.plain.Name.{Name}
 use Rattle.pid_types.specs.declared.plain.Row.{Row}
 use Rattle.pid_types.specs.State.{root_name}
-use Rattle.pid_numbers.specs.Numbering.{Numbering, Namespace, Identifier, namespace_at, id_at, identifier_at, path_at, has_fallen_at, cursor_put, moved}
+use Rattle.pid_numbers.specs.Numbering.{Numbering, Namespace, Identifier, namespace_at, id_at, identifier_at, path_at, has_fallen_at, cursor_put, moved, number_in}
 use Rattle.task_tree.specs.declared.Task.{Task}
 use Rattle.task_tree.specs.Tree.{task_at, parent_of}
 use Rattle.groups_sessions.specs.Membership.{Membership, membership_at, group_of, session_of}
 use Rattle.pids_charge.specs.Charges.{id_at as home_id}
 use Rattle.task_table.specs.Store.{Store, bare}
-use Rattle.task_table.specs.View.{name_of, name_at, row_of, row_with}
+use Rattle.task_table.specs.View.{name_of, name_at, row_of, row_with, state_of}
+use Rattle.task_table.specs.Collect.{collect}
 use Rattle.task_table.proofs.LookUps.{named}
 use Rattle.task_table.proofs.Rows.{row-ext}
 use Rattle.task_table.proofs.Newborn.{Comes, KeepsNamespaces, born, named_in, name-kept, other_rows, home_kept, some_of}
@@ -29,7 +30,7 @@ same_ids b c k s = of (namespace_at c s) ∙ ap (option_map (λ (t : Namespace).
     of None = refl
     of (Some t) = refl
 
-same_paths : (b c : Numbering) → KeepsSpaces b c → (s : ℕ) → path_at c s ≡ path_at b s
+pub same_paths : (b c : Numbering) → KeepsSpaces b c → (s : ℕ) → path_at c s ≡ path_at b s
 same_paths b c k s = of (namespace_at c s) ∙ ap (λ o. option_map_or (λ (t : Namespace). t.path) o []) (k.each s) ∙ sym (of (namespace_at b s))
   where
     of : (o : Option Namespace) → option_map_or (λ (t : Namespace). t.path) o [] ≡ option_map_or (λ (t : Namespace). t.path) (option_map without_cursor o) []
@@ -42,38 +43,39 @@ spaces-both a b c k l = record { order = l.order ∙ k.order; bound = l.bound �
 pub places-both : (a b c : Store) → KeepsPlaces a b → KeepsPlaces b c → KeepsPlaces a c
 places-both a b c k l = record { spaces = spaces-both a.numbering b.numbering c.numbering k.spaces l.spaces; controls = l.controls ∙ k.controls }
 
--- no change of cursors changes a name
-pub name-same : (b c : Numbering) → KeepsSpaces b c → c.names ≡ b.names → (k : ℕ) → name_at c k ≡ name_at b k
-name-same b c k names i =
-    ap (λ (ns : List (Option Identifier)). option_map_or (name_of c) (slice_index_or ns i None) root_name) names ∙ go (identifier_at b i)
-  where
-    go : (o : Option Identifier) → option_map_or (name_of c) o root_name ≡ option_map_or (name_of b) o root_name
-    go None = refl
-    go (Some u) = ap (λ o. named_in (unwrap_or o 0) u.numbers) (same_ids b c k u.space)
+-- names and rows are the same where the namespaces have their ids
+module _ (s t : Store) (ids : (p : ℕ) → id_at t.numbering p ≡ id_at s.numbering p) (same : t.numbering.names ≡ s.numbering.names) where
+  pub name-same : (k : ℕ) → name_at t.numbering k ≡ name_at s.numbering k
+  name-same k =
+      ap (λ (ns : List (Option Identifier)). option_map_or (name_of t.numbering) (slice_index_or ns k None) root_name) same ∙ go (identifier_at s.numbering k)
+    where
+      go : (o : Option Identifier) → option_map_or (name_of t.numbering) o root_name ≡ option_map_or (name_of s.numbering) o root_name
+      go None = refl
+      go (Some u) = ap (λ o. named_in (unwrap_or o 0) u.numbers) (ids u.space)
 
--- nor a row
-pub row-same : (s t : Store) → MovesCursors s t → (k : ℕ) → row_with t k ≡ row_with s k
-row-same s t m k =
-    ap (λ (x : Option Task). option_map (row_of t k) x) (ap (λ tree. task_at tree k) m.tree) ∙ go (task_at s.tree k)
-  where
-    name : (i : ℕ) → name_at t.numbering i ≡ name_at s.numbering i
-    name = name-same s.numbering t.numbering m.spaces m.names
+  pub row-same : t.tree ≡ s.tree → t.members ≡ s.members → t.charges ≡ s.charges → (k : ℕ) → row_with t k ≡ row_with s k
+  row-same tree members charges k =
+      ap (λ (x : Option Task). option_map (row_of t k) x) (ap (λ x. task_at x k) tree) ∙ go (task_at s.tree k)
+    where
+      names : (o : Option ℕ) → option_map (name_at t.numbering) o ≡ option_map (name_at s.numbering) o
+      names None = refl
+      names (Some i) = ap Some (name-same i)
 
-    names : (o : Option ℕ) → option_map (name_at t.numbering) o ≡ option_map (name_at s.numbering) o
-    names None = refl
-    names (Some i) = ap Some (name i)
+      or_root : (o : Option ℕ) → option_map_or (name_at t.numbering) o root_name ≡ option_map_or (name_at s.numbering) o root_name
+      or_root None = refl
+      or_root (Some i) = name-same i
 
-    or_root : (o : Option ℕ) → option_map_or (name_at t.numbering) o root_name ≡ option_map_or (name_at s.numbering) o root_name
-    or_root None = refl
-    or_root (Some i) = name i
+      go : (o : Option Task) → option_map (row_of t k) o ≡ option_map (row_of s k) o
+      go None = refl
+      go (Some v) = ap Some (row-ext (row_of t k v) (row_of s k v) (name-same k)
+          (names (parent_of t.tree k) ∙ ap (λ x. option_map (name_at s.numbering) (parent_of x k)) tree)
+          (or_root (group_of t.members k) ∙ ap (λ ms. option_map_or (name_at s.numbering) (group_of ms k) root_name) members)
+          (or_root (session_of t.members k) ∙ ap (λ ms. option_map_or (name_at s.numbering) (session_of ms k) root_name) members)
+          refl refl (ap (λ c. home_id c v.home) charges) refl refl)
 
-    go : (o : Option Task) → option_map (row_of t k) o ≡ option_map (row_of s k) o
-    go None = refl
-    go (Some v) = ap Some (row-ext (row_of t k v) (row_of s k v) (name k)
-        (names (parent_of t.tree k) ∙ ap (λ tree. option_map (name_at s.numbering) (parent_of tree k)) m.tree)
-        (or_root (group_of t.members k) ∙ ap (λ ms. option_map_or (name_at s.numbering) (group_of ms k) root_name) m.members)
-        (or_root (session_of t.members k) ∙ ap (λ ms. option_map_or (name_at s.numbering) (session_of ms k) root_name) m.members)
-        refl refl (ap (λ c. home_id c v.home) m.charges) refl refl)
+-- so they are where only cursors moved
+pub row-moved : (s t : Store) → MovesCursors s t → (k : ℕ) → row_with t k ≡ row_with s k
+row-moved s t m k = row-same s t (same_ids s.numbering t.numbering m.spaces) m.names m.tree m.members m.charges k
 
 -- the row of a task that comes by itself
 pub lone : {s t : Store} {key : ℕ} {task : Task} {space : ℕ} {numbers : List ℕ} → Comes s t key None task space numbers → (id : ℕ) → id_at t.numbering space ≡ Some id
@@ -161,7 +163,7 @@ bearers-come {s} {t} {key} c = record {
 }
 
 pub bearers-moved : (s t : Store) → MovesCursors s t → KeepsBearers s t
-bearers-moved s t m = record { each = λ k some. (ap (λ x. is_some (task_at x k)) m.tree ∙ some, name-same s.numbering t.numbering m.spaces m.names k) }
+bearers-moved s t m = record { each = λ k some. (ap (λ x. is_some (task_at x k)) m.tree ∙ some, name-same s t (same_ids s.numbering t.numbering m.spaces) m.names k) }
 
 pub bearers-both : (a b c : Store) → KeepsBearers a b → KeepsBearers b c → KeepsBearers a c
 bearers-both a b c k l = record { each = λ i some. let x = k.each i some in let y = l.each i x.0 in (y.0, y.1 ∙ x.1) }
@@ -208,8 +210,8 @@ keeps-namespaces b c k q n at = (same_ids b c k q, same_paths b c k q)
 -- a row that was added to a store whose cursors had moved
 pub added-behind : (s t u : Store) (key : ℕ) (row : Row) → MovesCursors s t → AddsRow t u key row → AddsRow s u key row
 added-behind s t u key row m a = record {
-  fresh = sym (row-same s t m key) ∙ a.fresh;
-  sets = record { here = a.sets.here; others = λ k not. a.sets.others k not ∙ row-same s t m k };
+  fresh = sym (row-moved s t m key) ∙ a.fresh;
+  sets = record { here = a.sets.here; others = λ k not. a.sets.others k not ∙ row-moved s t m k };
 }
 
 -- who was found last is known still
@@ -224,3 +226,12 @@ bearers-none s = record { each = λ k some. (some, refl) }
 
 pub places-none : (s : Store) → KeepsPlaces s s
 places-none s = record { spaces = record { order = refl; bound = refl; each = λ p. refl }; controls = refl }
+
+-- the rows of a state whose names, paths and rows by key are the same
+pub state-rows : (s t : Store) → t.numbering.pid_max ≡ s.numbering.pid_max → t.numbering.names ≡ s.numbering.names → ((p : ℕ) → path_at t.numbering p ≡ path_at s.numbering p)
+    → ((k : ℕ) → row_with t k ≡ row_with s k) → (state_of t).rows ≡ (state_of s).rows
+state-rows s t bound names paths rows i =
+    collect (λ n. option_and_then (λ k. rows k i) (position (λ o. option_eq ◌==◌ (number_in (λ p. paths p i) 0 o) (Some n)) (names i))) 0 (bound i)
+
+pub state-moved : (s t : Store) → MovesCursors s t → (state_of t).rows ≡ (state_of s).rows
+state-moved s t m = state-rows s t m.spaces.bound m.names (same_paths s.numbering t.numbering m.spaces) (row-moved s t m)

@@ -5,3 +5,4 @@ pub mod Bare
 pub mod Lines
 pub mod Sessions
 pub mod Grouping
+pub mod Sorted

@@ -1,7 +1,8 @@
 //! The tasks of a text begin. Each is live, without a parent, and in a group and a session of its own name.
-ghost use Rattle.std.specs.Prelude.{◌≡◌, ◌<◌, ℕ, [], length, None, OnOk, IfOk, option_map, slice_get};
+ghost use Rattle.std.specs.Prelude.{◌≡◌, ◌<◌, ℕ, [], length, false, None, OnOk, IfOk, option_map, slice_get};
 ghost use Rattle.task_table.specs.View.{row_with};
 ghost use Rattle.table_build.specs.Lines.{AreLines};
+ghost use Rattle.table_build.specs.Sorted.{IsNotBelow};
 ghost use Rattle.table_build.specs.Ungrouped.{IsUngrouped};
 ghost use Rattle.table_build.specs.Stages.{AddsRow, KeepsBearers, KeepsPlaces, begun};
 
@@ -19,11 +20,16 @@ use task_tree::Task;
 /// Whether the line's number is below that of the line before.
 fn is_unsorted(saved: &Saved, index: usize) -> bool
     requires { index < length saved.now.rows.items }
+    ensures { result ≡ false → IsNotBelow saved.now.rows.items index }
 {
     if index == 0 {
         return false;
     }
-    saved.rows[index].name.numbers.first() < saved.rows[index - 1].name.numbers.first()
+    let before = saved.rows[index - 1].name.numbers.first();
+    let (Some(before), Some(number)) = (before, saved.rows[index].name.numbers.first()) else {
+        return false;
+    };
+    *number < *before
 }
 
 /// The task of a line begins.
@@ -58,6 +64,7 @@ pub fn begin_tasks(alloc: Global, store: &mut Tasks, saved: &Saved) -> Result<Pl
     ensures keys { IfOk result (λ placed. length placed.keys.items ≡ length saved.now.rows.items) }
     ensures groups { IfOk result (λ placed. placed.groups.items ≡ []) }
     ensures nobody { IfOk result (λ placed. placed.placeholders.items ≡ []) }
+    ensures sorted { OnOk result ((j : ℕ) → j < length saved.now.rows.items → IsNotBelow saved.now.rows.items j) }
 {
     let mut placed = Placed::new(alloc);
     for index in 0..saved.rows.len() {

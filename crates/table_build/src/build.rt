@@ -1,5 +1,10 @@
 //! A store with all that a text says.
-ghost use Rattle.std.specs.Prelude.{◌≡◌};
+ghost use Rattle.std.specs.Prelude.{◌≡◌, ℕ, None, map, IfOk, OnOk};
+ghost use Rattle.task_table.specs.View.{row_with, spaces_of, state_of};
+ghost use Rattle.table_text.specs.Reading.{saved_state};
+ghost use Rattle.table_build.specs.Bare.{bare, steady};
+ghost use Rattle.table_build.specs.Stages.{KeepsPlaces};
+ghost use Rattle.table_build.specs.Ungrouped.{IsUngrouped};
 
 use crate::begin::begin_tasks;
 use crate::controls::put_controls;
@@ -14,8 +19,14 @@ use table_text::read::Saved;
 use task_table::Tasks;
 use task_table::view::laws;
 
-/// A store with all that the text says. Its parts agree, and its state need not be sound.
-pub fn build(alloc: Global, saved: &Saved) -> Result<Tasks, BuildFault> {
+/// A store with the control groups and the namespaces of the text, and no task.
+fn put_places(alloc: Global, saved: &Saved) -> Result<Tasks, BuildFault>
+    ensures ungrouped { IfOk result (λ store. IsUngrouped store) }
+    ensures nobody { IfOk result (λ store. (k : ℕ) → row_with store k ≡ None) }
+    ensures controls { IfOk result (λ store. store.charges.controls ≡ saved.now.controls.items) }
+    ensures spaces { IfOk result (λ store. spaces_of store.numbering ≡ map bare saved.now.spaces.items) }
+    ensures bound { IfOk result (λ store. store.numbering.pid_max ≡ saved.now.pid_max) }
+{
     let Ok(config) = Config::new(saved.pid_max, 1) else {
         return Err(BuildFault::BadSettings(1));
     };
@@ -23,10 +34,30 @@ pub fn build(alloc: Global, saved: &Saved) -> Result<Tasks, BuildFault> {
     laws(&store);
     put_controls(&mut store, saved)?;
     put_spaces(&mut store, saved)?;
-    let mut placed = begin_tasks(alloc, &mut store, saved)?;
-    enter_sessions(&mut store, &mut placed, saved)?;
-    settle_tasks(&mut store, &placed, saved)?;
-    remove_placeholders(&mut store, &placed);
+    Ok(store)
+}
+
+/// The tasks of the text are put into a store that has none.
+fn put_tasks(alloc: Global, store: &mut Tasks, saved: &Saved) -> Result<(), BuildFault>
+    requires ungrouped { IsUngrouped store.old }
+    requires nobody { (k : ℕ) → row_with store.old k ≡ None }
+    ensures rows { OnOk result ((state_of store.new).rows ≡ saved.now.rows.items) }
+    ensures places { OnOk result (KeepsPlaces store.old store.new) }
+{
+    let mut placed = begin_tasks(alloc, store, saved)?;
+    enter_sessions(store, &mut placed, saved)?;
+    settle_tasks(store, &placed, saved)?;
+    remove_placeholders(store, &placed);
+    laws(store);
+    Ok(())
+}
+
+/// A store with the state that the text says. Its parts agree, and the state need not be sound.
+pub fn build(alloc: Global, saved: &Saved) -> Result<Tasks, BuildFault>
+    ensures { IfOk result (λ store. state_of store ≡ saved_state saved.now) }
+{
+    let mut store = put_places(alloc, saved)?;
+    put_tasks(alloc, &mut store, saved)?;
     put_falls(alloc, &mut store, saved)?;
     put_cursors(&mut store, saved);
     Ok(store)

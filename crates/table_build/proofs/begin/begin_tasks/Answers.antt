@@ -1,7 +1,9 @@
-use Rattle.std.proofs.Common.{◌≡◌, ℕ, ◌+◌, ◌<◌, Some, arith, [], ◌∷◌, Bool, List, length, ap, sym, ◌∙◌, length-append, option_map, slice_get}
+use Rattle.std.proofs.Common.{◌≡◌, inl, inr, subst, ℕ, ◌+◌, ◌<◌, Some, arith, [], ◌∷◌, Bool, List, length, ap, sym, ◌∙◌, length-append, option_map, slice_get}
 use Rattle.std.specs.declared.vec.Vec.{Vec}
 use Rattle.std.specs.declared.alloc.Global.{Global}
 use Rattle.pid_numbers.specs.Restore.{is_flagged}
+use Rattle.std.proofs.lemmas.Bool.{cases_eq}
+use Rattle.table_build.specs.Sorted.{IsNotBelow}
 use Rattle.table_build.specs.Stages.{begun}
 use Rattle.table_build.proofs.Steps.{places-both}
 use Rattle.table_build.proofs.LineSteps.{get-is, lines-push}
@@ -25,4 +27,8 @@ loop-index-preserved c =
       keys = ap length p.keys ∙ length-append c.loop-index.placed.keys.items (c.in_ok-key.key ∷ []) ∙ ap (λ n. n + 1) i.keys;
       groups = ap (λ (v : Vec ℕ Global). v.items) p.groups ∙ i.groups;
       placeholders = ap (λ (v : Vec Bool Global). v.items) p.placeholders ∙ i.placeholders;
+      sorted = λ j lt. elim (cases_eq j c.loop-index.index) [
+        | inl same ↦ subst (IsNotBelow c.args.saved.now.rows.items) (sym same) (c.is_unsorted.ensures c.if-is_unsorted.false)
+        | inr not ↦ i.sorted j (omega (arith, lt, not))
+      ];
     }

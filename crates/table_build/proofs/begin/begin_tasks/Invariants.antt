@@ -1,7 +1,8 @@
-use Rattle.std.proofs.Common.{◌≡◌, length, [], option_map, slice_get}
+use Rattle.std.proofs.Common.{◌≡◌, ℕ, ◌<◌, length, [], option_map, slice_get}
 use Rattle.table_build.specs.Ungrouped.{IsUngrouped}
 use Rattle.table_build.specs.Stages.{KeepsPlaces, begun}
 use Rattle.table_build.specs.Lines.{AreLines}
+use Rattle.table_build.specs.Sorted.{IsNotBelow}
 use Rattle.table_build.proofs.begin.begin_tasks.Given as goal
 
 abbrev pub invariant-loop-index : goal.invariant-loop-index
@@ -12,4 +13,5 @@ invariant-loop-index l = record {
   keys : length l.placed.keys.items ≡ l.index;
   groups : l.placed.groups.items ≡ [];
   placeholders : l.placed.placeholders.items ≡ [];
+  sorted : (j : ℕ) → j < l.index → IsNotBelow l.saved.rows.items j;
 }

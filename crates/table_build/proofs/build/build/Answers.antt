@@ -1,0 +1,21 @@
+use Rattle.std.proofs.Common.{◌≡◌, map, ap, ◌∙◌}
+use Rattle.table_build.specs.Bare.{steady}
+use Rattle.table_build.proofs.SpaceFalls.{steady-bare, steady-same}
+use Rattle.table_build.proofs.build.build.Goals as goal
+
+pub put_falls-requires : goal.put_falls-requires
+put_falls-requires c = record {
+  listed =
+      steady-same c.in_ok-store.store.numbering c.put_tasks.new.store.numbering c.in_ok-put_tasks.ensures.places.spaces
+      ∙ ap (map steady) c.in_ok-store.ensures.spaces ∙ steady-bare c.args.saved.now.spaces.items;
+}
+
+pub returns : goal.returns
+returns c =
+    let p = c.in_ok-put_tasks.ensures.places in
+    let f = c.in_ok-put_falls.ensures in
+    let m = c.put_cursors.ensures.moved in
+    let rows = c.put_cursors.ensures.rows ∙ f.rows ∙ c.in_ok-put_tasks.ensures.rows in
+    let controls = ap (λ x. x.controls) m.charges ∙ ap (λ s. s.charges.controls) f.rest ∙ p.controls ∙ c.in_ok-store.ensures.controls in
+    let bound = m.spaces.bound ∙ f.bound ∙ p.spaces.bound ∙ c.in_ok-store.ensures.bound in
+    λ i. record { rows = rows i; spaces = c.put_cursors.ensures.put i; controls = controls i; pid_max = bound i }

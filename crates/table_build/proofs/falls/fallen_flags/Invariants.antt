@@ -1,0 +1,5 @@
+use Rattle.table_build.specs.Bare.{AreFlagged}
+use Rattle.table_build.proofs.falls.fallen_flags.Given as goal
+
+abbrev pub invariant-loop-index : goal.invariant-loop-index
+invariant-loop-index l = AreFlagged l.store.numbering l.saved.spaces.items l.index l.flags.items
