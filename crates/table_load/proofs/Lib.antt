@@ -1,3 +1,1 @@
 pub mod LowIds
-pub mod SameControls
-pub mod States
