@@ -74,7 +74,7 @@ func TestAnswersAsJSON(t *testing.T) {
 }
 
 // labelsOf has the labels of all tasks that have one.
-func labelsOf(t *testing.T, table *Table) map[uint32]string {
+func labelsOf(t *testing.T, table interface{ Listing() (Listing, error) }) map[uint32]string {
 	t.Helper()
 	listing, err := table.Listing()
 	if err != nil {
@@ -167,4 +167,48 @@ func TestLabelsThatAreNone(t *testing.T) {
 	table.Close()
 	want(t, "closed", only(table.Label(1, "x")), nil, ErrClosed)
 	want(t, "none", only(new(Table).Label(1, "x")), nil, ErrClosed)
+}
+
+func TestLabelsOfASharedTable(t *testing.T) {
+	shared, err := OpenShared(Settings{PidMax: 301, Workers: 2})
+	if err != nil {
+		t.Fatal(err)
+	}
+	t.Cleanup(shared.Close)
+	seat, _ := shared.Seat()
+	for child := uint32(0); child != last; {
+		if child != 0 {
+			seat.Exit(child, 0)
+			seat.Wait(1, Any())
+		}
+		forked, err := seat.Fork(1, false)
+		if err != nil {
+			t.Fatal(err)
+		}
+		child = forked.Root
+	}
+	counts, _ := shared.Counts()
+	saved, err := shared.Entries(counts.Recorded-1, 1)
+	if err != nil {
+		t.Fatal(err)
+	}
+	for name, fork := range map[string]func(){
+		"call":   func() { seat.Fork(1, false) },
+		"line":   func() { seat.Line("fork 1") },
+		"replay": func() { shared.Replay(saved) },
+	} {
+		if err := shared.Label(last, "short"); err != nil {
+			t.Fatal(err)
+		}
+		seat.Exit(last, 0)
+		want(t, name, of(labelsOf(t, shared), nil), map[uint32]string{last: "short"}, nil)
+		seat.Wait(1, Any())
+		fork()
+		if _, err := seat.Getpid(last); err != nil {
+			t.Fatal(name, err)
+		}
+		want(t, name, of(labelsOf(t, shared), nil), map[uint32]string{}, nil)
+	}
+	want(t, "nobody", only(shared.Label(9, "x")), nil, Refusal{syscall.ESRCH, "no-task", NoTask, 0})
+	want(t, "no label", only(shared.Label(1, "a\nb")), nil, ErrBadLabel)
 }
