@@ -120,23 +120,24 @@ func TestLabelsOfATable(t *testing.T) {
 const last = 300
 
 // goUp forks children that end, up to the one with the last number, which then comes again and again.
-func goUp(t *testing.T, table *Table) {
+func goUp(t *testing.T, it calls) {
 	t.Helper()
 	for {
-		child, err := table.Fork(1, false)
+		child, err := it.Fork(1, false)
 		if err != nil {
 			t.Fatal(err)
 		}
 		if child.Root == last {
 			return
 		}
-		play(t, table, fmt.Sprint("exit ", child.Root, " 0"), "wait 1 any")
+		it.Exit(child.Root, 0)
+		it.Wait(1, Any())
 	}
 }
 
 func TestALabelGoesWithItsTask(t *testing.T) {
 	table := open(t, 301)
-	goUp(t, table)
+	goUp(t, table.calls)
 	for name, fork := range map[string]func(){
 		"fork": func() { table.Fork(1, false) },
 		"call": func() { table.Call(Call{Operation: OpFork, Caller: 1}) },
@@ -176,17 +177,7 @@ func TestLabelsOfASharedTable(t *testing.T) {
 	}
 	t.Cleanup(shared.Close)
 	seat, _ := shared.Seat()
-	for child := uint32(0); child != last; {
-		if child != 0 {
-			seat.Exit(child, 0)
-			seat.Wait(1, Any())
-		}
-		forked, err := seat.Fork(1, false)
-		if err != nil {
-			t.Fatal(err)
-		}
-		child = forked.Root
-	}
+	goUp(t, seat.calls)
 	counts, _ := shared.Counts()
 	saved, err := shared.Entries(counts.Recorded-1, 1)
 	if err != nil {
