@@ -74,7 +74,7 @@ func TestAnswersAsJSON(t *testing.T) {
 }
 
 // labelsOf has the labels of all tasks that have one.
-func labelsOf(t *testing.T, table *Table) map[uint32]string {
+func labelsOf(t *testing.T, table interface{ Listing() (Listing, error) }) map[uint32]string {
 	t.Helper()
 	listing, err := table.Listing()
 	if err != nil {
@@ -120,23 +120,24 @@ func TestLabelsOfATable(t *testing.T) {
 const last = 300
 
 // goUp forks children that end, up to the one with the last number, which then comes again and again.
-func goUp(t *testing.T, table *Table) {
+func goUp(t *testing.T, it calls) {
 	t.Helper()
 	for {
-		child, err := table.Fork(1, false)
+		child, err := it.Fork(1, false)
 		if err != nil {
 			t.Fatal(err)
 		}
 		if child.Root == last {
 			return
 		}
-		play(t, table, fmt.Sprint("exit ", child.Root, " 0"), "wait 1 any")
+		it.Exit(child.Root, 0)
+		it.Wait(1, Any())
 	}
 }
 
 func TestALabelGoesWithItsTask(t *testing.T) {
 	table := open(t, 301)
-	goUp(t, table)
+	goUp(t, table.calls)
 	for name, fork := range map[string]func(){
 		"fork": func() { table.Fork(1, false) },
 		"call": func() { table.Call(Call{Operation: OpFork, Caller: 1}) },
@@ -167,4 +168,38 @@ func TestLabelsThatAreNone(t *testing.T) {
 	table.Close()
 	want(t, "closed", only(table.Label(1, "x")), nil, ErrClosed)
 	want(t, "none", only(new(Table).Label(1, "x")), nil, ErrClosed)
+}
+
+func TestLabelsOfASharedTable(t *testing.T) {
+	shared, err := OpenShared(Settings{PidMax: 301, Workers: 2})
+	if err != nil {
+		t.Fatal(err)
+	}
+	t.Cleanup(shared.Close)
+	seat, _ := shared.Seat()
+	goUp(t, seat.calls)
+	counts, _ := shared.Counts()
+	saved, err := shared.Entries(counts.Recorded-1, 1)
+	if err != nil {
+		t.Fatal(err)
+	}
+	for name, fork := range map[string]func(){
+		"call":   func() { seat.Fork(1, false) },
+		"line":   func() { seat.Line("fork 1") },
+		"replay": func() { shared.Replay(saved) },
+	} {
+		if err := shared.Label(last, "short"); err != nil {
+			t.Fatal(err)
+		}
+		seat.Exit(last, 0)
+		want(t, name, of(labelsOf(t, shared), nil), map[uint32]string{last: "short"}, nil)
+		seat.Wait(1, Any())
+		fork()
+		if _, err := seat.Getpid(last); err != nil {
+			t.Fatal(name, err)
+		}
+		want(t, name, of(labelsOf(t, shared), nil), map[uint32]string{}, nil)
+	}
+	want(t, "nobody", only(shared.Label(9, "x")), nil, Refusal{syscall.ESRCH, "no-task", NoTask, 0})
+	want(t, "no label", only(shared.Label(1, "a\nb")), nil, ErrBadLabel)
 }

@@ -16,49 +16,75 @@ var ErrBadLabel = errors.New("pidtab: a label is printable text of one line")
 // Label names a task, by its root number, in Listing and in its JSON; an empty text takes the name away. It is no call: the table, its text and
 // its history know nothing of it. The name goes when the number is another task's. Refused as no-task; ErrBadLabel, ErrClosed, ErrBusy.
 func (table *Table) Label(task uint32, text string) error {
+	held := table.held()
+	held.lock.Lock()
+	defer held.lock.Unlock()
+	return held.labels.put(text, func(found *C.struct_pidtab_task) C.uint32_t {
+		return C.pidtab_stat(&held.raw, 1, C.uint32_t(task), found)
+	})
+}
+
+// Label names a task, as that of a Table does: whoever lists the table sees the name. A Replay that stops takes all names away.
+func (shared *Shared) Label(task uint32, text string) error {
+	held := shared.held()
+	held.lock.Lock()
+	defer held.lock.Unlock()
+	return held.labels.put(text, func(found *C.struct_pidtab_task) C.uint32_t {
+		return C.pidtab_record_stat(held.raw, 1, C.uint32_t(task), found)
+	})
+}
+
+// labels are names of tasks by their root numbers.
+type labels map[uint32]string
+
+// put names the task that is found by its number in the root namespace, of which 0 is the root init's, or takes its name away.
+func (it *labels) put(text string, find func(*C.struct_pidtab_task) C.uint32_t) error {
 	for _, letter := range text {
 		if !unicode.IsPrint(letter) || letter == unicode.ReplacementChar {
 			return ErrBadLabel
 		}
 	}
-	return table.held().label(task, text)
-}
-
-// label puts a label, or takes it away.
-func (held *heldTable) label(task uint32, text string) error {
-	held.lock.Lock()
-	defer held.lock.Unlock()
 	found := new(C.struct_pidtab_task)
-	if err := faultOf(uint32(C.pidtab_stat(&held.raw, 1, C.uint32_t(task), found))); err != nil {
+	if err := faultOf(uint32(find(found))); err != nil {
 		return err
 	}
 	if found.error != 0 {
 		return refusalOf(&C.struct_pidtab_reply{error: found.error, refusal: found.refusal})
 	}
-	// By 0 the root init is named.
 	root := uint32(found.levels[0])
+	if *it == nil {
+		*it = labels{}
+	}
+	(*it)[root] = text
 	if text == "" {
-		delete(held.labels, root)
-	} else if held.labels == nil {
-		held.labels = map[uint32]string{root: text}
-	} else {
-		held.labels[root] = text
+		delete(*it, root)
 	}
 	return nil
 }
 
-// forked notes that a number is a new task's, which nobody has named.
-func (held *heldTable) forked(root uint32) {
-	delete(held.labels, root)
+// replied notes the fork that a reply may tell: nobody has named its task.
+func (it labels) replied(reply *C.struct_pidtab_reply) {
+	if len(it) > 0 && reply.kind == C.PIDTAB_FORKED {
+		delete(it, uint32(reply.second))
+	}
 }
 
-// answered notes the fork that an answer to a line may be, as `child 2 root 3`.
-func (held *heldTable) answered(answer string) {
-	if len(held.labels) == 0 || !strings.HasPrefix(answer, "child ") {
+// answered notes the same of an answer to a line, as `child 2 root 3`.
+func (it labels) answered(answer string) {
+	if len(it) == 0 || !strings.HasPrefix(answer, "child ") {
 		return
 	}
 	root, err := strconv.ParseUint(answer[strings.LastIndexByte(answer, ' ')+1:], 10, 32)
 	if err == nil {
-		held.forked(uint32(root))
+		delete(it, uint32(root))
 	}
+}
+
+// listing is what a list says, if there is one, with the names.
+func (it labels) listing(list string, err error) (Listing, error) {
+	listing, err := readListOf(list, err)
+	if err != nil || len(it) == 0 {
+		return listing, err
+	}
+	return listing.WithLabels(it), nil
 }

@@ -38,6 +38,7 @@ type heldRecord struct {
 	saving   saving
 	raw      *C.struct_pidtab_record
 	settings Settings
+	labels   labels
 	goesOn   bool // made of the text of another table, so that its history does not begin with the root init alone
 	seated   uint32
 }
@@ -205,14 +206,15 @@ func (shared *Shared) List() (string, error) {
 	held := shared.held()
 	held.lock.Lock()
 	defer held.lock.Unlock()
-	return wholeText(func(room unsafe.Pointer, most C.size_t, size *C.size_t) C.uint32_t {
-		return C.pidtab_record_list(held.raw, room, most, size)
-	})
+	return held.list()
 }
 
-// Listing is the same list, read: the tasks, the namespaces and the control groups. ErrNoMemory.
+// Listing is the same list, read: the tasks with their labels, the namespaces and the control groups. ErrNoMemory.
 func (shared *Shared) Listing() (Listing, error) {
-	return readListOf(shared.List())
+	held := shared.held()
+	held.lock.Lock()
+	defer held.lock.Unlock()
+	return held.labels.listing(held.list())
 }
 
 // Opening is the list of the state that the kept history begins in: that of the first opening, or of the last cut. It costs as much.
@@ -245,7 +247,12 @@ func (shared *Shared) Replay(saved []Entry) error {
 		held.wakeSaver()
 		held.cutWhereLong()
 		if err := faultOf(uint32(status)); err != nil {
+			// Which number a fork has drawn that has another reply, nobody is told.
+			held.labels = nil
 			return ReplayError{first + int(place), err}
+		}
+		for i := range room {
+			held.labels.replied(&room[i].reply)
 		}
 	}
 	return nil
@@ -265,6 +272,13 @@ func (shared *Shared) alone(do func(*C.struct_pidtab_record) C.uint32_t) error {
 	held.lock.Lock()
 	defer held.lock.Unlock()
 	return faultOf(uint32(do(held.raw)))
+}
+
+// list is the list as text. The lock is held.
+func (held *heldRecord) list() (string, error) {
+	return wholeText(func(room unsafe.Pointer, most C.size_t, size *C.size_t) C.uint32_t {
+		return C.pidtab_record_list(held.raw, room, most, size)
+	})
 }
 
 // counts is how far the history goes. The lock is held.
@@ -367,7 +381,7 @@ func (seat *Seat) Line(line string) (string, error) {
 	own := seat.place()
 	own.held.lock.LockForCall()
 	defer own.held.lock.Unlock()
-	return answer(line, func(line unsafe.Pointer, length C.size_t, room unsafe.Pointer, size *C.size_t) C.uint32_t {
+	said, err := answer(line, func(line unsafe.Pointer, length C.size_t, room unsafe.Pointer, size *C.size_t) C.uint32_t {
 		var ordinal C.uint64_t
 		if status := own.held.waitForSaver(); status != C.PIDTAB_DONE {
 			return status
@@ -375,6 +389,8 @@ func (seat *Seat) Line(line string) (string, error) {
 		status := C.pidtab_record_line(own.held.raw, C.uint32_t(own.worker), line, length, room, C.PIDTAB_LONGEST_ANSWER, size, &ordinal)
 		return own.after(status, ordinal)
 	})
+	own.held.labels.answered(said)
+	return said, err
 }
 
 // place is what the seat knows; one at a table that is not open where nobody has given it.
@@ -394,6 +410,9 @@ func (own *seated) step(call *C.struct_pidtab_call, reply *C.struct_pidtab_reply
 		return status
 	}
 	status := C.pidtab_record_call(own.held.raw, C.uint32_t(own.worker), call, reply, &ordinal)
+	if status == C.PIDTAB_DONE {
+		own.held.labels.replied(reply)
+	}
 	return own.after(status, ordinal)
 }
 

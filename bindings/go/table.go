@@ -27,7 +27,7 @@ type Table struct {
 type heldTable struct {
 	lock   sync.Mutex
 	raw    C.struct_pidtab
-	labels map[uint32]string // of tasks by their root numbers
+	labels labels
 }
 
 // Open makes a table with the root init alone, whose numbers are below pidMax. ErrOutOfRange for a pidMax outside 301 to 4194304,
@@ -79,7 +79,7 @@ func (table *Table) Line(line string) (string, error) {
 	said, err := answer(line, func(line unsafe.Pointer, length C.size_t, room unsafe.Pointer, size *C.size_t) C.uint32_t {
 		return C.pidtab_line(&held.raw, line, length, room, C.PIDTAB_LONGEST_ANSWER, size)
 	})
-	held.answered(said)
+	held.labels.answered(said)
 	return said, err
 }
 
@@ -97,11 +97,7 @@ func (table *Table) Listing() (Listing, error) {
 	held := table.held()
 	held.lock.Lock()
 	defer held.lock.Unlock()
-	listing, err := readListOf(held.list())
-	if err != nil || len(held.labels) == 0 {
-		return listing, err
-	}
-	return listing.WithLabels(held.labels), nil
+	return held.labels.listing(held.list())
 }
 
 // held is the table of the library; one that is not open where nobody has opened it.
@@ -117,8 +113,8 @@ func (held *heldTable) step(call *C.struct_pidtab_call, reply *C.struct_pidtab_r
 	held.lock.Lock()
 	defer held.lock.Unlock()
 	status := C.pidtab_call(&held.raw, call, reply)
-	if len(held.labels) > 0 && status == C.PIDTAB_DONE && reply.kind == C.PIDTAB_FORKED {
-		held.forked(uint32(reply.second))
+	if status == C.PIDTAB_DONE {
+		held.labels.replied(reply)
 	}
 	return status
 }

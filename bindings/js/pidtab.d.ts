@@ -238,6 +238,8 @@ export class Record {
   checkpointAt(seen: Long): boolean;
   list(): Listing;
   listText(): string;
+  /** As that of a table: the name is in the record's `list`. */
+  label(task: number, text: string | null): void;
   dump(): string;
   /** Ends it, with its seats. */
   close(): void;

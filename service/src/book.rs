@@ -7,13 +7,18 @@ use std::hash::{BuildHasherDefault, Hasher};
 /// The root init, which never ends, and so may always ask.
 const INIT: u32 = 1;
 
-/// Numbers are the table's own, so that nobody chooses those that collide.
+/// An odd number without a pattern: 2^64 by the golden ratio.
+const MIX: u64 = 0x9e37_79b9_7f4a_7c15;
+
+/// Numbers are the table's own, so that nobody chooses those that collide. They are drawn one behind the other, and so they lie: a map takes its
+/// place from the low bits, and tells neighbours apart by the high ones.
 #[derive(Default)]
 pub struct NumberHasher(u64);
 
 impl Hasher for NumberHasher {
     fn finish(&self) -> u64 {
-        self.0
+        let low = u64::from(u32::MAX);
+        self.0 & low | self.0.wrapping_mul(MIX) & !low
     }
 
     fn write(&mut self, bytes: &[u8]) {
@@ -25,8 +30,7 @@ impl Hasher for NumberHasher {
     }
 
     fn write_u64(&mut self, number: u64) {
-        self.0 = (self.0 ^ number).wrapping_mul(0x9e37_79b9_7f4a_7c15);
-        self.0 ^= self.0 >> 32;
+        self.0 = self.0.wrapping_mul(MIX).wrapping_add(number);
     }
 }
 

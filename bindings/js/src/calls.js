@@ -1,6 +1,7 @@
 // The calls: a method for each, raw lines, and the list. pidtab.d.ts says what each takes, answers and throws.
 //
-// What has these methods says by `_open` which instance it is, by `_call` and `_line` how a call is made there, and by `_ask` whether it is one.
+// What has these methods says by `_open` which instance it is, by `_call` and `_line` how a call is made there, and by `_forked` what a
+// new task is told to.
 
 import { checkLong, checkNumber, checkRange, checkSigned } from "./bounds.js";
 import { faultOf, readRefusal, Refusal, shorten } from "./faults.js";
@@ -123,13 +124,19 @@ export class Calls extends Queries {
     const instance = this._open();
     const status = this._asked(instance, text);
     if (status !== STATUS.DONE) throw faultOf(status, shorten(text));
-    return instance.answer();
+    return this._noted(instance.answer());
+  }
+
+  /** The answer. That of a fork, as `child 2 root 3`, tells of a new task. */
+  _noted(answer) {
+    if (answer.startsWith("child ")) this._forked(Number(answer.slice(answer.lastIndexOf(" "))));
+    return answer;
   }
 
   _answer(text) {
     const instance = this._open();
     const status = this._asked(instance, text);
-    return status === STATUS.DONE ? instance.answer() : NOT_MADE[status];
+    return status === STATUS.DONE ? this._noted(instance.answer()) : NOT_MADE[status];
   }
 
   line(text) {
@@ -145,7 +152,9 @@ export class Calls extends Queries {
   }
 
   fork(caller, { newSpace = false } = {}) {
-    return this._make(aChild, OPERATION.FORK, caller, 0, newSpace ? 1 : 0);
+    const child = this._make(aChild, OPERATION.FORK, caller, 0, newSpace ? 1 : 0);
+    this._forked(child.root);
+    return child;
   }
 
   exec(caller) {

@@ -5,6 +5,7 @@ import { Ask, Calls } from "./calls.js";
 import { Differs, faultOf, SeatsTaken, TableClosed } from "./faults.js";
 import { DEFAULT_PID_MAX, MOST_WORKERS, STATUS } from "./header.js";
 import { ANSWER_ROOM, Instance, opened } from "./instance.js";
+import { nameTask, nameTasks } from "./labels.js";
 import { readListing } from "./listing.js";
 import { answerAt } from "./replies.js";
 import { checkOpened, checkPidMax, headOf } from "./table.js";
@@ -35,6 +36,10 @@ class Seat extends Calls {
 
   _call(instance) {
     return this._recorded(instance, instance.exports.record_call(this.worker));
+  }
+
+  _forked(root) {
+    if (this._record._labels.size > 0) this._record._labels.delete(root);
   }
 
   _line(instance, length) {
@@ -72,6 +77,7 @@ export class Record {
   _begin(instance, { workers, pidMax, firstStamp }) {
     this._instance = instance;
     this._seats = 0;
+    this._labels = new Map();
     this.workers = workers;
     this.pidMax = pidMax;
     this.firstStamp = firstStamp;
@@ -145,8 +151,12 @@ export class Record {
     return status === STATUS.DONE;
   }
 
+  label(task, text) {
+    nameTask(this._labels, this.ask, task, text);
+  }
+
   list() {
-    return readListing(this.listText());
+    return nameTasks(this._labels, readListing(this.listText()));
   }
 
   listText() {

@@ -5,6 +5,7 @@ import { Ask, Calls } from "./calls.js";
 import { BadText, faultOf } from "./faults.js";
 import { DEFAULT_PID_MAX, FAULT, GREATEST_PID_MAX, LEAST_PID_MAX, STATUS } from "./header.js";
 import { ANSWER_ROOM, Instance, opened } from "./instance.js";
+import { nameTask, nameTasks } from "./labels.js";
 
 /** The bound, if it is one. */
 export function checkPidMax(pidMax) {
@@ -26,16 +27,6 @@ export function headOf(text) {
   const head = typeof text === "string" ? text : new TextDecoder().decode(text.subarray(0, 99));
   const [, , , , pidMax, , stamp] = head.split("\n", 1)[0].split(" ");
   return { pidMax: Number(pidMax), stamp: BigInt(stamp) };
-}
-
-/** What is not printed, or ends a line. */
-const UNPRINTABLE = /(?! )[\p{C}\p{Z}]/u;
-
-/** The text, if it is a label. */
-function checkLabel(text) {
-  if (typeof text !== "string") throw new TypeError(`a label is a string, or null for none, not a ${typeof text}`);
-  if (text === "" || UNPRINTABLE.test(text)) throw new RangeError(`a label is some printable text of one line, not ${JSON.stringify(text)}`);
-  return text;
 }
 
 export class Table extends Calls {
@@ -74,36 +65,16 @@ export class Table extends Calls {
     return instance.exports.line(length, ANSWER_ROOM);
   }
 
-  fork(caller, options) {
-    const child = super.fork(caller, options);
-    if (this._labels.size > 0) this._labels.delete(child.root);
-    return child;
-  }
-
-  _answerOfCall(text) {
-    return this._noted(super._answerOfCall(text));
-  }
-
-  _answer(text) {
-    return this._noted(super._answer(text));
-  }
-
-  /** The answer, of which a fork, as `child 2 root 3`, is noted: nobody has named its task. */
-  _noted(answer) {
-    if (this._labels.size > 0 && answer.startsWith("child ")) this._labels.delete(Number(answer.split(" ")[3]));
-    return answer;
+  _forked(root) {
+    if (this._labels.size > 0) this._labels.delete(root);
   }
 
   label(task, text) {
-    const [root] = this.ask.stat(1, task).numbers;
-    if (text === null) this._labels.delete(root);
-    else this._labels.set(root, checkLabel(text));
+    nameTask(this._labels, this.ask, task, text);
   }
 
   list() {
-    const listing = super.list();
-    for (const task of listing.tasks) if (this._labels.has(task.root)) task.label = this._labels.get(task.root);
-    return listing;
+    return nameTasks(this._labels, super.list());
   }
 
   dump() {

@@ -70,25 +70,41 @@ test("a label is in the list and in its JSON, and not in the table", { skip }, (
   assert.deepEqual(labelsOf(table), {});
 });
 
-test("a label goes when the number is another task's", { skip }, () => {
-  const table = new pidtab.Table({ pidMax: 301 });
-  // From the last number on the search for one begins there again.
-  for (let child = 0; child !== 300; ) {
-    if (child > 0) {
-      table.exit(child);
-      table.wait(1);
-    }
-    child = table.fork(1).root;
+/** Forks children of the root init that end, up to the last number, which then comes again and again. */
+function goUp(calls) {
+  for (;;) {
+    const child = calls.fork(1).root;
+    if (child === 300) return;
+    calls.exit(child);
+    calls.wait(1);
   }
-  for (const fork of [() => table.fork(1), () => table.line("fork 1"), () => table.answers(["fork 1"])]) {
+}
+
+/** A label of the last number stays at the zombie, and goes with the fork that draws the number again. */
+function checkForks(table, calls, forks) {
+  for (const fork of forks) {
     table.label(300, "short");
-    table.exit(300);
+    calls.exit(300);
     assert.deepEqual(labelsOf(table), { 300: "short" });
-    table.wait(1);
+    calls.wait(1);
     fork();
-    assert.equal(table.getpid(300), 300);
+    assert.equal(calls.getpid(300), 300);
     assert.deepEqual(labelsOf(table), {});
   }
+}
+
+test("a label goes when the number is another task's", { skip }, () => {
+  const table = new pidtab.Table({ pidMax: 301 });
+  goUp(table);
+  checkForks(table, table, [() => table.fork(1), () => table.line("fork 1"), () => table.answers(["fork 1"])]);
+});
+
+test("a label of a record goes by any of its seats", { skip }, () => {
+  const record = new pidtab.Record({ pidMax: 301, workers: 2 });
+  const [first, second] = [record.seat(), record.seat()];
+  goUp(first);
+  const last = record.entry(record.counts().recorded - 1n);
+  checkForks(record, first, [() => second.fork(1), () => second.line("fork 1"), () => record.replay([last])]);
 });
 
 test("what is no label, and who is nobody", { skip }, () => {

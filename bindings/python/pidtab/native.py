@@ -17,7 +17,6 @@ from pidtab.raw import (
     CALL_FIELDS,
     CLOSED,
     DONE,
-    FORK,
     NO_MEMORY,
     NO_ROOM,
     OUT_OF_RANGE,
@@ -114,7 +113,10 @@ UNUSED: list[PidtabReply] = []
 
 def make_call(call: Call, form: Form[T], make: Callable[[bytes, PidtabReply], int]) -> T:
     """What a call is answered by a function that takes and tells numbers, and answers a status."""
-    packed = pack(call)
+    try:
+        packed = CALL_FIELDS.pack(*call)
+    except struct.error:
+        raise ValueError(f"bad line: {call.line}") from None
     try:
         reply = UNUSED.pop()
     except IndexError:
@@ -212,9 +214,10 @@ class NumberCalls(Labelled, AskableCalls):
         """Sees to it that a new task has no label of another."""
 
     def _make(self, call: Call, form: Form[T]) -> T:
-        self._check_owner()
+        if self._left:
+            self._check_owner()
         told = make_call(call, form, self._call)
-        if call.operation == FORK and self._labels.by_root and isinstance(told, Forked):
+        if self._labels.by_root and isinstance(told, Forked):
             self._forked(told.root)
         return told
 

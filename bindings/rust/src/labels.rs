@@ -1,6 +1,9 @@
 //! Names of tasks, which are outside of the table.
-use crate::{Error, Reply, Table};
+use crate::{raw, Call, Error, Record, Reply, Shared, Table};
 use std::collections::HashMap;
+
+/// The root init, which sees all tasks by their root numbers.
+const INIT: u32 = 1;
 
 /// Labels by root numbers. One goes when its number is another task's.
 #[derive(Default)]
@@ -32,6 +35,27 @@ impl Labels {
             self.by_root.remove(&root);
         }
     }
+
+    /// Notes calls that were made again. Where they stopped, nobody is told which number a fork with another reply has drawn.
+    pub(crate) fn made_again(&mut self, entries: &[raw::Entry], is_done: bool) {
+        if !is_done {
+            self.by_root.clear();
+        }
+        if !self.by_root.is_empty() {
+            for it in entries {
+                self.replied(&Reply::of(&it.reply));
+            }
+        }
+    }
+
+    /// Puts a label, or takes the one away that there is.
+    fn put(&mut self, root: u32, label: &str) {
+        if label.is_empty() {
+            self.by_root.remove(&root);
+        } else {
+            self.by_root.insert(root, label.into());
+        }
+    }
 }
 
 impl Table {
@@ -51,18 +75,57 @@ impl Table {
     /// # Errors
     /// `Refused` as `NoTask`; `BadLabel`, `Busy`.
     pub fn label(&mut self, task: u32, label: &str) -> Result<(), Error> {
-        if label.contains(is_unprintable) {
-            return Err(Error::BadLabel);
-        }
-        // By 0 the root init is named.
-        let root = self.stat(1, task)?.numbers()[0];
-        if label.is_empty() {
-            self.labels.by_root.remove(&root);
-        } else {
-            self.labels.by_root.insert(root, label.into());
-        }
+        check(label)?;
+        let found = self.ask(find(task))?;
+        self.labels.put(root_of(task, &found)?, label);
         Ok(())
     }
+}
+
+impl Record {
+    /// As [`Table::label`]: names a task in [`Record::listing`]. A replay that stops takes all names away.
+    ///
+    /// # Errors
+    /// `Refused` as `NoTask`; `BadLabel`, `Busy`.
+    pub fn label(&mut self, task: u32, label: &str) -> Result<(), Error> {
+        check(label)?;
+        let found = self.ask(find(task))?;
+        self.labels.put(root_of(task, &found)?, label);
+        Ok(())
+    }
+}
+
+impl Shared {
+    /// As [`Record::label`]: names a task for all who list the table.
+    ///
+    /// # Errors
+    /// `Refused` as `NoTask`; `BadLabel`, `Busy`.
+    pub fn label(&self, task: u32, label: &str) -> Result<(), Error> {
+        self.lock().label(task, label)
+    }
+}
+
+/// What finds a task, a zombie too.
+fn find(task: u32) -> Call {
+    Call::Getpgid {
+        caller: INIT,
+        pid: task,
+    }
+}
+
+/// The root number of a task that was found, where 0 is the root init.
+fn root_of(task: u32, found: &Reply) -> Result<u32, Error> {
+    match *found {
+        Reply::Refused { errno, refusal } => Err(Error::Refused { errno, refusal }),
+        _ => Ok(task.max(INIT)),
+    }
+}
+
+fn check(label: &str) -> Result<(), Error> {
+    if label.contains(is_unprintable) {
+        return Err(Error::BadLabel);
+    }
+    Ok(())
 }
 
 /// Whether a letter has no place in a label: it controls a terminal, or ends a line.
@@ -73,28 +136,29 @@ fn is_unprintable(letter: char) -> bool {
 #[cfg(test)]
 mod tests {
     use super::*;
-    use crate::{Call, Calls, Refusal, Which};
+    use crate::{Calls, Listing, Refusal, Which};
 
     /// The last number below the least `pid_max`: the search for a number begins there again.
     const LAST: u32 = 300;
 
-    fn labels_of(table: &mut Table) -> Vec<(u32, String)> {
-        let tasks = table.listing().expect("a list").tasks;
+    fn labels_of(listing: Result<Listing, Error>) -> Vec<(u32, String)> {
+        let tasks = listing.expect("a list").tasks;
         let labelled = tasks.into_iter().map(|it| (it.root(), it.label));
         labelled
             .filter_map(|(root, label)| Some((root, label?)))
             .collect()
     }
 
-    /// A table whose last fork drew the last number, which then comes again and again.
-    fn gone_up() -> Table {
-        let mut table = Table::open(301).expect("a table");
-        while table.fork(1, false).expect("a child").root != LAST {
-            let last = table.next(1, crate::Kind::Task, 2).expect("a number");
-            table.exit(last.expect("a child"), 0).expect("an end");
+    /// Forks children of the root init that end, up to the last number, which then comes again and again.
+    fn go_up(table: &mut impl Calls) {
+        loop {
+            let child = table.fork(1, false).expect("a child").root;
+            if child == LAST {
+                return;
+            }
+            table.exit(child, 0).expect("an end");
             table.wait(1, Which::Any).expect("a wait");
         }
-        table
     }
 
     #[test]
@@ -104,17 +168,18 @@ mod tests {
         let text = table.dump();
         table.label(2, "x").expect("a label");
         table.label(2, "web \"1\"").expect("a label");
-        assert_eq!(labels_of(&mut table), [(2, "web \"1\"".into())]);
+        assert_eq!(labels_of(table.listing()), [(2, "web \"1\"".into())]);
         let json = table.listing().expect("a list").to_json();
         assert!(json.contains(r#""label":"web \"1\""}"#), "{json}");
         assert_eq!(table.dump(), text);
         table.label(2, "").expect("no label");
-        assert_eq!(labels_of(&mut table), []);
+        assert_eq!(labels_of(table.listing()), []);
     }
 
     #[test]
     fn a_label_goes_with_its_task() {
-        let mut table = gone_up();
+        let mut table = Table::open(301).expect("a table");
+        go_up(&mut table);
         let forks: [fn(&mut Table); 2] = [
             |it| {
                 drop(it.call(Call::Fork {
@@ -127,12 +192,40 @@ mod tests {
         for fork in forks {
             table.label(LAST, "short").expect("a label");
             table.exit(LAST, 0).expect("an end");
-            assert_eq!(labels_of(&mut table), [(LAST, "short".into())]);
+            assert_eq!(labels_of(table.listing()), [(LAST, "short".into())]);
             table.wait(1, Which::Any).expect("a wait");
             fork(&mut table);
             assert!(table.getpid(LAST).is_ok());
-            assert_eq!(labels_of(&mut table), []);
+            assert_eq!(labels_of(table.listing()), []);
         }
+    }
+
+    #[test]
+    fn a_label_of_a_table_that_threads_share() {
+        let shared = Shared::open(301, 2).expect("a table");
+        let mut seat = shared.seat().expect("a seat");
+        go_up(&mut seat);
+        let last = shared.counts().expect("counts").recorded - 1;
+        let saved = shared.entries(last, 1).expect("the fork");
+        for way in ["call", "line", "replay"] {
+            shared.label(LAST, "short").expect("a label");
+            seat.exit(LAST, 0).expect("an end");
+            assert_eq!(labels_of(shared.listing()), [(LAST, "short".into())]);
+            seat.wait(1, Which::Any).expect("a wait");
+            match way {
+                "call" => drop(seat.fork(1, false)),
+                "line" => drop(seat.line("fork 1")),
+                _ => shared.replay(&saved).expect("the same fork"),
+            }
+            assert!(seat.getpid(LAST).is_ok(), "{way}");
+            assert_eq!(labels_of(shared.listing()), [], "{way}");
+        }
+        shared.label(1, "init").expect("a label");
+        assert!(shared.replay(&saved).is_err());
+        assert_eq!(labels_of(shared.lock().listing()), []);
+        assert_eq!(shared.label(1, "a\nb"), Err(Error::BadLabel));
+        let (errno, refusal) = (3, Refusal::NoTask);
+        assert_eq!(shared.label(9, "x"), Err(Error::Refused { errno, refusal }));
     }
 
     #[test]

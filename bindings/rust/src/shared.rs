@@ -3,6 +3,7 @@
 //! The lock is std's and not that of `pidtab_shared.h`. A pthread mutex that its own thread takes again has no defined behaviour, and Rust has
 //! no name for its size.
 use crate::calls::sealed::Sealed;
+use crate::labels::Labels;
 use crate::{
     raw, texts, Call, Calls, Error, LineError, Listing, ReplayError, Reply, SavedError, TextError,
 };
@@ -389,7 +390,7 @@ impl Shared {
     /// # Errors
     /// `NoMemory`, `Busy`.
     pub fn listing(&self) -> Result<Listing, Error> {
-        Ok(Listing::of(&self.list()?))
+        self.lock().listing()
     }
 
     /// As [`Record::opening`]: the list of the state that the kept history begins in.
@@ -441,6 +442,7 @@ pub struct Record {
     raw: raw::Record,
     keep: u64,
     pub(crate) saving: Saving,
+    pub(crate) labels: Labels,
 }
 
 /// How many entries go to the library, or come from it, at a time.
@@ -452,6 +454,7 @@ impl Record {
             raw,
             keep,
             saving: Saving::default(),
+            labels: Labels::default(),
         }
     }
 
@@ -570,12 +573,12 @@ impl Record {
         texts::whole(|room, size| self.raw.dump(room, size))
     }
 
-    /// The list, read: the tasks, the namespaces and the control groups.
+    /// The list, read: the tasks with their labels, the namespaces and the control groups.
     ///
     /// # Errors
     /// `NoMemory`, `Busy`.
     pub fn listing(&mut self) -> Result<Listing, Error> {
-        Ok(Listing::of(&self.list()?))
+        Ok(Listing::of(&self.list()?).with_labels(self.labels.iter()))
     }
 
     /// The list of the state that the kept history begins in: that of the first opening, or of the last cut. It costs as much.
@@ -614,6 +617,7 @@ impl Record {
         let mut place = 0;
         let status = self.raw.replay(saved, &mut place);
         self.after_call();
+        self.labels.made_again(saved, status == raw::DONE);
         Error::unless_done(status).map_err(|error| ReplayError { place, error })
     }
 
@@ -628,7 +632,9 @@ impl Record {
         let made = self.raw.call(worker, &call.numbers(), &mut reply);
         let ordinal = made.map_err(Error::of)?;
         self.after_call();
-        Ok((Reply::of(&reply), ordinal))
+        let reply = Reply::of(&reply);
+        self.labels.replied(&reply);
+        Ok((reply, ordinal))
     }
 
     /// Makes the call on a line for the worker: its answer and its ordinal.
@@ -637,6 +643,7 @@ impl Record {
         let answer =
             texts::answer(|room, size| self.raw.line(worker, line, room, size, &mut ordinal))?;
         self.after_call();
+        self.labels.answered(&answer);
         Ok((answer, ordinal))
     }
 

@@ -23,7 +23,8 @@ pub(crate) fn whole(mut write: impl FnMut(&mut [u8], &mut usize) -> u32) -> Resu
         match write(&mut text, &mut size) {
             raw::DONE => {
                 text.truncate(size);
-                return Ok(String::from_utf8_lossy(&text).into_owned());
+                // Without a copy, as a text may be long.
+                return Ok(String::from_utf8(text).expect("the library writes ASCII"));
             }
             raw::NO_ROOM => text.clear(),
             status => return Err(Error::of(status)),
