@@ -6,3 +6,4 @@ pub mod Lines
 pub mod Sessions
 pub mod Grouping
 pub mod Sorted
+pub mod Follows

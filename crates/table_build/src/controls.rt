@@ -1,5 +1,7 @@
 //! The control groups of a text, put into a store.
-ghost use Rattle.std.specs.Prelude.{◌≡◌, ◌≤◌, ◌<◌, ◌++◌, ◌∷◌, [], true, None, IsTrue, OnOk, IfOk};
+ghost use Rattle.std.specs.Prelude.{◌≡◌, ◌≢◌, ◌≤◌, ◌<◌, ◌++◌, ◌∷◌, [], true, None, IsTrue};
+ghost use Rattle.std.specs.Prelude.{OnOk, IfOk, IfErr};
+ghost use Rattle.table_build.specs.Follows.{MayFollow};
 ghost use Rattle.std.specs.List.{AllByRecursion};
 ghost use Rattle.pids_charge.specs.Charges.{stands, id_at};
 ghost use Rattle.table_build.specs.Ungrouped.{IsUngrouped};
@@ -32,6 +34,8 @@ fn make_control(
     ensures id { IfOk result (λ key. id_at store.new.charges key ≡ control.now.id) }
     ensures made { OnOk result (store.new.charges.controls
         ≡ store.old.charges.controls ++ record control.now { limit = None } ∷ []) }
+    ensures refused { IfErr result (λ fault. fault ≢ BuildFault.NoMemory
+        → MayFollow store.old.charges.controls last control.now → ⊥) }
     ensures rest { store.new ≡ record store.old { charges = store.new.charges } }
 {
     let Some(around) = control.parent else {
@@ -57,6 +61,8 @@ fn put_control(store: &mut Tasks, control: &Control, last: u64, line: u64) -> Re
     ensures ungrouped { OnOk result (IsUngrouped store.new) }
     ensures below { OnOk result (AllByRecursion (λ g. g.id ≤ control.now.id) store.new.charges.controls) }
     ensures put { OnOk result (store.new.charges.controls ≡ store.old.charges.controls ++ control.now ∷ []) }
+    ensures refused { IfErr result (λ fault. fault ≢ BuildFault.NoMemory
+        → MayFollow store.old.charges.controls last control.now → ⊥) }
     ensures rest { store.new ≡ record store.old { charges = store.new.charges } }
 {
     let key = make_control(store, control, last, line)?;
