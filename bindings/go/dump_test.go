@@ -47,6 +47,28 @@ func sharedFromDump(t *testing.T, counts []uint64, keep uint64) *Shared {
 	return shared
 }
 
+func TestANamespaceWithoutAFreeNumber(t *testing.T) {
+	table := open(t, 301)
+	for {
+		if _, err := table.Fork(1, false); err != nil {
+			break
+		}
+	}
+	text, err := table.Dump()
+	if err != nil {
+		t.Fatal(err)
+	}
+	if tasks := strings.Count(text, "\ntask "); tasks != 300 {
+		t.Fatalf("%d tasks", tasks)
+	}
+	again := fromDump(t, text)
+	want(t, "dump again", of(again.Dump()), text, nil)
+	for _, line := range []string{"fork 1", "exit 300 0", "wait 1 any", "fork 1"} {
+		answer, err := table.Line(line)
+		want(t, line, of(again.Line(line)), answer, err)
+	}
+}
+
 func TestTheWorkedText(t *testing.T) {
 	table := open(t, 32768)
 	for _, line := range dumpLines {

@@ -105,6 +105,16 @@ test("the text of a table makes it again", { skip }, () => {
   }
 });
 
+test("a namespace without a free number is loaded", { skip }, () => {
+  const table = new Table({ pidMax: 301 });
+  for (let root = 2; root < 301; root += 1) assert.deepEqual(table.fork(1), { child: root, root });
+  const text = table.dump();
+  const again = Table.load(text);
+  assert.equal(again.dump(), text);
+  const lines = ["fork 1", "exit 300 0", "wait 1 any", "fork 1"];
+  assert.deepEqual(again.answers(lines), table.answers(lines));
+});
+
 test("a text that is that of no table", { skip }, () => {
   const text = new Table().dump();
   const wrong = text.replace("group 1@0", "group 2@0");

@@ -89,6 +89,19 @@ class Texts(unittest.TestCase):
             self.assertEqual(loaded.answers(behind), table.answers(behind))
             self.assertEqual(loaded.dump(), table.dump())
 
+    def test_a_namespace_without_a_free_number(self) -> None:
+        table = self.table(pid_max=301)
+        self.assertEqual([table.fork(1).root for _ in range(2, 301)], list(range(2, 301)))
+        text = table.dump()
+        loaded = self.table(text)
+        self.assertEqual(loaded.dump(), text)
+        for each in (table, loaded):
+            with self.assertRaises(Refusal) as raised:
+                each.fork(1)
+            self.assertEqual(raised.exception.word, "no-number")
+            each.exit(300, 0)
+            self.assertEqual((each.wait(1).child, each.fork(1).root), (300, 300))
+
     def test_each_fault(self) -> None:
         for old, new, words in FAULTS:
             with self.subTest(new), self.assertRaises(BadText) as raised:

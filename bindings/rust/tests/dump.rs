@@ -146,6 +146,19 @@ fn calls_behind_it() {
 }
 
 #[test]
+fn a_namespace_without_a_free_number() {
+    let mut table = Table::open(301).expect("a table");
+    while table.fork(1, false).is_ok() {}
+    let text = table.dump().expect("a text");
+    assert_eq!(text.matches("\ntask ").count(), 300);
+    let mut again = Table::from_dump(&text).expect("a table");
+    assert_eq!(again.dump(), Ok(text));
+    for line in ["fork 1", "exit 300 0", "wait 1 any", "fork 1"] {
+        assert_eq!(again.line(line), table.line(line), "{line}");
+    }
+}
+
+#[test]
 fn a_history_that_begins_there() {
     let shared = Shared::from_dump(text(), &[0, 0], 0).expect("a table");
     assert_eq!((shared.workers(), shared.pid_max()), (2, 32768));
