@@ -6,3 +6,5 @@ pub mod Moves
 pub mod Gathered
 pub mod LineSteps
 pub mod SpaceFalls
+pub mod Following
+pub mod ControlTrees

@@ -1,8 +1,9 @@
 //! The control groups of a text, put into a store.
-ghost use Rattle.std.specs.Prelude.{◌≡◌, ◌≢◌, ◌≤◌, ◌<◌, ◌++◌, ◌∷◌, [], true, None, IsTrue};
-ghost use Rattle.std.specs.Prelude.{OnOk, IfOk, IfErr};
-ghost use Rattle.table_build.specs.Follows.{MayFollow};
+ghost use Rattle.std.specs.Prelude.{◌≡◌, ◌≢◌, ◌≤◌, ◌<◌, ◌++◌, ◌∷◌, [], true, false, None, IsTrue};
+ghost use Rattle.std.specs.Prelude.{OnOk, IfOk, IfErr, Some, length, slice_get, take, ◌+◌};
+ghost use Rattle.table_build.specs.Follows.{AreUpToLast, AreGoodControls, MayFollow};
 ghost use Rattle.std.specs.List.{AllByRecursion};
+ghost use Rattle.pid_types.specs.declared.plain.Control.{Control};
 ghost use Rattle.pids_charge.specs.Charges.{stands, id_at};
 ghost use Rattle.table_build.specs.Ungrouped.{IsUngrouped};
 
@@ -16,7 +17,8 @@ use task_table::Tasks;
 
 /// Whether it is the root control group as it begins, which is there already.
 fn is_root(control: &Control) -> bool
-    ensures { IsTrue result → control.now ≡ record { id = 0; parent = None; limit = None } }
+    ensures yes { IsTrue result → control.now ≡ record { id = 0; parent = None; limit = None } }
+    ensures no { result ≡ false → control.now ≡ record { id = 0; parent = None; limit = None } → ⊥ }
 {
     control.id == 0 && control.parent.is_none() && control.limit.is_none()
 }
@@ -75,6 +77,43 @@ fn put_control(store: &mut Tasks, control: &Control, last: u64, line: u64) -> Re
     }
 }
 
+/// Sees that the first line is that of the root control group.
+fn check_root(saved: &Saved) -> Result<(), BuildFault>
+    ensures root { OnOk result ((c : Control) → slice_get saved.now.controls.items 0 ≡ Some c
+        → c ≡ record { id = 0; parent = None; limit = None }) }
+    ensures some { OnOk result (0 < length saved.now.controls.items) }
+    ensures refused { IfErr result (λ fault. fault ≢ BuildFault.NoMemory
+        → AreGoodControls saved.now.controls.items → ⊥) }
+{
+    let Some(root) = saved.controls.first() else {
+        return Err(BuildFault::Impossible(control_line(saved, 0)));
+    };
+    if root.id != 0 {
+        return Err(BuildFault::Unsorted(control_line(saved, 0)));
+    }
+    if !is_root(root) {
+        return Err(BuildFault::Impossible(control_line(saved, 0)));
+    }
+    Ok(())
+}
+
+/// Puts the control group of a line behind those of the lines before.
+fn put_next(store: &mut Tasks, saved: &Saved, index: usize) -> Result<(), BuildFault>
+    requires ungrouped { IsUngrouped store.old }
+    requires put { store.old.charges.controls ≡ take index saved.now.controls.items }
+    requires below { AreUpToLast store.old.charges.controls saved.now.controls.items index }
+    requires index { (0 < index) × (index < length saved.now.controls.items) }
+    ensures ungrouped { OnOk result (IsUngrouped store.new) }
+    ensures put { OnOk result (store.new.charges.controls ≡ take (index + 1) saved.now.controls.items) }
+    ensures below { OnOk result (AreUpToLast store.new.charges.controls saved.now.controls.items (index + 1)) }
+    ensures rest { store.new ≡ record store.old { charges = store.new.charges } }
+    ensures refused { IfErr result (λ fault. fault ≢ BuildFault.NoMemory
+        → AreGoodControls saved.now.controls.items → ⊥) }
+{
+    let last = saved.controls[index - 1].id;
+    put_control(store, &saved.controls[index], last, control_line(saved, index))
+}
+
 /// Puts all control groups: the first line is that of the root, and the ids rise.
 pub fn put_controls(store: &mut Tasks, saved: &Saved) -> Result<(), BuildFault>
     requires ungrouped { IsUngrouped store.old }
@@ -82,17 +121,12 @@ pub fn put_controls(store: &mut Tasks, saved: &Saved) -> Result<(), BuildFault>
     ensures ungrouped { OnOk result (IsUngrouped store.new) }
     ensures put { OnOk result (store.new.charges.controls ≡ saved.now.controls.items) }
     ensures rest { store.new ≡ record store.old { charges = store.new.charges } }
+    ensures refused { IfErr result (λ fault. fault ≢ BuildFault.NoMemory
+        → AreGoodControls saved.now.controls.items → ⊥) }
 {
-    match saved.controls.first() {
-        Some(root) if is_root(root) => {}
-        Some(other) if other.id != 0 => return Err(BuildFault::Unsorted(control_line(saved, 0))),
-        _ => return Err(BuildFault::Impossible(control_line(saved, 0))),
-    }
-    let mut last = 0;
+    check_root(saved)?;
     for index in 1..saved.controls.len() {
-        let control = &saved.controls[index];
-        put_control(store, control, last, control_line(saved, index))?;
-        last = control.id;
+        put_next(store, saved, index)?;
     }
     Ok(())
 }

@@ -1,13 +1,13 @@
-use Rattle.std.proofs.Common.{◌≡◌, ◌≤◌, ◌<◌, take, length}
-use Rattle.std.specs.List.{AllByRecursion}
+use Rattle.std.proofs.Common.{◌≡◌, ◌<◌, ◌≤◌, take, length}
+use Rattle.table_build.specs.Follows.{AreUpToLast}
 use Rattle.table_build.specs.Ungrouped.{IsUngrouped}
 use Rattle.table_build.proofs.controls.put_controls.Given as goal
 
 abbrev pub invariant-loop-index : goal.invariant-loop-index
 invariant-loop-index l = record {
   ungrouped : IsUngrouped l.store;
-  below : AllByRecursion (λ g. g.id ≤ l.last) l.store.charges.controls;
+  below : AreUpToLast l.store.charges.controls l.saved.controls.items l.index;
   put : l.store.charges.controls ≡ take l.index l.saved.controls.items;
   rest : l.store ≡ record l.initial.store { charges = l.store.charges };
-  some : 0 < length l.saved.controls.items;
+  some : 0 < l.index;
 }
