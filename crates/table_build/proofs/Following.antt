@@ -1,11 +1,11 @@
 -- What follows in a list of namespaces or control groups that is a tree.
-use Rattle.std.proofs.Common.{◌≡◌, ◌≢◌, inl, inr, ℕ, zero, suc, ◌<◌, ◌≤◌, ◌==◌, Bool, true, List, [], ◌∷◌, ◌++◌, length, map, find, Option, Some, None, IsSome, is_some, if◌then◌else◌, refl, sym, ap, subst, ◌∙◌, arith, option_and_then}
-use Rattle.std.specs.Prelude.{IfSome}
-use Rattle.pid_types.proofs.General.{apart, held}
+use Rattle.std.proofs.Common.{◌≡◌, inl, inr, ℕ, zero, suc, ◌-◌, ◌<◌, ◌≤◌, ◌==◌, Bool, true, List, [], ◌∷◌, ◌++◌, length, take, drop, map, find, slice_get, Option, Some, None, Result, Ok, Err, IsSome, is_some, if◌then◌else◌, refl, sym, ap, subst, ◌∙◌, arith, option_and_then}
+use Rattle.std.specs.Prelude.{IfSome, IfErr, OnOk}
+use Rattle.pid_types.proofs.General.{apart}
 use Rattle.pid_types.specs.Chains.{climb}
 use Rattle.pid_types.specs.Membership.{IsIn}
 use Rattle.pid_types.specs.Sound.{IsRising, IsTree}
-use Rattle.model_laws.proofs.Chains.{Stops-at_root, climb-None, climb-same, climb-stopped, climb_cases, length-climb}
+use Rattle.model_laws.proofs.Chains.{Stops-at_root, climb-same, climb-stopped, climb_cases, length-climb}
 use Rattle.model_laws.proofs.Rising.{find-key, find-key_at}
 
 -- a climb by parents that are below never goes up
@@ -29,7 +29,7 @@ module _ {X : Type 0} (id : X → ℕ) (parent : X → Option ℕ) (deepest : �
   in_left y (z ∷ zs) ys (inl e) = inl e
   in_left y (z ∷ zs) ys (inr i) = inr (in_left y zs ys i)
 
-  in_middle : (y : X) (xs ys : List X) → IsIn y (xs ++ y ∷ ys)
+  pub in_middle : (y : X) (xs ys : List X) → IsIn y (xs ++ y ∷ ys)
   in_middle y [] ys = inl refl
   in_middle y (z ∷ zs) ys = inr (in_middle y zs ys)
 
@@ -55,6 +55,37 @@ module _ {X : Type 0} (id : X → ℕ) (parent : X → Option ℕ) (deepest : �
       in_ids [] m i = absurd i
       in_ids (w ∷ ws) m (inl e) = inl e
       in_ids (w ∷ ws) m (inr i) = inr (in_ids ws m i)
+
+  -- the root stands first
+  pub first-root : (path : ℕ → List ℕ) (xs : List X) (x : X) → slice_get xs 0 ≡ Some x → IsTree X id parent path xs → (id x ≡ 0) × (parent x ≡ None)
+  first-root path [] x e tree = absurd (cc)
+  first-root path (y ∷ ys) x e tree =
+      let first : y ≡ x = cc in
+      let r = find-key_at id (y ∷ ys) 0 tree.root.0 tree.root.1 in
+      let none : id y ≡ 0 = go r.0 r.1 in
+      let found : Some y ≡ Some tree.root.0 = sym (find-key id (y ∷ ys) tree.rising y (inl refl)) ∙ ap (at (y ∷ ys)) none ∙ tree.root.1 in
+      let same : y ≡ tree.root.0 = cc in
+      (ap id (sym first) ∙ none, ap parent (sym first ∙ same) ∙ tree.root.2)
+    where
+      go : IsIn tree.root.0 (y ∷ ys) → id tree.root.0 ≡ 0 → id y ≡ 0
+      go (inl e) none = sym (ap id e) ∙ none
+      go (inr i) none = absurd (let lt = tree.rising.0 (id tree.root.0) (ids_in tree.root.0 ys i) in omega (arith, lt, none))
+
+  -- a list about one of its places
+  pub parted : (xs : List X) (i : ℕ) (x : X) → slice_get xs i ≡ Some x → xs ≡ take i xs ++ x ∷ drop (suc i) xs
+  parted [] i x e = absurd (cc)
+  parted (y ∷ ys) zero x e = (let z : y ≡ x = cc in ap (λ w. w ∷ ys) z)
+  parted (y ∷ ys) (suc i) x e = ap (λ zs. y ∷ zs) (parted ys i x e)
+
+  -- whoever is at the place before
+  pub lastly : (xs : List X) (i : ℕ) (y : X) → 0 < i → slice_get xs (i - 1) ≡ Some y → IsIn y (take i xs)
+  lastly xs zero y some e = absurd (omega (arith, some))
+  lastly xs (suc j) y some e = stands xs j (sym (ap (slice_get xs) (let z : suc j - 1 ≡ j = omega arith in z)) ∙ e)
+    where
+      stands : (xs : List X) (j : ℕ) → slice_get xs j ≡ Some y → IsIn y (take (suc j) xs)
+      stands [] j e = absurd (cc)
+      stands (z ∷ zs) zero e = inl (let w : y ≡ z = cc in w)
+      stands (z ∷ zs) (suc j) e = inr (stands zs j e)
 
   -- whoever has a smaller id stands before
   is_before : (before rest : List X) (x y : X) → IsRising (map id (before ++ x ∷ rest)) → IsIn y (before ++ x ∷ rest) → id y < id x → IsIn y before
@@ -126,3 +157,12 @@ module _ {X : Type 0} (id : X → ℕ) (parent : X → Option ℕ) (deepest : �
             let len = length-climb (up all) deepest p in
             let all_len = ap length (same ∙ stops) in
             omega (arith, len, all_len)
+
+-- what holds of each fault, and of each answer
+pub each-fault : {A E : Type 0} (P Q : E → Type 0) (r : Result A E) → ((e : E) → P e → Q e) → IfErr r P → IfErr r Q
+each-fault P Q (Ok a) f h = h
+each-fault P Q (Err e) f h = f e h
+
+pub each-ok : {A E : Type 0} (P Q : Type 0) (r : Result A E) → (P → Q) → OnOk r P → OnOk r Q
+each-ok P Q (Ok a) f h = f h
+each-ok P Q (Err e) f h = h

@@ -1,5 +1,5 @@
 -- The rows of a store, of which those of the lines are known.
-use Rattle.std.proofs.Common.{◌≡◌, ◌≢◌, inl, inr, ℕ, zero, suc, ◌+◌, ◌<◌, ◌≤◌, Bool, true, false, List, [], ◌∷◌, length, map, slice_get, Option, Some, None, refl, sym, ap, subst, ◌∙◌, arith, option_map}
+use Rattle.std.proofs.Common.{◌≡◌, ◌≢◌, inl, inr, ℕ, zero, suc, ◌+◌, ◌<◌, ◌≤◌, Bool, true, false, List, [], ◌∷◌, length, map, slice_get, Option, Some, None, refl, sym, ap, ◌∙◌, arith, option_map}
 use Rattle.std.specs.Option.{option_map_or}
 use Rattle.std.proofs.lemmas.List.{length-reverse}
 use Rattle.pid_types.specs.declared.plain.Name.{Name}
@@ -9,8 +9,6 @@ use Rattle.pid_numbers.specs.Numbering.{number_of}
 use Rattle.pid_types.specs.Membership.{IsIn}
 use Rattle.pid_types.specs.Names.{root_number}
 use Rattle.pid_types.specs.Sound.{IsRising}
-use Rattle.task_tree.specs.declared.Task.{Task}
-use Rattle.task_tree.specs.Tree.{task_at}
 use Rattle.task_table.specs.Store.{Store}
 use Rattle.task_table.specs.Collect.{collect}
 use Rattle.task_table.specs.View.{name_of, name_at, row_of, row_with, row_numbered, state_of}
@@ -18,7 +16,7 @@ use Rattle.task_table.specs.Lawful.{IsLawful}
 use Rattle.task_table.proofs.LookUps.{named, root-number, row-from, rooted, keyed}
 use Rattle.table_build.proofs.Steps.{task-of}
 use Rattle.table_build.specs.declared.placed.Placed.{Placed}
-use Rattle.table_build.specs.Lines.{AreLines, IsLine, is_held}
+use Rattle.table_build.specs.Lines.{AreLines, is_held}
 use Rattle.table_build.specs.Sorted.{IsNotBelow}
 
 abbrev number_of_row : Row → ℕ
@@ -163,9 +161,9 @@ module _ (s : Store) (l : IsLawful s) (p : Placed) (rows : List Row) (lines : Ar
       let at_n = numbered n.0 b n.2 in
       let up = sorted (suc i) (below_length rows (suc i) b y) i a b refl x y at_m.1 at_n.1 in
       let differs : number_of_row a ≢ number_of_row b = (λ same.
-        let key : m.0 ≡ n.0 = l.numbering.distinct m.0 n.0 0 (number_of_row b) (at_m.0 ∙ ap Some same) at_n.0 in
-        let place : i ≡ suc i = lines.apart i (suc i) n.0 (m.1 ∙ ap Some key) n.1 in
-        omega (arith, place)) in
+      let key : m.0 ≡ n.0 = l.numbering.distinct m.0 n.0 0 (number_of_row b) (at_m.0 ∙ ap Some same) at_n.0 in
+      let place : i ≡ suc i = lines.apart i (suc i) n.0 (m.1 ∙ ap Some key) n.1 in
+      omega (arith, place)) in
       omega (arith, up, differs)
 
   pub rows-rise : ((j : ℕ) → j < length rows → IsNotBelow rows j) → IsRising (map number_of_row rows)

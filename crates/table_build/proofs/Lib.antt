@@ -8,3 +8,4 @@ pub mod LineSteps
 pub mod SpaceFalls
 pub mod Following
 pub mod ControlTrees
+pub mod SpaceTrees

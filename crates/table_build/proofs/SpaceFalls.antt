@@ -8,7 +8,7 @@ use Rattle.pid_types.specs.declared.plain.Space.{Space}
 use Rattle.pid_types.specs.Membership.{IsIn}
 use Rattle.pid_numbers.specs.Numbering.{Numbering, Namespace, namespace_at, id_at, path_at, has_fallen_at}
 use Rattle.pid_numbers.specs.Restore.{is_flagged, fallen_if}
-use Rattle.task_table.specs.View.{parent_id, space_of, spaces_of}
+use Rattle.task_table.specs.View.{space_of, spaces_of}
 use Rattle.task_table.specs.Lawful.{HasLaws}
 use Rattle.table_build.specs.Bare.{AddsFlag, AreFlagged, HasCursor, bare, steady}
 use Rattle.table_build.specs.Stages.{KeepsSpaces}

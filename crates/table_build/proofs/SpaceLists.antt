@@ -4,9 +4,8 @@ use Rattle.std.specs.Prelude.{slice_index_or}
 use Rattle.std.specs.Option.{option_map_or}
 use Rattle.std.proofs.lemmas.List.{map-append}
 use Rattle.std.specs.List.{AllByRecursion}
-use Rattle.pid_types.specs.declared.plain.Space.{Space}
 use Rattle.pid_numbers.specs.Numbering.{Numbering, Namespace, namespace_at, id_at, path_at, new_namespace}
-use Rattle.task_table.specs.View.{parent_id, space_of, spaces_of}
+use Rattle.task_table.specs.View.{space_of, spaces_of}
 use Rattle.task_table.specs.Lawful.{HasLaws}
 use Rattle.task_table.proofs.Keys.{on_path}
 

@@ -1,7 +1,7 @@
 -- What each step of the making leaves as it was.
-use Rattle.std.proofs.Common.{◌≡◌, ◌≢◌, inl, inr, ℕ, false, List, [], Option, Some, None, IsSome, is_some, refl, sym, ap, ◌∙◌, option_map, unwrap_or}
+use Rattle.std.proofs.Common.{◌≡◌, ◌≢◌, inl, inr, ℕ, false, List, [], Option, Some, None, is_some, refl, sym, ap, ◌∙◌, option_map, unwrap_or}
 use Rattle.std.proofs.lemmas.Bool.{cases_eq}
-use Rattle.std.specs.Prelude.{reverse, slice_index_or, position, ◌==◌, option_and_then}
+use Rattle.std.specs.Prelude.{slice_index_or, position, ◌==◌, option_and_then}
 use Rattle.std.specs.Option.{option_map_or, option_eq}
 use Rattle.pid_types.proofs.General.{held}
 use Rattle.pid_types.specs.declared.plain.Name.{Name}
@@ -18,7 +18,7 @@ use Rattle.task_table.specs.Collect.{collect}
 use Rattle.task_table.proofs.LookUps.{named}
 use Rattle.task_table.proofs.Rows.{row-ext}
 use Rattle.task_table.proofs.Newborn.{Comes, KeepsNamespaces, born, named_in, name-kept, other_rows, home_kept, some_of}
-use Rattle.table_build.specs.Stages.{without_cursor, KeepsSpaces, KeepsPlaces, KeepsBearers, MovesCursors, AddsRow, SetsRow, lone_row}
+use Rattle.table_build.specs.Stages.{without_cursor, KeepsSpaces, KeepsPlaces, KeepsBearers, MovesCursors, AddsRow, lone_row}
 use Rattle.table_build.specs.declared.names.RecentName.{RecentName}
 use Rattle.table_build.specs.Recent.{Bears, IsRecent}
 use Rattle.table_build.specs.Ungrouped.{IsUngrouped}

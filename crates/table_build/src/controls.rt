@@ -111,7 +111,12 @@ fn put_next(store: &mut Tasks, saved: &Saved, index: usize) -> Result<(), BuildF
         → AreGoodControls saved.now.controls.items → ⊥) }
 {
     let last = saved.controls[index - 1].id;
-    put_control(store, &saved.controls[index], last, control_line(saved, index))
+    put_control(
+        store,
+        &saved.controls[index],
+        last,
+        control_line(saved, index),
+    )
 }
 
 /// Puts all control groups: the first line is that of the root, and the ids rise.

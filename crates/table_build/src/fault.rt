@@ -26,6 +26,11 @@ pub enum BuildFault {
 }
 
 impl From<AllocError> for BuildFault {
+    ghost use Rattle.std.specs.Prelude.{◌≡◌};
+    ghost use Rattle.table_build.specs.declared.fault.BuildFault.TheVariants.{NoMemory};
+
+    ghost from_gives = { λ refused given. given ≡ NoMemory };
+
     fn from(_refused: AllocError) -> BuildFault {
         BuildFault::NoMemory
     }

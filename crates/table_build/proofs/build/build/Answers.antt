@@ -1,4 +1,4 @@
-use Rattle.std.proofs.Common.{◌≡◌, map, ap, ◌∙◌}
+use Rattle.std.proofs.Common.{map, ap, ◌∙◌}
 use Rattle.table_build.specs.Bare.{steady}
 use Rattle.table_build.proofs.SpaceFalls.{steady-bare, steady-same}
 use Rattle.table_build.proofs.build.build.Goals as goal

@@ -1,4 +1,4 @@
-use Rattle.std.proofs.Common.{◌≡◌, ◌<◌, ◌≤◌, take, length}
+use Rattle.std.proofs.Common.{◌≡◌, ◌<◌, take}
 use Rattle.table_build.specs.Follows.{AreUpToLast}
 use Rattle.table_build.specs.Ungrouped.{IsUngrouped}
 use Rattle.table_build.proofs.controls.put_controls.Given as goal

@@ -1,7 +1,8 @@
 use Rattle.std.proofs.Common.{◌≡◌, ◌-◌, Some, ap, sym, subst, ◌∙◌, arith, slice_get}
 use Rattle.table_build.specs.Follows.{MayFollow}
 use Rattle.table_build.proofs.LineSteps.{get-is}
-use Rattle.table_build.proofs.ControlTrees.{each-fault, each-ok, follows-at, last-in}
+use Rattle.table_build.proofs.Following.{each-fault, each-ok}
+use Rattle.table_build.proofs.ControlTrees.{follows-at, last-in}
 use Rattle.table_build.proofs.controls.put_next.Goals as goal
 
 pub returns-clause-below : goal.returns-clause-below
@@ -17,5 +18,5 @@ returns-clause-refused c =
     let here : slice_get items c.args.index ≡ Some c.index-2.result.now = get-is items c.args.index c.index-2.result.now lt ∙ ap Some (sym c.index-2.ensures) in
     let last : slice_get items (c.args.index - 1) ≡ Some c.index.result.now = get-is items (c.args.index - 1) c.index.result.now (omega (arith, lt)) ∙ ap Some (sym c.index.ensures) in
     each-fault _ _ c.put_control.result (λ fault refuses memory good.
-    refuses memory (subst (λ l. MayFollow l c.index.result.now.id c.index-2.result.now) (sym c.requires.put) (follows-at items c.args.index c.index-2.result.now c.index.result.now here last c.requires.index.0 good.tree good.limits)))
+    refuses memory (subst (λ l. MayFollow l c.index.result.now.id c.index-2.result.now) (sym c.requires.put) (follows-at items c.args.index c.index-2.result.now c.index.result.now here last c.requires.index.0 good)))
     c.put_control.ensures.refused

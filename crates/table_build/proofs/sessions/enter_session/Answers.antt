@@ -1,7 +1,7 @@
-use Rattle.std.proofs.Common.{◌≡◌, Some, ap, sym, subst, ◌∙◌, is_some, true}
+use Rattle.std.proofs.Common.{◌≡◌, ap, sym, subst, ◌∙◌, is_some, true}
 use Rattle.pid_types.specs.declared.plain.Name.{Name}
 use Rattle.pid_types.specs.declared.plain.Row.{Row}
-use Rattle.task_table.specs.View.{name_at, row_with}
+use Rattle.task_table.specs.View.{name_at}
 use Rattle.task_table.proofs.Changes.{in_range}
 use Rattle.table_build.specs.Stages.{SetsRow}
 use Rattle.table_build.proofs.Steps.{task-of}

@@ -1,5 +1,5 @@
-use Rattle.std.proofs.Common.{◌≡◌, ℕ, ◌+◌, ◌≤◌, ◌<◌, [], ◌∷◌, length, Some, refl, ap, sym, ◌∙◌, arith, length-append, slice_get, option_map}
-use Rattle.table_build.specs.Lines.{AreLines, stage}
+use Rattle.std.proofs.Common.{◌≡◌, ◌+◌, ◌≤◌, [], ◌∷◌, length, Some, refl, ap, sym, ◌∙◌, arith, length-append, slice_get, option_map}
+use Rattle.table_build.specs.Lines.{stage}
 use Rattle.table_build.specs.Stages.{begun, seated}
 use Rattle.table_build.proofs.Steps.{places-both, places-none}
 use Rattle.table_build.proofs.LineSteps.{get-found, groups-none, groups-push, line-at, lines-set, lines-shown, stage-begin, stage-end, stage-here, stage-others, stage-todo}

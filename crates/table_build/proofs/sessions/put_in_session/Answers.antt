@@ -1,4 +1,4 @@
-use Rattle.std.proofs.Common.{◌≡◌, ap, sym, subst, ◌∙◌, ◌++◌, ◌∷◌, []}
+use Rattle.std.proofs.Common.{ap, sym, subst, ◌∙◌, ◌++◌, ◌∷◌, []}
 use Rattle.pid_types.specs.declared.plain.Name.{Name}
 use Rattle.table_build.specs.Lines.{HasFew, SetsLine}
 use Rattle.table_build.specs.Stages.{SetsRow, begun, seated}

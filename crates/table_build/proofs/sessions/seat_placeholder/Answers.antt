@@ -1,4 +1,4 @@
-use Rattle.std.proofs.Common.{ap, sym, ◌∙◌, option_map, refl}
+use Rattle.std.proofs.Common.{ap, sym, ◌∙◌, option_map}
 use Rattle.pid_types.proofs.General.{held}
 use Rattle.task_tree.specs.Tree.{task_at}
 use Rattle.task_table.specs.View.{row_of}

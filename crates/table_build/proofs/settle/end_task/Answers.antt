@@ -1,8 +1,6 @@
-use Rattle.std.proofs.Common.{◌≡◌, Some, None, ap, sym, ◌∙◌}
+use Rattle.std.proofs.Common.{None, ap, sym, ◌∙◌}
 use Rattle.std.specs.Prelude.{slice_index_or}
-use Rattle.pid_types.specs.declared.plain.Life.TheVariants.{Zombie}
 use Rattle.task_tree.specs.Tree.{task_at}
-use Rattle.task_table.proofs.Changed.{IsRetasked}
 use Rattle.table_build.proofs.Moves.{ended-row, homes-ended}
 use Rattle.table_build.proofs.settle.end_task.Goals as goal
 

@@ -3,7 +3,7 @@ use Rattle.pid_types.specs.declared.plain.Name.{Name}
 use Rattle.pid_types.specs.declared.plain.Row.{Row}
 use Rattle.groups_sessions.specs.Membership.{Membership, session_of}
 use Rattle.task_tree.specs.Tree.{task_at, parent_of}
-use Rattle.task_table.specs.View.{name_at, row_with}
+use Rattle.task_table.specs.View.{name_at}
 use Rattle.task_table.proofs.Regrouped.{IsRegrouped}
 use Rattle.task_table.proofs.Seated.{session-name}
 use Rattle.task_table.proofs.InUse.{member}

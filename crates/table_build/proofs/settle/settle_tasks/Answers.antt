@@ -1,9 +1,8 @@
-use Rattle.std.proofs.Common.{◌≡◌, ℕ, ◌+◌, ◌≤◌, ◌<◌, None, length, Some, ap, sym, ◌∙◌, arith, refl, Option, option_map, slice_get}
+use Rattle.std.proofs.Common.{◌≡◌, ◌+◌, ◌≤◌, None, length, Some, ap, sym, ◌∙◌, arith, refl, Option, option_map, slice_get}
 use Rattle.pid_types.specs.declared.plain.Name.{Name}
 use Rattle.pid_types.specs.declared.plain.Row.{Row}
-use Rattle.task_table.specs.View.{name_at}
-use Rattle.table_build.specs.Lines.{AreLines, IsLine, stage}
-use Rattle.table_build.specs.Stages.{SetsRow, seated}
+use Rattle.table_build.specs.Lines.{IsLine, stage}
+use Rattle.table_build.specs.Stages.{seated}
 use Rattle.table_build.proofs.Steps.{bearers-both, places-both}
 use Rattle.table_build.proofs.LineSteps.{get-found, group-at, groups-kept, line-at, line-set, lines-set, lines-shown, set-twice, stage-end, stage-here, stage-others, stage-todo}
 use Rattle.table_build.proofs.settle.settle_tasks.Goals as goal

@@ -1,0 +1,12 @@
+use Rattle.std.proofs.Common.{ap, sym, ◌∙◌, refl, slice_get}
+use Rattle.table_build.proofs.SpaceTrees.{root-at}
+use Rattle.table_build.proofs.spaces.check_root.Goals as goal
+
+pub returns-then-root-ne0-clause-refused : goal.returns-then-root-ne0-clause-refused
+returns-then-root-ne0-clause-refused c = λ _ good.
+    c.if-root-ne0.true (root-at c.args.saved.now.spaces.items c.in-Some.root.now (ap (λ l. slice_get l 0) (sym c.deref.ensures.value) ∙ sym c.in-Some.ensures.value) good).0
+
+pub returns-then-not-is_root-clause-refused : goal.returns-then-not-is_root-clause-refused
+returns-then-not-is_root-clause-refused c = λ _ good.
+    let r = root-at c.args.saved.now.spaces.items c.in-Some.root.now (ap (λ l. slice_get l 0) (sym c.deref.ensures.value) ∙ sym c.in-Some.ensures.value) good in
+    c.if-not-is_root.ensures.no refl r.0 r.1 r.2
