@@ -16,7 +16,8 @@ steady s = record s { cursor = 0 }
 pub record AreFlagged (b : Numbering) (spaces : List Space) (count : ℕ) (flags : List Bool) : Type 0 where
   pub each : (j : ℕ) (x : Space) → j < count → slice_get spaces j ≡ Some x
       → (s : ℕ) × (id_at b s ≡ Some x.id) × (x.fallen ≡ true → is_flagged flags s ≡ true)
-  pub only : (s : ℕ) → is_flagged flags s ≡ true → (j : ℕ) × (x : Space) × (slice_get spaces j ≡ Some x) × (x.fallen ≡ true) × (id_at b s ≡ Some x.id)
+  pub only : (s : ℕ) → is_flagged flags s ≡ true
+      → (j : ℕ) × (x : Space) × (slice_get spaces j ≡ Some x) × (x.fallen ≡ true) × (id_at b s ≡ Some x.id)
 
 -- the next draw in the namespace begins where it says
 abbrev pub HasCursor : Numbering → Space → Type 0
