@@ -9,3 +9,4 @@ pub mod SpaceFalls
 pub mod Following
 pub mod ControlTrees
 pub mod SpaceTrees
+pub mod Draws

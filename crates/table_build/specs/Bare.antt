@@ -28,3 +28,8 @@ pub record AddsFlag (b : Numbering) (old new : List Bool) (x : Space) : Type 0 w
   pub there : (s : ℕ) × (id_at b s ≡ Some x.id) × (x.fallen ≡ true → is_flagged new s ≡ true)
   pub kept : (s : ℕ) → is_flagged old s ≡ true → is_flagged new s ≡ true
   pub only : (s : ℕ) → is_flagged new s ≡ true → (is_flagged old s ≡ true) ⊎ ((id_at b s ≡ Some x.id) × (x.fallen ≡ true))
+
+-- the next draws in the namespaces of the path begin at the numbers, so many of them
+abbrev pub HasCursors : Numbering → List ℕ → List ℕ → ℕ → Type 0
+HasCursors b path numbers count =
+    (j s n : ℕ) → j < count → slice_get path j ≡ Some s → slice_get numbers j ≡ Some n → option_map (λ t. t.cursor) (namespace_at b s) ≡ Some n

@@ -1,5 +1,7 @@
 //! The tasks of a text begin. Each is live, without a parent, and in a group and a session of its own name.
-ghost use Rattle.std.specs.Prelude.{◌≡◌, ◌<◌, ℕ, [], length, false, None, OnOk, IfOk, option_map, slice_get};
+ghost use Rattle.std.specs.Prelude.{◌≡◌, ◌≢◌, ◌<◌, ℕ, [], length, false, None, OnOk, IfOk, IfErr, IsSome, option_map, slice_get};
+ghost use Rattle.pid_types.specs.Controls.{control_at};
+ghost use Rattle.table_build.specs.Follows.{MayBear};
 ghost use Rattle.task_table.specs.View.{row_with};
 ghost use Rattle.table_build.specs.Lines.{AreLines};
 ghost use Rattle.table_build.specs.Sorted.{IsNotBelow};
@@ -39,6 +41,9 @@ fn begin_task(store: &mut Tasks, row: &Row, line: u64) -> Result<TaskKey, BuildF
     ensures added { IfOk result (λ key. AddsRow store.old store.new key (begun row.now)) }
     ensures places { OnOk result (KeepsPlaces store.old store.new) }
     ensures names { OnOk result (KeepsBearers store.old store.new) }
+    ensures refused { IfErr result (λ fault. fault ≢ BuildFault.NoMemory
+        → IsSome (control_at store.old.charges.controls row.now.home)
+        → MayBear store.old.numbering row.now.name → ⊥) }
 {
     let Some(home) = store.controls().find(row.home) else {
         return Err(BuildFault::UnknownGroup(line));

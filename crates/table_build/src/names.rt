@@ -1,9 +1,11 @@
 //! Names of a text: each gets its numbers by a task that bears it.
-ghost use Rattle.std.specs.Prelude.{◌≡◌, true, reverse, None, IsTrue, OnOk, IfOk, IfSome, IsSome};
-ghost use Rattle.pid_numbers.specs.Numbering.{namespace_at};
+ghost use Rattle.std.specs.Prelude.{◌≡◌, ◌≢◌, true, false, length, reverse, None, IsTrue, OnOk, IfOk, IfErr, IfSome, IsSome};
+ghost use Rattle.pid_numbers.specs.Numbering.{namespace_at, path_at};
 ghost use Rattle.pids_charge.specs.Charges.{stands};
 ghost use Rattle.task_tree.specs.Tree.{lives};
 ghost use Rattle.table_build.specs.Ungrouped.{IsUngrouped};
+ghost use Rattle.table_build.specs.Bare.{HasCursors};
+ghost use Rattle.table_build.specs.Follows.{MayBear};
 ghost use Rattle.table_build.specs.Recent.{AreBorne, Bears, IsRecent};
 ghost use Rattle.table_build.specs.Stages.{AddsRow, KeepsBearers, KeepsPlaces, MovesCursors, lone_row};
 
@@ -20,9 +22,12 @@ use translate::shown::{blank_row, write_name};
 /// The next draws begin at the numbers: the first one in the namespace, the others in those around it.
 fn put_cursors(store: &mut Tasks, space: SpaceKey, numbers: &[Pid])
     requires ungrouped { IsUngrouped store.old }
+    requires there { IsSome (namespace_at store.old.numbering space) }
     ensures ungrouped { IsUngrouped store.new }
     ensures moved { MovesCursors store.old store.new }
+    ensures put { HasCursors store.new.numbering (path_at store.old.numbering space) numbers.now (length numbers.now) }
 {
+    laws(store);
     let mut next = Some(space);
     for number in numbers {
         let Some(key) = next else {
@@ -63,7 +68,7 @@ fn innermost_first(name: &Name) -> Result<ArrayVec<Pid, LEVELS>, AllocError>
 
 /// Whether the numbers are the same.
 fn are_same(planned: &[Pid], wanted: &[Pid]) -> bool
-    ensures { IsTrue result → planned.now ≡ wanted.now }
+    ensures { (IsTrue result → planned.now ≡ wanted.now) × (result ≡ false → planned.now ≡ wanted.now → ⊥) }
 {
     planned == wanted
 }
@@ -83,7 +88,10 @@ pub fn put_name(
     ensures added { IfOk result (λ key. AddsRow store.old store.new key (lone_row store.old name.now task)) }
     ensures places { OnOk result (KeepsPlaces store.old store.new) }
     ensures names { OnOk result (KeepsBearers store.old store.new) }
+    ensures refused { IfErr result (λ fault. fault ≢ BuildFault.NoMemory
+        → MayBear store.old.numbering name.now → ⊥) }
 {
+    laws(store);
     let Some(space) = store.numbers().find_space(name.space) else {
         return Err(BuildFault::UnknownNamespace(line));
     };
@@ -91,7 +99,7 @@ pub fn put_name(
     let fault = name_fault(store, space, name, line);
     put_cursors(store, space, wanted.as_slice());
     let mut planned = ArrayVec::<Pid, LEVELS>::new();
-    if store.numbers().plan_into(space, &mut planned).is_err() {
+    if let Err(_full) = store.numbers().plan_into(space, &mut planned) {
         return Err(fault);
     }
     if !are_same(planned.as_slice(), wanted.as_slice()) {

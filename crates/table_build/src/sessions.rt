@@ -1,7 +1,9 @@
 //! The tasks of a text go to their sessions, each still in the group of its own name. Names of groups and sessions that
 //! no line has are borne by placeholders.
-ghost use Rattle.std.specs.Prelude.{◌≡◌, [], true, length, OnOk, IfOk, Some, IsSome, option_map, slice_get};
+ghost use Rattle.std.specs.Prelude.{◌≡◌, ◌≢◌, [], true, length, OnOk, IfOk, IfErr, Some, IsSome, option_map, slice_get};
+ghost use Rattle.pid_types.specs.Controls.{control_at};
 ghost use Rattle.task_tree.specs.Tree.{task_at};
+ghost use Rattle.table_build.specs.Follows.{MayBear};
 ghost use Rattle.pid_types.specs.declared.plain.Row.{Row};
 ghost use Rattle.task_table.specs.View.{name_at, row_with};
 ghost use Rattle.table_build.specs.Lines.{AreGroups, AreLines, IsLine, KeepsFew, SameLines, SetsLine, is_held};
@@ -37,6 +39,8 @@ fn begin_placeholder(
     ensures lists { (placed.new.keys ≡ placed.old.keys) × (placed.new.groups ≡ placed.old.groups) }
     ensures names { OnOk result (KeepsBearers store.old store.new) }
     ensures places { OnOk result (KeepsPlaces store.old store.new) }
+    ensures refused { IfErr result (λ fault. fault ≢ BuildFault.NoMemory
+        → IsSome (control_at store.old.charges.controls 0) → MayBear store.old.numbering name.now → ⊥) }
 {
     let Some(home) = store.controls().find(0) else {
         return Err(BuildFault::UnknownGroup(line));

@@ -1,32 +1,34 @@
+use Rattle.std.proofs.Common.{find, is_none, unwrap_or, map}
 use Rattle.std.proofs.Common.{◌≡◌, None, Some, ap, sym, subst, refl, ◌∙◌, reverse}
 use Rattle.std.proofs.lemmas.List.{reverse-reverse}
 use Rattle.pid_types.specs.declared.plain.Name.{Name}
 use Rattle.pid_types.specs.declared.plain.Row.{Row}
-use Rattle.pid_numbers.specs.Numbering.{id_at, path_at}
+use Rattle.pid_numbers.specs.Numbering.{draw_in, id_at, path_at}
 use Rattle.pids_charge.specs.Charges.{Charges}
 use Rattle.task_table.proofs.Newborn.{Comes, named_in}
 use Rattle.table_build.specs.Stages.{AddsRow, KeepsSpaces, lone_row}
-use Rattle.table_build.proofs.Steps.{added, added-behind, come-spaces, keeps-namespaces, same_ids, ungrouped-come}
+use Rattle.table_build.proofs.Steps.{added, added-behind, come-spaces, keeps-namespaces, same_ids, same_paths, ungrouped-come}
+use Rattle.table_build.proofs.Draws.{drawn-name}
 use Rattle.table_build.proofs.names.put_name.Goals as goal
 
-kept : (c : goal.After-laws-2) → KeepsSpaces c.put_cursors.new.store.numbering c.fork.new.self.numbering
+kept : (c : goal.After-laws-3) → KeepsSpaces c.put_cursors.new.store.numbering c.fork.new.self.numbering
 kept c =
     let e = c.in_ok-key.ensures in
     come-spaces c.put_cursors.new.store.numbering c.fork.new.self.numbering (path_at c.put_cursors.new.store.numbering c.in-Some.space) c.as_slice-4.result.now e.order e.begun.bound e.namespaces
 
-comes : (c : goal.After-laws-2) → Comes c.put_cursors.new.store c.fork.new.self c.in_ok-key.key None c.args.task c.in-Some.space c.as_slice-4.result.now
+comes : (c : goal.After-laws-3) → Comes c.put_cursors.new.store c.fork.new.self c.in_ok-key.key None c.args.task c.in-Some.space c.as_slice-4.result.now
 comes c = record {
-  before = c.laws.ensures;
-  after = c.laws-2.ensures;
+  before = c.laws-2.ensures;
+  after = c.laws-3.ensures;
   kin = λ k p f. let z = sym (c.put_cursors.ensures.ungrouped.orphans k) ∙ f in absurd (cc);
   begun = c.in_ok-key.ensures.begun;
   keeps = keeps-namespaces c.put_cursors.new.store.numbering c.fork.new.self.numbering (kept c);
 }
 
-named : (c : goal.After-laws-2) → named_in c.args.name.now.space c.as_slice-4.result.now ≡ c.args.name.now
+named : (c : goal.After-laws-3) → named_in c.args.name.now.space c.as_slice-4.result.now ≡ c.args.name.now
 named c =
     let same : c.as_slice-4.result.now ≡ reverse c.args.name.now.numbers.items =
-    c.as_slice-4.ensures.value ∙ sym c.as_slice-2.ensures.value ∙ c.if-not-are_same.ensures refl ∙ c.as_slice-3.ensures.value ∙ c.in_ok-wanted.ensures in
+    c.as_slice-4.ensures.value ∙ sym c.as_slice-2.ensures.value ∙ c.if-not-are_same.ensures.0 refl ∙ c.as_slice-3.ensures.value ∙ c.in_ok-wanted.ensures in
     let items = ap reverse same ∙ reverse-reverse c.args.name.now.numbers.items in
     λ i. record { space = c.args.name.now.space; numbers = record { items = items i } }
 
@@ -45,3 +47,33 @@ returns-clause-added c =
 
 pub returns-clause-ungrouped : goal.returns-clause-ungrouped
 returns-clause-ungrouped c = ungrouped-come (comes c) (kept c) c.put_cursors.ensures.ungrouped
+
+pub returns-in_default-clause-refused : goal.returns-in_default-clause-refused
+returns-in_default-clause-refused c = λ _ may. c.in_default.ensures may.space (ap (λ b. id_at b may.space) c.numbers.ensures ∙ may.named)
+
+pub returns-in-Err-clause-refused : goal.returns-in-Err-clause-refused
+returns-in-Err-clause-refused c = λ _ may.
+    let s0 = c.args.store.now.numbering in
+    let b = c.put_cursors.new.store.numbering in
+    let m = c.put_cursors.ensures.moved in
+    let at : id_at c.args.store.now.numbering c.in-Some.space ≡ Some c.args.name.now.space = ap (λ b. id_at b c.in-Some.space) (sym c.numbers.ensures) ∙ c.in-Some.ensures in
+    let space : may.space ≡ c.in-Some.space = c.laws.ensures.numbering.ids may.space c.in-Some.space c.args.name.now.space may.named at in
+    let wanted : c.as_slice.result.now ≡ reverse c.args.name.now.numbers.items = c.as_slice.ensures.value ∙ c.in_ok-wanted.ensures in
+    let drawn = drawn-name s0 b c.args.name.now may c.in-Some.space space c.as_slice.result.now wanted m.names (same_paths s0 b m.spaces) m.spaces.bound c.put_cursors.ensures.put in
+    let paths : path_at c.numbers-2.result.now c.in-Some.space ≡ path_at s0 c.in-Some.space = ap (λ n. path_at n c.in-Some.space) c.numbers-2.ensures ∙ same_paths s0 b m.spaces c.in-Some.space in
+    let none : find (λ q. is_none (draw_in c.numbers-2.result.now q)) (path_at c.numbers-2.result.now c.in-Some.space) ≡ None =
+    ap (find (λ q. is_none (draw_in c.numbers-2.result.now q))) paths ∙ ap (λ n. find (λ q. is_none (draw_in n q)) (path_at s0 c.in-Some.space)) c.numbers-2.ensures ∙ drawn.0 in
+    absurd (let z = sym none ∙ c.in-Err.ensures.err in cc)
+
+pub returns-then-not-are_same-clause-refused : goal.returns-then-not-are_same-clause-refused
+returns-then-not-are_same-clause-refused c = λ _ may.
+    let s0 = c.args.store.now.numbering in
+    let b = c.put_cursors.new.store.numbering in
+    let m = c.put_cursors.ensures.moved in
+    let at : id_at c.args.store.now.numbering c.in-Some.space ≡ Some c.args.name.now.space = ap (λ b. id_at b c.in-Some.space) (sym c.numbers.ensures) ∙ c.in-Some.ensures in
+    let space : may.space ≡ c.in-Some.space = c.laws.ensures.numbering.ids may.space c.in-Some.space c.args.name.now.space may.named at in
+    let wanted : c.as_slice.result.now ≡ reverse c.args.name.now.numbers.items = c.as_slice.ensures.value ∙ c.in_ok-wanted.ensures in
+    let drawn = drawn-name s0 b c.args.name.now may c.in-Some.space space c.as_slice.result.now wanted m.names (same_paths s0 b m.spaces) m.spaces.bound c.put_cursors.ensures.put in
+    let paths : path_at c.numbers-2.result.now c.in-Some.space ≡ path_at s0 c.in-Some.space = ap (λ n. path_at n c.in-Some.space) c.numbers-2.ensures ∙ same_paths s0 b m.spaces c.in-Some.space in
+    let planned = ap (map (λ q. unwrap_or (draw_in c.numbers-2.result.now q) 0)) paths ∙ ap (λ n. map (λ q. unwrap_or (draw_in n q) 0) (path_at s0 c.in-Some.space)) c.numbers-2.ensures ∙ drawn.1 in
+    c.if-not-are_same.ensures.1 refl (c.as_slice-2.ensures.value ∙ c.in_default-plan_into.ensures.ok.1 ∙ planned ∙ c.as_slice.ensures.value ∙ sym c.as_slice-3.ensures.value)
