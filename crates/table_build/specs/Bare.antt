@@ -32,4 +32,5 @@ pub record AddsFlag (b : Numbering) (old new : List Bool) (x : Space) : Type 0 w
 -- the next draws in the namespaces of the path begin at the numbers, so many of them
 abbrev pub HasCursors : Numbering → List ℕ → List ℕ → ℕ → Type 0
 HasCursors b path numbers count =
-    (j s n : ℕ) → j < count → slice_get path j ≡ Some s → slice_get numbers j ≡ Some n → option_map (λ t. t.cursor) (namespace_at b s) ≡ Some n
+    (j s n : ℕ) → j < count → slice_get path j ≡ Some s → slice_get numbers j ≡ Some n
+    → option_map (λ t. t.cursor) (namespace_at b s) ≡ Some n

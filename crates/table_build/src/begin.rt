@@ -1,5 +1,6 @@
 //! The tasks of a text begin. Each is live, without a parent, and in a group and a session of its own name.
-ghost use Rattle.std.specs.Prelude.{◌≡◌, ◌≢◌, ◌<◌, ℕ, [], length, false, None, OnOk, IfOk, IfErr, IsSome, option_map, slice_get};
+ghost use Rattle.std.specs.Prelude.{◌≡◌, ◌≢◌, ◌<◌, ℕ, [], length, false};
+ghost use Rattle.std.specs.Prelude.{None, OnOk, IfOk, IfErr, IsSome, option_map, slice_get};
 ghost use Rattle.pid_types.specs.Controls.{control_at};
 ghost use Rattle.table_build.specs.Follows.{MayBear};
 ghost use Rattle.task_table.specs.View.{row_with};

@@ -1,5 +1,6 @@
 //! Names of a text: each gets its numbers by a task that bears it.
-ghost use Rattle.std.specs.Prelude.{◌≡◌, ◌≢◌, true, false, length, reverse, None, IsTrue, OnOk, IfOk, IfErr, IfSome, IsSome};
+ghost use Rattle.std.specs.Prelude.{◌≡◌, ◌≢◌, true, false, length, reverse};
+ghost use Rattle.std.specs.Prelude.{None, IsTrue, OnOk, IfOk, IfErr, IfSome, IsSome};
 ghost use Rattle.pid_numbers.specs.Numbering.{namespace_at, path_at};
 ghost use Rattle.pids_charge.specs.Charges.{stands};
 ghost use Rattle.task_tree.specs.Tree.{lives};
