@@ -107,11 +107,6 @@ pub still-there : (o : Option Namespace) → is_some (option_map (λ (t : Namesp
 still-there None e = absurd (cc)
 still-there (Some t) e = refl
 
-pub at_place : (xs : List ℕ) (j x : ℕ) → slice_get xs j ≡ Some x → IsIn x xs
-at_place [] j x e = absurd (cc)
-at_place (y ∷ ys) zero x e = inl (let z : x ≡ y = cc in z)
-at_place (y ∷ ys) (suc j) x e = inr (at_place ys j x e)
-
 -- what is drawn along a path
 pub draws-all : (draw : ℕ → Option ℕ) (path numbers : List ℕ) → length numbers ≡ length path → ((j s n : ℕ) → slice_get path j ≡ Some s → slice_get numbers j ≡ Some n → draw s ≡ Some n)
     → (find (λ s. is_none (draw s)) path ≡ None) × (map (λ s. unwrap_or (draw s) 0) path ≡ numbers)

@@ -17,6 +17,7 @@ use Rattle.task_table.proofs.LookUps.{named, root-number, row-from, rooted, keye
 use Rattle.table_build.proofs.Steps.{task-of}
 use Rattle.table_build.specs.declared.placed.Placed.{Placed}
 use Rattle.table_build.specs.Lines.{AreLines, is_held}
+use Rattle.table_build.proofs.Places.{at_place, below_length, place_of}
 use Rattle.table_build.specs.Sorted.{IsNotBelow}
 
 abbrev number_of_row : Row → ℕ
@@ -74,11 +75,6 @@ gathered f rows from (suc len) rise there back = go (λ rs r t b. gathered f rs 
     go again None e = again rows rise (none e) (λ n r above at. back n r (omega (arith, above)) at)
     go again (Some x) e = found again x e rows rise there back
 
-below_length : (xs : List Row) (j : ℕ) (r : Row) → slice_get xs j ≡ Some r → j < length xs
-below_length [] j r e = absurd (cc)
-below_length (x ∷ xs) zero r e = omega arith
-below_length (x ∷ xs) (suc j) r e = let lt = below_length xs j r e in omega (arith, lt)
-
 -- each is below the next, so below all that follow
 rising : (rows : List Row) → ((i : ℕ) (a b : Row) → slice_get rows i ≡ Some a → slice_get rows (suc i) ≡ Some b → number_of_row a < number_of_row b) → IsRising (map number_of_row rows)
 rising [] next = tt
@@ -88,16 +84,6 @@ rising (r ∷ rs) next = (over rs (λ b e. next 0 r b refl e) (rising rs (λ i a
     over [] first rise m i = absurd i
     over (b ∷ bs) first rise m (inl e) = let up = first b refl in omega (arith, up, e)
     over (b ∷ bs) first rise m (inr i) = let up = first b refl in let more = rise.0 m i in omega (arith, up, more)
-
-place_of : (rows : List Row) (r : Row) → IsIn r rows → (j : ℕ) × (slice_get rows j ≡ Some r) × (j < length rows)
-place_of [] r i = absurd i
-place_of (x ∷ xs) r (inl same) = (zero, ap Some (sym same), omega arith)
-place_of (x ∷ xs) r (inr i) = let p = place_of xs r i in (suc p.0, p.1, let lt = p.2 in omega (arith, lt))
-
-at_place : (rows : List Row) (j : ℕ) (r : Row) → slice_get rows j ≡ Some r → IsIn r rows
-at_place [] j r e = absurd (cc)
-at_place (x ∷ xs) zero r e = inl (let z : r ≡ x = cc in z)
-at_place (x ∷ xs) (suc j) r e = inr (at_place xs j r e)
 
 key_in : (keys : List ℕ) (j : ℕ) → j < length keys → (k : ℕ) × (slice_get keys j ≡ Some k)
 key_in [] j lt = absurd (omega (arith, lt))

@@ -10,3 +10,4 @@ pub mod Following
 pub mod ControlTrees
 pub mod SpaceTrees
 pub mod Draws
+pub mod Places

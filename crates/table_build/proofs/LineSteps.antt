@@ -13,6 +13,7 @@ use Rattle.table_build.specs.Recent.{Bears}
 use Rattle.table_build.specs.Sessions.{AddsGroup}
 use Rattle.table_build.specs.Stages.{AddsRow, KeepsBearers, SetsRow}
 use Rattle.table_build.specs.Lines.{AreGroups, AreLines, IsLine, SameLines, SetsLine, is_held, stage}
+use Rattle.table_build.proofs.Places.{below_length}
 use Rattle.table_build.proofs.Steps.{bears-kept}
 
 module _ {X : Type 0} where
@@ -196,11 +197,6 @@ same-none s p = record { forth = λ k r line. line; back = λ k r line. line }
 module _ (done todo : Row → Row) (rows : List Row) where
   pub stage-begin : (j : ℕ) → stage done todo rows 0 j ≡ option_map todo (slice_get rows j)
   stage-begin j = ap (λ b. option_map (if b then done else todo) (slice_get rows j)) (let z : nat_lt j 0 ≡ false = grind (arith) in z)
-
-  below_length : (xs : List Row) (j : ℕ) (r : Row) → slice_get xs j ≡ Some r → j < length xs
-  below_length [] j r e = absurd (cc)
-  below_length (x ∷ xs) zero r e = omega arith
-  below_length (x ∷ xs) (suc j) r e = let lt = below_length xs j r e in omega (arith, lt)
 
   pub stage-end : (count : ℕ) → length rows ≤ count → (j : ℕ) → stage done todo rows count j ≡ option_map done (slice_get rows j)
   stage-end count all j = go (slice_get rows j) refl

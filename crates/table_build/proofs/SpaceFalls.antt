@@ -12,6 +12,7 @@ use Rattle.task_table.specs.View.{space_of, spaces_of}
 use Rattle.task_table.specs.Lawful.{HasLaws}
 use Rattle.table_build.specs.Bare.{AddsFlag, AreFlagged, HasCursor, bare, steady}
 use Rattle.table_build.specs.Stages.{KeepsSpaces}
+use Rattle.table_build.proofs.Places.{at_place, place_of}
 use Rattle.table_build.proofs.Steps.{same_falls, same_ids, same_paths}
 
 -- pairs that are alike in one way, and so in another
@@ -77,16 +78,6 @@ all_in : (P : ℕ × ℕ → Type 0) (ps : List (ℕ × ℕ)) → AllByRecursion
 all_in P [] all p i = absurd i
 all_in P (q ∷ qs) all p (inl e) = subst P (sym e) all.0
 all_in P (q ∷ qs) all p (inr i) = all_in P qs all.1 p i
-
-at_place : (xs : List Space) (j : ℕ) (x : Space) → slice_get xs j ≡ Some x → IsIn x xs
-at_place [] j x e = absurd (cc)
-at_place (y ∷ ys) zero x e = inl (let z : x ≡ y = cc in z)
-at_place (y ∷ ys) (suc j) x e = inr (at_place ys j x e)
-
-pub place_of : (xs : List Space) (x : Space) → IsIn x xs → (j : ℕ) × (slice_get xs j ≡ Some x) × (j < length xs)
-place_of [] x i = absurd i
-place_of (y ∷ ys) x (inl same) = (zero, ap Some (sym same), omega arith)
-place_of (y ∷ ys) x (inr i) = let p = place_of ys x i in (suc p.0, p.1, let lt = p.2 in omega (arith, lt))
 
 -- the namespaces with a flag fell
 module _ (b c : Numbering) (l : HasLaws b) (spaces : List Space) (flags : List Bool) (listed : map steady (spaces_of b) ≡ map bare spaces) (flagged : AreFlagged b spaces (length spaces) flags)

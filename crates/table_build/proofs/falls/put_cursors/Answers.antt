@@ -1,7 +1,8 @@
 use Rattle.std.proofs.Common.{◌≡◌, ◌<◌, ◌≤◌, length, Some, ap, sym, ◌∙◌, arith, slice_get}
 use Rattle.table_build.proofs.Steps.{moved-both, state-moved}
 use Rattle.table_build.proofs.LineSteps.{get-is}
-use Rattle.table_build.proofs.SpaceFalls.{next-cursor, place_of, spaces-are, steady-same}
+use Rattle.table_build.proofs.Places.{place_of}
+use Rattle.table_build.proofs.SpaceFalls.{next-cursor, spaces-are, steady-same}
 use Rattle.table_build.proofs.falls.put_cursors.Goals as goal
 
 pub loop-index-preserved : goal.loop-index-preserved

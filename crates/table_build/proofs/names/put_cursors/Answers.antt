@@ -1,7 +1,8 @@
 use Rattle.std.proofs.Common.{◌≡◌, ℕ, length, Some, None, is_some, List, nat_lt, if◌then◌else◌, option_map, ap, sym, ◌∙◌, arith, slice_get}
 use Rattle.pid_numbers.specs.Numbering.{Namespace, id_at, namespace_at, path_at}
 use Rattle.std.specs.Prelude.{slice_index_or}
-use Rattle.table_build.proofs.Draws.{at_place, cursors-next, next-of, none-past, path-apart, path-first, still-there}
+use Rattle.table_build.proofs.Places.{at_place}
+use Rattle.table_build.proofs.Draws.{cursors-next, next-of, none-past, path-apart, path-first, still-there}
 use Rattle.table_build.proofs.LineSteps.{get-is}
 use Rattle.task_table.proofs.Keys.{path-there}
 use Rattle.table_build.proofs.Steps.{moved-none, moved-both, cursor-moved, same_ids, same_paths, ungrouped-moved}

@@ -1,0 +1,19 @@
+-- Places of lists, and what stands there.
+use Rattle.std.proofs.Common.{◌≡◌, inl, inr, ℕ, zero, suc, ◌<◌, List, [], ◌∷◌, length, slice_get, Some, sym, ap, arith}
+use Rattle.pid_types.specs.Membership.{IsIn}
+
+module _ {X : Type 0} where
+  pub place_of : (xs : List X) (x : X) → IsIn x xs → (j : ℕ) × (slice_get xs j ≡ Some x) × (j < length xs)
+  place_of [] x i = absurd i
+  place_of (y ∷ ys) x (inl same) = (zero, ap Some (sym same), omega arith)
+  place_of (y ∷ ys) x (inr i) = let p = place_of ys x i in (suc p.0, p.1, let lt = p.2 in omega (arith, lt))
+
+  pub at_place : (xs : List X) (j : ℕ) (x : X) → slice_get xs j ≡ Some x → IsIn x xs
+  at_place [] j x e = absurd (cc)
+  at_place (y ∷ ys) zero x e = inl (let z : x ≡ y = cc in z)
+  at_place (y ∷ ys) (suc j) x e = inr (at_place ys j x e)
+
+  pub below_length : (xs : List X) (j : ℕ) (x : X) → slice_get xs j ≡ Some x → j < length xs
+  below_length [] j x e = absurd (cc)
+  below_length (y ∷ ys) zero x e = omega arith
+  below_length (y ∷ ys) (suc j) x e = let lt = below_length ys j x e in omega (arith, lt)
