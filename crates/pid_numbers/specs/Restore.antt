@@ -1,8 +1,6 @@
 -- Namespaces that have fallen all at once, as in a table that was saved.
-use Rattle.std.specs.Prelude.{◌≡◌, ℕ, ◌<◌, ◌||◌, Bool, true, false, List, Option, Some, IsSome, is_some, slice_index_or, slice_get}
-use Rattle.cyclic_ids.specs.Ids.{Ids}
-use Rattle.ns_tree.specs.Tree.{Node, node_in, way}
-use Rattle.pid_numbers.specs.Slabs.{entry_on}
+use Rattle.std.specs.Prelude.{◌≡◌, ℕ, ◌||◌, Bool, true, false, List, Some, IsSome, slice_index_or, slice_get}
+use Rattle.ns_tree.specs.Tree.{Node}
 use Rattle.pid_numbers.specs.Numbering.{Numbering, Namespace, namespace_at, number_of, path_at}
 
 -- whether the key has a flag
@@ -22,13 +20,3 @@ pub record MayFall (b : Numbering) (flags : List Bool) : Type 0 where
   pub root : is_flagged flags 0 ≡ false
   pub inner : (s outer : ℕ) → slice_get (path_at b s) 1 ≡ Some outer → is_flagged flags outer ≡ true → is_flagged flags s ≡ true
   pub held : (s : ℕ) → IsSome (namespace_at b s) → is_flagged flags s ≡ true → (i : ℕ) × (n : ℕ) × (number_of b i s ≡ Some n)
-
--- the namespace with the key, if it is there, may fall with the others: with a flag it has a number in use, and without one it is in
--- none with a flag
-pub record MayFallAt (nodes : List (Option Node)) (ids : List (Ids ℕ)) (flags : List Bool) (s : ℕ) : Type 0 where
-  pub used : is_flagged flags s ≡ true → IsSome (node_in nodes s) → (n : ℕ) × (is_some (entry_on ids s n) ≡ true)
-  pub apart : is_flagged flags s ≡ false → (outer : ℕ) → slice_get (way nodes s) 1 ≡ Some outer → is_flagged flags outer ≡ false
-
--- the same of each one below a key
-abbrev pub MayFallBelow : List (Option Node) → List (Ids ℕ) → List Bool → ℕ → Type 0
-MayFallBelow nodes ids flags end = (s : ℕ) → s < end → MayFallAt nodes ids flags s

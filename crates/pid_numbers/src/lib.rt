@@ -44,7 +44,7 @@ use pid_types::call::Kind;
 use pid_types::keys::{IdentKey, Pid, SpaceKey};
 use pid_types::plain::{DEEPEST_SPACE, LEVELS, Name};
 pub use plan::PlanFault;
-use restore::{mark_all, may_all_fall};
+use restore::mark_all;
 use spaces::{
     first_ids, give_path, look, next_at, plan_at, plan_path, prepare_path, put_cursor, put_ids,
     release_path, sweep,
@@ -520,19 +520,11 @@ impl Numbers {
         Ok(key)
     }
 
-    /// Whether the namespaces with a flag, each flag at its key, may fall at once:
-    /// [`set_fallen`](Numbers::set_fallen). It costs a step for each namespace that is there.
-    pub fn may_fall(&self, flags: &[bool]) -> bool
-        ensures { IsTrue result → MayFall self.now flags.now }
-    {
-        may_all_fall(&self.tree, &self.ids, flags)
-    }
-
     /// The namespaces with a flag have fallen, all at once: a saved table has its fallen namespaces again. It costs a
     /// step for each flag.
     pub fn set_fallen(&mut self, flags: &[bool])
         requires may { MayFall self.old flags.now }
-        requires few { length flags.now < 2 ^ 32 }
+        requires few { length flags.now ≤ 2 ^ 32 }
         ensures names { self.new.names ≡ self.old.names }
         ensures namespaces { (s : ℕ) → namespace_at self.new s
             ≡ option_map (fallen_if (is_flagged flags.now s)) (namespace_at self.old s) }

@@ -10,7 +10,7 @@ use Rattle.model_laws.proofs.Chains.{climb_cases, IsIn-climb_first, IsIn-climb_p
 use Rattle.model_laws.proofs.Lists.{IsIn-map, IsIn-from_map}
 use Rattle.model_laws.proofs.Rising.{find-key}
 use Rattle.pids_charge.specs.Charges.{Charges, limit_of}
-use Rattle.sound_store.proofs.Results.{if_some, from_some}
+use Rattle.task_table.proofs.Results.{if_some, from_some}
 use Rattle.sound_store.specs.Groups.{HasGoodControls, IsGoodControl, ids_of}
 
 -- ---- from ids to control groups and back

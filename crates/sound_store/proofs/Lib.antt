@@ -1,7 +1,4 @@
-pub mod Results
-pub mod Places
 pub mod Groups
-pub mod Around
 pub mod Ways
 pub mod Made
 pub mod Told

@@ -28,9 +28,9 @@ use Rattle.task_table.specs.Whole.{IsWhole}
 use Rattle.task_table.proofs.Keys.{space_at-is, space_at-key, number-is_key}
 use Rattle.task_table.proofs.LookUps.{named, group-named, in-rows, rows-in, space-id, keyed}
 use Rattle.task_table.proofs.InUse.{member, used-from, used-in}
-use Rattle.sound_store.proofs.Results.{if_some}
-use Rattle.sound_store.proofs.Places.{place-of, rising-ids, found-rise}
-use Rattle.sound_store.proofs.Around.{id-of_key, space-from, around-in, in-around, fallen-in, number-on_way, key-named, number-by_key, well_numbered}
+use Rattle.task_table.proofs.Results.{if_some}
+use Rattle.task_table.proofs.Places.{place-of, rising-ids, found-rise}
+use Rattle.task_table.proofs.Around.{id-of_key, space-from, around-in, in-around, fallen-in, number-on_way, key-named, number-by_key, well_numbered}
 use Rattle.sound_store.proofs.Ways.{number-at, way-chain}
 use Rattle.sound_store.specs.Tasks.{IsTask, lives_at, is_init, is_around, may_be_parent, has_good_parent, has_good_children, has_good_leader, is_led, may_live, has_home, is_good_task, HasGoodTasks}
 use Rattle.sound_store.specs.Spaces.{HasInit, HasGoodSpaces}

@@ -27,8 +27,8 @@ use Rattle.task_table.specs.Whole.{IsWhole, HasParents}
 use Rattle.task_table.proofs.Keys.{id_for, id_of_there, on_path, space_at-is, space_at-key, number-is_key}
 use Rattle.task_table.proofs.LookUps.{named, session-named, in-rows, rows-in, space-id}
 use Rattle.task_table.proofs.InUse.{member}
-use Rattle.sound_store.proofs.Results.{from_some}
-use Rattle.sound_store.proofs.Around.{id-of_key, space-in, in-around, key-named}
+use Rattle.task_table.proofs.Results.{from_some}
+use Rattle.task_table.proofs.Around.{id-of_key, space-in, in-around, key-named}
 use Rattle.sound_store.proofs.Ways.{number-at, chain-way}
 use Rattle.sound_store.proofs.Made.{owned, space-id_of, found_at, is_task-at, session-of, group-of, some_of}
 use Rattle.sound_store.specs.Tasks.{IsTask, lives_at, is_init, is_around, may_be_parent, has_good_parent, has_good_children, has_good_leader, is_led, may_live, has_home}

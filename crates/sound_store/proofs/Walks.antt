@@ -12,7 +12,7 @@ use Rattle.task_table.specs.View.{row_of}
 use Rattle.task_table.specs.Lawful.{IsLawful}
 use Rattle.task_table.proofs.LookUps.{named, in-rows, rows-in}
 use Rattle.task_table.proofs.InUse.{used-by, user}
-use Rattle.sound_store.proofs.Around.{key-named}
+use Rattle.task_table.proofs.Around.{key-named}
 use Rattle.sound_store.specs.Tasks.{IsTask}
 use Rattle.sound_store.specs.Next.{IsNextTask, AreAllBelow}
 

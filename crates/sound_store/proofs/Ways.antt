@@ -15,7 +15,7 @@ use Rattle.task_table.specs.Store.{Store}
 use Rattle.task_table.specs.View.{name_at, row_of, row_numbered, state_of}
 use Rattle.task_table.specs.Lawful.{IsLawful}
 use Rattle.task_table.proofs.LookUps.{named, root-number, row-at, row_at-key, keyed}
-use Rattle.sound_store.proofs.Places.{found-few}
+use Rattle.task_table.proofs.Places.{found-few}
 use Rattle.sound_store.specs.Ways.{IsFirst, LeadsUp, Reaches}
 
 -- what a chain has it has for more steps

@@ -5,7 +5,6 @@ use Rattle.std.proofs.lemmas.Bool.{cases_eq, eq-eqb}
 use Rattle.pid_types.proofs.General.{apart, held}
 use Rattle.pid_types.specs.Bounds.{reserved_numbers}
 use Rattle.pid_types.specs.Chains.{contains, first_absent}
-use Rattle.pid_types.specs.Membership.{IsIn}
 use Rattle.pid_types.specs.Draw.{cyclic_draw, least_free, restart}
 use Rattle.pid_numbers.specs.Numbering.{Numbering, Namespace, namespace_at, path_at, cursor_put, draw_in, number_in, taken_in}
 use Rattle.task_table.specs.Lawful.{HasLaws}

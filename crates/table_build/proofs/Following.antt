@@ -1,6 +1,6 @@
 -- What follows in a list of namespaces or control groups that is a tree.
-use Rattle.std.proofs.Common.{◌≡◌, inl, inr, ℕ, zero, suc, ◌-◌, ◌<◌, ◌≤◌, ◌==◌, Bool, true, List, [], ◌∷◌, ◌++◌, length, take, drop, map, find, slice_get, Option, Some, None, Result, Ok, Err, IsSome, is_some, if◌then◌else◌, refl, sym, ap, subst, ◌∙◌, arith, option_and_then}
-use Rattle.std.specs.Prelude.{IfSome, IfErr, OnOk}
+use Rattle.std.proofs.Common.{◌≡◌, inl, inr, ℕ, zero, suc, ◌-◌, ◌<◌, ◌≤◌, ◌==◌, Bool, true, List, [], ◌∷◌, ◌++◌, length, take, drop, map, find, slice_get, Option, Some, None, IsSome, is_some, if◌then◌else◌, refl, sym, ap, subst, ◌∙◌, arith, option_and_then}
+use Rattle.std.specs.Prelude.{IfSome}
 use Rattle.pid_types.proofs.General.{apart}
 use Rattle.pid_types.specs.Chains.{climb}
 use Rattle.pid_types.specs.Membership.{IsIn}
@@ -157,12 +157,3 @@ module _ {X : Type 0} (id : X → ℕ) (parent : X → Option ℕ) (deepest : �
             let len = length-climb (up all) deepest p in
             let all_len = ap length (same ∙ stops) in
             omega (arith, len, all_len)
-
--- what holds of each fault, and of each answer
-pub each-fault : {A E : Type 0} (P Q : E → Type 0) (r : Result A E) → ((e : E) → P e → Q e) → IfErr r P → IfErr r Q
-each-fault P Q (Ok a) f h = h
-each-fault P Q (Err e) f h = f e h
-
-pub each-ok : {A E : Type 0} (P Q : Type 0) (r : Result A E) → (P → Q) → OnOk r P → OnOk r Q
-each-ok P Q (Ok a) f h = f h
-each-ok P Q (Err e) f h = h

@@ -11,3 +11,6 @@ pub mod ControlTrees
 pub mod SpaceTrees
 pub mod Draws
 pub mod Places
+pub mod Parts
+pub mod Falling
+pub mod PartSteps

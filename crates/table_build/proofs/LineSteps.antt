@@ -222,9 +222,9 @@ line-at s p f j key row lines at is =
     subst (IsLine s p key) same line.2
 
 -- one group more
-pub groups-push : (s t : Store) (p q : Placed) (rows : List Row) (row : Row) → AreGroups s p rows → KeepsBearers s t → AddsGroup t p q row.group → slice_get rows (length p.groups.items) ≡ Some row
+pub groups-push : (s t : Store) (p q : Placed) (rows : List Row) (key : ℕ) (row : Row) → AreGroups s p rows → KeepsBearers s t → AddsGroup s t p q key row → slice_get rows (length p.groups.items) ≡ Some row
     → AreGroups t q rows
-groups-push s t p q rows row groups names a at j g e = elim (get-pushed p.groups.items a.group j g (ap (λ l. slice_get l j) (sym a.added) ∙ e)) [
+groups-push s t p q rows key row groups names a at j g e = elim (get-pushed p.groups.items a.group j g (ap (λ l. slice_get l j) (sym a.added) ∙ e)) [
   | inl old ↦ let r = groups j g old in (r.0, r.1, bears-kept s t g r.0.group names r.2)
   | inr new ↦ (row, ap (slice_get rows) new.0 ∙ at, subst (λ k. Bears t k row.group) (sym new.1) a.bears)
 ]

@@ -1,5 +1,6 @@
 -- Places of lists, and what stands there.
-use Rattle.std.proofs.Common.{◌≡◌, inl, inr, ℕ, zero, suc, ◌<◌, List, [], ◌∷◌, length, slice_get, Some, sym, ap, arith}
+use Rattle.std.proofs.Common.{◌≡◌, inl, inr, ℕ, zero, suc, ◌<◌, List, [], ◌∷◌, length, slice_get, Some, None, sym, ap, arith}
+use Rattle.std.specs.Prelude.{slice_index}
 use Rattle.pid_types.specs.Membership.{IsIn}
 
 module _ {X : Type 0} where
@@ -17,3 +18,12 @@ module _ {X : Type 0} where
   below_length [] j x e = absurd (cc)
   below_length (y ∷ ys) zero x e = omega arith
   below_length (y ∷ ys) (suc j) x e = let lt = below_length ys j x e in omega (arith, lt)
+
+-- the first number of a list
+pub first-is : (xs : List ℕ) (n : ℕ) → slice_get xs 0 ≡ Some n → slice_index xs 0 ≡ n
+first-is [] n e = absurd (cc)
+first-is (x ∷ xs) n e = (let z : x ≡ n = cc in z)
+
+pub no-first : (xs : List ℕ) → slice_get xs 0 ≡ None → 0 < length xs → ⊥
+no-first [] e some = omega (arith, some)
+no-first (x ∷ xs) e some = absurd (cc)

@@ -18,10 +18,10 @@ use Rattle.table_build.specs.Bare.{bare}
 use Rattle.table_build.specs.Follows.{AreGoodSpaces, AreIdsUpTo, MayStandBehind}
 use Rattle.table_build.proofs.Following.{all-below, first-root, inside, lastly, parted}
 
-abbrev id_of : Space → ℕ
+abbrev pub id_of : Space → ℕ
 id_of s = s.id
 
-abbrev parent_of : Space → Option ℕ
+abbrev pub parent_of : Space → Option ℕ
 parent_of s = s.parent
 
 -- the root stands first

@@ -1,7 +1,8 @@
 -- Namespaces as they are while a store is made.
-use Rattle.std.specs.Prelude.{◌≡◌, ◌⊎◌, ℕ, ◌<◌, Bool, true, false, List, Some, option_map, slice_get}
+use Rattle.std.specs.Prelude.{◌≡◌, ◌≢◌, ◌⊎◌, ℕ, ◌<◌, Bool, true, false, List, Some, option_map, slice_get}
 use Rattle.pid_types.specs.declared.plain.Space.{Space}
-use Rattle.pid_numbers.specs.Numbering.{Numbering, id_at, namespace_at}
+use Rattle.pid_types.specs.Membership.{IsIn}
+use Rattle.pid_numbers.specs.Numbering.{Numbering, id_at, namespace_at, number_of, path_at}
 use Rattle.pid_numbers.specs.Restore.{is_flagged}
 
 -- before a number was drawn in it: it stands, and its draws begin at its first number
@@ -18,6 +19,18 @@ pub record AreFlagged (b : Numbering) (spaces : List Space) (count : ℕ) (flags
       → (s : ℕ) × (id_at b s ≡ Some x.id) × (x.fallen ≡ true → is_flagged flags s ≡ true)
   pub only : (s : ℕ) → is_flagged flags s ≡ true
       → (j : ℕ) × (x : Space) × (slice_get spaces j ≡ Some x) × (x.fallen ≡ true) × (id_at b s ≡ Some x.id)
+
+-- the namespace may have fallen, or stand, as its line says: it has fallen if it is not the root and has a number in use, and stands
+-- if it is in none with a flag
+pub record MayHaveFall (b : Numbering) (flags : List Bool) (x : Space) : Type 0 where
+  pub there : (s : ℕ) × (id_at b s ≡ Some x.id)
+  pub fallen : (s : ℕ) → id_at b s ≡ Some x.id → x.fallen ≡ true → (s ≢ 0) × (i : ℕ) × (n : ℕ) × (number_of b i s ≡ Some n)
+  pub stands : (s outer : ℕ) → id_at b s ≡ Some x.id → x.fallen ≡ false → slice_get (path_at b s) 1 ≡ Some outer
+      → is_flagged flags outer ≡ false
+
+-- all may
+abbrev pub MayHaveFalls : Numbering → List Bool → List Space → Type 0
+MayHaveFalls b flags spaces = (x : Space) → IsIn x spaces → MayHaveFall b flags x
 
 -- the next draw in the namespace begins where it says
 abbrev pub HasCursor : Numbering → Space → Type 0

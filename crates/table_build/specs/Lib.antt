@@ -7,3 +7,5 @@ pub mod Sessions
 pub mod Grouping
 pub mod Sorted
 pub mod Follows
+pub mod Parts
+pub mod Tables

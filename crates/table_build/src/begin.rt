@@ -1,7 +1,11 @@
 //! The tasks of a text begin. Each is live, without a parent, and in a group and a session of its own name.
-ghost use Rattle.std.specs.Prelude.{◌≡◌, ◌≢◌, ◌<◌, ℕ, [], length, false};
-ghost use Rattle.std.specs.Prelude.{None, OnOk, IfOk, IfErr, IsSome, option_map, slice_get};
+ghost use Rattle.std.specs.Prelude.{◌≡◌, ◌≢◌, ◌<◌, ℕ, [], length, map, false};
+ghost use Rattle.std.specs.Prelude.{None, OnOk, IfOk, IfErr, IsSome, IsTrue, option_map, slice_get};
 ghost use Rattle.pid_types.specs.Controls.{control_at};
+ghost use Rattle.pid_types.specs.Names.{root_number};
+ghost use Rattle.pid_types.specs.Sound.{IsRising, IsSound};
+ghost use Rattle.table_text.specs.Reading.{saved_state};
+ghost use Rattle.table_build.specs.Parts.{HasPlaces, IsPart};
 ghost use Rattle.table_build.specs.Follows.{MayBear};
 ghost use Rattle.task_table.specs.View.{row_with};
 ghost use Rattle.table_build.specs.Lines.{AreLines};
@@ -18,12 +22,14 @@ use pid_types::plain::{Life, Row};
 use std::alloc::Global;
 use table_text::read::Saved;
 use task_table::Tasks;
+use task_table::view::laws;
 use task_tree::Task;
 
 /// Whether the line's number is below that of the line before.
 fn is_unsorted(saved: &Saved, index: usize) -> bool
     requires { index < length saved.now.rows.items }
-    ensures { result ≡ false → IsNotBelow saved.now.rows.items index }
+    ensures sorted { result ≡ false → IsNotBelow saved.now.rows.items index }
+    ensures unsorted { IsTrue result → IsRising (map (λ row. root_number row.name) saved.now.rows.items) → ⊥ }
 {
     if index == 0 {
         return false;
@@ -71,12 +77,16 @@ pub fn begin_tasks(alloc: Global, store: &mut Tasks, saved: &Saved) -> Result<Pl
     ensures groups { IfOk result (λ placed. placed.groups.items ≡ []) }
     ensures nobody { IfOk result (λ placed. placed.placeholders.items ≡ []) }
     ensures sorted { OnOk result ((j : ℕ) → j < length saved.now.rows.items → IsNotBelow saved.now.rows.items j) }
+    ensures part { HasPlaces store.old (saved_state saved.now) → OnOk result (IsPart store.new (saved_state saved.now)) }
+    ensures refused { IfErr result (λ fault. fault ≢ BuildFault.NoMemory → IsSound (saved_state saved.now)
+        → HasPlaces store.old (saved_state saved.now) → ⊥) }
 {
     let mut placed = Placed::new(alloc);
     for index in 0..saved.rows.len() {
         if is_unsorted(saved, index) {
             return Err(BuildFault::Unsorted(task_line(index)));
         }
+        laws(store);
         let key = begin_task(store, &saved.rows[index], task_line(index))?;
         placed.add_key(key)?;
     }

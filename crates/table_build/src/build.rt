@@ -1,9 +1,13 @@
 //! A store with all that a text says.
-ghost use Rattle.std.specs.Prelude.{◌≡◌, ℕ, None, map, IfOk, OnOk};
+ghost use Rattle.std.specs.Prelude.{◌≡◌, ◌≢◌, ℕ, None, map, IfOk, IfErr, OnOk};
+ghost use Rattle.pid_types.specs.Sound.{IsSound};
 ghost use Rattle.task_table.specs.View.{row_with, spaces_of, state_of};
+ghost use Rattle.task_table.specs.Whole.{HasParents};
 ghost use Rattle.table_text.specs.Reading.{saved_state};
 ghost use Rattle.table_build.specs.Bare.{bare, steady};
+ghost use Rattle.table_build.specs.Parts.{HasPlaces};
 ghost use Rattle.table_build.specs.Stages.{KeepsPlaces};
+ghost use Rattle.table_build.specs.Tables.{IsOfTables};
 ghost use Rattle.table_build.specs.Ungrouped.{IsUngrouped};
 
 use crate::begin::begin_tasks;
@@ -26,6 +30,8 @@ fn put_places(alloc: Global, saved: &Saved) -> Result<Tasks, BuildFault>
     ensures controls { IfOk result (λ store. store.charges.controls ≡ saved.now.controls.items) }
     ensures spaces { IfOk result (λ store. spaces_of store.numbering ≡ map bare saved.now.spaces.items) }
     ensures bound { IfOk result (λ store. store.numbering.pid_max ≡ saved.now.pid_max) }
+    ensures kin { IfOk result (λ store. HasParents store) }
+    ensures refused { IfErr result (λ fault. fault ≢ BuildFault.NoMemory → IsOfTables (saved_state saved.now) → ⊥) }
 {
     let Ok(config) = Config::new(saved.pid_max, 1) else {
         return Err(BuildFault::BadSettings(1));
@@ -43,6 +49,9 @@ fn put_tasks(alloc: Global, store: &mut Tasks, saved: &Saved) -> Result<(), Buil
     requires nobody { (k : ℕ) → row_with store.old k ≡ None }
     ensures rows { OnOk result ((state_of store.new).rows ≡ saved.now.rows.items) }
     ensures places { OnOk result (KeepsPlaces store.old store.new) }
+    ensures kin { OnOk result (HasParents store.new) }
+    ensures refused { IfErr result (λ fault. fault ≢ BuildFault.NoMemory → IsSound (saved_state saved.now)
+        → HasPlaces store.old (saved_state saved.now) → ⊥) }
 {
     let mut placed = begin_tasks(alloc, store, saved)?;
     enter_sessions(store, &mut placed, saved)?;
@@ -52,9 +61,12 @@ fn put_tasks(alloc: Global, store: &mut Tasks, saved: &Saved) -> Result<(), Buil
     Ok(())
 }
 
-/// A store with the state that the text says. Its parts agree, and the state need not be sound.
+/// A store with the state that the text says. Its parts agree, and the state need not be sound. The store of a state
+/// that is sound, as tables have it, is made wherever there is memory.
 pub fn build(alloc: Global, saved: &Saved) -> Result<Tasks, BuildFault>
-    ensures { IfOk result (λ store. state_of store ≡ saved_state saved.now) }
+    ensures state { IfOk result (λ store. state_of store ≡ saved_state saved.now) }
+    ensures kin { IfOk result (λ store. HasParents store) }
+    ensures refused { IfErr result (λ fault. fault ≢ BuildFault.NoMemory → IsOfTables (saved_state saved.now) → ⊥) }
 {
     let mut store = put_places(alloc, saved)?;
     put_tasks(alloc, &mut store, saved)?;

@@ -1,8 +1,14 @@
 //! The namespaces of a text fall, and their cursors are put.
-ghost use Rattle.std.specs.Prelude.{◌≡◌, map, length, OnOk, IfOk};
+ghost use Rattle.std.specs.Prelude.{◌≡◌, ◌≢◌, ◌↔◌, ◌≤◌, ◌<◌, ◌^◌, ℕ, true, map, length, slice_get, Some};
+ghost use Rattle.std.specs.Prelude.{IsTrue, OnOk, OnErr, IfOk, IfErr};
+ghost use Rattle.pid_types.specs.Membership.{IsIn};
+ghost use Rattle.pid_types.specs.Sound.{IsSound};
 ghost use Rattle.pid_types.specs.declared.plain.Space.{Space};
+ghost use Rattle.pid_numbers.specs.Numbering.{IsNumberUsedAs, id_at, number_of, path_at};
+ghost use Rattle.pid_numbers.specs.Restore.{is_flagged};
+ghost use Rattle.table_text.specs.Reading.{saved_state};
 ghost use Rattle.task_table.specs.View.{spaces_of, state_of};
-ghost use Rattle.table_build.specs.Bare.{AddsFlag, AreFlagged, HasCursor, bare, steady};
+ghost use Rattle.table_build.specs.Bare.{AddsFlag, AreFlagged, HasCursor, MayHaveFall, MayHaveFalls, bare, steady};
 ghost use Rattle.table_build.specs.Stages.{MovesCursors};
 
 use crate::fault::BuildFault;
@@ -23,7 +29,10 @@ fn add_flag(
     space: &Space,
     line: u64,
 ) -> Result<(), BuildFault>
-    ensures { OnOk result (AddsFlag store.now.numbering flags.old.items flags.new.items space.now) }
+    ensures added { OnOk result (AddsFlag store.now.numbering flags.old.items flags.new.items space.now) }
+    ensures few { length flags.old.items ≤ 2 ^ 32 → length flags.new.items ≤ 2 ^ 32 }
+    ensures refused { IfErr result (λ fault. fault ≢ BuildFault.NoMemory
+        → (s : ℕ) → id_at store.now.numbering s ≢ Some space.now.id) }
 {
     let Some(key) = store.numbers().find_space(space.id) else {
         return Err(BuildFault::UnknownNamespace(line));
@@ -36,9 +45,13 @@ fn add_flag(
 
 /// At the key of each namespace whether it has fallen by its line.
 fn fallen_flags(alloc: Global, store: &Tasks, saved: &Saved) -> Result<Vec<bool>, BuildFault>
-    ensures { IfOk result (λ flags. AreFlagged store.now.numbering saved.now.spaces.items
+    ensures flagged { IfOk result (λ flags. AreFlagged store.now.numbering saved.now.spaces.items
         (length saved.now.spaces.items) flags.items) }
+    ensures few { IfOk result (λ flags. length flags.items ≤ 2 ^ 32) }
+    ensures refused { IfErr result (λ fault. fault ≢ BuildFault.NoMemory
+        → map steady (spaces_of store.now.numbering) ≡ map bare saved.now.spaces.items → ⊥) }
 {
+    laws(store);
     let mut flags = Vec::new(alloc);
     for index in 0..saved.spaces.len() {
         let line = space_line(saved, index);
@@ -47,38 +60,69 @@ fn fallen_flags(alloc: Global, store: &Tasks, saved: &Saved) -> Result<Vec<bool>
     Ok(flags)
 }
 
+/// Whether a number of the namespace is in use as the kind.
+fn has_kind(store: &Tasks, key: SpaceKey, kind: Kind) -> bool
+    ensures { IsTrue result ↔ ((n : ℕ) × IsNumberUsedAs store.now.numbering kind key n) }
+{
+    store.numbers().next_used(key, kind, 0).is_some()
+}
+
 /// Whether a number of the namespace is in use.
-fn has_numbers(store: &Tasks, key: SpaceKey) -> bool {
-    let numbers = store.numbers();
-    numbers.next_used(key, Kind::Task, 0).is_some()
-        || numbers.next_used(key, Kind::Group, 0).is_some()
-        || numbers.next_used(key, Kind::Session, 0).is_some()
+fn has_numbers(store: &Tasks, key: SpaceKey) -> bool
+    ensures { IsTrue result ↔ ((i : ℕ) × (n : ℕ) × (number_of store.now.numbering i key ≡ Some n)) }
+{
+    laws(store);
+    if has_kind(store, key, Kind::Task) {
+        return true;
+    }
+    if has_kind(store, key, Kind::Group) {
+        return true;
+    }
+    has_kind(store, key, Kind::Session)
 }
 
 /// Whether the namespace around the one with the key has a flag.
-fn is_in_fallen(store: &Tasks, flags: &[bool], key: SpaceKey) -> bool {
+fn is_in_fallen(store: &Tasks, flags: &[bool], key: SpaceKey) -> bool
+    ensures { IsTrue result ↔ ((outer : ℕ) × (slice_get (path_at store.now.numbering key) 1 ≡ Some outer)
+        × (is_flagged flags.now outer ≡ true)) }
+{
     match store.numbers().parent(key) {
         Some(outer) => has_flag(flags, outer),
         None => false,
     }
 }
 
-/// The line of the first namespace that has fallen without a number in use, or that has not, in one that has.
-fn wrong_fall(store: &Tasks, flags: &[bool], saved: &Saved) -> u64 {
-    for (index, space) in saved.spaces.iter().enumerate() {
-        let Some(key) = store.numbers().find_space(space.id) else {
-            return space_line(saved, index);
-        };
-        let is_wrong = if space.fallen {
-            !has_numbers(store, key)
-        } else {
-            is_in_fallen(store, flags, key)
-        };
-        if is_wrong {
-            return space_line(saved, index);
-        }
+/// Sees that a namespace which has fallen by its line is not the root and has a number in use, and that one which stands
+/// is in none that has fallen.
+fn check_fall(store: &Tasks, flags: &[bool], space: &Space, line: u64) -> Result<(), BuildFault>
+    ensures may { OnOk result (MayHaveFall store.now.numbering flags.now space.now) }
+    ensures refused { OnErr result (MayHaveFall store.now.numbering flags.now space.now → ⊥) }
+{
+    laws(store);
+    let Some(key) = store.numbers().find_space(space.id) else {
+        return Err(BuildFault::UnknownNamespace(line));
+    };
+    let is_wrong = if space.fallen {
+        key == 0 || !has_numbers(store, key)
+    } else {
+        is_in_fallen(store, flags, key)
+    };
+    if is_wrong {
+        return Err(BuildFault::Impossible(line));
     }
-    space_line(saved, 0)
+    Ok(())
+}
+
+/// Sees that all namespaces may have fallen, or stand, by their lines.
+fn check_falls(store: &Tasks, flags: &[bool], saved: &Saved) -> Result<(), BuildFault>
+    ensures may { OnOk result (MayHaveFalls store.now.numbering flags.now saved.now.spaces.items) }
+    ensures refused { OnErr result (MayHaveFalls store.now.numbering flags.now saved.now.spaces.items → ⊥) }
+{
+    for index in 0..saved.spaces.len() {
+        let line = space_line(saved, index);
+        check_fall(store, flags, &saved.spaces[index], line)?;
+    }
+    Ok(())
 }
 
 /// The namespaces fall that have fallen by their lines: in each a number is in use, and all in one have fallen too.
@@ -88,12 +132,12 @@ pub fn put_falls(alloc: Global, store: &mut Tasks, saved: &Saved) -> Result<(), 
     ensures rows { OnOk result ((state_of store.new).rows ≡ (state_of store.old).rows) }
     ensures bound { store.new.numbering.pid_max ≡ store.old.numbering.pid_max }
     ensures rest { store.new ≡ record store.old { numbering = store.new.numbering } }
+    ensures refused { IfErr result (λ fault. fault ≢ BuildFault.NoMemory → IsSound (saved_state saved.now)
+        → (state_of store.old).rows ≡ saved.now.rows.items → ⊥) }
 {
-    let flags = fallen_flags(alloc, store, saved)?;
-    if u32::try_from(flags.len()).is_err() || !store.numbers().may_fall(&flags) {
-        return Err(BuildFault::Impossible(wrong_fall(store, &flags, saved)));
-    }
     laws(store);
+    let flags = fallen_flags(alloc, store, saved)?;
+    check_falls(store, &flags, saved)?;
     store.set_fallen(&flags);
     Ok(())
 }

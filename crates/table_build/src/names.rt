@@ -1,12 +1,17 @@
 //! Names of a text: each gets its numbers by a task that bears it.
 ghost use Rattle.std.specs.Prelude.{◌≡◌, ◌≢◌, true, false, length, reverse};
-ghost use Rattle.std.specs.Prelude.{None, IsTrue, OnOk, IfOk, IfErr, IfSome, IsSome};
+ghost use Rattle.std.specs.Prelude.{None, IsTrue, OnOk, OnErr, IfOk, IfErr, IfSome, IsSome};
+ghost use Rattle.pid_types.specs.Membership.{IsIn};
+ghost use Rattle.pid_types.specs.Names.{names_in_use};
+ghost use Rattle.pid_types.specs.Sound.{IsSound};
+ghost use Rattle.pid_types.specs.State.{State};
 ghost use Rattle.pid_numbers.specs.Numbering.{namespace_at, path_at};
 ghost use Rattle.pids_charge.specs.Charges.{stands};
 ghost use Rattle.task_tree.specs.Tree.{lives};
 ghost use Rattle.table_build.specs.Ungrouped.{IsUngrouped};
 ghost use Rattle.table_build.specs.Bare.{HasCursors};
 ghost use Rattle.table_build.specs.Follows.{MayBear};
+ghost use Rattle.table_build.specs.Parts.{IsPart, IsUnborne};
 ghost use Rattle.table_build.specs.Recent.{AreBorne, Bears, IsRecent};
 ghost use Rattle.table_build.specs.Stages.{AddsRow, KeepsBearers, KeepsPlaces, MovesCursors, lone_row};
 
@@ -131,8 +136,8 @@ impl RecentName {
     }
 }
 
-/// The identifier that has the name; none where its number in the root namespace is free. Another name with that number
-/// is a fault. Where it is the name that was found last, no search is made.
+/// The identifier that has the name; none where nobody has its number in the root namespace. Another name with that
+/// number is a fault. Where it is the name that was found last, no search is made.
 pub fn find_name(
     store: &Tasks,
     name: &Name,
@@ -143,7 +148,11 @@ pub fn find_name(
     requires recent { IsRecent store.now last.old }
     ensures recent { OnOk result (IsRecent store.now last.new) }
     ensures found { IfOk result (λ found. IfSome found (λ key. Bears store.now key name.now)) }
+    ensures nobody { IfOk result (λ found. found ≡ None → IsUnborne store.now name.now) }
+    ensures refused { OnErr result ((text : State) → IsSound text → IsPart store.now text
+        → IsIn name.now (names_in_use text.rows) → ⊥) }
 {
+    laws(store);
     if last.key.is_some() && last.name == *name {
         return Ok(last.key);
     }

@@ -1,14 +1,21 @@
 //! The tasks of a text go to their sessions, each still in the group of its own name. Names of groups and sessions that
 //! no line has are borne by placeholders.
-ghost use Rattle.std.specs.Prelude.{◌≡◌, ◌≢◌, [], true, length, OnOk, IfOk, IfErr, Some, IsSome, option_map, slice_get};
+ghost use Rattle.std.specs.Prelude.{◌≡◌, ◌≢◌, [], true, length, OnOk, OnErr, IfOk, IfErr, Some, IsSome};
+ghost use Rattle.std.specs.Prelude.{option_map, slice_get};
 ghost use Rattle.pid_types.specs.Controls.{control_at};
+ghost use Rattle.pid_types.specs.Membership.{IsIn};
+ghost use Rattle.pid_types.specs.Names.{names_in_use};
+ghost use Rattle.pid_types.specs.Sound.{HasGoodGroups, IsSound};
+ghost use Rattle.pid_types.specs.State.{State};
+ghost use Rattle.table_text.specs.Reading.{saved_state};
 ghost use Rattle.task_tree.specs.Tree.{task_at};
 ghost use Rattle.table_build.specs.Follows.{MayBear};
 ghost use Rattle.pid_types.specs.declared.plain.Row.{Row};
 ghost use Rattle.task_table.specs.View.{name_at, row_with};
 ghost use Rattle.table_build.specs.Lines.{AreGroups, AreLines, IsLine, KeepsFew, SameLines, SetsLine, is_held};
 ghost use Rattle.table_build.specs.Recent.{Bears, IsRecent};
-ghost use Rattle.table_build.specs.Sessions.{AddsGroup, AreRecent};
+ghost use Rattle.table_build.specs.Parts.{AreSeated, IsPart};
+ghost use Rattle.table_build.specs.Sessions.{AddsGroup, AddsPlaceholder, AreRecent, Seats};
 ghost use Rattle.table_build.specs.Stages.{KeepsBearers, KeepsPlaces, SetsRow, begun, seated};
 ghost use Rattle.table_build.specs.Ungrouped.{IsUngrouped};
 
@@ -39,6 +46,7 @@ fn begin_placeholder(
     ensures lists { (placed.new.keys ≡ placed.old.keys) × (placed.new.groups ≡ placed.old.groups) }
     ensures names { OnOk result (KeepsBearers store.old store.new) }
     ensures places { OnOk result (KeepsPlaces store.old store.new) }
+    ensures rows { OnOk result (AddsPlaceholder store.old store.new placed.old placed.new name.now) }
     ensures refused { IfErr result (λ fault. fault ≢ BuildFault.NoMemory
         → IsSome (control_at store.old.charges.controls 0) → MayBear store.old.numbering name.now → ⊥) }
 {
@@ -75,7 +83,11 @@ fn bearer(
     ensures lists { (placed.new.keys ≡ placed.old.keys) × (placed.new.groups ≡ placed.old.groups) }
     ensures names { OnOk result (KeepsBearers store.old store.new) }
     ensures places { OnOk result (KeepsPlaces store.old store.new) }
+    ensures rows { OnOk result (AddsPlaceholder store.old store.new placed.old placed.new name.now) }
+    ensures refused { IfErr result (λ fault. fault ≢ BuildFault.NoMemory → (text : State) → IsSound text
+        → IsPart store.old text → IsIn name.now (names_in_use text.rows) → ⊥) }
 {
+    laws(store);
     match find_name(store, name, last, line)? {
         Some(key) => Ok(key),
         None => begin_placeholder(store, placed, name, line),
@@ -95,6 +107,7 @@ fn enter_session(
         (record row { group = row.name; session = name_at store.old.numbering session })) }
     ensures names { OnOk result (KeepsBearers store.old store.new) }
     ensures places { OnOk result (KeepsPlaces store.old store.new) }
+    ensures refused { OnErr result (IsSome (task_at store.old.tree key) → IsSome (task_at store.old.tree session) → ⊥) }
 {
     if store.tree().task(key).is_none() || store.tree().task(session).is_none() {
         return Err(BuildFault::Impossible(line));
@@ -119,6 +132,8 @@ fn seat_placeholder(
     ensures lines { OnOk result (SameLines store.old store.new placed.now placed.now) }
     ensures names { OnOk result (KeepsBearers store.old store.new) }
     ensures places { OnOk result (KeepsPlaces store.old store.new) }
+    ensures seat { OnOk result (Seats store.old store.new placed.now group (name_at store.old.numbering session)) }
+    ensures refused { OnErr result (IsSome (task_at store.old.tree session) → ⊥) }
 {
     if !placed.is_placeholder(group) {
         return Ok(());
@@ -149,10 +164,13 @@ fn put_in_session(
     ensures ungrouped { OnOk result (IsUngrouped store.new) }
     ensures recent { OnOk result (AreRecent store.new last.new) }
     ensures set { OnOk result (SetsLine store.old store.new placed.old placed.new key (seated row.now)) }
-    ensures group { OnOk result (AddsGroup store.new placed.old placed.new row.now.group) }
+    ensures group { OnOk result (AddsGroup store.old store.new placed.old placed.new key row.now) }
     ensures few { OnOk result (KeepsFew placed.old placed.new) }
     ensures names { OnOk result (KeepsBearers store.old store.new) }
     ensures places { OnOk result (KeepsPlaces store.old store.new) }
+    ensures part { (text : State) → IsPart store.old text → IsIn row.now text.rows → OnOk result (IsPart store.new text) }
+    ensures refused { IfErr result (λ fault. fault ≢ BuildFault.NoMemory → (text : State) → IsSound text
+        → IsPart store.old text → IsIn row.now text.rows → ⊥) }
 {
     let session = bearer(store, placed, &row.session, &mut last.session, line)?;
     enter_session(store, key, session, line)?;
@@ -177,8 +195,14 @@ pub fn enter_sessions(
         (λ j. option_map seated (slice_get saved.now.rows.items j))) }
     ensures groups { OnOk result (AreGroups store.new placed.new saved.now.rows.items) }
     ensures keys { OnOk result (length placed.new.keys.items ≡ length saved.now.rows.items) }
+    ensures all { OnOk result (length placed.new.groups.items ≡ length saved.now.rows.items) }
     ensures few { OnOk result (KeepsFew placed.old placed.new) }
     ensures places { OnOk result (KeepsPlaces store.old store.new) }
+    ensures part { IsPart store.old (saved_state saved.now) → OnOk result (IsPart store.new (saved_state saved.now)) }
+    ensures seated { HasGoodGroups saved.now.rows.items → OnOk result
+        (AreSeated store.new placed.new saved.now.rows.items) }
+    ensures refused { IfErr result (λ fault. fault ≢ BuildFault.NoMemory → IsSound (saved_state saved.now)
+        → IsPart store.old (saved_state saved.now) → ⊥) }
 {
     let mut last = RecentNames {
         session: RecentName::none(),
@@ -192,5 +216,6 @@ pub fn enter_sessions(
         let key = *key;
         put_in_session(store, placed, key, row, &mut last, line)?;
     }
+    laws(store);
     Ok(())
 }

@@ -1,13 +1,19 @@
 //! The tasks of a text get their groups and parents, those that have ended end, and the placeholders go.
-ghost use Rattle.std.specs.Prelude.{◌≡◌, ◌≢◌, ℕ, ◌<◌, true, false, length};
-ghost use Rattle.std.specs.Prelude.{None, Some, IsSome, IsTrue, OnOk, IfOk, option_map, slice_get};
+ghost use Rattle.std.specs.Prelude.{◌≡◌, ◌≢◌, ◌↔◌, ℕ, ◌<◌, true, false, length};
+ghost use Rattle.std.specs.Prelude.{None, Some, IsSome, IsTrue, OnOk, OnErr, IfOk, option_map, slice_get};
+ghost use Rattle.pid_types.specs.Membership.{IsIn};
+ghost use Rattle.pid_types.specs.Names.{names_in_use};
+ghost use Rattle.pid_types.specs.Sound.{IsSound};
+ghost use Rattle.pid_types.specs.State.{State};
+ghost use Rattle.table_text.specs.Reading.{saved_state};
 ghost use Rattle.pid_types.specs.declared.plain.Row.{Row};
-ghost use Rattle.pid_numbers.specs.Numbering.{Identifier, identifier_at, number_of};
-ghost use Rattle.task_tree.specs.Tree.{parent_of};
+ghost use Rattle.task_tree.specs.Tree.{parent_of, task_at};
 ghost use Rattle.task_table.specs.View.{name_at, row_with};
 ghost use Rattle.task_table.specs.Whole.{HasParents};
-ghost use Rattle.table_build.specs.Grouping.{AllStand, HasRealParents, IsGrouping};
+ghost use Rattle.table_build.specs.Grouping.{AllStand, HasRealParents, IsGroupIn, IsGrouping, IsSeenByParent};
+ghost use Rattle.table_build.specs.Grouping.{MaySettle};
 ghost use Rattle.table_build.specs.Lines.{AreGroups, AreLines, HasFew, SameLines, is_held};
+ghost use Rattle.table_build.specs.Parts.{AreSeated, IsPart};
 ghost use Rattle.table_build.specs.Recent.{AreBorne, Bears, IsRecent};
 ghost use Rattle.table_build.specs.Stages.{KeepsBearers, KeepsPlaces, SetsRow, seated};
 
@@ -30,6 +36,8 @@ fn join_group(store: &mut Tasks, key: TaskKey, group: TaskKey, line: u64) -> Res
     ensures tree { store.new.tree ≡ store.old.tree }
     ensures names { OnOk result (KeepsBearers store.old store.new) }
     ensures places { OnOk result (KeepsPlaces store.old store.new) }
+    ensures refused { OnErr result ((row : Row) → row_with store.old key ≡ Some row → IsSome (task_at store.old.tree group)
+        → IsGroupIn store.old (name_at store.old.numbering group) row.session → ⊥) }
 {
     if store.tree().task(key).is_none() || store.tree().task(group).is_none() {
         return Err(BuildFault::Impossible(line));
@@ -55,6 +63,8 @@ fn adopt(store: &mut Tasks, key: TaskKey, parent: TaskKey, line: u64) -> Result<
     ensures parents { (k : ℕ) → k ≢ key → parent_of store.new.tree k ≡ parent_of store.old.tree k }
     ensures rest { store.new ≡ record store.old { tree = store.new.tree } }
     ensures names { OnOk result (KeepsBearers store.old store.new) }
+    ensures refused { OnErr result ((row : Row) → row_with store.old key ≡ Some row → row.parent ≡ None
+        → row.life ≡ Life.Live → IsSome (task_at store.old.tree parent) → ⊥) }
 {
     let Some(task) = store.tree().task(key) else {
         return Err(BuildFault::Impossible(line));
@@ -74,9 +84,7 @@ fn adopt(store: &mut Tasks, key: TaskKey, parent: TaskKey, line: u64) -> Result<
 /// Whether the task's parent sees it, if it has one.
 fn is_seen_by_parent(store: &Tasks, key: TaskKey) -> bool
     requires { key < length store.now.tree.tasks }
-    ensures { IsTrue result → (p : ℕ) → parent_of store.now.tree key ≡ Some p
-        → (u : Identifier) × (identifier_at store.now.numbering p ≡ Some u)
-        × IsSome (number_of store.now.numbering key u.space) }
+    ensures { IsTrue result ↔ IsSeenByParent store.now key }
 {
     let Some(parent) = store.tree().parent(key) else {
         return true;
@@ -97,6 +105,8 @@ fn end_task(store: &mut Tasks, key: TaskKey, end: Ended, line: u64) -> Result<()
     ensures rest { (store.new.numbering ≡ store.old.numbering) × (store.new.members ≡ store.old.members)
         × (store.new.charges.controls ≡ store.old.charges.controls) }
     ensures names { OnOk result (KeepsBearers store.old store.new) }
+    ensures refused { OnErr result ((row : Row) → row_with store.old key ≡ Some row → row.life ≡ Life.Live
+        → IsSeenByParent store.old key → ⊥) }
 {
     let Some(task) = store.tree().task(key) else {
         return Err(BuildFault::Impossible(line));
@@ -123,7 +133,11 @@ fn named_parent(
     ensures recent { OnOk result (IsRecent store.now last.new) }
     ensures named { IfOk result (λ key. Bears store.now key name.now) }
     ensures real { IfOk result (λ key. is_held placed.now key ≡ false) }
+    ensures refused { OnErr result ((text : State) → IsSound text → IsPart store.now text
+        → IsIn name.now (names_in_use text.rows) → (k : ℕ) → Bears store.now k name.now
+        → is_held placed.now k ≡ false → ⊥) }
 {
+    laws(store);
     match find_name(store, name, last, line)? {
         Some(key) if !placed.is_placeholder(key) => Ok(key),
         _ => Err(BuildFault::UnknownParent(line)),
@@ -149,6 +163,7 @@ fn give_parent(
     ensures real { OnOk result (HasRealParents store.new placed.now) }
     ensures names { OnOk result (KeepsBearers store.old store.new) }
     ensures places { OnOk result (KeepsPlaces store.old store.new) }
+    ensures refused { OnErr result ((text : State) → MaySettle store.old placed.now row.now text → ⊥) }
 {
     let Some(name) = &row.parent else {
         if row.name.numbers.first() == Some(&1) {
@@ -180,11 +195,13 @@ fn settle_task(
     ensures real { OnOk result (HasRealParents store.new placed.now) }
     ensures names { OnOk result (KeepsBearers store.old store.new) }
     ensures places { OnOk result (KeepsPlaces store.old store.new) }
+    ensures refused { OnErr result ((text : State) → MaySettle store.old placed.now row.now text → ⊥) }
 {
     give_parent(store, placed, key, row, last, line)?;
     let Life::Zombie(end) = row.life else {
         return Ok(());
     };
+    laws(store);
     end_task(store, key, end, line)?;
     Ok(())
 }
@@ -196,10 +213,13 @@ pub fn settle_tasks(store: &mut Tasks, placed: &Placed, saved: &Saved) -> Result
     requires groups { AreGroups store.old placed.now saved.now.rows.items }
     requires real { HasRealParents store.old placed.now }
     requires keys { length placed.now.keys.items ≡ length saved.now.rows.items }
+    requires all { length placed.now.groups.items ≡ length saved.now.rows.items }
     ensures grouping { OnOk result (IsGrouping store.new) }
     ensures lines { OnOk result (AreLines store.new placed.now (slice_get saved.now.rows.items)) }
     ensures real { OnOk result (HasRealParents store.new placed.now) }
     ensures places { OnOk result (KeepsPlaces store.old store.new) }
+    ensures refused { OnErr result (IsSound (saved_state saved.now) → IsPart store.old (saved_state saved.now)
+        → AreSeated store.old placed.now saved.now.rows.items → ⊥) }
 {
     let mut last = RecentName::none();
     for (index, row) in saved.rows.iter().enumerate() {
@@ -207,6 +227,7 @@ pub fn settle_tasks(store: &mut Tasks, placed: &Placed, saved: &Saved) -> Result
         let (Some(key), Some(group)) = (placed.keys.get(index), placed.groups.get(index)) else {
             return Err(BuildFault::Impossible(line));
         };
+        laws(store);
         join_group(store, *key, *group, line)?;
         settle_task(store, placed, *key, row, &mut last, line)?;
     }
@@ -243,6 +264,7 @@ pub fn remove_placeholders(store: &mut Tasks, placed: &Placed)
     requires standing { AllStand store.old }
     requires real { HasRealParents store.old placed.now }
     requires few { HasFew placed.now }
+    ensures kin { HasParents store.new }
     ensures standing { AllStand store.new }
     ensures lines { SameLines store.old store.new placed.now placed.now }
     ensures gone { (k : ℕ) → is_held placed.now k ≡ true → row_with store.new k ≡ None }

@@ -1,5 +1,5 @@
 //! Whether all ids of a text are below its stamp.
-ghost use Rattle.std.specs.Prelude.{◌≡◌, IsTrue, nat_lt};
+ghost use Rattle.std.specs.Prelude.{◌≡◌, ◌↔◌, IsTrue, nat_lt};
 ghost use Rattle.std.specs.List.{list_all};
 ghost use Rattle.pid_types.specs.Sound.{IsBelow};
 ghost use Rattle.pid_types.specs.declared.plain.Control.{Control};
@@ -33,7 +33,7 @@ fn are_children_below(rows: &[Row], stamp: u64) -> bool
 
 /// Whether all ids of the text are below its stamp.
 pub fn is_below(saved: &Saved) -> bool
-    ensures { IsTrue result → IsBelow saved.now.stamp (saved_state saved.now) }
+    ensures { IsTrue result ↔ IsBelow saved.now.stamp (saved_state saved.now) }
 {
     if !are_spaces_below(&saved.spaces, saved.stamp) {
         return false;

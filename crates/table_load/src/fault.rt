@@ -47,9 +47,10 @@ pub enum RestoreFault {
 }
 
 impl From<AllocError> for RestoreFault {
-    ghost use Rattle.table_load.specs.Faults.{IsOfForm};
+    ghost use Rattle.std.specs.Prelude.{◌≡◌};
+    ghost use Rattle.table_load.specs.declared.fault.RestoreFault.TheVariants.{NoMemory};
 
-    ghost from_gives = { λ refused given. IsOfForm given → ⊥ };
+    ghost from_gives = { λ refused given. given ≡ NoMemory };
 
     fn from(_refused: AllocError) -> RestoreFault {
         RestoreFault::NoMemory
@@ -72,9 +73,10 @@ impl From<LoadFault> for RestoreFault {
 }
 
 impl From<BuildFault> for RestoreFault {
-    ghost use Rattle.table_load.specs.Faults.{IsOfForm};
+    ghost use Rattle.std.specs.Prelude.{◌≡◌};
+    ghost use Rattle.table_load.specs.Faults.{of_build};
 
-    ghost from_gives = { λ fault given. IsOfForm given → ⊥ };
+    ghost from_gives = { λ fault given. given ≡ of_build fault };
 
     fn from(fault: BuildFault) -> RestoreFault {
         match fault {

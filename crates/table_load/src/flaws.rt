@@ -1,4 +1,5 @@
 //! The lines of what makes a state unsound.
+ghost use Rattle.std.specs.Prelude.{◌≡◌};
 ghost use Rattle.table_load.specs.Faults.{IsOfForm};
 
 use crate::fault::RestoreFault;
@@ -39,7 +40,8 @@ fn line_of_control(saved: &Saved, id: u64) -> u64 {
 
 /// The fault that a flaw is, with its line.
 pub fn fault_of(saved: &Saved, flaw: Flaw) -> RestoreFault
-    ensures { IsOfForm result → ⊥ }
+    ensures form { IsOfForm result → ⊥ }
+    ensures memory { flaw ≡ Flaw.NoMemory → result ≡ RestoreFault.NoMemory }
 {
     match flaw {
         Flaw::NoMemory => RestoreFault::NoMemory,

@@ -1,7 +1,9 @@
 //! The way from a text to a table: [`load`].
-ghost use Rattle.std.specs.Prelude.{◌≡◌, IfOk, IfErr};
+ghost use Rattle.std.specs.Prelude.{◌≡◌, ◌≢◌, IfOk, IfErr};
 ghost use Rattle.pid_types.specs.Sound.{IsSound, IsBelow};
+ghost use Rattle.table_build.specs.Tables.{IsOfTables};
 ghost use Rattle.table_load.specs.Faults.{IsOfForm};
+ghost use Rattle.table_load.specs.Texts.{IsTextOfNoTable};
 ghost use Rattle.table_text.specs.Reading.{IsNoText, saved_state};
 ghost use Rattle.table_text.specs.Texts.{text_of};
 
@@ -12,6 +14,7 @@ use pid_table::PidTable;
 use sound_store::check_sound;
 use std::alloc::Global;
 use table_build::build::build;
+use table_text::laws::{texts_tell_states, what_fits_is_of_words};
 use table_text::read::{Saved, read_text};
 
 /// A table that was loaded from a text.
@@ -25,8 +28,9 @@ pub struct Loaded {
 
 /// The table that a text was written of, and the stamp of its next call. `docs/SCRIPT.md` has the form.
 ///
-/// The error is the first that is met: a fault of the text with its line, or want of memory. Then nothing is kept. That
-/// a line is bad, or the digest wrong, is said of a text that is that of no state alone. The form is looked at first,
+/// Each text of a table is loaded, wherever there is memory. The error is the first that is met: a fault of the text
+/// with its line, or want of memory. Then nothing is kept. That a line is bad, or the digest wrong, is said of a text
+/// that is that of no state alone. The form is looked at first,
 /// then the settings, the control groups, the namespaces, the names of the tasks, the groups and sessions, parents and
 /// ends, falls, and at last what makes the state sound.
 ///
@@ -36,7 +40,10 @@ pub fn load(alloc: Global, text: &[u8]) -> Result<Loaded, RestoreFault>
     ensures text { IfOk result (λ l. text.now ≡ text_of l.stamp l.table) }
     ensures sound { IfOk result (λ l. IsSound l.table × IsBelow l.stamp l.table) }
     ensures form { IfErr result (λ fault. IsOfForm fault → IsNoText text.now) }
+    ensures refused { IfErr result (λ fault. fault ≢ RestoreFault.NoMemory → IsTextOfNoTable text.now) }
 {
+    texts_tell_states();
+    what_fits_is_of_words();
     let saved = read_text(alloc, text)?;
     table_of(alloc, &saved)
 }
@@ -48,6 +55,8 @@ pub fn table_of(alloc: Global, saved: &Saved) -> Result<Loaded, RestoreFault>
     ensures stamp { IfOk result (λ l. l.stamp ≡ saved.now.stamp) }
     ensures sound { IfOk result (λ l. IsSound l.table × IsBelow l.stamp l.table) }
     ensures form { IfErr result (λ fault. IsOfForm fault → ⊥) }
+    ensures refused { IfErr result (λ fault. fault ≢ RestoreFault.NoMemory → IsOfTables (saved_state saved.now)
+        → IsBelow saved.now.stamp (saved_state saved.now) → ⊥) }
 {
     if !is_below(saved) {
         return Err(RestoreFault::BadSettings(1));

@@ -8,6 +8,7 @@ use Rattle.std.specs.Option.{option_map_or, option_eq}
 use Rattle.std.proofs.lemmas.Bool.{cases_eq, eq-eqb}
 use Rattle.pid_types.proofs.General.{apart, some_number, number_tested}
 use Rattle.id_slab.specs.Ids.{key_of}
+use Rattle.pid_types.specs.declared.plain.Name.{Name}
 use Rattle.pid_types.specs.declared.plain.Space.{Space}
 use Rattle.pid_types.specs.Membership.{IsIn}
 use Rattle.pid_types.specs.Names.{beside, beside_from, space_at, parent_space, path_up, number, numbers_from}
@@ -152,21 +153,36 @@ module _ (b : Numbering) (l : HasLaws b) where
           ap (path_up (spaces_of b)) (sym (own_id s i e j) ∙ ap (id_for j) (sym same))
           ∙ path_up-is (path_at b) (spaces_of b) (id_for j) (λ t. by_cases _ (root_up j t) (next_up j t)) t rest h few
 
+  -- the number of a name in the model, if it has one for each namespace of the path
+  pub number-is_name : (s i space : ℕ) (ns : List ℕ) (name : Name) → id_at b s ≡ Some i → id_at b space ≡ Some name.space → name.numbers.items ≡ reverse ns
+      → length ns ≡ length (path_at b space) → number (spaces_of b) name i ≡ beside s (path_at b space) ns
+  number-is_name s i space ns name e home numbers full = go (path_at b space) refl (is_path space) (l.few space) (l.some space name.space home) full
+    where
+      go : (p : List ℕ) → path_at b space ≡ p → IsPath (path_at b) p → length p ≤ 33 → 0 < length (path_at b space) → length ns ≡ length (path_at b space)
+          → number (spaces_of b) name i ≡ beside s (path_at b space) ns
+      go [] is h few some full = absurd (let z = ap length is in omega (arith, z, some))
+      go (t ∷ rest) is h few some full =
+          let same = some_path space t rest is in
+          let own : name.space ≡ id_for i t = sym (own_id space name.space home i) ∙ ap (id_for i) (sym same) in
+          ap (number (spaces_of b) name) (sym (own_id s i e i))
+          ∙ number-is (path_at b) (spaces_of b) (id_for i) (λ t. by_cases _ (root_up i t) (next_up i t)) s t rest ns name h few (sym (full ∙ ap length is)) (only s i e) own numbers
+          ∙ sym (ap (λ p. beside s p ns) is)
+
+  -- an identifier's namespace is there, by the id in its name
+  pub home-id : (k : ℕ) (u : Identifier) → identifier_at b k ≡ Some u → id_at b u.space ≡ Some (name_at b k).space
+  home-id k u at = go (path_at b u.space) refl (let f = l.full k u at in let x = f.0 in let y = f.1 in omega (arith, x, y))
+    where
+      go : (p : List ℕ) → path_at b u.space ≡ p → 0 < length (path_at b u.space) → id_at b u.space ≡ Some (name_at b k).space
+      go [] is some = absurd (let z = ap length is in omega (arith, z, some))
+      go (q ∷ qs) is some =
+          let h = on_path u.space q qs is in
+          ap (option_map (λ t. t.id)) h.1 ∙ sym (ap (λ o. Some (option_map_or (name_of b) o root_name).space) at ∙ ap (λ o. Some (unwrap_or (option_map (λ t. t.id) o) 0)) h.1)
+
   -- a number in the model
   pub number-is_key : (s i k : ℕ) (u : Identifier) → id_at b s ≡ Some i → identifier_at b k ≡ Some u → number (spaces_of b) (name_at b k) i ≡ number_of b k s
-  number-is_key s i k u e at = go (path_at b u.space) refl (is_path u.space) (l.few u.space) (l.full k u at)
-    where
-      go : (p : List ℕ) → path_at b u.space ≡ p → IsPath (path_at b) p → length p ≤ 33 → (0 < length u.numbers) × (length u.numbers ≡ length (path_at b u.space)) → number (spaces_of b) (name_at b k) i ≡ number_of b k s
-      go [] is h few full = absurd (let z : length u.numbers ≡ 0 = full.1 ∙ ap length is in let y = full.0 in omega (arith, z, y))
-      go (t ∷ rest) is h few full =
-          let same = some_path u.space t rest is in
-          let here = on_path u.space t rest is in
-          let space : unwrap_or (id_at b u.space) 0 ≡ id_for i t = rw (here.1) (sym (ap (id_for i) same ∙ rw (here.1) refl)) in
-          let name : name_at b k ≡ name_of b u = rw at refl in
-          ap (λ n. number (spaces_of b) n i) name
-          ∙ ap (number (spaces_of b) (name_of b u)) (sym (own_id s i e i))
-          ∙ number-is (path_at b) (spaces_of b) (id_for i) (λ t. by_cases _ (root_up i t) (next_up i t)) s t rest u.numbers (name_of b u) h few (sym (full.1 ∙ ap length is)) (only s i e) space refl
-          ∙ sym (ap (λ o. number_in (path_at b) s o) at ∙ ap (λ p. beside s p u.numbers) is)
+  number-is_key s i k u e at =
+      number-is_name s i u.space u.numbers (name_at b k) e (home-id k u at) (ap (λ o. (option_map_or (name_of b) o root_name).numbers.items) at) (l.full k u at).1
+      ∙ sym (ap (λ o. number_in (path_at b) s o) at)
 
   map-reverse : (f : ℕ → ℕ) (p : List ℕ) → reverse (map f p) ≡ map f (reverse p)
   map-reverse f [] = refl
@@ -192,19 +208,13 @@ module _ (b : Numbering) (l : HasLaws b) where
   levels-are s i k u e at =
       let f = l.full k u at in
       let some : 0 < length (path_at b u.space) = (let x = f.0 in let y = f.1 in omega (arith, x, y)) in
-      let own : id_at b u.space ≡ Some (name_at b k).space = at_home (path_at b u.space) refl some in
+      let own = home-id k u at in
       ap (λ p. beside_from i (reverse p) (name_at b k).numbers.items) (path-is u.space (name_at b k).space i own some)
       ∙ ap (λ p. beside_from i p (name_at b k).numbers.items) (map-reverse (id_for i) (path_at b u.space))
       ∙ ap (λ j. beside_from j (map (id_for i) (reverse (path_at b u.space))) (name_at b k).numbers.items) (sym (own_id s i e i))
       ∙ beside_from-ids i s (reverse (path_at b u.space)) (name_at b k).numbers.items (only s i e)
       ∙ ap (λ o. beside_from s (reverse (path_at b u.space)) (option_map_or (name_of b) o root_name).numbers.items) at
       ∙ sym (ap (λ o. option_map_or (λ u. beside_from s (reverse (path_at b u.space)) (reverse u.numbers)) o []) at)
-    where
-      at_home : (p : List ℕ) → path_at b u.space ≡ p → 0 < length p → id_at b u.space ≡ Some (name_at b k).space
-      at_home [] is some = absurd (omega (arith, some))
-      at_home (q ∷ qs) is some =
-          let h = on_path u.space q qs is in
-          ap (option_map (λ t. t.id)) h.1 ∙ sym (ap (λ o. Some (option_map_or (name_of b) o root_name).space) at ∙ ap (λ o. Some (unwrap_or (option_map (λ t. t.id) o) 0)) h.1)
 
   -- the namespaces of a path are there
   pub path-there : (s j q : ℕ) → IsIn q (path_at b s) → id_at b q ≡ Some (id_for j q)

@@ -3,6 +3,9 @@ pub mod Keys
 pub mod LookUps
 pub mod InUse
 pub mod Rows
+pub mod Results
+pub mod Places
+pub mod Around
 pub mod Sweeps
 pub mod Changed
 pub mod Counts

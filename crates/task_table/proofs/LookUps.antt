@@ -12,7 +12,7 @@ use Rattle.pid_types.specs.Membership.{IsIn}
 use Rattle.pid_types.specs.State.{root_name}
 use Rattle.pid_types.specs.Names.{beside, root_number, same_name, is_live, row_at, live_row, task_at as task_in, is_numbered, number_or_zero}
 use Rattle.model_laws.proofs.Names.{same_name-true, same_name-refl}
-use Rattle.pid_numbers.specs.Numbering.{Namespace, Identifier, namespace_at, id_at, identifier_at, number_in, number_of, path_at}
+use Rattle.pid_numbers.specs.Numbering.{Identifier, id_at, identifier_at, number_in, number_of, path_at}
 use Rattle.pid_numbers.specs.Slabs.{IsPath}
 use Rattle.task_tree.specs.declared.Task.{Task}
 use Rattle.task_tree.specs.Tree.{task_at, lives}
@@ -25,14 +25,14 @@ use Rattle.task_table.specs.View.{name_of, name_at, key_numbered, row_of, row_wi
 use Rattle.task_table.specs.Lawful.{IsLawful}
 use Rattle.model_laws.proofs.Lists.{find-only, find-none}
 use Rattle.task_table.proofs.Collects.{collect-from, collect-in}
-use Rattle.task_table.proofs.Keys.{key-some, key-of, is_path, on_path, number-is_key}
+use Rattle.task_table.proofs.Keys.{key-some, key-of, is_path, number-is_key, home-id}
 
 first_of_more : (xs ys : List ℕ) → 0 < length xs → slice_index (xs ++ ys) 0 ≡ slice_index xs 0
 first_of_more [] ys some = absurd (omega (arith, some))
 first_of_more (x ∷ xs) ys some = refl
 
 -- the number in the outermost namespace is the last one
-outermost : (ways : ℕ → List ℕ) (p ns : List ℕ) → IsPath ways p → ways 0 ≡ 0 ∷ [] → contains p 0 ≡ true → length ns ≡ length p → beside 0 p ns ≡ Some (slice_index (reverse ns) 0)
+pub outermost : (ways : ℕ → List ℕ) (p ns : List ℕ) → IsPath ways p → ways 0 ≡ 0 ∷ [] → contains p 0 ≡ true → length ns ≡ length p → beside 0 p ns ≡ Some (slice_index (reverse ns) 0)
 outermost ways [] ns h root on len = absurd (cc)
 outermost ways (t ∷ ts) [] h root on len = absurd (omega (arith, len))
 outermost ways (t ∷ ts) (n ∷ ns) h root on len = go (cases_eq t 0) (λ e. outermost ways ts ns h.1 root e (omega (arith, len)))
@@ -207,14 +207,7 @@ module _ (s : Store) (l : IsLawful s) where
 
   -- the id of an identifier's namespace
   pub space-id : (k : ℕ) (u : Identifier) → identifier_at s.numbering k ≡ Some u → id_at s.numbering u.space ≡ Some (name_at s.numbering k).space
-  space-id k u e =
-      let f = l.numbering.full k u e in
-      let h = standing (path_at s.numbering u.space) refl (let a = f.0 in let b = f.1 in omega (arith, a, b)) in
-      ap (option_map (λ t. t.id)) h.1 ∙ sym (ap (λ o. Some (option_map_or (name_of s.numbering) o root_name).space) e ∙ ap (λ o. Some (unwrap_or (option_map (λ t. t.id) o) 0)) h.1)
-    where
-      standing : (p : List ℕ) → path_at s.numbering u.space ≡ p → 0 < length p → (t : Namespace) × (namespace_at s.numbering u.space ≡ Some t)
-      standing [] e some = absurd (omega (arith, some))
-      standing (q ∷ qs) e some = on_path s.numbering l.numbering u.space q qs e
+  space-id k u e = home-id s.numbering l.numbering k u e
 
   -- one number names one task
   pub one-task : (sp n j k : ℕ) (t v : Task) → task_at s.tree j ≡ Some t → number_of s.numbering j sp ≡ Some n → task_at s.tree k ≡ Some v → number_of s.numbering k sp ≡ Some n → t ≡ v

@@ -409,7 +409,7 @@ impl Tasks {
     /// The namespaces with a flag have fallen, all at once: [`Numbers::set_fallen`].
     pub fn set_fallen(&mut self, flags: &[bool])
         requires may { MayFall self.old.numbering flags.now }
-        requires few { length flags.now < 2 ^ 32 }
+        requires few { length flags.now ≤ 2 ^ 32 }
         ensures names { self.new.numbering.names ≡ self.old.numbering.names }
         ensures order { self.new.numbering.order ≡ self.old.numbering.order }
         ensures namespaces { (s : ℕ) → namespace_at self.new.numbering s

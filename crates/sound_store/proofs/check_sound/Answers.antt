@@ -4,7 +4,7 @@ use Rattle.sound_store.specs.declared.Flaw.{Flaw}
 use Rattle.sound_store.specs.declared.Flaw.TheVariants.{NoMemory}
 use Rattle.task_table.specs.Whole.{IsWhole}
 use Rattle.sound_store.proofs.Made.{whole-from}
-use Rattle.sound_store.proofs.Results.{if_err, on_ok-map, if_err-map}
+use Rattle.task_table.proofs.Results.{if_err, on_ok-map, if_err-map}
 use Rattle.sound_store.proofs.Told.{control-told, way-told, no-flaw}
 use Rattle.sound_store.specs.Flaws.{IsFlaw, IsControlFlaw, IsWayFlaw}
 use Rattle.sound_store.specs.Groups.{HasGoodControls}

@@ -3,7 +3,7 @@ use Rattle.pid_types.specs.Names.{root_number}
 use Rattle.task_table.specs.View.{name_at}
 use Rattle.task_table.proofs.LookUps.{named}
 use Rattle.sound_store.proofs.Made.{found_at, is_task-at}
-use Rattle.sound_store.proofs.Results.{if_err}
+use Rattle.task_table.proofs.Results.{if_err}
 use Rattle.sound_store.proofs.Walks.{holds-next, holds-all}
 use Rattle.sound_store.proofs.Ways.{number-at}
 use Rattle.sound_store.specs.Flaws.{IsWayFlaw}

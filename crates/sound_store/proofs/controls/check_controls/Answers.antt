@@ -2,7 +2,7 @@ use Rattle.std.proofs.Common.{ℕ}
 use Rattle.pid_types.specs.Membership.{IsIn}
 use Rattle.sound_store.specs.Groups.{HasGoodControls, IsGoodControl, ids_of}
 use Rattle.sound_store.proofs.Groups.{good-from}
-use Rattle.sound_store.proofs.Results.{is_true, if_err, on_ok-map}
+use Rattle.task_table.proofs.Results.{is_true, if_err, on_ok-map}
 use Rattle.sound_store.specs.Flaws.{IsControlFlaw}
 use Rattle.sound_store.proofs.controls.check_controls.Goals as goal
 

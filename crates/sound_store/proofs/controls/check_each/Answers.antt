@@ -3,9 +3,9 @@ use Rattle.std.specs.List.{AllByRecursion}
 use Rattle.pid_types.specs.Membership.{IsIn}
 use Rattle.pids_charge.specs.Charges.{stands, id_at}
 use Rattle.sound_store.specs.Groups.{IsGoodControl, ids_of}
-use Rattle.sound_store.proofs.Results.{is_true, never}
+use Rattle.task_table.proofs.Results.{is_true, never}
 use Rattle.sound_store.proofs.Groups.{good-each}
-use Rattle.sound_store.proofs.Places.{each-next}
+use Rattle.task_table.proofs.Places.{each-next}
 use Rattle.sound_store.proofs.controls.check_each.Goals as goal
 
 pub returns-then-not-is_good_control-clause-told : goal.returns-then-not-is_good_control-clause-told

@@ -1,6 +1,6 @@
 use Rattle.std.proofs.Common.{ℕ, List, map, subst}
 use Rattle.sound_store.specs.Groups.{ids_of}
-use Rattle.sound_store.proofs.Results.{is_true, never}
+use Rattle.task_table.proofs.Results.{is_true, never}
 use Rattle.sound_store.proofs.Groups.{GoesOn, goes-not, goes-on}
 use Rattle.sound_store.proofs.controls.check_order.Goals as goal
 

@@ -3,7 +3,7 @@ use Rattle.pid_types.specs.Chains.{climb}
 use Rattle.pid_types.specs.Controls.{parent_control, control_path}
 use Rattle.pid_types.specs.Membership.{IsIn}
 use Rattle.pids_charge.specs.Charges.{id_at}
-use Rattle.sound_store.proofs.Results.{is_true, never}
+use Rattle.task_table.proofs.Results.{is_true, never}
 use Rattle.sound_store.proofs.Groups.{way-here, way-on, way-ends}
 use Rattle.sound_store.proofs.controls.leads_to_root.Goals as goal
 

@@ -1,8 +1,8 @@
 use Rattle.std.proofs.Common.{◌⊎◌, ℕ, List, inl, inr, refl, sym, subst}
 use Rattle.pid_types.specs.Membership.{IsIn}
-use Rattle.sound_store.proofs.Around.{id-listed, in-order}
-use Rattle.sound_store.proofs.Places.{each-next, each-all}
-use Rattle.sound_store.proofs.Results.{is_true, never, if_err}
+use Rattle.task_table.proofs.Around.{id-listed, in-order}
+use Rattle.task_table.proofs.Places.{each-next, each-all}
+use Rattle.task_table.proofs.Results.{is_true, never, if_err}
 use Rattle.sound_store.proofs.Told.{root-told, space-told}
 use Rattle.sound_store.specs.Flaws.{IsFlaw}
 use Rattle.sound_store.specs.Spaces.{IsGoodSpace}

@@ -1,5 +1,5 @@
 use Rattle.std.proofs.Common.{◌≡◌, true, refl, arith}
-use Rattle.sound_store.proofs.Results.{if_err}
+use Rattle.task_table.proofs.Results.{if_err}
 use Rattle.sound_store.proofs.Told.{task-told}
 use Rattle.sound_store.proofs.Walks.{holds-next, holds-all}
 use Rattle.sound_store.specs.Flaws.{IsFlaw}

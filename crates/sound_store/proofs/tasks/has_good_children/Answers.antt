@@ -2,7 +2,7 @@ use Rattle.std.proofs.Common.{ℕ, true, sym, ap}
 use Rattle.std.specs.Option.{option_map_or}
 use Rattle.pid_types.specs.Chains.{contains}
 use Rattle.pid_numbers.specs.Numbering.{path_at}
-use Rattle.sound_store.proofs.Around.{key-nobody}
+use Rattle.task_table.proofs.Around.{key-nobody}
 use Rattle.sound_store.proofs.tasks.has_good_children.Goals as goal
 
 pub returns-in-None : goal.returns-in-None

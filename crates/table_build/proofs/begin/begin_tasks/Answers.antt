@@ -1,4 +1,4 @@
-use Rattle.std.proofs.Common.{◌≡◌, inl, inr, subst, ℕ, ◌+◌, ◌<◌, Some, arith, [], ◌∷◌, Bool, List, length, ap, sym, ◌∙◌, length-append, option_map, slice_get}
+use Rattle.std.proofs.Common.{◌≡◌, inl, inr, subst, ℕ, ◌+◌, ◌<◌, Some, arith, [], ◌∷◌, Bool, List, length, ap, sym, ◌∙◌, is_some, length-append, option_map, slice_get}
 use Rattle.std.specs.declared.vec.Vec.{Vec}
 use Rattle.std.specs.declared.alloc.Global.{Global}
 use Rattle.pid_numbers.specs.Restore.{is_flagged}
@@ -7,6 +7,13 @@ use Rattle.table_build.specs.Sorted.{IsNotBelow}
 use Rattle.table_build.specs.Stages.{begun}
 use Rattle.table_build.proofs.Steps.{places-both}
 use Rattle.table_build.proofs.LineSteps.{get-is, lines-push}
+use Rattle.model_laws.proofs.Names.{own_name_in_use}
+use Rattle.table_text.specs.Reading.{saved_state}
+use Rattle.pid_types.specs.Controls.{control_at}
+use Rattle.task_table.proofs.Results.{if_err}
+use Rattle.table_build.proofs.Parts.{may-bear}
+use Rattle.table_build.proofs.PartSteps.{part-set, unborne-next}
+use Rattle.table_build.proofs.Places.{at_place}
 use Rattle.table_build.proofs.begin.begin_tasks.Goals as goal
 
 row-here : (c : goal.In_ok-add_key) → slice_get c.args.saved.now.rows.items c.loop-index.index ≡ Some c.index.result.now
@@ -27,8 +34,28 @@ loop-index-preserved c =
       keys = ap length p.keys ∙ length-append c.loop-index.placed.keys.items (c.in_ok-key.key ∷ []) ∙ ap (λ n. n + 1) i.keys;
       groups = ap (λ (v : Vec ℕ Global). v.items) p.groups ∙ i.groups;
       placeholders = ap (λ (v : Vec Bool Global). v.items) p.placeholders ∙ i.placeholders;
+      part = λ had.
+          let rows = c.args.saved.now.rows.items in
+          part-set c.loop-index.store c.begin_task.new.store (saved_state c.args.saved.now) b.places (i.part had) c.in_ok-key.key _ b.added.sets
+          (own_name_in_use rows c.index.result.now (at_place rows c.loop-index.index c.index.result.now (row-here c)));
       sorted = λ j lt. elim (cases_eq j c.loop-index.index) [
-        | inl same ↦ subst (IsNotBelow c.args.saved.now.rows.items) (sym same) (c.is_unsorted.ensures c.if-is_unsorted.false)
+        | inl same ↦ subst (IsNotBelow c.args.saved.now.rows.items) (sym same) (c.is_unsorted.ensures.sorted c.if-is_unsorted.false)
         | inr not ↦ i.sorted j (omega (arith, lt, not))
       ];
     }
+
+pub returns-in_err-key-clause-refused : goal.returns-in_err-key-clause-refused
+returns-in_err-key-clause-refused c =
+    let rows = c.args.saved.now.rows.items in
+    let text = saved_state c.args.saved.now in
+    let row = c.index.result.now in
+    let i = c.loop-index.invariant in
+    let lt : c.loop-index.index < length rows = (let a = c.loop-index-test.true in let b = c.len-index-end.ensures in omega (arith, a, b)) in
+    let here : slice_get rows c.loop-index.index ≡ Some row = get-is rows c.loop-index.index row lt ∙ ap Some (sym c.index.ensures) in
+    let inside = at_place rows c.loop-index.index row here in
+    if_err c.from_residual.result _ c.in_err-key.field-0.0 c.from_residual.ensures.1 (λ not sound had.
+    let part = i.part had in
+    let home = sound.coherent.homes row inside in
+    let there = ap is_some (ap (λ cs. control_at cs row.home) part.places.controls ∙ home.1) in
+    let unborne = unborne-next c.loop-index.store c.loop-index.placed rows c.loop-index.index row i.lines i.keys i.placeholders here sound.coherent.rows_rise in
+    c.in_err-key.ensures.refused not there (may-bear c.loop-index.store c.laws.ensures text sound part row.name (own_name_in_use rows row inside) i.ungrouped.borne unborne))

@@ -2,6 +2,8 @@ use Rattle.std.proofs.Common.{◌≡◌, ℕ, ◌<◌, length, [], option_map, s
 use Rattle.table_build.specs.Ungrouped.{IsUngrouped}
 use Rattle.table_build.specs.Stages.{KeepsPlaces, begun}
 use Rattle.table_build.specs.Lines.{AreLines}
+use Rattle.table_text.specs.Reading.{saved_state}
+use Rattle.table_build.specs.Parts.{HasPlaces, IsPart}
 use Rattle.table_build.specs.Sorted.{IsNotBelow}
 use Rattle.table_build.proofs.begin.begin_tasks.Given as goal
 
@@ -13,5 +15,6 @@ invariant-loop-index l = record {
   keys : length l.placed.keys.items ≡ l.index;
   groups : l.placed.groups.items ≡ [];
   placeholders : l.placed.placeholders.items ≡ [];
+  part : HasPlaces l.initial.store (saved_state l.saved) → IsPart l.store (saved_state l.saved);
   sorted : (j : ℕ) → j < l.index → IsNotBelow l.saved.rows.items j;
 }

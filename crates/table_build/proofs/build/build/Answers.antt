@@ -1,6 +1,7 @@
 use Rattle.std.proofs.Common.{map, ap, ◌∙◌}
 use Rattle.table_build.specs.Bare.{steady}
 use Rattle.table_build.proofs.SpaceFalls.{steady-bare, steady-same}
+use Rattle.task_table.proofs.Results.{if_err}
 use Rattle.table_build.proofs.build.build.Goals as goal
 
 pub put_falls-requires : goal.put_falls-requires
@@ -10,8 +11,8 @@ put_falls-requires c = record {
       ∙ ap (map steady) c.in_ok-store.ensures.spaces ∙ steady-bare c.args.saved.now.spaces.items;
 }
 
-pub returns : goal.returns
-returns c =
+pub returns-clause-state : goal.returns-clause-state
+returns-clause-state c =
     let p = c.in_ok-put_tasks.ensures.places in
     let f = c.in_ok-put_falls.ensures in
     let m = c.put_cursors.ensures.moved in
@@ -19,3 +20,10 @@ returns c =
     let controls = ap (λ x. x.controls) m.charges ∙ ap (λ s. s.charges.controls) f.rest ∙ p.controls ∙ c.in_ok-store.ensures.controls in
     let bound = m.spaces.bound ∙ f.bound ∙ p.spaces.bound ∙ c.in_ok-store.ensures.bound in
     λ i. record { rows = rows i; spaces = c.put_cursors.ensures.put i; controls = controls i; pid_max = bound i }
+
+pub returns-in_err-put_tasks-clause-refused : goal.returns-in_err-put_tasks-clause-refused
+returns-in_err-put_tasks-clause-refused c =
+    let p = c.in_ok-store.ensures in
+    if_err c.from_residual-in_err-put_tasks.result _ c.in_err-put_tasks.field-0.0 c.from_residual-in_err-put_tasks.ensures.1 (λ not tables.
+    c.in_err-put_tasks.ensures.refused not tables.sound
+    (record { spaces = ap (map steady) p.spaces ∙ steady-bare c.args.saved.now.spaces.items; controls = p.controls; bound = p.bound }))

@@ -1,8 +1,12 @@
-use Rattle.std.proofs.Common.{◌≡◌, ◌+◌, ◌≤◌, [], ◌∷◌, length, Some, refl, ap, sym, ◌∙◌, arith, length-append, slice_get, option_map}
+use Rattle.std.proofs.Common.{◌≡◌, ℕ, ◌+◌, ◌≤◌, List, [], ◌∷◌, length, Some, refl, ap, sym, ◌∙◌, arith, length-append, slice_get, option_map}
 use Rattle.table_build.specs.Lines.{stage}
 use Rattle.table_build.specs.Stages.{begun, seated}
 use Rattle.table_build.proofs.Steps.{places-both, places-none}
 use Rattle.table_build.proofs.LineSteps.{get-found, groups-none, groups-push, line-at, lines-set, lines-shown, stage-begin, stage-end, stage-here, stage-others, stage-todo}
+use Rattle.table_text.specs.Reading.{saved_state}
+use Rattle.task_table.proofs.Results.{if_err}
+use Rattle.table_build.proofs.PartSteps.{own-group, seats-next}
+use Rattle.table_build.proofs.Places.{at_place}
 use Rattle.table_build.proofs.sessions.enter_sessions.Goals as goal
 
 pub loop-index-init : goal.loop-index-init
@@ -15,6 +19,8 @@ loop-index-init c = record {
   groups = groups-none c.args.store.now c.args.placed.now c.args.saved.now.rows.items c.requires.groups;
   count = ap length c.requires.groups;
   few = λ few. few;
+  part = λ part. part;
+  seats = λ good j g x r at. let z = ap (λ (l : List ℕ). slice_get l j) (sym c.requires.groups) ∙ at in absurd (cc);
   keys = refl;
 }
 
@@ -47,10 +53,14 @@ loop-index-preserved c =
       lines = lines-set c.loop-index.store c.put_in_session.new.store c.loop-index.placed c.put_in_session.new.placed (stage seated begun rows c.loop-index.index) (stage seated begun rows (c.loop-index.index + 1))
           c.loop-index.index c.in-Some.key.now (seated c.row-item.result) i.lines e.set e.group.keys (key-here c) (stage-here seated begun rows c.loop-index.index c.row-item.result (row-here c))
           (λ j not. stage-others seated begun rows c.loop-index.index j not);
-      groups = groups-push c.loop-index.store c.put_in_session.new.store c.loop-index.placed c.put_in_session.new.placed rows c.row-item.result i.groups e.names e.group
+      groups = groups-push c.loop-index.store c.put_in_session.new.store c.loop-index.placed c.put_in_session.new.placed rows c.in-Some.key.now c.row-item.result i.groups e.names e.group
           (ap (slice_get rows) i.count ∙ row-here c);
       count = ap length e.group.added ∙ length-append c.loop-index.placed.groups.items (e.group.group ∷ []) ∙ ap (λ n. n + 1) i.count;
       few = λ few. e.few (i.few few);
+      part = λ had. e.part (saved_state c.args.saved.now) (i.part had) (at_place rows c.loop-index.index c.row-item.result (row-here c));
+      seats = λ good.
+          seats-next c.loop-index.store c.put_in_session.new.store c.loop-index.placed c.put_in_session.new.placed rows c.in-Some.key.now c.row-item.result good i.groups (i.seats good) e.group
+          (ap (slice_get rows) i.count ∙ row-here c) e.set.here.real e.names;
       keys = e.group.keys ∙ i.keys;
     }
 
@@ -65,6 +75,18 @@ returns c =
           (λ j k e. sym (stage-end seated begun rows c.loop-index.index all j));
       groups = i.groups;
       keys = ap (λ v. length v.items) i.keys ∙ c.requires.keys;
+      all = (let end = c.loop-index.auto.index-end in let len = ap length c.deref-row-items.ensures.value in let count = i.count in omega (arith, all, end, len, count));
       few = i.few;
       places = i.places;
+      part = i.part;
+      seated = λ good. record { alone = λ k r held e. own-group c.loop-index.store c.laws.ensures i.ungrouped k r e; seats = i.seats good };
+      refused = tt;
     }
+
+pub returns-in_err-put_in_session-clause-refused : goal.returns-in_err-put_in_session-clause-refused
+returns-in_err-put_in_session-clause-refused c =
+    let rows = c.args.saved.now.rows.items in
+    let here : slice_get rows c.loop-index.index ≡ Some c.row-item.result =
+    get-found rows c.deref-row-items.result.now c.loop-index.index c.row-item.result c.deref-row-items.ensures.value c.loop-index-test.true c.row-item.is in
+    if_err c.from_residual.result _ c.in_err-put_in_session.field-0.0 c.from_residual.ensures.1 (λ not sound had.
+    c.in_err-put_in_session.ensures.refused not (saved_state c.args.saved.now) sound (c.loop-index.invariant.part had) (at_place rows c.loop-index.index c.row-item.result here))

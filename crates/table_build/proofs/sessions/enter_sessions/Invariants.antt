@@ -1,4 +1,7 @@
 use Rattle.std.proofs.Common.{◌≡◌, length}
+use Rattle.pid_types.specs.Sound.{HasGoodGroups}
+use Rattle.table_text.specs.Reading.{saved_state}
+use Rattle.table_build.specs.Parts.{HaveSeats, IsPart}
 use Rattle.table_build.specs.Lines.{AreGroups, AreLines, KeepsFew, stage}
 use Rattle.table_build.specs.Sessions.{AreRecent}
 use Rattle.table_build.specs.Stages.{KeepsPlaces, begun, seated}
@@ -14,5 +17,7 @@ invariant-loop-index l = record {
   groups : AreGroups l.store l.placed l.saved.rows.items;
   count : length l.placed.groups.items ≡ l.index;
   few : KeepsFew l.initial.placed l.placed;
+  part : IsPart l.initial.store (saved_state l.saved) → IsPart l.store (saved_state l.saved);
+  seats : HasGoodGroups l.saved.rows.items → HaveSeats l.store l.placed l.saved.rows.items;
   keys : l.placed.keys ≡ l.initial.placed.keys;
 }

@@ -1,9 +1,16 @@
-use Rattle.std.proofs.Common.{ap, sym, subst, ◌∙◌, ◌++◌, ◌∷◌, []}
+use Rattle.std.proofs.Common.{refl, ap, sym, subst, ◌∙◌, ◌++◌, ◌∷◌, []}
 use Rattle.pid_types.specs.declared.plain.Name.{Name}
 use Rattle.table_build.specs.Lines.{HasFew, SetsLine}
 use Rattle.table_build.specs.Stages.{SetsRow, begun, seated}
 use Rattle.table_build.proofs.Steps.{bearers-both, bears-kept, places-both, recent-kept}
 use Rattle.table_build.proofs.LineSteps.{line-set, same-both, same-held, same-set, set-same}
+use Rattle.pid_types.specs.Membership.{IsIn}
+use Rattle.pid_types.specs.State.{State}
+use Rattle.model_laws.proofs.Names.{group_in_use, session_in_use}
+use Rattle.task_table.proofs.Results.{if_err}
+use Rattle.table_build.specs.Lines.{is_held}
+use Rattle.table_build.specs.Parts.{IsPart}
+use Rattle.table_build.proofs.PartSteps.{part-entered, part-placeholder, part-seats}
 use Rattle.table_build.proofs.sessions.put_in_session.Goals as goal
 
 entered : (c : goal.In_ok-add_group) → SetsRow c.bearer.new.store c.enter_session.new.store c.args.key (seated c.args.row.now)
@@ -22,6 +29,17 @@ went c =
     (same-both c.bearer-2.new.store c.seat_placeholder.new.store c.seat_placeholder.new.store c.bearer-2.new.placed c.bearer-2.new.placed c.add_group.new.self c.in_ok-seat_placeholder.ensures.lines
     (same-held c.seat_placeholder.new.store c.bearer-2.new.placed c.add_group.new.self c.in_ok-add_group.ensures.placeholders))))
 
+part-in : (c : goal.In_ok-add_group) (text : State) → IsPart c.args.store.now text → IsIn c.args.row.now text.rows → IsPart c.seat_placeholder.new.store text
+part-in c text part inside =
+    let a = c.in_ok-session.ensures in
+    let b = c.in_ok-enter_session.ensures in
+    let d = c.in_ok-group.ensures in
+    let e = c.in_ok-seat_placeholder.ensures in
+    let line = a.lines.forth c.args.key (begun c.args.row.now) c.requires.begun in
+    let entered = part-entered c.args.store.now c.bearer.new.store c.enter_session.new.store text c.args.placed.now c.bearer.new.placed c.args.key c.args.row.now _ part inside a.rows a.places (b.entered (begun c.args.row.now) line.shown) refl b.places in
+    let second = part-placeholder c.enter_session.new.store c.bearer-2.new.store text d.places entered c.bearer.new.placed c.bearer-2.new.placed c.args.row.now.group d.rows (group_in_use text.rows c.args.row.now inside) in
+    part-seats c.bearer-2.new.store c.seat_placeholder.new.store text e.places second c.bearer-2.new.placed c.in_ok-group.group _ e.seat
+
 pub returns : goal.returns
 returns c =
     let a = c.in_ok-session.ensures in
@@ -31,6 +49,8 @@ returns c =
     let f = c.in_ok-add_group.ensures in
     let late = bearers-both c.enter_session.new.store c.bearer-2.new.store c.seat_placeholder.new.store d.names e.names in
     let later = bearers-both c.bearer.new.store c.enter_session.new.store c.seat_placeholder.new.store b.names late in
+    let e-seat = e.seat in
+    let session = (bears-kept c.bearer.new.store c.bearer-2.new.store c.in_ok-session.session c.args.row.now.session (bearers-both c.bearer.new.store c.enter_session.new.store c.bearer-2.new.store b.names d.names) a.bears).named in
     let moves = places-both c.enter_session.new.store c.bearer-2.new.store c.seat_placeholder.new.store d.places e.places in
     record {
       ungrouped = e.ungrouped;
@@ -44,9 +64,31 @@ returns c =
         bears = bears-kept c.bearer-2.new.store c.seat_placeholder.new.store c.in_ok-group.group c.args.row.now.group e.names d.bears;
         added = f.groups ∙ ap (λ v. v.items ++ c.in_ok-group.group ∷ []) (d.lists.1 ∙ a.lists.1);
         keys = f.keys ∙ d.lists.0 ∙ a.lists.0;
+        kept = λ k r other another e.
+            let x = a.rows.kept k r e in
+            let y = d.rows.kept k r ((entered c).others k other ∙ x.0) in
+            (e-seat.others k another ∙ y.0, ap (λ v. is_held (record c.bearer-2.new.placed { placeholders = v }) k) f.placeholders ∙ y.1 ∙ x.1);
+        seat = λ held r e.
+            e-seat.seat (ap (λ v. is_held (record c.bearer-2.new.placed { placeholders = v }) c.in_ok-group.group) (sym f.placeholders) ∙ held) r e ∙ session;
       };
       few = λ few. subst (λ v. HasFew (record c.bearer-2.new.placed { placeholders = v })) (sym f.placeholders) (d.few (a.few few));
       names = bearers-both c.args.store.now c.bearer.new.store c.seat_placeholder.new.store a.names later;
       places = places-both c.args.store.now c.bearer.new.store c.seat_placeholder.new.store a.places
           (places-both c.bearer.new.store c.enter_session.new.store c.seat_placeholder.new.store b.places moves);
+      part = λ text part inside. part-in c text part inside;
+      refused = tt;
     }
+
+pub returns-in_err-session-clause-refused : goal.returns-in_err-session-clause-refused
+returns-in_err-session-clause-refused c =
+    if_err c.from_residual.result _ c.in_err-session.field-0.0 c.from_residual.ensures.1 (λ not text sound part inside.
+    c.in_err-session.ensures.refused not text sound part (session_in_use text.rows c.args.row.now inside))
+
+pub returns-in_err-group-clause-refused : goal.returns-in_err-group-clause-refused
+returns-in_err-group-clause-refused c =
+    if_err c.from_residual-in_err-group.result _ c.in_err-group.field-0.0 c.from_residual-in_err-group.ensures.1 (λ not text sound part inside.
+    let a = c.in_ok-session.ensures in
+    let b = c.in_ok-enter_session.ensures in
+    let line = a.lines.forth c.args.key (begun c.args.row.now) c.requires.begun in
+    let entered = part-entered c.args.store.now c.bearer.new.store c.enter_session.new.store text c.args.placed.now c.bearer.new.placed c.args.key c.args.row.now _ part inside a.rows a.places (b.entered (begun c.args.row.now) line.shown) refl b.places in
+    c.in_err-group.ensures.refused not text sound entered (group_in_use text.rows c.args.row.now inside))

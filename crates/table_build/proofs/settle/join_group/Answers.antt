@@ -10,6 +10,8 @@ use Rattle.task_table.proofs.InUse.{member}
 use Rattle.table_build.specs.Stages.{SetsRow}
 use Rattle.table_build.proofs.Steps.{task-of}
 use Rattle.table_build.proofs.Moves.{bearers-stay, borne-less, places-less, regrouped-row, standing-less}
+use Rattle.groups_sessions.specs.Membership.{IsSessionOf}
+use Rattle.table_build.proofs.PartSteps.{one-session}
 use Rattle.table_build.proofs.settle.join_group.Goals as goal
 
 went : (c : goal.After-laws-2) → IsRegrouped c.args.store.now c.move_to.new.self c.args.key (record { group = c.args.group; session = c.session-session.result })
@@ -39,3 +41,10 @@ returns-clause-names c = bearers-stay c.args.store.now c.move_to.new.self c.laws
 
 pub returns-clause-places : goal.returns-clause-places
 returns-clause-places c = places-less c.args.store.now c.move_to.new.self c.laws.ensures.numbering c.requires.grouping.standing c.move_to.ensures.numbers c.move_to.ensures.rest.1
+
+pub returns-in-Some-clause-refused : goal.returns-in-Some-clause-refused
+returns-in-Some-clause-refused c = λ row e there inside.
+    let s = c.args.store.now in
+    let own : session_of s.members c.args.key ≡ Some c.session-session.result = ap (λ ms. session_of ms c.args.key) (sym c.members.ensures) ∙ c.session-session.ensures in
+    let of_group = subst (λ ms. IsSessionOf ms c.args.group (Some c.in-Some.found)) c.members-2.ensures c.in-Some.ensures in
+    c.if-found-session.true (one-session s c.laws.ensures c.args.key row c.args.group c.in-Some.found c.session-session.result e own of_group inside)

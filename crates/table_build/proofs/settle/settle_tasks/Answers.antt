@@ -1,10 +1,16 @@
-use Rattle.std.proofs.Common.{◌≡◌, ◌+◌, ◌≤◌, None, length, Some, ap, sym, ◌∙◌, arith, refl, Option, option_map, slice_get}
+use Rattle.std.proofs.Common.{◌≡◌, ◌≢◌, ◌+◌, ◌≤◌, None, length, Some, ap, sym, ◌∙◌, arith, refl, Option, option_map, slice_get}
 use Rattle.pid_types.specs.declared.plain.Name.{Name}
 use Rattle.pid_types.specs.declared.plain.Row.{Row}
 use Rattle.table_build.specs.Lines.{IsLine, stage}
 use Rattle.table_build.specs.Stages.{seated}
-use Rattle.table_build.proofs.Steps.{bearers-both, places-both}
+use Rattle.table_build.proofs.Steps.{bearers-both, bears-kept, places-both}
 use Rattle.table_build.proofs.LineSteps.{get-found, group-at, groups-kept, line-at, line-set, lines-set, lines-shown, set-twice, stage-end, stage-here, stage-others, stage-todo}
+use Rattle.model_laws.proofs.Names.{own_name_in_use}
+use Rattle.table_text.specs.Reading.{saved_state}
+use Rattle.table_build.specs.Lines.{is_held}
+use Rattle.task_table.proofs.Results.{on_err}
+use Rattle.table_build.proofs.PartSteps.{all-borne, group-in, part-set, seated-kept, stage-names}
+use Rattle.table_build.proofs.Places.{at_place}
 use Rattle.table_build.proofs.settle.settle_tasks.Goals as goal
 
 pub settle_task-requires-clause-joined : goal.settle_task-requires-clause-joined
@@ -46,6 +52,13 @@ loop-index-preserved c =
           c.loop-index.index c.in-Some-Some.key.now c.row-item.result i.lines (line-set c.loop-index.store c.settle_task.new.store c.args.placed.now c.in-Some-Some.key.now c.row-item.result set line.real) refl key_here
           (stage-here (λ r. r) seated rows c.loop-index.index c.row-item.result row_here) (λ k not. stage-others (λ r. r) seated rows c.loop-index.index k not);
       groups = groups-kept c.loop-index.store c.settle_task.new.store c.args.placed.now rows i.groups (bearers-both c.loop-index.store c.join_group.new.store c.settle_task.new.store j.names e.names);
+      part = λ had.
+          let name = own_name_in_use rows c.row-item.result (at_place rows c.loop-index.index c.row-item.result row_here) in
+          part-set c.loop-index.store c.settle_task.new.store (saved_state c.args.saved.now)
+          (places-both c.loop-index.store c.join_group.new.store c.settle_task.new.store j.places e.places) (i.part had) c.in-Some-Some.key.now c.row-item.result set name;
+      held = λ k held.
+          let not : k ≢ c.in-Some-Some.key.now = (λ same. let z = sym held ∙ ap (is_held c.args.placed.now) same ∙ line.real in absurd (cc)) in
+          set.others k not ∙ i.held k held;
       real = e.real;
     }
 
@@ -60,3 +73,48 @@ returns-clause-lines c =
     let all : length rows ≤ c.loop-index.index = (let a = c.loop-index-test.false in let b = ap length c.deref-row-items.ensures.value in omega (arith, a, b)) in
     lines-shown c.loop-index.store c.args.placed.now (stage (λ r. r) seated rows c.loop-index.index) (slice_get rows) i.lines
     (λ j k e. sym (stage-end (λ r. r) seated rows c.loop-index.index all j ∙ id_map (slice_get rows j)))
+
+pub returns-in_err-join_group-clause-refused : goal.returns-in_err-join_group-clause-refused
+returns-in_err-join_group-clause-refused c =
+    let rows = c.args.saved.now.rows.items in
+    let s = c.loop-index.store in
+    let p = c.args.placed.now in
+    let i = c.loop-index.invariant in
+    let row = c.row-item.result in
+    let key = c.in-Some-Some.key.now in
+    let row_here : slice_get rows c.loop-index.index ≡ Some row =
+    get-found rows c.deref-row-items.result.now c.loop-index.index row c.deref-row-items.ensures.value c.loop-index-test.true c.row-item.is in
+    let key_here : slice_get p.keys.items c.loop-index.index ≡ Some key =
+    get-found p.keys.items c.deref.result.now c.loop-index.index key c.deref.ensures.value c.in-Some-Some.ensures.lookup.3.0 c.in-Some-Some.ensures.lookup.1 in
+    let line : IsLine s p key (seated row) = line-at s p (stage (λ r. r) seated rows c.loop-index.index) c.loop-index.index key (seated row) i.lines key_here (stage-todo (λ r. r) seated rows c.loop-index.index row row_here) in
+    let group_here : slice_get p.groups.items c.loop-index.index ≡ Some c.in-Some-Some.group.now =
+    get-found p.groups.items c.deref-in-loop-index.result.now c.loop-index.index c.in-Some-Some.group.now c.deref-in-loop-index.ensures.value c.in-Some-Some.ensures'.lookup.3.0 c.in-Some-Some.ensures'.lookup.1 in
+    on_err c.from_residual.result _ (λ sound part seats.
+    c.in_err-join_group.ensures.refused (seated row) line.shown (i.groups c.loop-index.index c.in-Some-Some.group.now group_here).2.there
+    (group-in s c.laws.ensures p rows c.loop-index.index c.in-Some-Some.group.now row sound.coherent.groups i.lines i.groups (seated-kept c.args.store.now s p rows i.held seats) row_here group_here))
+
+pub returns-in_err-settle_task-clause-refused : goal.returns-in_err-settle_task-clause-refused
+returns-in_err-settle_task-clause-refused c =
+    let rows = c.args.saved.now.rows.items in
+    let s = c.loop-index.store in
+    let p = c.args.placed.now in
+    let i = c.loop-index.invariant in
+    let row = c.row-item.result in
+    let key = c.in-Some-Some.key.now in
+    let row_here : slice_get rows c.loop-index.index ≡ Some row =
+    get-found rows c.deref-row-items.result.now c.loop-index.index row c.deref-row-items.ensures.value c.loop-index-test.true c.row-item.is in
+    let key_here : slice_get p.keys.items c.loop-index.index ≡ Some key =
+    get-found p.keys.items c.deref.result.now c.loop-index.index key c.deref.ensures.value c.in-Some-Some.ensures.lookup.3.0 c.in-Some-Some.ensures.lookup.1 in
+    let line : IsLine s p key (seated row) = line-at s p (stage (λ r. r) seated rows c.loop-index.index) c.loop-index.index key (seated row) i.lines key_here (stage-todo (λ r. r) seated rows c.loop-index.index row row_here) in
+    let t = c.join_group.new.store in
+    let j = c.in_ok-join_group.ensures in
+    let inside = at_place rows c.loop-index.index row row_here in
+    on_err c.from_residual-in_err-settle_task.result _ (λ sound part seats.
+    c.in_err-settle_task.ensures.refused (saved_state c.args.saved.now) (record {
+      sound = sound;
+      part = part-set s t (saved_state c.args.saved.now) j.places (i.part part) key _ (j.joined (seated row) line.shown) (own_name_in_use rows row inside);
+      inside = inside;
+      borne = λ r on.
+          let b = all-borne s p rows (stage (λ r. r) seated rows c.loop-index.index) i.lines c.requires.keys (stage-names rows c.loop-index.index) r on in
+          (b.0, bears-kept s t b.0 r.name j.names b.1, b.2);
+    }))

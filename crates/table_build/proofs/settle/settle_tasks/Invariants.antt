@@ -1,5 +1,9 @@
+use Rattle.std.proofs.Common.{◌≡◌, ℕ, true}
+use Rattle.table_text.specs.Reading.{saved_state}
+use Rattle.task_table.specs.View.{row_with}
 use Rattle.table_build.specs.Grouping.{HasRealParents, IsGrouping}
-use Rattle.table_build.specs.Lines.{AreGroups, AreLines, stage}
+use Rattle.table_build.specs.Lines.{AreGroups, AreLines, is_held, stage}
+use Rattle.table_build.specs.Parts.{IsPart}
 use Rattle.table_build.specs.Recent.{IsRecent}
 use Rattle.table_build.specs.Stages.{KeepsPlaces, seated}
 use Rattle.table_build.proofs.settle.settle_tasks.Given as goal
@@ -11,5 +15,7 @@ invariant-loop-index l = record {
   places : KeepsPlaces l.initial.store l.store;
   lines : AreLines l.store l.placed (stage (λ r. r) seated l.saved.rows.items l.index);
   groups : AreGroups l.store l.placed l.saved.rows.items;
+  part : IsPart l.initial.store (saved_state l.saved) → IsPart l.store (saved_state l.saved);
+  held : (k : ℕ) → is_held l.placed k ≡ true → row_with l.store k ≡ row_with l.initial.store k;
   real : HasRealParents l.store l.placed;
 }

@@ -1,5 +1,5 @@
 -- What a result says, and what follows from it.
-use Rattle.std.proofs.Common.{◌≡◌, ℕ, ◌<◌, true, false, IsTrue, Option, Some, None, IfSome, Result, Ok, Err, OnOk, IfErr, refl, sym, ap, subst, arith, rules}
+use Rattle.std.proofs.Common.{◌≡◌, ℕ, ◌<◌, true, false, IsTrue, Option, Some, None, IfSome, Result, Ok, Err, OnOk, OnErr, IfErr, refl, sym, ap, subst, arith, rules}
 use Rattle.std.specs.Option.{option_map_or}
 use Rattle.std.specs.Result.{IsErrAnd}
 
@@ -23,6 +23,10 @@ module _ {A E : Type 0} where
   pub if_err : (r : Result A E) (P : E → Type 0) (e : E) → IsErrAnd r (λ x. x ≡ e) → P e → IfErr r P
   if_err (Ok x) P e is h = tt
   if_err (Err x) P e is h = subst P (sym is) h
+
+  pub on_err : (r : Result A E) (P : Type 0) → P → OnErr r P
+  on_err (Ok x) P h = tt
+  on_err (Err e) P h = h
 
   -- what follows from what is so
   pub on_ok-map : (r : Result A E) (P Q : Type 0) → (P → Q) → OnOk r P → OnOk r Q

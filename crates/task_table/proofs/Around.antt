@@ -20,7 +20,7 @@ use Rattle.task_table.specs.View.{name_of, name_at, space_of, spaces_of, state_o
 use Rattle.task_table.specs.Lawful.{HasLaws, IsLawful}
 use Rattle.task_table.proofs.Keys.{id_for, own_id, is_path, path-is, path-there, space_at-key, number-is_key}
 use Rattle.task_table.proofs.LookUps.{same-name, space-id}
-use Rattle.sound_store.proofs.Places.{each-in, place-of, key-listed}
+use Rattle.task_table.proofs.Places.{each-in, place-of, key-listed}
 
 module _ (b : Numbering) (l : HasLaws b) where
   -- a listed namespace has its id
