@@ -196,11 +196,12 @@ class Checkout(unittest.TestCase):
         self.assertIn("# scale: 25.000\n", self.table.read_text())
 
     def test_a_changed_crate_is_no_yardstick(self) -> None:
-        self.write_crates("a", "b", "c", "d")
+        gate, rows = load_gate(), {it: ["1", "", "", "0"] for it in "abcd"}
+        gate.TOP = self.top
+        self.assertEqual(gate.yardstick_facts(rows), {"scale": "25.000", "by": "a, b, c, d"})
+        (self.top / "crates/d/src").mkdir(parents=True)
         (self.top / "crates/d/src/lib.rt").touch()
-        self.assertEqual(self.run_gate("measure")[0], 0)
-        self.assertNotIn("scale", self.table.read_text())
-        self.assertEqual(self.run_gate("--budget", "1000")[0], 1)
+        self.assertEqual(gate.yardstick_facts(rows), {})
 
     def test_what_a_change_is(self) -> None:
         for name in ("src/lib.rt", "specs/Words.antt", "proofs/f/Answers.antt", "must-fail/two.edit", "proofs/notes.txt"):
