@@ -78,6 +78,11 @@ def load_gate() -> ModuleType:
     return module
 
 
+# Four crates of the yardstick, by what their proofs took there, and the sum of no sources (SHA-256 of nothing).
+NOTHING = "e3b0c44298fc1c14"
+YARDSTICK = f"# Of one run.\ncrate\tproofs\tsources\na\t40\t{NOTHING}\nb\t30\t{NOTHING}\nc\t20\t{NOTHING}\nd\t10\t{NOTHING}\n"
+
+
 class Commands(unittest.TestCase):
     """What a process of the gate is about."""
 
@@ -110,6 +115,8 @@ class Checkout(unittest.TestCase):
         self.page, self.table = self.top / "docs" / "GATE.md", self.top / "docs" / "gate.tsv"
         self.page.write_text(PAGE)
         self.table.write_text(TABLE)
+        self.yardstick = self.top / "docs" / "yardstick.tsv"
+        self.yardstick.write_text(YARDSTICK)
 
     def run_gate(self, *words: str, **variables: str) -> tuple[int, str, str]:
         """The status of the script, and what it writes."""
@@ -157,31 +164,73 @@ class Checkout(unittest.TestCase):
         self.assertEqual((status, self.table.read_text()), (1, TABLE))
         self.assertIn("rt ci ended with status 1", said)
 
-    def write_yardstick(self, seconds: str) -> None:
-        """Puts the crate by which machines compare into the checkout, and its proof into the table."""
-        (self.top / "crates/plain_view/src").mkdir(parents=True, exist_ok=True)
-        self.table.write_text(TABLE + f"plain_view\t{seconds}\t\t\t0\ngone\t9000\t\t\t0\n")
-
     def test_a_budget(self) -> None:
-        # 73 seconds of the other crates, and no crate that is gone: (73 + 95) / 60 = 2.8 minutes.
-        self.write_yardstick("95")
+        # 73 seconds of the crates that are there: 73 * 2 / 60 = 2.4 minutes.
+        self.table.write_text("# scale: 2.000\n# by: a, b\n" + TABLE + "gone\t9000\t\t\t0\n")
         self.assertEqual(self.run_gate("--budget", "3"), (0, "", ""))
-        said = "docs/gate.tsv: the gate takes 2.8 processor minutes where plain_view takes 95 seconds, and may take 2\n"
+        said = "docs/gate.tsv: the gate takes 2.4 processor minutes by the yardstick, and may take 2\n"
         self.assertEqual(self.run_gate("--budget", "2"), (1, "", said))
-
-    def test_a_budget_on_a_slow_machine(self) -> None:
-        # Half as fast as the yardstick's machine: (73 + 190) / 2 / 60 = 2.2 minutes; and thrice as fast: (73 + 32) * 95 / 32 / 60 = 5.2.
-        self.write_yardstick("190")
-        self.assertEqual(self.run_gate("--budget", "3"), (0, "", ""))
-        self.assertIn(" 2.2 processor minutes ", self.run_gate("--budget", "2")[2])
-        self.write_yardstick("32")
-        self.assertIn(" 5.2 processor minutes ", self.run_gate("--budget", "5")[2])
+        self.run_gate("write")
+        self.assertIn("\nBy the yardstick it is 2 processor minutes, as `a`, `b` say.\n", self.page.read_text())
 
     def test_a_budget_without_the_yardstick(self) -> None:
-        said = "docs/gate.tsv: plain_view was not measured, by which machines compare\n"
-        for row in ("", "plain_view\t\t\t\t0\n"):
-            self.table.write_text(TABLE + row)
-            self.assertEqual(self.run_gate("--budget", "1000"), (1, "", said))
+        said = "docs/gate.tsv: fewer than 4 crates of docs/yardstick.tsv were measured as they were, so machines do not compare\n"
+        self.assertEqual(self.run_gate("--budget", "1000"), (1, "", said))
+
+    def write_crates(self, *names: str) -> None:
+        """Makes crates without sources, which the toolchain proves as `low`."""
+        tool = self.top / "bin" / "rt"
+        told = "".join(f'    subprocess.run([sys.executable, "-c", BUSY, "1", "--crate-name", "{it}"], check=True)\n' for it in names)
+        tool.write_text(TOOLCHAIN.replace("print(", f"if 'STATUS' not in os.environ:\n{told}print(", 1))
+        for name in names:
+            (self.top / "crates" / name / "src").mkdir(parents=True)
+
+    def test_the_yardstick_is_measured(self) -> None:
+        # One second each where the yardstick has 100 for the four.
+        self.write_crates("a", "b", "c", "d")
+        self.assertEqual(self.run_gate("measure")[0], 0)
+        facts = self.table.read_text().splitlines()
+        self.assertEqual(facts[4:6], ["# scale: 25.000", "# by: a, b, c, d"])
+        # Of some crates: the quotient stays that of the whole.
+        self.assertEqual(self.run_gate("measure", "low")[0], 0)
+        self.assertIn("# scale: 25.000\n", self.table.read_text())
+
+    def test_a_changed_crate_is_no_yardstick(self) -> None:
+        gate, rows = load_gate(), {it: ["1", "", "", "0"] for it in "abcd"}
+        gate.TOP = self.top
+        self.assertEqual(gate.yardstick_facts(rows), {"scale": "25.000", "by": "a, b, c, d"})
+        (self.top / "crates/d/src").mkdir(parents=True)
+        (self.top / "crates/d/src/lib.rt").touch()
+        self.assertEqual(gate.yardstick_facts(rows), {})
+
+    def test_what_a_change_is(self) -> None:
+        for name in ("src/lib.rt", "specs/Words.antt", "proofs/f/Answers.antt", "must-fail/two.edit", "proofs/notes.txt"):
+            (self.top / "crates/low" / name).parent.mkdir(parents=True, exist_ok=True)
+        gate, sums = load_gate(), []
+        gate.TOP = self.top
+        for name, text in (("src/lib.rt", ""), ("src/lib.rt", "a"), ("src/a.rt", "a"), ("specs/Words.antt", ""), ("proofs/f/Answers.antt", "")):
+            (self.top / "crates/low" / name).write_text(text)
+            sums.append(gate.sources_sum("low"))
+        self.assertEqual(len(set(sums)), 5)
+        (self.top / "crates/low/proofs/notes.txt").touch()
+        self.assertEqual((gate.sources_sum("low"), gate.sources_sum("top")), (sums[4], NOTHING))
+
+    def test_another_yardstick(self) -> None:
+        # Of a machine twice as fast as the yardstick's: its minutes stay those of the first.
+        rows = "a\t5\t\t\t0\nb\t6\t\t\t0\nc\t7\t\t\t0\n"
+        self.write_crates("a", "b", "c")
+        self.table.write_text("# scale: 2.000\n# by: a, b\n" + TABLE + rows)
+        self.assertEqual(self.run_gate("yardstick", "a", "b", "c", "top"), (0, "", ""))
+        written = [it.split("\t") for it in self.yardstick.read_text().splitlines()[1:]]
+        self.assertEqual(written, [["crate", "proofs", "sources"], *([name, seconds, NOTHING] for name, seconds in (("a", "10"), ("b", "12"), ("c", "14"), ("top", "120")))])
+        for words, said in ((("a", "b", "c"), "name 4 crates or more, of a whole measurement"), (("a", "b", "c", "d"), "d was not measured")):
+            self.assertEqual(self.run_gate("yardstick", *words), (1, "", f"tools/gate: {said}\n"))
+
+    def test_the_yardstick_of_the_repository(self) -> None:
+        gate = load_gate()
+        _, rows = gate.parse_table((REPOSITORY / "docs" / "yardstick.tsv").read_text())
+        same = [it for it in rows if gate.sources_sum(it) == rows[it][1]]
+        self.assertGreaterEqual(len(same), gate.FEWEST_CRATES)
 
     def keep(self, name: str, second: int) -> None:
         """Puts a file into what a check of the crate keeps, as of a second."""
