@@ -1,1 +1,3 @@
 pub mod LowIds
+pub mod Kept
+pub mod Refused

@@ -4,6 +4,7 @@ ghost use Rattle.pid_types.specs.Sound.{IsSound, IsBelow};
 ghost use Rattle.table_build.specs.Tables.{IsOfTables};
 ghost use Rattle.table_load.specs.Faults.{IsOfForm};
 ghost use Rattle.table_load.specs.Texts.{IsTextOfNoTable};
+ghost use Rattle.table_text.specs.Ranges.{IsStateOfWords, IsWord};
 ghost use Rattle.table_text.specs.Reading.{IsNoText, saved_state};
 ghost use Rattle.table_text.specs.Texts.{text_of};
 
@@ -38,6 +39,7 @@ pub struct Loaded {
 /// group, its session and its parent; for each namespace and each control group a few searches by id.
 pub fn load(alloc: Global, text: &[u8]) -> Result<Loaded, RestoreFault>
     ensures text { IfOk result (λ l. text.now ≡ text_of l.stamp l.table) }
+    ensures words { IfOk result (λ l. IsWord l.stamp × IsStateOfWords l.table) }
     ensures sound { IfOk result (λ l. IsSound l.table × IsBelow l.stamp l.table) }
     ensures form { IfErr result (λ fault. IsOfForm fault → IsNoText text.now) }
     ensures refused { IfErr result (λ fault. fault ≢ RestoreFault.NoMemory → IsTextOfNoTable text.now) }

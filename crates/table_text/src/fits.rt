@@ -1,5 +1,4 @@
-//! The numbers of a snapshot fit their types. Nothing here does anything: what a body reads is known to fit from then
-//! on.
+//! The numbers of a table fit their types. Nothing here does anything: what a body reads is known to fit from then on.
 ghost use Rattle.std.specs.Prelude.{IfSome, map};
 ghost use Rattle.table_text.specs.Texts.{without_count, state_in};
 ghost use Rattle.table_text.specs.Ranges.{IsWord, Each};
@@ -36,7 +35,8 @@ fn life_fits(life: Life)
     }
 }
 
-fn row_fits(row: &Row)
+/// Where each identifier of a task has a number, its row is one that a line is read of.
+pub fn row_fits(row: &Row)
     ensures { HasNumbers row.now → IsHeldRow row.now }
 {
     name_fits(&row.name);
@@ -88,7 +88,8 @@ fn rows_fit(rows: &[Row])
     }
 }
 
-fn spaces_fit(spaces: &[Space])
+/// Namespaces are such as lines are read of.
+pub fn spaces_fit(spaces: &[Space])
     ensures { Each IsHeldSpace spaces.now }
 {
     for space in spaces {
@@ -96,7 +97,8 @@ fn spaces_fit(spaces: &[Space])
     }
 }
 
-fn controls_fit(controls: &[ControlRow])
+/// Control groups, without their counts, are such as lines are read of.
+pub fn controls_fit(controls: &[ControlRow])
     ensures { Each IsHeldControl (map without_count controls.now) }
 {
     for control in controls {

@@ -8,7 +8,7 @@
 
 pub mod dump;
 pub mod fault;
-mod fits;
+pub mod fits;
 pub mod laws;
 pub mod read;
 mod scan;
