@@ -153,7 +153,7 @@ static inline const char *pidtab_fault_text(uint32_t kind)
 }
 
 /* Opens a table as a text of pidtab_dump says: each later call has the answer that it would have had there. Any bytes may be given. DONE;
- * BUSY where it is open already; then BAD_TEXT and the fault; NO_MEMORY. The fault is zeroes but for BAD_TEXT. */
+ * BUSY where it is open already; then BAD_TEXT and the fault, which no text of a table has; NO_MEMORY. The fault is zeroes but for BAD_TEXT. */
 uint32_t pidtab_load(struct pidtab *table, const void *text, size_t length, struct pidtab_fault *fault);
 
 /* A call as numbers. What an operation does not take is not looked at. */

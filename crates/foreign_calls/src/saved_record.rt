@@ -2,6 +2,7 @@
 ghost use Rattle.std.specs.Prelude.{◌≡◌, ◌≢◌, ◌<◌, ◌≤◌, ◌↔◌, ◌⊎◌, IsSome, None, IfOk, sum};
 ghost use Rattle.pid_types.specs.Sound.{IsBelow};
 ghost use Rattle.table_text.specs.Reading.{IsNoText};
+ghost use Rattle.table_load.specs.Texts.{IsTextOfNoTable};
 ghost use Rattle.table_text.specs.Texts.{text_of};
 ghost use Rattle.kept_table.specs.Calls.{resumed};
 ghost use Rattle.kept_table.specs.Chronicle.{next_stamp};
@@ -70,6 +71,7 @@ impl PidtabRecord {
         ensures too_many { self.old.handle.held ≡ None → HasWorkers counts.now → TellsTooManyCalls text.now counts.now
             → (result ≡ OUT_OF_RANGE) ⊎ (result ≡ NO_MEMORY) }
         ensures bad_text { result ≡ BAD_TEXT → (1 ≤ fault.new.kind) × (fault.new.kind ≤ 12) }
+        ensures refused { result ≡ BAD_TEXT → IsTextOfNoTable text.now }
         ensures form { result ≡ BAD_TEXT → fault.new.kind ≤ 2 → IsNoText text.now }
         ensures no_fault { result ≢ BAD_TEXT → fault.new ≡ no_fault }
         ensures statuses { (result ≡ DONE) ⊎ ((result ≡ BUSY) ⊎ ((result ≡ OUT_OF_RANGE)

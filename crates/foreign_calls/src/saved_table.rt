@@ -3,6 +3,7 @@ ghost use Rattle.std.specs.Prelude.{◌≡◌, ◌≢◌, ◌<◌, ◌≤◌, �
 ghost use Rattle.std.specs.Prelude.{IfErr};
 ghost use Rattle.table_load.specs.declared.fault.RestoreFault.TheVariants.{NoMemory};
 ghost use Rattle.table_load.specs.Faults.{IsOfForm};
+ghost use Rattle.table_load.specs.Texts.{IsTextOfNoTable};
 ghost use Rattle.table_text.specs.Reading.{IsNoText};
 ghost use Rattle.table_text.specs.Texts.{text_of};
 ghost use Rattle.foreign_calls.specs.Records.{Has};
@@ -67,6 +68,7 @@ fn boxed_load(alloc: Global, text: &[u8]) -> Result<Box<StampedTable>, RestoreFa
     ensures text { IfOk result (λ held. text.now ≡ text_of held.value.stamp held.value.state) }
     ensures sound { IfOk result (λ held. IsInOrder held.value) }
     ensures form { IfErr result (λ fault. IsOfForm fault → IsNoText text.now) }
+    ensures refused { IfErr result (λ fault. fault ≢ RestoreFault.NoMemory → IsTextOfNoTable text.now) }
 {
     let held = StampedTable::of_loaded(load(alloc, text)?);
     match Box::new(alloc, held) {
@@ -83,6 +85,7 @@ impl Pidtab {
         ensures not_done { result ≢ DONE → self.new.handle.held ≡ self.old.handle.held }
         ensures busy { (result ≡ BUSY) ↔ IsSome self.old.handle.held }
         ensures bad_text { result ≡ BAD_TEXT → (1 ≤ fault.new.kind) × (fault.new.kind ≤ 12) }
+        ensures refused { result ≡ BAD_TEXT → IsTextOfNoTable text.now }
         ensures form { result ≡ BAD_TEXT → fault.new.kind ≤ 2 → IsNoText text.now }
         ensures no_fault { result ≢ BAD_TEXT → fault.new ≡ no_fault }
         ensures statuses { (result ≡ DONE) ⊎ ((result ≡ BUSY) ⊎ ((result ≡ BAD_TEXT) ⊎ (result ≡ NO_MEMORY))) }

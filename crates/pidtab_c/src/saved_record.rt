@@ -1,5 +1,6 @@
 //! A record as a text, for C: the text of its present state is written, and a record goes on from such a text.
 ghost use Rattle.std.specs.Prelude.{◌≡◌, ◌≢◌, ◌<◌, ◌≤◌, ◌↔◌, ◌⊎◌, IsSome, None, length, take, drop};
+ghost use Rattle.table_load.specs.Texts.{IsTextOfNoTable};
 ghost use Rattle.table_text.specs.Reading.{IsNoText};
 ghost use Rattle.table_text.specs.Texts.{text_of};
 ghost use Rattle.kept_table.specs.Chronicle.{next_stamp};
@@ -75,6 +76,7 @@ pub extern "C" fn pidtab_record_load(
     ensures too_many { table.old.handle.held ≡ None → HasWorkers counts.now → TellsTooManyCalls text.now counts.now
         → (result ≡ OUT_OF_RANGE) ⊎ (result ≡ NO_MEMORY) }
     ensures bad_text { result ≡ BAD_TEXT → (1 ≤ fault.new.kind) × (fault.new.kind ≤ 12) }
+    ensures refused { result ≡ BAD_TEXT → IsTextOfNoTable text.now }
     ensures form { result ≡ BAD_TEXT → fault.new.kind ≤ 2 → IsNoText text.now }
     ensures no_fault { result ≢ BAD_TEXT → fault.new ≡ no_fault }
     ensures statuses { (result ≡ DONE) ⊎ ((result ≡ BUSY) ⊎ ((result ≡ OUT_OF_RANGE)

@@ -1,5 +1,6 @@
 //! A table as a text, for C: the text is written, and a table is opened as such a text says.
 ghost use Rattle.std.specs.Prelude.{◌≡◌, ◌≢◌, ◌<◌, ◌≤◌, ◌↔◌, ◌⊎◌, IsSome, None, length, take, drop};
+ghost use Rattle.table_load.specs.Texts.{IsTextOfNoTable};
 ghost use Rattle.table_text.specs.Reading.{IsNoText};
 ghost use Rattle.table_text.specs.Texts.{text_of};
 ghost use Rattle.foreign_calls.specs.Records.{Has};
@@ -66,6 +67,7 @@ pub extern "C" fn pidtab_load(
     ensures not_done { result ≢ DONE → table.new.handle.held ≡ table.old.handle.held }
     ensures busy { (result ≡ BUSY) ↔ IsSome table.old.handle.held }
     ensures bad_text { result ≡ BAD_TEXT → (1 ≤ fault.new.kind) × (fault.new.kind ≤ 12) }
+    ensures refused { result ≡ BAD_TEXT → IsTextOfNoTable text.now }
     ensures form { result ≡ BAD_TEXT → fault.new.kind ≤ 2 → IsNoText text.now }
     ensures no_fault { result ≢ BAD_TEXT → fault.new ≡ no_fault }
     ensures statuses { (result ≡ DONE) ⊎ ((result ≡ BUSY) ⊎ ((result ≡ BAD_TEXT) ⊎ (result ≡ NO_MEMORY))) }

@@ -77,7 +77,8 @@ pub fn begin_tasks(alloc: Global, store: &mut Tasks, saved: &Saved) -> Result<Pl
     ensures groups { IfOk result (λ placed. placed.groups.items ≡ []) }
     ensures nobody { IfOk result (λ placed. placed.placeholders.items ≡ []) }
     ensures sorted { OnOk result ((j : ℕ) → j < length saved.now.rows.items → IsNotBelow saved.now.rows.items j) }
-    ensures part { HasPlaces store.old (saved_state saved.now) → OnOk result (IsPart store.new (saved_state saved.now)) }
+    ensures part { HasPlaces store.old (saved_state saved.now)
+        → OnOk result (IsPart store.new (saved_state saved.now)) }
     ensures refused { IfErr result (λ fault. fault ≢ BuildFault.NoMemory → IsSound (saved_state saved.now)
         → HasPlaces store.old (saved_state saved.now) → ⊥) }
 {

@@ -92,8 +92,8 @@ fn is_in_fallen(store: &Tasks, flags: &[bool], key: SpaceKey) -> bool
     }
 }
 
-/// Sees that a namespace which has fallen by its line is not the root and has a number in use, and that one which stands
-/// is in none that has fallen.
+/// Sees that a namespace which has fallen by its line is not the root and has a number in use, and that one which has
+/// not is in none that has.
 fn check_fall(store: &Tasks, flags: &[bool], space: &Space, line: u64) -> Result<(), BuildFault>
     ensures may { OnOk result (MayHaveFall store.now.numbering flags.now space.now) }
     ensures refused { OnErr result (MayHaveFall store.now.numbering flags.now space.now → ⊥) }

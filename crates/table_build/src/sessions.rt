@@ -168,7 +168,8 @@ fn put_in_session(
     ensures few { OnOk result (KeepsFew placed.old placed.new) }
     ensures names { OnOk result (KeepsBearers store.old store.new) }
     ensures places { OnOk result (KeepsPlaces store.old store.new) }
-    ensures part { (text : State) → IsPart store.old text → IsIn row.now text.rows → OnOk result (IsPart store.new text) }
+    ensures part { (text : State) → IsPart store.old text → IsIn row.now text.rows
+        → OnOk result (IsPart store.new text) }
     ensures refused { IfErr result (λ fault. fault ≢ BuildFault.NoMemory → (text : State) → IsSound text
         → IsPart store.old text → IsIn row.now text.rows → ⊥) }
 {

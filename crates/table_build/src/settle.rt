@@ -36,7 +36,8 @@ fn join_group(store: &mut Tasks, key: TaskKey, group: TaskKey, line: u64) -> Res
     ensures tree { store.new.tree ≡ store.old.tree }
     ensures names { OnOk result (KeepsBearers store.old store.new) }
     ensures places { OnOk result (KeepsPlaces store.old store.new) }
-    ensures refused { OnErr result ((row : Row) → row_with store.old key ≡ Some row → IsSome (task_at store.old.tree group)
+    ensures refused { OnErr result ((row : Row) → row_with store.old key ≡ Some row
+        → IsSome (task_at store.old.tree group)
         → IsGroupIn store.old (name_at store.old.numbering group) row.session → ⊥) }
 {
     if store.tree().task(key).is_none() || store.tree().task(group).is_none() {
