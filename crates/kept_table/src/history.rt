@@ -108,13 +108,17 @@ impl History {
         Some(&last.reply)
     }
 
-    /// The state that the kept entries begin in. The error is want of memory, here or before: where calls wait, they
-    /// found none.
+    /// The state that the kept entries begin in: where there are none, the present one. The error is want of memory, here
+    /// or before: where calls wait, they found none.
     pub(crate) fn snapshot(&self, present: &PidTable) -> Result<Plain, AllocError>
+        requires { self.now.entries ≡ [] → opening_of self.now.opening present.now ≡ present.now }
         ensures { IfOk result (Shows (opening_of self.now.opening present.now)) }
     {
-        let Some(held) = &self.held else {
+        if self.len() == 0 {
             return present.snapshot();
+        }
+        let Some(held) = &self.held else {
+            unreachable!()
         };
         if self.lag > 0 {
             return Err(AllocError);

@@ -291,8 +291,8 @@ impl Kept {
     /// the replies of their entries: that is what [`Kept::total`] promises as `replayed`. The first of them has the
     /// configuration's first stamp plus [`Kept::first_kept`].
     ///
-    /// It costs a copy of that whole state. The error is want of memory, here or before: where that came at a cut, the
-    /// table of the opening may be behind, until later calls have made up for it.
+    /// It costs a copy of that whole state. The error is want of memory, here or before: where that came at a cut, and
+    /// entries are kept, the table of the opening is behind until later calls have made up for it.
     pub fn opening(&self) -> Result<Plain, AllocError>
         ensures { IfOk result (Shows self.now.opening) }
     {
