@@ -4,6 +4,7 @@
 uint32_t proved_record_open(struct pidtab_record *record, uint32_t pid_max, uint64_t first_stamp, uint32_t workers);
 void proved_record_close(struct pidtab_record *record);
 uint32_t proved_record_call(struct pidtab_record *record, uint32_t worker, const struct pidtab_call *call, struct pidtab_reply *reply, uint64_t *ordinal);
+uint32_t proved_record_call_keeping(struct pidtab_record *record, uint32_t worker, const struct pidtab_call *call, uint64_t keep, struct pidtab_reply *reply, uint64_t *ordinal);
 uint32_t proved_record_line(struct pidtab_record *record, uint32_t worker, const void *line, size_t length, void *answer, size_t room, size_t *size, uint64_t *ordinal);
 uint32_t proved_record_ask(struct pidtab_record *record, const struct pidtab_call *call, struct pidtab_reply *reply);
 uint32_t proved_record_stat(struct pidtab_record *record, uint32_t caller, uint32_t number, struct pidtab_task *task);
@@ -12,6 +13,7 @@ uint32_t proved_record_worker(struct pidtab_record *record, uint32_t worker, uin
 uint32_t proved_record_entry(struct pidtab_record *record, uint64_t ordinal, uint64_t *worker, struct pidtab_call *call, struct pidtab_reply *reply);
 uint32_t proved_record_read(struct pidtab_record *record, uint64_t from, struct pidtab_entry *entries, size_t room, size_t *count);
 uint32_t proved_record_replay(struct pidtab_record *record, const struct pidtab_entry *saved, size_t count, size_t *place);
+uint32_t proved_record_keep(struct pidtab_record *record, uint64_t keep);
 uint32_t proved_record_checkpoint(struct pidtab_record *record);
 uint32_t proved_record_checkpoint_at(struct pidtab_record *record, uint64_t seen);
 uint32_t proved_record_list(struct pidtab_record *record, void *bytes, size_t room, size_t *size);
@@ -63,6 +65,15 @@ uint32_t pidtab_record_call(struct pidtab_record *record, uint32_t worker, const
 	if (!enter(record, &held))
 		return PIDTAB_BUSY;
 	return leave(record, &held, proved_record_call(&held, worker, call, reply, ordinal));
+}
+
+uint32_t pidtab_record_call_keeping(struct pidtab_record *record, uint32_t worker, const struct pidtab_call *call, uint64_t keep, struct pidtab_reply *reply, uint64_t *ordinal)
+{
+	struct pidtab_record held;
+
+	if (!enter(record, &held))
+		return PIDTAB_BUSY;
+	return leave(record, &held, proved_record_call_keeping(&held, worker, call, keep, reply, ordinal));
 }
 
 uint32_t pidtab_record_line(struct pidtab_record *record, uint32_t worker, const void *line, size_t length, void *answer, size_t room, size_t *size, uint64_t *ordinal)
@@ -135,6 +146,15 @@ uint32_t pidtab_record_replay(struct pidtab_record *record, const struct pidtab_
 	if (!enter(record, &held))
 		return PIDTAB_BUSY;
 	return leave(record, &held, proved_record_replay(&held, saved, count, place));
+}
+
+uint32_t pidtab_record_keep(struct pidtab_record *record, uint64_t keep)
+{
+	struct pidtab_record held;
+
+	if (!enter(record, &held))
+		return PIDTAB_BUSY;
+	return leave(record, &held, proved_record_keep(&held, keep));
 }
 
 uint32_t pidtab_record_checkpoint(struct pidtab_record *record)

@@ -438,7 +438,8 @@ static inline int64_t pidtab_subreaper(struct pidtab *table, uint32_t caller, ui
  * Each call is made for a worker, a number below those of pidtab_record_open, and recorded with its reply. A call's ordinal is its
  * place among all recorded calls, from 0 on. Between any two functions: the kept history replays, reply for reply, as one thread's,
  * from the opening to the present state; and the calls of all workers add up to the number of recorded calls. That is proved of
- * pidtab_record_counts. The history has 184 bytes a call, until a checkpoint cuts it. */
+ * pidtab_record_counts. The history has 184 bytes a call, until it is cut. What is cut away is made once more on a second table, which
+ * lags behind the present one by the kept calls: that is the opening, and no call waits for a copy of the table. */
 struct pidtab_record {
 	void *at;
 	bool is_open;
@@ -458,7 +459,12 @@ uint32_t pidtab_record_close(struct pidtab_record *record);
 /* Makes a call of the worker, and records it. DONE, CLOSED, OUT_OF_RANGE, SPENT, and NO_MEMORY for any call. */
 uint32_t pidtab_record_call(struct pidtab_record *record, uint32_t worker, const struct pidtab_call *call, struct pidtab_reply *reply, uint64_t *ordinal);
 
-/* The same of a line, as pidtab_line has it. DONE, CLOSED, EMPTY_LINE, BAD_LINE, NO_ROOM, OUT_OF_RANGE, SPENT, NO_MEMORY. */
+/* The same, and then at most `keep` entries are kept: behind the call the first ones are cut, two at most. DONE, CLOSED, OUT_OF_RANGE,
+ * SPENT, NO_MEMORY. */
+uint32_t pidtab_record_call_keeping(struct pidtab_record *record, uint32_t worker, const struct pidtab_call *call, uint64_t keep, struct pidtab_reply *reply, uint64_t *ordinal);
+
+/* The same as pidtab_record_call of a line, as pidtab_line has it. DONE, CLOSED, EMPTY_LINE, BAD_LINE, NO_ROOM, OUT_OF_RANGE, SPENT,
+ * NO_MEMORY. */
 uint32_t pidtab_record_line(struct pidtab_record *record, uint32_t worker, const void *line, size_t length, void *answer, size_t room, size_t *size, uint64_t *ordinal);
 
 /* Answers a query, as pidtab_ask does; it is not recorded. DONE, CLOSED, OUT_OF_RANGE. */
@@ -490,13 +496,17 @@ uint32_t pidtab_record_read(struct pidtab_record *record, uint64_t from, struct 
  * or NO_MEMORY, or has another reply, which is DIFFERS and was made; place is then its place among them. DONE, CLOSED. */
 uint32_t pidtab_record_replay(struct pidtab_record *record, const struct pidtab_entry *saved, size_t count, size_t *place);
 
-/* Cuts the history: the present state is the opening, and ordinals go on. DONE, CLOSED, NO_MEMORY. */
+/* Cuts first entries, two at most, where more than `keep` are kept. Behind each call it bounds the history. DONE, CLOSED. */
+uint32_t pidtab_record_keep(struct pidtab_record *record, uint64_t keep);
+
+/* Cuts the history: the present state is the opening, and ordinals go on. It makes each kept call once more. DONE, CLOSED, NO_MEMORY. */
 uint32_t pidtab_record_checkpoint(struct pidtab_record *record);
 
 /* The same where exactly so many calls were recorded, so that none is cut unseen. DONE, CLOSED, AGAIN, NO_MEMORY. */
 uint32_t pidtab_record_checkpoint_at(struct pidtab_record *record, uint64_t seen);
 
-/* The list of the present state, and of the state that the kept history begins in, as pidtab_list writes it. */
+/* The list of the present state, and of the state that the kept history begins in, as pidtab_list writes it. Where a cut found no memory,
+ * the opening has NO_MEMORY until later calls have made up for it. */
 uint32_t pidtab_record_list(struct pidtab_record *record, void *bytes, size_t room, size_t *size);
 uint32_t pidtab_record_opening(struct pidtab_record *record, void *bytes, size_t room, size_t *size);
 

@@ -25,7 +25,7 @@ extern "C" {
 struct pidtab_shared {
 	pthread_mutex_t lock;
 	struct pidtab_record record;
-	uint64_t keep; /* as many entries are kept, and then cut; 0: never cut */
+	uint64_t keep; /* at most so many entries are kept; 0: any number */
 	uint32_t workers;
 	uint32_t seated;
 	pthread_mutex_t gate;    /* of who goes before the calls */
@@ -39,9 +39,8 @@ struct pidtab_shared {
 	bool sleeps;             /* a saver waits for a call */
 };
 
-/* Opens a record, as pidtab_record_open does. Where keep is not 0, the call that makes the kept entries as many cuts the history; it
- * pays for the copy of the table. Where there is no memory for that, the history grows on. DONE, OUT_OF_RANGE, NO_MEMORY: any other
- * than DONE says that nothing is to be closed. */
+/* Opens a record, as pidtab_record_open does. Where keep is not 0, at most so many entries are kept: a call behind which there are more
+ * cuts the first, as pidtab_record_keep does. DONE, OUT_OF_RANGE, NO_MEMORY: any other than DONE says that nothing is to be closed. */
 uint32_t pidtab_shared_open(struct pidtab_shared *shared, uint32_t pid_max, uint64_t first_stamp, uint32_t workers, uint64_t keep);
 
 /* The same, but the record goes on as a text says, as pidtab_record_load has it. No worker is seated. DONE, OUT_OF_RANGE, BAD_TEXT,

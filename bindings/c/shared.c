@@ -106,17 +106,6 @@ uint32_t pidtab_shared_seat(struct pidtab_shared *shared, uint32_t *worker)
 	return unlocked(shared, status);
 }
 
-/* Cuts the history where it is long enough. A cut that finds no memory is tried again behind the next call. */
-static void cut_behind_call(struct pidtab_shared *shared)
-{
-	uint64_t first_kept, recorded;
-
-	if (shared->keep == 0 || pidtab_record_counts(&shared->record, &first_kept, &recorded) != PIDTAB_DONE)
-		return;
-	if (recorded - first_kept >= shared->keep)
-		pidtab_record_checkpoint(&shared->record);
-}
-
 /* Waits until the saver is near enough. A saver that cannot save lets no call go on. */
 static uint32_t wait_for_saver(struct pidtab_shared *shared)
 {
@@ -142,7 +131,8 @@ static uint32_t begin_call(struct pidtab_shared *shared)
 static uint32_t end_call(struct pidtab_shared *shared, uint32_t status)
 {
 	if (status == PIDTAB_DONE) {
-		cut_behind_call(shared);
+		if (shared->keep != 0)
+			pidtab_record_keep(&shared->record, shared->keep);
 		wake_saver(shared);
 	}
 	return unlocked(shared, status);

@@ -154,7 +154,24 @@ static void asked(void)
 	pidtab_close(&table);
 }
 
-/* Each allocation is refused in turn, of each call and of a cut: nothing changes until it is done. */
+/* A checkpoint that found no memory for the table of the opening: each later call makes two of the calls that were cut. */
+static void later_calls_make_up(struct pidtab_record *record)
+{
+	char room[1 << 16];
+	struct pidtab_reply reply;
+	uint64_t ordinal;
+	size_t size = 7;
+
+	CHECK(strcmp(listed(record, true), listed(record, false)) == 0);
+	for (uint64_t i = 0; i < 20; i++) {
+		CHECK(i == 0 || (pidtab_record_opening(record, room, sizeof room, &size) == PIDTAB_NO_MEMORY && size == 7));
+		CHECK(pidtab_record_call(record, 0, &getpid_1, &reply, &ordinal) == PIDTAB_DONE && ordinal == 40 + i);
+	}
+	counts_are(record, 40, 60);
+	CHECK(strcmp(listed(record, true), listed(record, false)) == 0);
+}
+
+/* Each allocation is refused in turn, of each call: nothing changes until it is made. A cut is made all the same. */
 static void want_of_memory(void)
 {
 	struct pidtab_record record = PIDTAB_RECORD_INIT;
@@ -176,13 +193,48 @@ static void want_of_memory(void)
 		CHECK(ordinal == i && reply.kind == PIDTAB_FORKED && reply.second == i + 2);
 	}
 	CHECK(refusals > 5);
-	for (at = 1; refuse_at = at, pidtab_record_checkpoint(&record) == PIDTAB_NO_MEMORY; at++) {
-		refuse_at = 0;
-		counts_are(&record, 0, 40);
-	}
+	refuse_at = 1;
+	CHECK(pidtab_record_checkpoint(&record) == PIDTAB_DONE);
 	refuse_at = 0;
-	CHECK(at > 1);
 	counts_are(&record, 40, 40);
+	later_calls_make_up(&record);
+	pidtab_record_close(&record);
+}
+
+/* Forks, of which at most three entries are kept. */
+static void fork_keeping_three(struct pidtab_record *record, uint64_t ordinal)
+{
+	struct pidtab_reply reply;
+	uint64_t place = 77;
+
+	CHECK(pidtab_record_call_keeping(record, 0, &fork_1, 3, &reply, &place) == PIDTAB_DONE && place == ordinal);
+	CHECK(reply.kind == PIDTAB_FORKED && reply.second == ordinal + 2);
+	counts_are(record, ordinal < 3 ? 0 : ordinal - 2, ordinal + 1);
+}
+
+/* The opening is the state of a table that made the calls before the kept ones. A bound that is lowered is reached by two entries a call. */
+static void keeps_a_bound(void)
+{
+	struct pidtab_record record = PIDTAB_RECORD_INIT, behind = PIDTAB_RECORD_INIT;
+	struct pidtab_reply reply = { .kind = 77 };
+	uint64_t ordinal = 7;
+
+	CHECK(pidtab_record_call_keeping(&record, 0, &fork_1, 3, &reply, &ordinal) == PIDTAB_CLOSED && pidtab_record_keep(&record, 3) == PIDTAB_CLOSED);
+	CHECK(pidtab_record_open(&record, 32768, 1, 1) == PIDTAB_DONE && pidtab_record_open(&behind, 32768, 1, 1) == PIDTAB_DONE);
+	CHECK(pidtab_record_call_keeping(&record, 1, &fork_1, 3, &reply, &ordinal) == PIDTAB_OUT_OF_RANGE && reply.kind == 77 && ordinal == 7);
+	for (uint64_t i = 0; i < 20; i++)
+		fork_keeping_three(&record, i);
+	for (uint64_t i = 0; i < 17; i++)
+		CHECK(pidtab_record_call(&behind, 0, &fork_1, &reply, &ordinal) == PIDTAB_DONE);
+	CHECK(strcmp(listed(&record, true), listed(&behind, false)) == 0);
+	CHECK(pidtab_record_keep(&record, 3) == PIDTAB_DONE);
+	counts_are(&record, 17, 20);
+	CHECK(pidtab_record_keep(&record, 0) == PIDTAB_DONE);
+	counts_are(&record, 19, 20);
+	CHECK(pidtab_record_keep(&record, 0) == PIDTAB_DONE);
+	counts_are(&record, 20, 20);
+	CHECK(strcmp(listed(&record, true), listed(&record, false)) == 0);
+	pidtab_record_close(&behind);
 	pidtab_record_close(&record);
 }
 
@@ -209,6 +261,7 @@ int main(void)
 	stamps_are_used_up();
 	asked();
 	want_of_memory();
+	keeps_a_bound();
 	room_grows_with_the_calls();
 	return 0;
 }

@@ -13,7 +13,7 @@ type Settings struct {
 	PidMax     uint32 // all numbers are below it: 301 to 4194304
 	Workers    uint32 // how many seats there are: 1 to 16
 	FirstStamp uint64 // the stamp of the first call, which is the id of what it makes; 0 is for 1
-	Keep       uint64 // how many entries are kept at most; 0: the history is never cut unasked
+	Keep       uint64 // how many entries are kept at most, a call that makes more cuts the first; 0: any number
 }
 
 // Shared is a table of processes for many goroutines at once, with its history. One lock guards it, and each method waits for its turn. So each
@@ -245,7 +245,10 @@ func (shared *Shared) Replay(saved []Entry) error {
 		var place C.size_t
 		status := C.pidtab_record_replay(held.raw, &room[0], C.size_t(len(room)), &place)
 		held.wakeSaver()
-		held.cutWhereLong()
+		// Each cut is of two entries at most.
+		for range room {
+			held.cutWhereLong()
+		}
 		if err := faultOf(uint32(status)); err != nil {
 			// Which number a fork has drawn that has another reply, nobody is told.
 			held.labels = nil
@@ -288,15 +291,10 @@ func (held *heldRecord) counts() (Counts, error) {
 	return Counts{uint64(firstKept), uint64(recorded)}, err
 }
 
-// cutWhereLong cuts a history that is to cut itself, where it is long enough. A cut that finds no memory is tried again behind the next call.
-// The lock is held.
+// cutWhereLong cuts first entries of a history that is to cut itself, where more are kept. The lock is held.
 func (held *heldRecord) cutWhereLong() {
-	keep := held.settings.Keep
-	if keep == 0 {
-		return
-	}
-	if counts, err := held.counts(); err == nil && counts.Recorded-counts.FirstKept >= keep {
-		C.pidtab_record_checkpoint(held.raw)
+	if held.settings.Keep != 0 {
+		C.pidtab_record_keep(held.raw, C.uint64_t(held.settings.Keep))
 	}
 }
 

@@ -335,14 +335,18 @@ func TestCutsOfItsOwn(t *testing.T) {
 			t.Fatal(err)
 		}
 		wantOrdinal(t, seat, ordinal)
-		wantCounts(t, shared, (ordinal+1)/10*10, ordinal+1)
+		firstKept := uint64(0)
+		if ordinal >= 10 {
+			firstKept = ordinal - 9
+		}
+		wantCounts(t, shared, firstKept, ordinal+1)
 	}
 	forked(t, seat, 1)
 	saved, err := shared.Entries(20, math.MaxInt)
 	again := openShared(t, Settings{PidMax: 32768, Workers: 1, Keep: 5})
 	forked(t, seatOf(t, again), 20)
 	want(t, "replay", told{again.Replay(saved), err}, nil, nil)
-	wantCounts(t, again, 26, 26)
+	wantCounts(t, again, 21, 26)
 	list, err := shared.List()
 	want(t, "list", of(again.List()), list, err)
 }

@@ -296,6 +296,18 @@ uint32_t proved_record_call(struct pidtab_record *record, uint32_t worker, const
 	return fetched(it, fetched(it, Z_pidtabZ_record_call(it, worker), REPLY, reply, sizeof *reply), NUMBERS, ordinal, sizeof *ordinal);
 }
 
+uint32_t proved_record_call_keeping(struct pidtab_record *record, uint32_t worker, const struct pidtab_call *call, uint64_t keep, struct pidtab_reply *reply, uint64_t *ordinal)
+{
+	instance *it = record->at;
+	const uint64_t numbers[2] = { 0, keep };
+
+	if (!record->is_open)
+		return PIDTAB_CLOSED;
+	put(it, CALL, call, sizeof *call);
+	put(it, NUMBERS, numbers, sizeof numbers);
+	return fetched(it, fetched(it, Z_pidtabZ_record_call_keeping(it, worker), REPLY, reply, sizeof *reply), NUMBERS, ordinal, sizeof *ordinal);
+}
+
 uint32_t proved_record_line(struct pidtab_record *record, uint32_t worker, const void *line, size_t length, void *answer, size_t room, size_t *size, uint64_t *ordinal)
 {
 	instance *it = record->at;
@@ -395,6 +407,16 @@ uint32_t proved_record_replay(struct pidtab_record *record, const struct pidtab_
 			return PIDTAB_DIFFERS;
 	}
 	return PIDTAB_DONE;
+}
+
+uint32_t proved_record_keep(struct pidtab_record *record, uint64_t keep)
+{
+	instance *it = record->at;
+
+	if (!record->is_open)
+		return PIDTAB_CLOSED;
+	put(it, NUMBERS, &keep, sizeof keep);
+	return Z_pidtabZ_record_keep(it);
 }
 
 uint32_t proved_record_checkpoint(struct pidtab_record *record)

@@ -118,6 +118,12 @@ uint32_t EXPORTED(record_call)(uint32_t worker)
 	return pidtab_record_call(&held.record, worker, &at.call, &at.reply, at.numbers);
 }
 
+/* At most as many entries are kept as the second of the numbers says. */
+uint32_t EXPORTED(record_call_keeping)(uint32_t worker)
+{
+	return pidtab_record_call_keeping(&held.record, worker, &at.call, at.numbers[1], &at.reply, at.numbers);
+}
+
 uint32_t EXPORTED(record_line)(uint32_t worker, uint32_t length, uint32_t room)
 {
 	return pidtab_record_line(&held.record, worker, at.line, length, at.answer, room < ANSWER_ROOM ? room : ANSWER_ROOM, &at.size, at.numbers);
@@ -147,6 +153,12 @@ uint32_t EXPORTED(record_worker)(uint32_t worker)
 uint32_t EXPORTED(record_entry)(void)
 {
 	return pidtab_record_entry(&held.record, at.numbers[0], at.numbers, &at.call, &at.reply);
+}
+
+/* At most as many entries are kept as the first of the numbers says. */
+uint32_t EXPORTED(record_keep)(void)
+{
+	return pidtab_record_keep(&held.record, at.numbers[0]);
 }
 
 uint32_t EXPORTED(record_checkpoint)(void)

@@ -147,8 +147,8 @@ class Shared(Labelled, Owner):
     have such a table too. Each call is made alone, and its ordinal is its place among all. The calls, made again in their order by one thread,
     have the same answers.
 
-    The history takes 184 bytes a call until it is cut: by a checkpoint, or by itself where `keep` is not 0. Then the call that makes the kept
-    entries so many cuts them, itself too, and pays for a copy of the table.
+    The history takes 184 bytes a call until it is cut: by a checkpoint, or by itself where `keep` is not 0. Then at most so many entries are
+    kept: a call behind which there are more cuts the first, which costs that call once more.
 
     Once it is closed, each method raises `TableClosed`, and so it does in a forked child, whose parent has the table. Where there is no memory,
     any call and what copies the table raise a MemoryError. One that nobody has any more, by a seat or otherwise, is closed.

@@ -260,7 +260,7 @@ class SharedTexts(unittest.TestCase):
         seat = shared.seat()
         for _ in range(5):
             seat.getpid(1)
-        self.assertEqual(tuple(shared.counts()), (4, 5))
+        self.assertEqual(tuple(shared.counts()), (3, 5))
         self.assertRaises(Refusal, seat.rm, 99)
 
     def test_a_closed_one(self) -> None:

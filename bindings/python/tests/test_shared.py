@@ -354,9 +354,9 @@ class Histories(unittest.TestCase):
         with Shared(1, keep=10) as shared:
             seat = shared.seat()
             seat.answers(["fork 1"] * 25)
-            self.assertEqual((shared.keep, shared.counts(), len(list(shared.entries())), seat.ordinal), (10, Counts(20, 25), 5, 24))
+            self.assertEqual((shared.keep, shared.counts(), len(list(shared.entries())), seat.ordinal), (10, Counts(15, 25), 10, 24))
             with self.assertRaises(NotKept):
-                shared.entry(19)
+                shared.entry(14)
 
     def test_the_first_stamp(self) -> None:
         with Shared(1, first_stamp=1000) as shared:

@@ -254,6 +254,7 @@ fn the_functions_on_a_record_are_those_of_the_header() {
         ("entry", ", uint64_t ordinal, uint64_t *worker, struct pidtab_call *call, struct pidtab_reply *reply"),
         ("read", ", uint64_t from, struct pidtab_entry *entries, size_t room, size_t *count"),
         ("replay", ", const struct pidtab_entry *saved, size_t count, size_t *place"),
+        ("keep", ", uint64_t keep"),
         ("checkpoint", ""),
         ("checkpoint_at", ", uint64_t seen"),
         ("list", ", void *bytes, size_t room, size_t *size"),

@@ -301,6 +301,7 @@ extern "C" {
         count: usize,
         place: *mut usize,
     ) -> u32;
+    fn pidtab_record_keep(record: *mut Held, keep: u64) -> u32;
     fn pidtab_record_checkpoint(record: *mut Held) -> u32;
     fn pidtab_record_checkpoint_at(record: *mut Held, seen: u64) -> u32;
     fn pidtab_record_list(
@@ -544,6 +545,11 @@ impl Record {
         let (at, count) = (saved.as_ptr(), saved.len());
         // SAFETY: as above; the entries are a slice with this length.
         unsafe { pidtab_record_replay(&mut *self.held, at, count, place) }
+    }
+
+    pub(crate) fn keep(&mut self, keep: u64) -> u32 {
+        // SAFETY: as above.
+        unsafe { pidtab_record_keep(&mut *self.held, keep) }
     }
 
     pub(crate) fn checkpoint(&mut self) -> u32 {

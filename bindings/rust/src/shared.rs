@@ -53,8 +53,8 @@ impl Options {
         }
     }
 
-    /// How many entries are kept at most: the call that makes them as many cuts the history, as [`Shared::checkpoint`] does, and pays for it. 0,
-    /// as without this, is never. Where there is no memory for the cut, the history grows on, and the next call tries again.
+    /// How many entries are kept at most: a call behind which there are more cuts the first, which costs that call once more. 0, as without
+    /// this, is any number.
     pub fn keep(self, keep: u64) -> Options {
         Options { keep, ..self }
     }
@@ -616,7 +616,10 @@ impl Record {
     pub(crate) fn make_again(&mut self, saved: &[raw::Entry]) -> Result<(), ReplayError> {
         let mut place = 0;
         let status = self.raw.replay(saved, &mut place);
-        self.after_call();
+        // Each cut is of two entries at most.
+        for _ in saved {
+            self.after_call();
+        }
         self.labels.made_again(saved, status == raw::DONE);
         Error::unless_done(status).map_err(|error| ReplayError { place, error })
     }
@@ -650,18 +653,8 @@ impl Record {
     /// A saver that sleeps is woken when the lock is given back.
     fn after_call(&mut self) {
         self.saving.wakes |= mem::take(&mut self.saving.sleeps);
-        self.cut_where_long();
-    }
-
-    /// Cuts a history that is to cut itself, where it is long enough. A cut that finds no memory is tried again behind the next call.
-    fn cut_where_long(&mut self) {
-        let keep = self.keep;
-        if keep == 0 {
-            return;
-        }
-        let is_long = |it: Counts| it.recorded - it.first_kept >= keep;
-        if self.counts().is_ok_and(is_long) {
-            let _ = self.checkpoint();
+        if self.keep != 0 {
+            let _ = self.raw.keep(self.keep);
         }
     }
 }

@@ -305,7 +305,8 @@ fn cuts_of_its_own() {
             seat.line("fork 1").map(|_| seat.ordinal()),
             Ok(Some(ordinal))
         );
-        assert_eq!(counts(&shared), ((ordinal + 1) / 10 * 10, ordinal + 1));
+        let recorded = ordinal + 1;
+        assert_eq!(counts(&shared), (recorded.saturating_sub(10), recorded));
     }
     assert!(seat.fork(1, false).is_ok());
     let saved = shared.entries(20, usize::MAX).expect("entries");
@@ -316,7 +317,7 @@ fn cuts_of_its_own() {
         again.replay(&next_fork(&again)).expect("the same");
     }
     assert_eq!(again.replay(&saved), Ok(()));
-    assert_eq!((counts(&again), again.list()), ((26, 26), shared.list()));
+    assert_eq!((counts(&again), again.list()), ((21, 26), shared.list()));
 }
 
 /// The entry of the next fork of process 1, where all before were such forks.

@@ -1,8 +1,8 @@
 -- What C's functions find and leave of a record.
-use Rattle.std.specs.Prelude.{◌≡◌, ◌<◌, ◌≤◌, ◌++◌, ℕ, [], ◌∷◌, length, Option, Some, None, option_map}
+use Rattle.std.specs.Prelude.{◌≡◌, ◌<◌, ◌≤◌, ◌⊎◌, ℕ, length, Option, Some, None, option_map}
 use Rattle.pid_types.specs.declared.call.Call.{Call}
 use Rattle.pid_types.specs.Settings.{HasGoodPidMax}
-use Rattle.kept_table.specs.Calls.{begun, outcome, entry_of, counted, cut_at}
+use Rattle.kept_table.specs.Calls.{after_call, begun, cut_at, IsWithoutFirst}
 use Rattle.kept_table.specs.Chronicle.{Chronicle, total, recorded}
 
 -- there is a value, and this is true of it
@@ -29,13 +29,19 @@ pub record CanOpen (pid_max first_stamp workers : ℕ) : Type 0 where
 abbrev pub opened : ℕ → ℕ → ℕ → Chronicle
 opened pid_max first_stamp workers = begun (record { pid_max = pid_max; first_stamp = first_stamp }) workers 0
 
--- what a recorded call leaves: the state after the model's step, and one entry more, with the model's reply
-abbrev pub after_call : Chronicle → ℕ → Call → Chronicle
-after_call c worker call = counted c (c.entries ++ entry_of c worker call ∷ []) (outcome c call).state 0
+-- at most so many entries are kept, or fewer than before
+abbrev pub IsBounded : ℕ → Chronicle → Chronicle → Type 0
+IsBounded keep c d = (length d.entries ≤ keep) ⊎ (length d.entries < length c.entries)
 
 -- the worker's call was made and recorded, once, at this place of the history
 pub record IsRecorded (c : Chronicle) (worker : ℕ) (call : Call) (ordinal : ℕ) (new : Option Chronicle) : Type 0 where
   pub left : without_room new ≡ Some (after_call c worker call)
+  pub place : ordinal ≡ total c
+
+-- the same, and then first entries were cut away: at most so many are kept, or fewer than before
+pub record IsRecordedKeeping (keep : ℕ) (c : Chronicle) (worker : ℕ) (call : Call) (ordinal : ℕ) (d : Chronicle) : Type 0 where
+  pub cut : (n : ℕ) × IsWithoutFirst n (after_call c worker call) d
+  pub bound : IsBounded keep c d
   pub place : ordinal ≡ total c
 
 -- the history was cut away: the present state is the opening, ordinals go on, and each worker's calls stay counted

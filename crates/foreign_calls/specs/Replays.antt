@@ -1,12 +1,12 @@
 -- Saved entries, whose calls are made again.
 use Rattle.std.specs.Prelude.{◌≡◌, ◌≢◌, ◌<◌, ◌≤◌, ◌⊎◌, ℕ, List, [], ◌∷◌, length, take, slice_get, Some, None}
 use Rattle.pid_types.specs.declared.call.Call.{Call}
-use Rattle.kept_table.specs.Calls.{outcome}
+use Rattle.kept_table.specs.Calls.{after_call, outcome}
 use Rattle.kept_table.specs.Chronicle.{Chronicle}
 use Rattle.foreign_calls.specs.declared.numbers.ReplyNumbers.{ReplyNumbers}
 use Rattle.foreign_calls.specs.declared.read.EntryNumbers.{EntryNumbers}
 use Rattle.foreign_calls.specs.Numbers.{call_of, numbers_of}
-use Rattle.foreign_calls.specs.Records.{Has, roomless, after_call}
+use Rattle.foreign_calls.specs.Records.{Has, roomless}
 
 -- the saved entry's call was made for its worker and recorded, once; the reply is this one
 pub record IsMadeAgain (c : Chronicle) (saved : EntryNumbers) (reply : ReplyNumbers) (d : Chronicle) : Type 0 where

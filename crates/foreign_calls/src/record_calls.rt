@@ -5,14 +5,15 @@ ghost use Rattle.pid_script.specs.Answers.{reply_text};
 ghost use Rattle.kept_table.specs.Calls.{outcome};
 ghost use Rattle.kept_table.specs.Chronicle.{total, next_stamp, last_reply};
 ghost use Rattle.foreign_calls.specs.Numbers.{numbers_of};
-ghost use Rattle.foreign_calls.specs.Records.{roomless, IsRecorded};
+ghost use Rattle.foreign_calls.specs.Records.{roomless, IsRecorded, IsRecordedKeeping};
 
 use crate::numbers::{ReplyNumbers, put_reply};
 use crate::status::{DONE, NO_MEMORY, OUT_OF_RANGE, SPENT, status_of};
-use crate::texts::{copy_reply, write_reply};
-use kept_table::Kept;
+use crate::texts::write_reply;
+use kept_table::{Kept, copy_reply};
 use pid_script::answer::LONGEST_ANSWER;
 use pid_types::call::Call;
+use pid_types::reply::Reply;
 
 /// Makes the worker's call on the record, and tells its place in the history. The result is the status.
 #[inline(always)]
@@ -61,6 +62,38 @@ pub fn call_on(
         unreachable!()
     };
     put_reply(told, reply);
+    DONE
+}
+
+/// Makes the call as [`call_on`] does, and then cuts first entries away where more than so many are kept.
+pub fn call_keeping_on(
+    held: &mut Kept,
+    worker: u32,
+    made: Call,
+    keep: u64,
+    reply: &mut ReplyNumbers,
+    ordinal: &mut u64,
+) -> u32
+    ensures done { result ≡ DONE → IsRecordedKeeping keep held.old worker made ordinal.new held.new }
+    ensures reply { result ≡ DONE → reply.new ≡ numbers_of (outcome held.old made).reply }
+    ensures not_done { result ≢ DONE
+        → (roomless held.new ≡ roomless held.old) × (reply.new ≡ reply.old) × (ordinal.new ≡ ordinal.old) }
+    ensures out_of_range { (result ≡ OUT_OF_RANGE) ↔ (length held.old.cut ≤ worker) }
+    ensures spent { (result ≡ SPENT) ↔ (worker < length held.old.cut) × (next_stamp held.old ≡ u64.MAX) }
+    ensures no_memory { result ≡ NO_MEMORY → 0 < held.old.room → IsTrue (may_grow made) }
+    ensures statuses { (result ≡ DONE) ⊎ ((result ≡ OUT_OF_RANGE) ⊎ ((result ≡ SPENT) ⊎ (result ≡ NO_MEMORY))) }
+{
+    let worker = worker as usize;
+    if worker >= held.workers() {
+        return OUT_OF_RANGE;
+    }
+    let next = held.total();
+    let mut told = Reply::Done;
+    if let Err(fault) = held.make_call_keeping(worker, made, keep, &mut told) {
+        return status_of(fault);
+    }
+    put_reply(&told, reply);
+    *ordinal = next;
     DONE
 }
 

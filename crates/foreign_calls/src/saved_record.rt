@@ -1,8 +1,8 @@
 //! A record as a text: the text of its present state is made, and a record goes on from such a text.
 ghost use Rattle.std.specs.Prelude.{◌≡◌, ◌≢◌, ◌<◌, ◌≤◌, ◌↔◌, ◌⊎◌, IsSome, None, IfOk, sum};
 ghost use Rattle.pid_types.specs.Sound.{IsBelow};
-ghost use Rattle.table_text.specs.Reading.{IsNoText};
 ghost use Rattle.table_load.specs.Texts.{IsTextOfNoTable};
+ghost use Rattle.table_text.specs.Reading.{saved_state, IsNoText};
 ghost use Rattle.table_text.specs.Texts.{text_of};
 ghost use Rattle.kept_table.specs.Calls.{resumed};
 ghost use Rattle.kept_table.specs.Chronicle.{next_stamp};
@@ -18,7 +18,7 @@ use table_lines::dump::dump_table;
 use table_load::fault::RestoreFault;
 use table_load::load::{Loaded, table_of};
 use table_text::laws::{texts_tell_states, what_fits_is_of_words};
-use table_text::read::read_text;
+use table_text::read::{Saved, read_text};
 
 /// The stamp of the next call; where the stamps are used up, the one that no call has.
 fn stamp_of(held: &Kept) -> u64
@@ -37,14 +37,25 @@ pub fn present_dump(alloc: Global, held: &Kept) -> Result<Vec<u8>, AllocError>
     dump_table(alloc, held.present(), stamp_of(held))
 }
 
-/// A record on the heap that goes on from what was loaded. The error is want of memory.
-fn boxed_resume(alloc: Global, loaded: Loaded, counts: &[u64]) -> Result<Box<Kept>, AllocError>
+/// A record on the heap that goes on from what was loaded. A second table of the same text is its opening, which lags
+/// behind from then on. The error is want of memory: nothing else is wrong with a text that was loaded once.
+fn boxed_resume(
+    alloc: Global,
+    loaded: Loaded,
+    saved: &Saved,
+    counts: &[u64],
+) -> Result<Box<Kept>, AllocError>
     requires below { IsBelow loaded.stamp loaded.table }
     requires before { sum counts.now < loaded.stamp }
+    requires same { loaded.table ≡ saved_state saved.now }
     ensures { IfOk result (λ held. held.value ≡ resumed loaded.table loaded.stamp counts.now held.value.room) }
 {
     let Loaded { table, stamp } = loaded;
-    let held = Kept::resume(alloc, table, stamp, counts)?;
+    let mut held = Kept::resume(alloc, table, stamp, counts)?;
+    let Ok(second) = table_of(alloc, saved) else {
+        return Err(AllocError);
+    };
+    held.give_opening(second.table);
     match Box::new(alloc, held) {
         Ok(held) => Ok(held),
         Err(_) => Err(AllocError),
@@ -54,7 +65,8 @@ fn boxed_resume(alloc: Global, loaded: Loaded, counts: &[u64]) -> Result<Box<Kep
 impl PidtabRecord {
     /// Opens a record that goes on as the text says, behind so many recorded calls of each worker. The result is the
     /// status: `BUSY`; `OUT_OF_RANGE` for the number of workers; `BAD_TEXT` for the form, and `fault` says why;
-    /// `OUT_OF_RANGE` for the sum of the counts; `BAD_TEXT` for the table; `NO_MEMORY`.
+    /// `OUT_OF_RANGE` for the sum of the counts; `BAD_TEXT` for the table; `NO_MEMORY`. It costs two tables: the present
+    /// one, and that of the opening.
     pub fn load(
         &mut self,
         alloc: Global,
@@ -97,7 +109,7 @@ impl PidtabRecord {
             Ok(loaded) => loaded,
             Err(found) => return put_fault(found, fault),
         };
-        let Ok(held) = boxed_resume(alloc, loaded, counts) else {
+        let Ok(held) = boxed_resume(alloc, loaded, &saved, counts) else {
             return NO_MEMORY;
         };
         self.put(held);

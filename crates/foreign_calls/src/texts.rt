@@ -14,16 +14,6 @@ use pid_types::call::Call;
 use pid_types::entry::Receipt;
 use pid_types::reply::Reply;
 
-/// A copy, which needs no memory.
-pub fn copy_reply(reply: &Reply) -> Reply
-    ensures { result ≡ reply.now }
-{
-    match reply.clone() {
-        Ok(copy) => copy,
-        Err(_) => unreachable!(),
-    }
-}
-
 /// Puts the text of the reply at the front of the room for it. The result is its length; what is behind stays.
 pub fn write_reply(answer: &mut [u8], call: Call, reply: Reply) -> usize
     requires { LONGEST_ANSWER ≤ length answer.old }

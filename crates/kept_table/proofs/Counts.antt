@@ -1,5 +1,5 @@
 -- Counts of workers, of which one rises.
-use Rattle.std.proofs.Common.{◌≡◌, ◌≢◌, ℕ, ◌+◌, ◌^◌, ◌<◌, ◌≤◌, List, [], ◌∷◌, ◌++◌, length, length-append, length-set, set, replicate, Option, Some, None, sum, cond, Bool, true, false, eqb, refl, sym, ap, ◌∙◌, subst, arith, inl, inr}
+use Rattle.std.proofs.Common.{◌≡◌, ◌≢◌, ℕ, ◌+◌, ◌^◌, ◌<◌, List, [], ◌∷◌, ◌++◌, length, length-set, set, replicate, Option, Some, None, sum, cond, Bool, true, false, eqb, refl, sym, ap, ◌∙◌, subst, arith, inl, inr}
 use Rattle.std.proofs.lemmas.Bool.{ne_eqb}
 use Rattle.std.proofs.lemmas.Bool.Decides.{eqb_tells}
 use Rattle.std.proofs.lemmas.List.Sums.{sum_by-set, sum_by_push}
@@ -14,7 +14,8 @@ use Rattle.model_laws.specs.StepLaws.{BoundStays, RootStateIsSound, RunsKeepSoun
 use Rattle.pid_types.specs.Sound.{IsSound, IsBelow}
 use Rattle.kept_table.specs.Calls.{resumed}
 use Rattle.kept_table.specs.Chronicle.{Chronicle, IsKept, by_worker, next_stamp, total, recorded}
-use Rattle.kept_table.specs.Whole.{IsKeptCounted, IsKeptWhole, one_of, room_of, told}
+use Rattle.kept_table.specs.Past.{Past}
+use Rattle.kept_table.specs.Whole.{IsKeptCounted, IsKeptWhole, one_of, opening_of, room_of, told}
 use Rattle.kept_table.proofs.Invariant.{kept-new, kept-resumed, kept-entry, kept-checkpoint}
 use Rattle.kept_table.proofs.Totals.{sum_of_noughts}
 
@@ -68,14 +69,15 @@ counted-new law workers config opening present cut calls entries room good some 
     }
 
 -- a record that goes on from a saved state, by its parts
-pub resumed-is : (config : Settings) (state : State) (stamp first : ℕ) (counts cut calls : List ℕ) (entries : List Entry) (r : ℕ) → config.pid_max ≡ state.pid_max → config.first_stamp ≡ stamp - first → first ≡ sum counts → cut ≡ counts → calls ≡ counts → entries ≡ []
-    → told config true None first cut entries state calls r ≡ resumed state stamp counts 0
-resumed-is config state stamp first counts cut calls entries r bound starts at cuts all none = rw (bound, starts, at, cuts, all, none) refl
+pub resumed-is : (config : Settings) (state : State) (stamp first : ℕ) (counts cut calls : List ℕ) (past : Past) → config.pid_max ≡ state.pid_max → config.first_stamp ≡ stamp - first → first ≡ sum counts → cut ≡ counts → calls ≡ counts → past.opening ≡ None → past.entries ≡ []
+    → told config true past first cut state calls ≡ resumed state stamp counts 0
+resumed-is config state stamp first counts cut calls past bound starts at cuts all none empty = rw (bound, starts, at, cuts, all, none, empty) refl
 
-pub whole-resumed : (config : Settings) (state : State) (stamp first : ℕ) (counts cut calls : List ℕ) (entries : List Entry) (r : ℕ) → IsSound state → IsBelow stamp state → sum counts < stamp → stamp < 2 ^ 64 → config.pid_max ≡ state.pid_max → config.first_stamp ≡ stamp - first → first ≡ sum counts → cut ≡ counts → calls ≡ counts → entries ≡ []
-    → IsKeptWhole None calls (told config true None first cut entries state calls r)
-whole-resumed config state stamp first counts cut calls entries r sound below fewer fits bound starts at cuts all none =
-    subst (λ c. IsKeptWhole None calls c) (sym (resumed-is config state stamp first counts cut calls entries r bound starts at cuts all none)) (record {
+pub whole-resumed : (config : Settings) (state : State) (stamp first : ℕ) (counts cut calls : List ℕ) (past : Past) → IsSound state → IsBelow stamp state → sum counts < stamp → stamp < 2 ^ 64 → config.pid_max ≡ state.pid_max → config.first_stamp ≡ stamp - first → first ≡ sum counts → cut ≡ counts → calls ≡ counts
+    → past ≡ record { opening = None; entries = []; stamp = stamp; lag = 0; room = past.room }
+    → IsKeptWhole past calls (told config true past first cut state calls)
+whole-resumed config state stamp first counts cut calls past sound below fewer fits bound starts at cuts all bare =
+    subst (λ c. IsKeptWhole past calls c) (sym (resumed-is config state stamp first counts cut calls past bound starts at cuts all (ap (λ (p : Past). p.opening) bare) (ap (λ (p : Past). p.entries) bare))) (record {
       counted = record {
         kept = kept-resumed state stamp counts 0 sound below fewer fits;
         len = ap length all;
@@ -85,6 +87,7 @@ whole-resumed config state stamp first counts cut calls entries r sound below fe
             omega (arith, none_of, equal);
       };
       bare = λ _. refl;
+      at = omega (arith, fewer, ap (λ (p : Past). p.stamp) bare);
     })
 
 -- one recorded call more
@@ -123,36 +126,35 @@ recorded-cut calls cut c opening first room k same w lt =
     let equal : slice_index cut w ≡ slice_index calls w = ap (λ xs. slice_index xs w) same in
     omega (arith, none_of, equal, k.each w lt)
 
--- the same beside a copy, without which there is no room
-pub whole-push : (copy : Option State) (config : Settings) (resumed : Bool) (first : ℕ) (cut calls calls' : List ℕ) (before entries : List Entry) (old present : State) (r room : ℕ) (e : Entry) → 1 ≤ room_of copy r
-    → IsKeptWhole copy calls (told config resumed copy first cut before old calls r) → entries ≡ before ++ e ∷ [] → e.worker < length cut → (next_stamp (told config resumed copy first cut before old calls r) + 1) < 2 ^ 64
-    → (let o : Outcome = record { state = present; reply = e.reply } in o) ≡ step old (next_stamp (told config resumed copy first cut before old calls r)) e.call
-    → ((w : ℕ) → slice_index calls' w ≡ slice_index calls w + one_of e.worker w) → sum calls' ≡ sum calls + 1 → length calls' ≡ length calls
-    → IsKeptWhole copy calls' (told config resumed copy first cut entries present calls' room)
-whole-push None config resumed first cut calls calls' before entries old present r room e some k are known fits is each all len = absurd (omega (arith, some))
-whole-push (Some copy) config resumed first cut calls calls' before entries old present r room e some k are known fits is each all len = record {
-  counted = counted-push calls calls' (told config resumed (Some copy) first cut before old calls r) e entries present room k.counted refl are known fits is each all len;
-  bare = λ none. absurd (cc);
-}
+-- there is room only where a state is held
+pub some_of_room : (held : Option State) (room : ℕ) → 0 < room_of held room → (held ≢ None) × (0 < room)
+some_of_room None room some = absurd (omega (arith, some))
+some_of_room (Some state) room some = (λ none. cc, some)
 
--- where no copy was taken, a call more leaves all counts but its worker's as they were cut
-pub cut_by_one : (copy : Option State) (calls calls' : List ℕ) (c : Chronicle) (worker : ℕ) → IsKeptWhole copy calls c → copy ≡ None
+opening_stays : (held : Option State) (old new : State) → held ≢ None → opening_of held old ≡ opening_of held new
+opening_stays None old new some = absurd (some refl)
+opening_stays (Some state) old new some = refl
+
+-- the same where a state is held
+pub whole-push : (past next : Past) (config : Settings) (resumed : Bool) (first lag room : ℕ) (cut calls calls' : List ℕ) (old present : State) (e : Entry) → past.opening ≢ None
+    → IsKeptWhole past calls (told config resumed past first cut old calls) → next ≡ record past { entries = past.entries ++ e ∷ []; lag = lag; room = room } → e.worker < length cut → (next_stamp (told config resumed past first cut old calls) + 1) < 2 ^ 64
+    → (let o : Outcome = record { state = present; reply = e.reply } in o) ≡ step old (next_stamp (told config resumed past first cut old calls)) e.call
+    → ((w : ℕ) → slice_index calls' w ≡ slice_index calls w + one_of e.worker w) → sum calls' ≡ sum calls + 1 → length calls' ≡ length calls
+    → IsKeptWhole next calls' (told config resumed next first cut present calls')
+whole-push past next config resumed first lag room cut calls calls' old present e some k are known fits is each all len =
+    let entries : List Entry = past.entries ++ e ∷ [] in
+    subst (λ (p : Past). IsKeptWhole p calls' (told config resumed p first cut present calls')) (sym are) (record {
+      counted = subst (λ (o : State). IsKeptCounted calls' (record (told config resumed past first cut old calls) { opening = o; entries = entries; present = present; booked = sum calls'; room = room_of past.opening room }))
+          (opening_stays past.opening old present some)
+          (counted-push calls calls' (told config resumed past first cut old calls) e entries present (room_of past.opening room) k.counted refl refl known fits is each all len);
+      bare = λ none. absurd (some none);
+      at = k.at;
+    })
+
+-- where no state is held, a call more leaves all counts but its worker's as they were cut
+pub cut_by_one : (past : Past) (calls calls' : List ℕ) (c : Chronicle) (worker : ℕ) → IsKeptWhole past calls c → past.opening ≡ None
     → ((w : ℕ) → slice_index calls' w ≡ slice_index calls w + one_of worker w) → (w : ℕ) → w < length calls → w ≢ worker → slice_index calls' w ≡ slice_index c.cut w
-cut_by_one copy calls calls' c worker k none each w lt other =
+cut_by_one past calls calls' c worker k none each w lt other =
     let none_of : by_worker w c.entries ≡ 0 = ap (by_worker w) (k.bare none) in
     let same : one_of worker w ≡ 0 = one_no worker w (ne_eqb worker w (λ e. other (sym e))) in
     omega (arith, each w, same, none_of, k.counted.each w (omega (arith, lt, k.counted.len)))
-
--- one recorded call more, which is cut away at once: the state that it leaves becomes the opening
-pub whole-cut : RunsKeepSoundness → BoundStays → (calls calls' cut : List ℕ) (c : Chronicle) (e : Entry) (entries : List Entry) (present : State) (first room : ℕ) → IsKeptCounted calls c → c.booked ≡ sum calls → e.worker < length c.cut → (next_stamp c + 1) < 2 ^ 64
-    → (let o : Outcome = record { state = present; reply = e.reply } in o) ≡ step c.present (next_stamp c) e.call
-    → ((w : ℕ) → slice_index calls' w ≡ slice_index calls w + one_of e.worker w) → sum calls' ≡ sum calls + 1 → length calls' ≡ length calls
-    → entries ≡ [] → first ≡ total c + 1 → cut ≡ calls'
-    → IsKeptWhole None calls' (record c { opening = present; first_kept = first; cut = cut; entries = entries; present = present; booked = sum calls'; room = room })
-whole-cut law stays calls calls' cut c e entries present first room k books known fits is each all len none at same =
-    let more : length (c.entries ++ e ∷ []) ≡ length c.entries + 1 = length-append c.entries (e ∷ []) in
-    let pushed : IsKeptCounted calls' (record c { entries = c.entries ++ e ∷ []; present = present; booked = sum calls' }) = counted-push calls calls' c e (c.entries ++ e ∷ []) present c.room k books refl known fits is each all len in
-    record {
-      counted = counted-cut law stays calls' cut (record c { entries = c.entries ++ e ∷ []; present = present; booked = sum calls' }) present entries first room pushed refl refl none (omega (arith, at, more)) same;
-      bare = λ _. none;
-    }

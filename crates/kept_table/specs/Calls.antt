@@ -1,12 +1,13 @@
 -- What a record is at first, and what a call makes of it.
-use Rattle.std.specs.Prelude.{ℕ, ◌+◌, ◌-◌, [], List, replicate, sum, true, false}
+use Rattle.std.specs.Prelude.{◌≡◌, ℕ, ◌+◌, ◌-◌, ◌<◌, ◌++◌, [], ◌∷◌, List, length, replicate, sum, true, false}
 use Rattle.pid_types.specs.declared.call.Call.{Call}
 use Rattle.pid_types.specs.declared.entry.Entry.{Entry}
 use Rattle.pid_types.specs.Outcome.{Outcome}
+use Rattle.pid_types.specs.Replay.{state_after, calls_of}
 use Rattle.pid_types.specs.Settings.{Settings}
 use Rattle.pid_types.specs.State.{State, root_state}
 use Rattle.pid_types.specs.Step.{step}
-use Rattle.kept_table.specs.Chronicle.{Chronicle, next_stamp}
+use Rattle.kept_table.specs.Chronicle.{Chronicle, first_kept_stamp, next_stamp, recorded}
 
 -- a record that was asked nothing: the root state, and no call of any worker
 abbrev pub begun : Settings → ℕ → ℕ → Chronicle
@@ -48,6 +49,25 @@ entry_of c worker call = record { worker = worker; call = call; reply = (outcome
 abbrev pub counted : Chronicle → List Entry → State → ℕ → Chronicle
 counted c entries present room = record c { entries = entries; present = present; booked = c.booked + 1; room = room }
 
+-- what a recorded call leaves: the state after the model's step, and one entry more, with the model's reply
+abbrev pub after_call : Chronicle → ℕ → Call → Chronicle
+after_call c worker call = counted c (c.entries ++ entry_of c worker call ∷ []) (outcome c call).state 0
+
 -- the record with the history cut away, so many calls being counted before it
 abbrev pub cut_at : Chronicle → ℕ → List ℕ → ℕ → Chronicle
 cut_at c first cut room = record c { opening = c.present; first_kept = first; cut = cut; entries = []; room = room }
+
+-- the record without its first n kept entries, whose calls lead to the new opening
+pub record IsWithoutFirst (n : ℕ) (c d : Chronicle) : Type 0 where
+  pub gone : List Entry
+  pub many : length gone ≡ n
+  pub were : c.entries ≡ gone ++ d.entries
+  pub left : d ≡ record c {
+    opening = state_after c.opening (first_kept_stamp c) (calls_of gone);
+    first_kept = c.first_kept + n;
+    cut = d.cut;
+    entries = d.entries;
+    room = d.room;
+  }
+  pub workers : length d.cut ≡ length c.cut
+  pub counts : (worker : ℕ) → worker < length c.cut → recorded d worker ≡ recorded c worker

@@ -3,5 +3,6 @@ pub mod Queries
 pub mod Chronicle
 pub mod Whole
 pub mod Opening
+pub mod Past
 pub mod Promise
 pub mod Replicas

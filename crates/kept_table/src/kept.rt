@@ -1,10 +1,10 @@
 //! The table, its history, and how many calls of each worker were recorded. The history grows by an entry of 184
-//! bytes with each [`Kept::make_call`], until a [`Kept::checkpoint`] empties it.
+//! bytes with each [`Kept::make_call`], until a [`Kept::checkpoint`] empties it. [`Kept::make_call_keeping`] bounds it.
 ghost use Rattle.std.specs.Prelude.{◌≡◌, ℕ, ◌+◌, ◌-◌, ◌^◌, ◌<◌, ◌≤◌, ◌==◌, [], ◌∷◌, ◌++◌, ◌↔◌, length, All, IsTrue};
 ghost use Rattle.std.specs.Prelude.{sum, slice_index, slice_get, replicate, IfOk, OnOk, OnErr, IsOk, IfSome, Some};
 ghost use Rattle.std.specs.Prelude.{None, Err, vec_len, vec_capacity};
 ghost use Rattle.std.specs.Option.{option_copied, option_map};
-ghost use Rattle.std.specs.Prelude.{◌≢◌};
+ghost use Rattle.std.specs.Prelude.{◌≢◌, ◌⊎◌, false};
 ghost use Rattle.pid_types.specs.declared.plain.Control.{Control};
 ghost use Rattle.pid_types.specs.Membership.{IsIn};
 ghost use Rattle.pid_types.specs.declared.entry.Entry.{Entry};
@@ -12,14 +12,14 @@ ghost use Rattle.pid_types.specs.Shown.{Shows};
 ghost use Rattle.pid_types.specs.Sound.{IsBelow};
 ghost use Rattle.pid_types.specs.Step.{step, may_grow};
 ghost use Rattle.translate.specs.Stat.{stat_at, glimpse_in, IsSeen};
-ghost use Rattle.kept_table.specs.Calls.{begun, resumed, outcome, entry_of, counted, cut_at};
+ghost use Rattle.kept_table.specs.Calls.{begun, resumed, outcome, entry_of, after_call, counted, cut_at, IsWithoutFirst};
 ghost use Rattle.kept_table.specs.Chronicle.{Chronicle, total, next_stamp, recorded, recorded_by_all, kept_entry};
 ghost use Rattle.kept_table.specs.Chronicle.{last_reply, by_worker};
 ghost use Rattle.kept_table.specs.Promise.{IsSubtreeCount, KeepsPromise};
 ghost use Rattle.kept_table.specs.Queries.{is_query};
-ghost use Rattle.kept_table.specs.Whole.{opening_of, one_of};
+ghost use Rattle.kept_table.specs.Whole.{one_of};
 
-use crate::opening::Opening;
+use crate::history::History;
 use model_laws::laws::{forks_keep_limits, no_reuse, numbers_are_apart};
 use model_laws::meanings::count_is_of_subtree;
 use model_laws::soundness::{bound_stays, root_state_is_sound, soundness_is_kept};
@@ -39,11 +39,9 @@ use translate::stat::Stat;
 pub struct Kept {
     config: Config,
     is_resumed: bool,
-    // The opening. There is none while the opening is the present state and the history is empty.
-    copy: Option<Opening>,
     first_kept: u64,
     cut: Vec<u64>,
-    history: Vec<Entry>,
+    history: History,
     table: PidTable,
     calls: Vec<u64>,
 }
@@ -54,7 +52,6 @@ impl Drop for Kept {
         let Kept {
             config: _,
             is_resumed: _,
-            copy: _,
             first_kept: _,
             cut: _,
             history: _,
@@ -65,18 +62,15 @@ impl Drop for Kept {
 }
 
 impl Model for Kept {
-    ghost use Rattle.std.specs.Prelude.{◌-◌, vec_len, vec_capacity};
     ghost use Rattle.kept_table.specs.Chronicle.{Chronicle};
     ghost use Rattle.kept_table.specs.Whole.{told, IsKeptWhole};
 
     ghost Value = { Chronicle };
 
-    ghost view = { λ a. told a.config a.is_resumed a.copy a.first_kept a.cut.items a.history.items a.table a.calls.items
-        (vec_capacity a.history - vec_len a.history) };
+    ghost view = { λ a. told a.config a.is_resumed a.history a.first_kept a.cut.items a.table a.calls.items };
 
-    ghost invariant = { λ a. IsKeptWhole a.copy a.calls.items
-        (told a.config a.is_resumed a.copy a.first_kept a.cut.items a.history.items a.table a.calls.items
-        (vec_capacity a.history - vec_len a.history)) };
+    ghost invariant = { λ a. IsKeptWhole a.history a.calls.items
+        (told a.config a.is_resumed a.history a.first_kept a.cut.items a.table a.calls.items) };
 }
 
 impl Kept {
@@ -95,11 +89,10 @@ impl Kept {
         let kept = Kept {
             config: *config,
             is_resumed: false,
-            copy: None,
             first_kept: 0,
             cut,
             calls,
-            history: Vec::new(alloc),
+            history: History::new(alloc, config.first_stamp()),
             table,
         };
         Ok(kept)
@@ -138,11 +131,10 @@ impl Kept {
         let kept = Kept {
             config,
             is_resumed: true,
-            copy: None,
             first_kept: before,
             cut,
             calls,
-            history: Vec::new(alloc),
+            history: History::new(alloc, stamp),
             table,
         };
         Ok(kept)
@@ -232,7 +224,7 @@ impl Kept {
         if ordinal < self.first_kept {
             return None;
         }
-        entry_in(self.history.as_slice(), ordinal - self.first_kept)
+        self.history.entry(ordinal - self.first_kept)
     }
 
     /// The reply of the last kept entry, lent from there; none where the history is empty. It costs
@@ -240,7 +232,7 @@ impl Kept {
     pub fn last_reply(&self) -> Option<&Reply>
         ensures { option_copied result ≡ last_reply self.now }
     {
-        last_reply_in(self.history.as_slice())
+        self.history.last_reply()
     }
 
     /// How many tasks the control group with the id and those below it have, ended ones too; none where there is no
@@ -294,19 +286,17 @@ impl Kept {
         self.table.snapshot()
     }
 
-    /// The state that the kept history begins in: the root init's alone, or after a checkpoint the one at the last
-    /// checkpoint. The kept calls, made from there in the order of [`Kept::entry`], lead to the present state with
+    /// The state that the kept history begins in: the root init's alone, or where entries were cut away the one behind
+    /// their calls. The kept calls, made from there in the order of [`Kept::entry`], lead to the present state with
     /// the replies of their entries: that is what [`Kept::total`] promises as `replayed`. The first of them has the
     /// configuration's first stamp plus [`Kept::first_kept`].
     ///
-    /// It costs a copy of that whole state. The error is want of memory.
+    /// It costs a copy of that whole state. The error is want of memory, here or before: where that came at a cut, and
+    /// entries are kept, the table of the opening is behind until later calls have made up for it.
     pub fn opening(&self) -> Result<Plain, AllocError>
         ensures { IfOk result (Shows self.now.opening) }
     {
-        match &self.copy {
-            Some(opening) => opening.snapshot(),
-            None => self.table.snapshot(),
-        }
+        self.history.snapshot(&self.table)
     }
 
     /// Answers a query by the model's step at the next call's stamp. It uses no stamp and is not recorded, and nothing
@@ -323,8 +313,10 @@ impl Kept {
         }
     }
 
-    /// Makes room for the entries of n more calls. Each recorded call uses up one of them. The first room after the
-    /// opening was the present state costs a copy of the whole table, which becomes the opening.
+    /// Makes room for the entries of n more calls. Each recorded call uses up one of them. A new record holds the root
+    /// init's state as its opening, which takes no memory. Where the opening is the present state behind a
+    /// [`Kept::make_and_cut`] or a [`Kept::resume`], the first room costs a copy of the whole table, which becomes the
+    /// opening.
     #[inline(always)]
     pub fn reserve_calls(&mut self, n: usize) -> Result<(), AllocError>
         ensures ok { OnOk result (n ≤ self.new.room) }
@@ -335,13 +327,15 @@ impl Kept {
         if n == 0 {
             return Ok(());
         }
-        copy_opening(&mut self.copy, &self.table)?;
+        let is_root = !self.is_resumed && self.first_kept == 0;
+        self.history.begin(&self.table, &self.config, is_root)?;
         self.history.reserve(n)
     }
 
     /// Makes the present state the opening, and empties the history. Stamps and ordinals go on, and the room for
-    /// entries stays. It costs a copy of the whole table, or nothing where the opening is the present state as it
-    /// is.
+    /// entries stays. The opening moves on by steps: it costs each kept call once more, and no copy. A step that finds no
+    /// memory is made by later calls, two behind each, and its entry is held until then. Only where the opening is held
+    /// as a snapshot ([`Kept::cut_first`]) it costs a copy of the whole table, and the error is want of memory for that.
     pub fn checkpoint(&mut self) -> Result<(), AllocError>
         ensures ok { OnOk result (self.new ≡ cut_at self.old (total self.old) self.new.cut self.new.room) }
         ensures recorded { OnOk result
@@ -352,13 +346,13 @@ impl Kept {
     {
         soundness_is_kept();
         bound_stays();
-        if self.copy.is_none() {
+        if self.history.is_bare() {
             return Ok(());
         }
-        let opening = Opening::of(&self.table)?;
-        self.first_kept += self.history.len() as u64;
-        cut_away(&mut self.history, &mut self.cut, self.calls.as_slice());
-        self.copy = Some(opening);
+        let kept = self.history.len() as u64;
+        self.history.cut_all(&self.table)?;
+        self.first_kept += kept;
+        cut_all(&mut self.cut, self.calls.as_slice());
         Ok(())
     }
 
@@ -384,7 +378,7 @@ impl Kept {
         };
         self.reserve_calls(1)?;
         soundness_is_kept();
-        enter_call(&mut self.table, &mut self.history, stamp, worker, call)?;
+        self.history.enter(&mut self.table, stamp, worker, call)?;
         count_call(&mut self.calls, worker);
         Ok(())
     }
@@ -423,14 +417,122 @@ impl Kept {
         count_call(&mut self.calls, worker);
         self.first_kept += self.history.len() as u64 + 1;
         cut_with(
-            &mut self.history,
             &mut self.cut,
             self.calls.as_slice(),
             worker,
-            self.copy.is_none(),
+            self.history.is_bare(),
         );
-        forget(&mut self.copy);
+        self.history.forget(stamp + 1);
         Ok(())
+    }
+
+    /// Cuts the first kept entry away: the state that its call leads to is the opening. It answers whether there was one
+    /// to cut. Where the opening is held as a snapshot no call can be made on it, and the answer is no: so it is where
+    /// calls were made by [`Kept::make_and_cut`], or the record goes on from a saved table, and it has no second table
+    /// by [`Kept::give_opening`].
+    ///
+    /// It costs what the call costs. Where that finds no memory the entry is cut all the same, and its call is made
+    /// later: at a later call or a later cut.
+    pub fn cut_first(&mut self) -> bool
+        ensures cut { IsTrue result → IsWithoutFirst 1 self.old self.new }
+        ensures room { self.old.room ≤ self.new.room }
+        ensures none { result ≡ false → self.new ≡ self.old }
+    {
+        soundness_is_kept();
+        bound_stays();
+        let Some(worker) = self.history.cut_first() else {
+            return false;
+        };
+        count_call(&mut self.cut, worker);
+        self.first_kept += 1;
+        true
+    }
+
+    /// Makes a call of the worker as [`Kept::make_call`] does, writes the reply, and then keeps at most so many entries,
+    /// the call's among them: [`Kept::keep_at_most`]. So a bound that was lowered is reached by the next calls, one entry
+    /// a call nearer, and no call waits for all. An error changes nothing.
+    pub fn make_call_keeping(
+        &mut self,
+        worker: usize,
+        call: Call,
+        keep: u64,
+        reply: &mut Reply,
+    ) -> Result<(), CallFault>
+        requires { worker < length self.old.cut }
+        ensures step { OnOk result (self.new.present ≡ (outcome self.old call).state) }
+        ensures reply { OnOk result (reply.new ≡ (outcome self.old call).reply) }
+        ensures cut { OnOk result ((n : ℕ) × IsWithoutFirst n (after_call self.old worker call) self.new) }
+        ensures bound { OnOk result
+            ((length self.new.entries ≤ keep) ⊎ (length self.new.entries < length self.old.entries)) }
+
+        ensures spent { (result ≡ Err CallFault.Spent) ↔ (next_stamp self.old ≡ u64.MAX) }
+        ensures err { OnErr result (self.new ≡ record self.old { room = self.new.room }) }
+        ensures err_reply { OnErr result (reply.new ≡ reply.old) }
+        ensures err_room { OnErr result (self.old.room ≤ self.new.room) }
+        ensures no_memory { result ≡ Err CallFault.NoMemory → 0 < self.old.room → IsTrue (may_grow call) }
+    {
+        self.make_call(worker, call)?;
+        let Some(made) = self.last_reply() else {
+            unreachable!()
+        };
+        *reply = copy_reply(made);
+        self.keep_at_most(keep);
+        Ok(())
+    }
+
+    /// Gives a record that goes on from a saved table a second table of the same state, which lags behind from now on: so
+    /// its history is cut without a copy of the table. Where the record holds its opening already, this does nothing.
+    pub fn give_opening(&mut self, opening: PidTable)
+        requires { opening ≡ self.old.opening }
+        ensures { self.new ≡ record self.old { room = self.new.room } }
+    {
+        self.history.give(opening);
+    }
+
+    /// Cuts first kept entries away where more than so many are kept: two at most, so that no caller waits long. Where
+    /// none can be cut alone ([`Kept::cut_first`]), it cuts all, and the next call pays for a copy of the table.
+    pub fn keep_at_most(&mut self, keep: u64)
+        ensures cut { (n : ℕ) × IsWithoutFirst n self.old self.new }
+        ensures bound { (length self.new.entries ≤ keep) ⊎ (length self.new.entries + 2 ≤ length self.old.entries) }
+    {
+        self.cut_to(keep);
+        self.cut_to(keep);
+    }
+
+    /// Cuts the first kept entry away where more than so many are kept, or all.
+    fn cut_to(&mut self, keep: u64)
+        ensures cut { (n : ℕ) × IsWithoutFirst n self.old self.new }
+        ensures bound { (length self.new.entries ≤ keep) ⊎ (length self.new.entries + 1 ≤ length self.old.entries) }
+    {
+        if self.history.len() as u64 <= keep {
+            return;
+        }
+        if !self.cut_first() {
+            self.cut_at_once();
+        }
+    }
+
+    /// Makes the present state the opening, and forgets the history and the room for it. It takes no memory.
+    fn cut_at_once(&mut self)
+        ensures cut { IsWithoutFirst (length self.old.entries) self.old self.new }
+        ensures entries { self.new.entries ≡ [] }
+    {
+        soundness_is_kept();
+        bound_stays();
+        self.first_kept += self.history.len() as u64;
+        cut_all(&mut self.cut, self.calls.as_slice());
+        self.history
+            .forget(self.config.first_stamp() + self.first_kept);
+    }
+}
+
+/// A copy, which needs no memory.
+pub fn copy_reply(reply: &Reply) -> Reply
+    ensures { result ≡ reply.now }
+{
+    match reply.clone() {
+        Ok(copy) => copy,
+        Err(_) => unreachable!(),
     }
 }
 
@@ -446,110 +548,30 @@ fn added(counts: &[u64]) -> u64
     all
 }
 
-/// Where the opening is the present state, makes a copy of that the opening. The error is want of memory.
+/// Keeps how many calls of each worker there were, where all are cut away. Where no entry was kept, only the count of the
+/// worker who made the last call differs, and no other is copied.
 #[inline(always)]
-fn copy_opening(copy: &mut Option<Opening>, table: &PidTable) -> Result<(), AllocError>
-    ensures same { opening_of copy.new table.now ≡ opening_of copy.old table.now }
-    ensures ok { OnOk result (copy.new ≡ Some (opening_of copy.old table.now)) }
-    ensures err { OnErr result (copy.new ≡ copy.old) }
-    ensures none { OnErr result (copy.old ≡ None) }
-{
-    if copy.is_none() {
-        return put_opening(copy, table);
-    }
-    Ok(())
-}
-
-/// Makes a copy of the table the opening. The error is want of memory. It is not inlined, since a call rarely comes
-/// here.
-#[inline(never)]
-fn put_opening(copy: &mut Option<Opening>, table: &PidTable) -> Result<(), AllocError>
-    ensures ok { OnOk result (copy.new ≡ Some table.now) }
-    ensures err { OnErr result (copy.new ≡ copy.old) }
-{
-    *copy = Some(Opening::of(table)?);
-    Ok(())
-}
-
-/// Makes a call, and enters it behind the history, for which there is room. The reply is written where the entry keeps
-/// it. The error is want of memory, and then there is no entry.
-#[inline(always)]
-fn enter_call(
-    table: &mut PidTable,
-    history: &mut Vec<Entry>,
-    stamp: u64,
-    worker: usize,
-    call: Call,
-) -> Result<(), AllocError>
-    requires below { IsBelow stamp table.old }
-    requires room { vec_len history.old < vec_capacity history.old }
-    ensures state { OnOk result (table.new ≡ (step table.old stamp call).state) }
-    ensures history { OnOk result (history.new.items ≡ history.old.items
-        ++ record { worker = worker; call = call; reply = (step table.old stamp call).reply } ∷ []) }
-    ensures err { OnErr result (table.new ≡ table.old) }
-    ensures none { OnErr result (history.new.items ≡ history.old.items) }
-    ensures grows { OnErr result (IsTrue (may_grow call)) }
-    ensures capacity { vec_capacity history.new ≡ vec_capacity history.old }
-{
-    let place = history.len();
-    history.push_reserved(Entry {
-        worker,
-        call,
-        reply: Reply::Done,
-    });
-    let made = table.step(stamp, call, &mut history[place].reply);
-    if made.is_err() {
-        history.truncate(place);
-    }
-    made
-}
-
-/// Forgets the copy, which mostly is not there.
-#[inline(always)]
-fn forget(copy: &mut Option<Opening>)
-    ensures { copy.new ≡ None }
-{
-    if copy.is_some() {
-        *copy = None;
-    }
-}
-
-/// Cuts all entries away, and keeps how many calls of each worker there were by then. Where there are no entries, only
-/// the count of the worker who made the last call differs, and no other is copied.
-#[inline(always)]
-fn cut_with(
-    history: &mut Vec<Entry>,
-    cut: &mut Vec<u64>,
-    calls: &[u64],
-    worker: usize,
-    is_bare: bool,
-)
+fn cut_with(cut: &mut Vec<u64>, calls: &[u64], worker: usize, is_bare: bool)
     requires known { worker < length calls.now }
     requires len { length cut.old.items ≡ length calls.now }
-    requires bare { IsTrue is_bare → history.old.items ≡ [] }
     requires others { IsTrue is_bare
         → (w : ℕ) → w < length calls.now → w ≢ worker → slice_index calls.now w ≡ slice_index cut.old.items w }
-    ensures entries { history.new.items ≡ [] }
-    ensures capacity { vec_capacity history.new ≡ vec_capacity history.old }
-    ensures counts { cut.new.items ≡ calls.now }
+    ensures { cut.new.items ≡ calls.now }
 {
     if is_bare {
         cut[worker] = calls[worker];
     } else {
-        cut_away(history, cut, calls);
+        cut_all(cut, calls);
     }
 }
 
-/// Cuts all entries away, and keeps how many calls of each worker there were by then.
+/// Keeps how many calls of each worker there were, where all are cut away.
 #[inline(always)]
-fn cut_away(history: &mut Vec<Entry>, cut: &mut Vec<u64>, calls: &[u64])
+fn cut_all(cut: &mut Vec<u64>, calls: &[u64])
     requires { length cut.old.items ≡ length calls.now }
-    ensures entries { history.new.items ≡ [] }
-    ensures capacity { vec_capacity history.new ≡ vec_capacity history.old }
-    ensures counts { cut.new.items ≡ calls.now }
+    ensures { cut.new.items ≡ calls.now }
 {
     cut.copy_from_slice(calls);
-    history.clear();
 }
 
 /// Counts a call of the worker.
@@ -562,20 +584,4 @@ fn count_call(calls: &mut Vec<u64>, worker: usize)
     ensures len { length calls.new.items ≡ length calls.old.items }
 {
     calls[worker] += 1;
-}
-
-/// The entry at a place.
-fn entry_in(entries: &[Entry], place: u64) -> Option<&Entry>
-    ensures { option_copied result ≡ slice_get entries.now place }
-{
-    entries.get(place as usize)
-}
-
-/// The reply of the last entry.
-fn last_reply_in(entries: &[Entry]) -> Option<&Reply>
-    ensures { option_copied result
-        ≡ option_map (λ (e : Entry). e.reply) (slice_get entries.now (length entries.now - 1)) }
-{
-    let last = entries.last()?;
-    Some(&last.reply)
 }

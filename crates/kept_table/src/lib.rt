@@ -6,10 +6,11 @@
 //! crate above adds the ledger, of which each worker has a share, and the lock.
 #![tactic(auto)]
 
+mod history;
 mod kept;
 mod opening;
 mod replicas;
 
-pub use kept::Kept;
+pub use kept::{Kept, copy_reply};
 pub use pid_types::entry::Entry;
 pub use replicas::same_calls_same_replies;

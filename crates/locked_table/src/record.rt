@@ -2,17 +2,17 @@
 //!
 //! One thread may use a record as it is, with [`Record::act`]; several share it as a
 //! [`crate::Shared`], whose guard lends it. The history grows by an entry of 184 bytes with each
-//! call, until a [`Record::checkpoint`] empties it.
+//! call, until a [`Record::checkpoint`] empties it. [`Record::make_call_keeping`] bounds it.
 ghost use Rattle.std.specs.Prelude.{◌≡◌, ℕ, ◌+◌, ◌^◌, ◌<◌, ◌≤◌, [], ◌∷◌, ◌++◌, ◌↔◌, IsTrue};
 ghost use Rattle.std.specs.Prelude.{IfOk, OnOk, OnErr, IsOk, IfSome, Some, None, Err};
 ghost use Rattle.std.specs.Option.{option_copied};
-ghost use Rattle.std.specs.Prelude.{◌≢◌, length, sum};
+ghost use Rattle.std.specs.Prelude.{◌≢◌, ◌⊎◌, length, sum};
 ghost use Rattle.pid_types.specs.declared.plain.Control.{Control};
 ghost use Rattle.pid_types.specs.Membership.{IsIn};
 ghost use Rattle.pid_types.specs.Shown.{Shows};
 ghost use Rattle.pid_types.specs.Sound.{IsBelow};
 ghost use Rattle.pid_types.specs.Step.{may_grow};
-ghost use Rattle.kept_table.specs.Calls.{begun, resumed, outcome, entry_of, counted, cut_at};
+ghost use Rattle.kept_table.specs.Calls.{begun, resumed, outcome, entry_of, after_call, counted, cut_at, IsWithoutFirst};
 ghost use Rattle.kept_table.specs.Chronicle.{Chronicle, total, next_stamp, recorded, recorded_by_all, kept_entry};
 ghost use Rattle.kept_table.specs.Chronicle.{last_reply};
 ghost use Rattle.kept_table.specs.Promise.{IsSubtreeCount, KeepsPromise};
@@ -20,7 +20,7 @@ ghost use Rattle.kept_table.specs.Whole.{one_of};
 ghost use Rattle.locked_table.specs.SeatState.{AreSeats, AreCounted, AreRecorded, AreNew, calls_of_seats};
 
 use crate::seat::Seat;
-use kept_table::Kept;
+use kept_table::{Kept, copy_reply};
 use pid_table::PidTable;
 use pid_types::call::Call;
 use pid_types::config::Config;
@@ -54,16 +54,6 @@ impl<L: Ledger, const N: usize> Model for Record<L, N> {
     ghost view = { λ a. a.kept };
 
     ghost invariant = { λ a. (length a.kept.cut ≡ N) × (a.book.total ≡ a.kept.booked) };
-}
-
-/// A copy, which needs no memory.
-fn copy_reply(reply: &Reply) -> Reply
-    ensures { result ≡ reply.now }
-{
-    match reply.clone() {
-        Ok(copy) => copy,
-        Err(_) => unreachable!(),
-    }
 }
 
 impl<L: Ledger, const N: usize> Record<L, N> {
@@ -215,12 +205,12 @@ impl<L: Ledger, const N: usize> Record<L, N> {
         self.kept.snapshot()
     }
 
-    /// The state that the kept history begins in: the root init's alone, or after a checkpoint the one at the last
-    /// checkpoint. The kept calls, made from there in the order of [`Record::entry`], lead to the present state
+    /// The state that the kept history begins in: the root init's alone, or where entries were cut away the one behind
+    /// their calls. The kept calls, made from there in the order of [`Record::entry`], lead to the present state
     /// with the replies of their entries: that is what [`Record::total`] promises as `replayed`. The first of them
     /// has the configuration's first stamp plus [`Record::first_kept`].
     ///
-    /// It costs a copy of that whole state. The error is want of memory.
+    /// It costs a copy of that whole state. The error is want of memory, here or before ([`Kept::opening`]).
     pub fn opening(&self) -> Result<Plain, AllocError>
         ensures { IfOk result (Shows self.now.opening) }
     {
@@ -250,7 +240,8 @@ impl<L: Ledger, const N: usize> Record<L, N> {
     }
 
     /// Makes the present state the opening, and empties the history. Stamps and ordinals go on, and
-    /// the room for entries stays. It costs a copy of the whole table.
+    /// the room for entries stays. It costs each kept call once more, or in rare cases a copy of the whole table:
+    /// [`Kept::checkpoint`].
     pub fn checkpoint(&mut self) -> Result<(), AllocError>
         ensures ok { OnOk result (self.new ≡ cut_at self.old (total self.old) self.new.cut self.new.room) }
         ensures recorded { OnOk result
@@ -318,6 +309,46 @@ impl<L: Ledger, const N: usize> Record<L, N> {
         self.kept.make_call(seat.worker, call)?;
         book_call(&mut self.book, seat);
         Ok(())
+    }
+
+    /// Makes a call as [`Record::make_call`] does, writes the reply, and then keeps at most so many entries: it cuts the
+    /// first ones away, two at most. So the history stays bounded, and no call waits for a copy of the table. It costs
+    /// at most two calls more: [`Kept::make_call_keeping`].
+    pub fn make_call_keeping(
+        &mut self,
+        seat: &mut Seat<L, N>,
+        call: Call,
+        keep: u64,
+        reply: &mut Reply,
+    ) -> Result<(), CallFault>
+        ensures step { OnOk result (self.new.present ≡ (outcome self.old call).state) }
+        ensures reply { OnOk result (reply.new ≡ (outcome self.old call).reply) }
+        ensures cut { OnOk result ((n : ℕ) × IsWithoutFirst n (after_call self.old seat.old.worker call) self.new) }
+        ensures bound { OnOk result
+            ((length self.new.entries ≤ keep) ⊎ (length self.new.entries < length self.old.entries)) }
+        ensures seat { OnOk result (seat.new ≡ record seat.old { calls = seat.old.calls + 1 }) }
+
+        ensures spent { (result ≡ Err CallFault.Spent) ↔ (next_stamp self.old ≡ u64.MAX) }
+        ensures err { OnErr result (self.new ≡ record self.old { room = self.new.room }) }
+        ensures err_seat { OnErr result (seat.new ≡ seat.old) }
+        ensures err_reply { OnErr result (reply.new ≡ reply.old) }
+        ensures err_room { OnErr result (self.old.room ≤ self.new.room) }
+        ensures no_memory { result ≡ Err CallFault.NoMemory → 0 < self.old.room → IsTrue (may_grow call) }
+    {
+        let _total = self.kept.total();
+        self.kept
+            .make_call_keeping(seat.worker, call, keep, reply)?;
+        book_call(&mut self.book, seat);
+        Ok(())
+    }
+
+    /// Gives a record that goes on from a saved table a second table of the same state, so that its history is cut
+    /// without a copy of the table: [`Kept::give_opening`].
+    pub fn give_opening(&mut self, opening: PidTable)
+        requires { opening ≡ self.old.opening }
+        ensures { self.new ≡ record self.old { room = self.new.room } }
+    {
+        self.kept.give_opening(opening);
     }
 
     /// Makes a call of the seat's worker, and cuts it away at once with all that is kept: [`Record::make_call`] and

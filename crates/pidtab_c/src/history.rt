@@ -1,5 +1,6 @@
 //! The history of a record, for C: how many calls were recorded, the kept entries, and cutting them away.
-ghost use Rattle.std.specs.Prelude.{◌≡◌, ◌≢◌, ◌<◌, ◌≤◌, ◌↔◌, ◌⊎◌, None, IfSome, length, take, drop};
+ghost use Rattle.std.specs.Prelude.{◌≡◌, ◌≢◌, ◌+◌, ◌<◌, ◌≤◌, ◌↔◌, ◌⊎◌, ℕ, None, IfSome, length, take, drop};
+ghost use Rattle.kept_table.specs.Calls.{IsWithoutFirst};
 ghost use Rattle.kept_table.specs.Chronicle.{total, recorded, recorded_by_all, kept_entry};
 ghost use Rattle.kept_table.specs.Promise.{KeepsPromise};
 ghost use Rattle.foreign_calls.specs.Entries.{IsEntry};
@@ -108,8 +109,9 @@ pub extern "C" fn pidtab_record_entry(
 
 /// Cuts the history: the present state becomes the opening, and no entry is kept. Stamps and ordinals go on.
 ///
-/// `CLOSED` where there is no open record; `NO_MEMORY`. It costs a copy of the whole table, or nothing where the
-/// history is empty and no room is kept for entries.
+/// `CLOSED` where there is no open record; `NO_MEMORY`. It costs each kept call once more, on the table of the opening. A
+/// record that has no such table pays for a copy of the whole table, and only there is there want of memory: no function
+/// of this library makes one.
 #[unsafe(no_mangle)]
 pub extern "C" fn pidtab_record_checkpoint(alloc: Global, table: &mut PidtabRecord) -> u32
     ensures done { result ≡ DONE → Cuts table.old.handle.held table.new.handle.held }
@@ -150,6 +152,28 @@ pub extern "C" fn pidtab_record_checkpoint_at(
     status
 }
 
+/// Cuts first entries away where more than so many are kept: two at most, so that no caller waits long. Behind each call
+/// it keeps the history bounded; [`crate::record_calls::pidtab_record_call_keeping`] has both in one.
+///
+/// `CLOSED` where there is no open record. It costs the calls that are cut away, once more.
+#[unsafe(no_mangle)]
+pub extern "C" fn pidtab_record_keep(alloc: Global, table: &mut PidtabRecord, keep: u64) -> u32
+    ensures done { result ≡ DONE → Has table.old.handle.held (λ c. Has table.new.handle.held (λ d.
+        (n : ℕ) × IsWithoutFirst n c d)) }
+    ensures bound { result ≡ DONE → Has table.old.handle.held (λ c. Has table.new.handle.held (λ d.
+        (length d.entries ≤ keep) ⊎ (length d.entries + 2 ≤ length c.entries))) }
+    ensures not_done { result ≢ DONE → table.new.handle.held ≡ table.old.handle.held }
+    ensures closed { (result ≡ CLOSED) ↔ (table.old.handle.held ≡ None) }
+    ensures statuses { (result ≡ DONE) ⊎ (result ≡ CLOSED) }
+{
+    let Some(mut held) = table.take(alloc) else {
+        return CLOSED;
+    };
+    held.keep_at_most(keep);
+    table.put(held);
+    DONE
+}
+
 /// Puts the list of the present state at the front of the room, each line with its newline; `size` is the list's length
 /// in bytes. Bytes of the room behind it stay as they are.
 ///
@@ -187,7 +211,8 @@ pub extern "C" fn pidtab_record_list(
 }
 
 /// Puts the list of the state that the kept history begins in at the front of the room, as [`pidtab_record_list`] does
-/// with the present state, with the same statuses. It costs a copy of that whole state, and the text.
+/// with the present state, with the same statuses. It costs a copy of that whole state, and the text. `NO_MEMORY` may come of a cut before,
+/// whose calls found none on the table of the opening: later calls make up for it.
 #[unsafe(no_mangle)]
 pub extern "C" fn pidtab_record_opening(
     alloc: Global,

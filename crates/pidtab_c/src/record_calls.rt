@@ -9,11 +9,11 @@ ghost use Rattle.kept_table.specs.Calls.{outcome};
 ghost use Rattle.kept_table.specs.Chronicle.{next_stamp};
 ghost use Rattle.foreign_calls.specs.Lines.{IsCall};
 ghost use Rattle.foreign_calls.specs.Numbers.{call_of, numbers_of};
-ghost use Rattle.foreign_calls.specs.Records.{Has, without_room, IsRecorded};
+ghost use Rattle.foreign_calls.specs.Records.{Has, without_room, IsRecorded, IsRecordedKeeping};
 
 use foreign_calls::numbers::{CallNumbers, ReplyNumbers, read_call};
 use foreign_calls::record::PidtabRecord;
-use foreign_calls::record_calls::{call_on, line_on};
+use foreign_calls::record_calls::{call_keeping_on, call_on, line_on};
 use foreign_calls::status::{
     BAD_LINE, CLOSED, DONE, EMPTY_LINE, NO_MEMORY, NO_ROOM, OUT_OF_RANGE, SPENT,
 };
@@ -29,8 +29,7 @@ use std::alloc::Global;
 /// there is none for what the call makes or for its entry. A call that the table refuses is `DONE`, and recorded: its
 /// reply says so.
 ///
-/// It costs what the call costs, and an entry of 184 bytes; where the history is empty and has no room, a copy of the
-/// whole table too, which becomes the opening.
+/// It costs what the call costs, and an entry of 184 bytes.
 #[unsafe(no_mangle)]
 pub extern "C" fn pidtab_record_call(
     alloc: Global,
@@ -64,6 +63,50 @@ pub extern "C" fn pidtab_record_call(
         return OUT_OF_RANGE;
     };
     let status = call_on(&mut held, worker, made, reply, ordinal);
+    table.put(held);
+    status
+}
+
+/// Makes the call as [`pidtab_record_call`] does, with the same statuses, and then keeps at most so many entries, the
+/// call's among them: it cuts first ones away, two at most. So a bound that was lowered is reached by the next calls.
+///
+/// It costs what the call costs, and at most that of three others: what is cut away is made once more, on the table of
+/// the opening. No call waits for a copy of the table, but where [`crate::history::pidtab_record_checkpoint`] has one.
+/// Where the table of the opening finds no memory, the call's answer is as it was, and later calls make up for it.
+#[unsafe(no_mangle)]
+pub extern "C" fn pidtab_record_call_keeping(
+    alloc: Global,
+    table: &mut PidtabRecord,
+    worker: u32,
+    call: &CallNumbers,
+    keep: u64,
+    reply: &mut ReplyNumbers,
+    ordinal: &mut u64,
+) -> u32
+    ensures done { result ≡ DONE → (made : Call) × (call_of call.now ≡ Some made)
+        × Has table.old.handle.held (λ c. (reply.new ≡ numbers_of (outcome c made).reply)
+        × Has table.new.handle.held (λ d. IsRecordedKeeping keep c worker made ordinal.new d)) }
+    ensures not_done { result ≢ DONE
+        → (without_room table.new.handle.held ≡ without_room table.old.handle.held)
+        × (reply.new ≡ reply.old) × (ordinal.new ≡ ordinal.old) }
+    ensures closed { (result ≡ CLOSED) ↔ (table.old.handle.held ≡ None) }
+    ensures out_of_range { (result ≡ OUT_OF_RANGE)
+        ↔ Has table.old.handle.held (λ c. (call_of call.now ≡ None) ⊎ (length c.cut ≤ worker)) }
+    ensures spent { (result ≡ SPENT) ↔ IsSome (call_of call.now)
+        × Has table.old.handle.held (λ c. (worker < length c.cut) × (next_stamp c ≡ u64.MAX)) }
+    ensures no_memory { result ≡ NO_MEMORY → (made : Call) × (call_of call.now ≡ Some made)
+        × Has table.old.handle.held (λ c. 0 < c.room → IsTrue (may_grow made)) }
+    ensures statuses { (result ≡ DONE) ⊎ ((result ≡ CLOSED) ⊎ ((result ≡ OUT_OF_RANGE)
+        ⊎ ((result ≡ SPENT) ⊎ (result ≡ NO_MEMORY)))) }
+{
+    let Some(mut held) = table.take(alloc) else {
+        return CLOSED;
+    };
+    let Some(made) = read_call(call) else {
+        table.put(held);
+        return OUT_OF_RANGE;
+    };
+    let status = call_keeping_on(&mut held, worker, made, keep, reply, ordinal);
     table.put(held);
     status
 }

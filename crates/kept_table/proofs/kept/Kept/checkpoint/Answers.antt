@@ -1,14 +1,11 @@
-use Rattle.std.proofs.Common.{rules, refl, ◌+◌}
-use Rattle.kept_table.proofs.Counts.{counted-cut}
+use Rattle.std.proofs.Common.{rules}
+use Rattle.kept_table.proofs.Cuts.{whole-all}
 use Rattle.kept_table.proofs.kept.Kept.checkpoint.Goals as goal
 
-pub invariant_of-self : goal.invariant_of-self
-invariant_of-self c = record {
-  counted = counted-cut c.soundness_is_kept.ensures.run c.bound_stays.ensures _ _ _ _ c.cut_away.new.history.items (c.self.inside.first_kept + c.len.result) _ c.self.invariant.counted
-      refl
-      c.in_ok-opening.ensures
-      (search rules)
-      (search rules)
-      (search rules);
-  bare = λ none. absurd (cc);
-}
+-- the present state becomes the opening
+pub invariant_of-self-2 : goal.invariant_of-self-2
+invariant_of-self-2 c =
+    whole-all c.soundness_is_kept.ensures.run c.bound_stays.ensures c.self.inside.history c.cut_all.new.self _ _ _ _ _ _ _ _ _ _ _ c.self.invariant c.in_ok-cut_all.ensures.ok
+    (search rules)
+    (search rules)
+    (search rules)

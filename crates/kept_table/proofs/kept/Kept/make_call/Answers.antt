@@ -1,9 +1,10 @@
-use Rattle.std.proofs.Common.{ℕ, rules, refl, ap, sym, subst, ◌∙◌}
+use Rattle.std.proofs.Common.{ℕ, arith, rules, refl, ap, sym, subst, ◌∙◌}
 use Rattle.pid_types.specs.declared.entry.Entry.{Entry}
 use Rattle.pid_types.specs.Sound.{IsBelow}
 use Rattle.pid_types.specs.Step.{step}
 use Rattle.kept_table.specs.Chronicle.{Chronicle, next_stamp}
-use Rattle.kept_table.proofs.Counts.{whole-push}
+use Rattle.kept_table.specs.Past.{Past}
+use Rattle.kept_table.proofs.Counts.{some_of_room, whole-push}
 use Rattle.kept_table.proofs.Totals.{last_reply_pushed}
 use Rattle.kept_table.proofs.Invariant.{outcome-of, present-sound}
 use Rattle.kept_table.proofs.kept.Kept.make_call.Goals as goal
@@ -12,26 +13,30 @@ use Rattle.kept_table.proofs.kept.Kept.make_call.Goals as goal
 pub invariant_of-self-2 : goal.invariant_of-self-2
 invariant_of-self-2 c =
     let e : Entry = record { worker = c.args.worker; call = c.args.call; reply = (step c.self.inside.table c.in-Some.stamp c.args.call).reply } in
-    whole-push c.self.inside.copy _ _ _ _ _ _ _ _ _ _ _ _ e
-    (search rules)
-    c.self.invariant
-    c.in_ok-enter_call.ensures.history
+    let some = some_of_room c.self.inside.history.opening c.self.inside.history.room (omega (arith, c.in_ok-reserve_calls.ensures.ok, ap (λ (t : Chronicle). t.room) c.self.view_is)) in
+    whole-push c.self.inside.history c.enter.new.self _ _ _ _ _ _ _ _ _ _ e some.0 c.self.invariant c.in_ok-enter.ensures.entry
     (search rules)
     (search rules)
-    (outcome-of _ _ _ c.in_ok-enter_call.ensures.state refl
+    (outcome-of _ _ _ c.in_ok-enter.ensures.state refl
     ∙ ap (λ n. step c.self.inside.table n c.args.call) (c.in-Some.ensures.some ∙ sym (ap next_stamp (c.self.view_is ∙ c.in_ok-reserve_calls.ensures.others))))
     c.count_call.ensures.each
     c.count_call.ensures.all
     c.count_call.ensures.len
 
--- the ids of the present state are below the stamp
-pub enter_call-requires-clause-below : goal.enter_call-requires-clause-below
-enter_call-requires-clause-below c =
-    subst (λ (stamp : ℕ). IsBelow stamp c.self.inside.table) (sym (c.in-Some.ensures.some ∙ sym (ap next_stamp (c.self.view_is ∙ c.in_ok-reserve_calls.ensures.others))))
-    (present-sound c.soundness_is_kept.ensures.run _ _ c.self.invariant.counted.kept).1
+-- the ids of the present state are below the stamp, and a state is held since there is room
+pub enter-requires : goal.enter-requires
+enter-requires c =
+    let some = some_of_room c.self.inside.history.opening c.self.inside.history.room (omega (arith, c.in_ok-reserve_calls.ensures.ok, ap (λ (t : Chronicle). t.room) c.self.view_is)) in
+    record {
+      below = subst (λ (stamp : ℕ). IsBelow stamp c.self.inside.table) (sym (c.in-Some.ensures.some ∙ sym (ap next_stamp (c.self.view_is ∙ c.in_ok-reserve_calls.ensures.others))))
+          (present-sound c.soundness_is_kept.ensures.run _ _ c.self.invariant.counted.kept).1;
+      room = some.1;
+      begun = some.0;
+      fits = omega (arith, c.self.invariant.at, c.self.invariant.counted.kept.counted.fits);
+    }
 
 pub returns-clause-reply : goal.returns-clause-reply
 returns-clause-reply c =
-    last_reply_pushed c.self.inside.history.items c.enter_call.new.history.items _ _ c.in_ok-enter_call.ensures.history
+    last_reply_pushed c.self.inside.history.entries c.enter.new.self.entries _ _ (ap (λ (p : Past). p.entries) c.in_ok-enter.ensures.entry)
     (ap (λ n. (step c.self.inside.table n c.args.call).reply) c.in-Some.ensures.some
     ∙ ap (λ (t : Chronicle). (step t.present (next_stamp c.args.self.now) c.args.call).reply) (c.self.view_is ∙ c.in_ok-reserve_calls.ensures.others))

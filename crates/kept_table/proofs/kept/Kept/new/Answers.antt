@@ -9,10 +9,11 @@ invariant_of-kept c = record {
       (search rules)
       (search rules)
       (search rules)
-      c.in_ok-table.ensures
+      (search rules)
       c.in_ok-table.ensures
       (search rules)
       (c.in_ok-cut.ensures.items_if_clones_equal (λ y same. same))
       (c.in_ok-calls.ensures.items_if_clones_equal (λ y same. same));
   bare = λ _. (search rules);
+  at = search rules;
 }

@@ -5,11 +5,11 @@ use Rattle.kept_table.proofs.kept.Kept.resume.Goals as goal
 -- the table's state is the opening as it is
 pub invariant_of-kept : goal.invariant_of-kept
 invariant_of-kept c =
-    whole-resumed _ _ c.args.stamp _ c.args.counts.now _ _ _ 0 c.laws.ensures c.requires.below c.requires.fits
+    whole-resumed _ _ c.args.stamp _ c.args.counts.now _ _ _ c.laws.ensures c.requires.below c.requires.fits
     (search rules)
     (search rules)
     (search rules)
     (c.added-before.ensures.exact (search rules))
     (c.in_ok-cut.ensures.items_if_clones_equal (λ x y same. same))
     (c.in_ok-calls.ensures.items_if_clones_equal (λ x y same. same))
-    c.new-2.ensures.items
+    (search rules)

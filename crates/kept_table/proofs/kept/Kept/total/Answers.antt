@@ -8,7 +8,7 @@ use Rattle.kept_table.proofs.kept.Kept.total.Goals as goal
 pub returns-clause-workers : goal.returns-clause-workers
 returns-clause-workers c =
     subst (λ (t : Chronicle). c.self.inside.first_kept + c.len.result ≡ recorded_by_all (length t.cut) t) c.self.view_is
-    (omega (arith, total_of_all _ _ c.self.invariant.counted.kept.counted, c.len.ensures, c.self.inside.history.ok.0))
+    (omega (arith, total_of_all _ _ c.self.invariant.counted.kept.counted, c.len.ensures))
 
 pub returns-clause-promise : goal.returns-clause-promise
 returns-clause-promise c =

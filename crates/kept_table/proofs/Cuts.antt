@@ -1,0 +1,235 @@
+-- Kept entries that are cut away.
+use Rattle.std.proofs.Common.{◌≡◌, ◌≢◌, ℕ, ◌+◌, ◌^◌, ◌<◌, List, [], ◌∷◌, ◌++◌, length, length-append, Option, Some, None, sum, cond, Bool, refl, sym, ap, ◌∙◌, subst, arith}
+use Rattle.std.proofs.lemmas.List.{append-nil, append_assoc}
+use Rattle.std.proofs.lemmas.List.Elements.{All-head}
+use Rattle.std.proofs.lemmas.List.Sums.{sum_by-cons}
+use Rattle.std.specs.Prelude.{All, slice_index, ◌==◌}
+use Rattle.pid_types.specs.declared.call.Call.{Call}
+use Rattle.pid_types.specs.declared.entry.Entry.{Entry}
+use Rattle.pid_types.specs.Outcome.{Outcome}
+use Rattle.pid_types.specs.Replay.{state_after, calls_of}
+use Rattle.pid_types.specs.Settings.{Settings}
+use Rattle.pid_types.specs.State.{State}
+use Rattle.pid_types.specs.Step.{step}
+use Rattle.model_laws.specs.StepLaws.{BoundStays, RunsKeepSoundness}
+use Rattle.kept_table.specs.Calls.{after_call, counted, entry_of, outcome, IsWithoutFirst}
+use Rattle.kept_table.specs.Chronicle.{Chronicle, IsKept, by_worker, first_kept_stamp, next_stamp}
+use Rattle.kept_table.specs.Past.{IsCutOnce, Past}
+use Rattle.kept_table.specs.Whole.{IsKeptCounted, IsKeptWhole, one_of, opening_of, room_of, told}
+use Rattle.kept_table.proofs.Along.{state_after-append}
+use Rattle.kept_table.proofs.Counts.{counted-cut, counted-push, recorded-cut}
+use Rattle.kept_table.proofs.Invariant.{kept-once}
+
+by_worker_first : (w : ℕ) (e : Entry) (entries : List Entry) → by_worker w (e ∷ entries) ≡ one_of e.worker w + by_worker w entries
+by_worker_first w e entries = sum_by-cons (λ (x : Entry). cond (x.worker == w) 1 0) e entries
+
+-- the first entry is counted as cut away
+counted-once : RunsKeepSoundness → BoundStays → (calls cut : List ℕ) (c : Chronicle) (e : Entry) (entries : List Entry) (room : ℕ) → IsKeptCounted calls c → c.entries ≡ e ∷ entries
+    → ((w : ℕ) → slice_index cut w ≡ slice_index c.cut w + one_of e.worker w) → sum cut ≡ sum c.cut + 1 → length cut ≡ length c.cut
+    → IsKeptCounted calls (record c { opening = (step c.opening (first_kept_stamp c) e.call).state; first_kept = c.first_kept + 1; cut = cut; entries = entries; room = room })
+counted-once law stays calls cut c e entries room k are each more len = record {
+  kept = subst (λ n. IsKept n (record c { opening = (step c.opening (first_kept_stamp c) e.call).state; first_kept = c.first_kept + 1; cut = cut; entries = entries; room = room })) (sym len)
+      (kept-once law stays (length c.cut) c e entries cut room k.kept are len more);
+  len = k.len ∙ sym len;
+  each = λ w lt. omega (arith, k.each w (omega (arith, lt, len)), each w, ap (by_worker w) are, by_worker_first w e entries);
+}
+
+-- whose entry is cut is a worker, and there is one to be counted
+pub first-known : (past next : Past) (worker : ℕ) (config : Settings) (resumed : Bool) (first : ℕ) (cut calls : List ℕ) (present : State) → IsKeptWhole past calls (told config resumed past first cut present calls) → IsCutOnce worker past next
+    → (worker < length cut) × (sum cut + 1 < 2 ^ 64) × (first + 1 < 2 ^ 64)
+first-known past next worker config resumed first cut calls present k once =
+    let kept = k.counted.kept.counted in
+    let known : once.first.worker < length cut = All-head (λ (e : Entry). e.worker < length cut) once.first next.entries (subst (λ (es : List Entry). All (λ (e : Entry). e.worker < length cut) es) once.were kept.known) in
+    (omega (arith, once.by, known), omega (arith, kept.cut, kept.fits, ap length once.were), omega (arith, kept.fits, ap length once.were))
+
+moved : (past next : Past) (worker : ℕ) (config : Settings) (resumed : Bool) (first : ℕ) (cut calls : List ℕ) (present : State) → IsKeptWhole past calls (told config resumed past first cut present calls) → (once : IsCutOnce worker past next)
+    → (step once.opening past.stamp once.first.call).state ≡ (step (opening_of past.opening present) (config.first_stamp + first) once.first.call).state
+moved past next worker config resumed first cut calls present k once =
+    ap (λ (n : ℕ). (step once.opening n once.first.call).state) k.at
+    ∙ ap (λ (s : State). (step s (config.first_stamp + first) once.first.call).state) (sym (ap (λ o. opening_of o present) once.was))
+
+-- the first kept entry is cut away
+pub whole-once : RunsKeepSoundness → BoundStays → (past next : Past) (worker : ℕ) (config : Settings) (resumed : Bool) (first : ℕ) (cut cut' calls : List ℕ) (present : State) → IsKeptWhole past calls (told config resumed past first cut present calls) → IsCutOnce worker past next
+    → ((w : ℕ) → slice_index cut' w ≡ slice_index cut w + one_of worker w) → sum cut' ≡ sum cut + 1 → length cut' ≡ length cut
+    → IsKeptWhole next calls (told config resumed next (first + 1) cut' present calls)
+whole-once law stays past next worker config resumed first cut cut' calls present k once each more len =
+    let c : Chronicle = told config resumed past first cut present calls in
+    let counts : (w : ℕ) → slice_index cut' w ≡ slice_index cut w + one_of once.first.worker w = λ w. each w ∙ ap (λ n. slice_index cut w + one_of n w) once.by in
+    subst (λ (p : Past). IsKeptWhole p calls (told config resumed p (first + 1) cut' present calls)) (sym once.left) (record {
+      counted = subst (λ (o : State). IsKeptCounted calls (record c { opening = o; first_kept = first + 1; cut = cut'; entries = next.entries; room = next.room })) (sym (moved past next worker config resumed first cut calls present k once))
+          (counted-once law stays calls cut' c once.first next.entries next.room k.counted once.were counts more len);
+      bare = λ none. absurd (cc);
+      at = omega (arith, k.at);
+    })
+
+chronicle-with : (d c : Chronicle) (o o' : State) (f f' : ℕ) → d ≡ record c { opening = o; first_kept = f; cut = d.cut; entries = d.entries; room = d.room } → o ≡ o' → f ≡ f'
+    → d ≡ record c { opening = o'; first_kept = f'; cut = d.cut; entries = d.entries; room = d.room }
+chronicle-with d c o o' f f' is a b =
+    is ∙ (ap (λ (s : State). record c { opening = s; first_kept = f; cut = d.cut; entries = d.entries; room = d.room }) a
+    ∙ ap (λ (n : ℕ). record c { opening = o'; first_kept = n; cut = d.cut; entries = d.entries; room = d.room }) b)
+
+opened-with : (past next : Past) (config : Settings) (resumed : Bool) (first : ℕ) (cut cut' calls : List ℕ) (present o : State) → next.opening ≡ Some o
+    → told config resumed next (first + 1) cut' present calls ≡ record (told config resumed past first cut present calls) { opening = o; first_kept = first + 1; cut = cut'; entries = next.entries; room = room_of next.opening next.room }
+opened-with past next config resumed first cut cut' calls present o is = ap (λ x. record (told config resumed past first cut present calls) { opening = opening_of x present; first_kept = first + 1; cut = cut'; entries = next.entries; room = room_of next.opening next.room }) is
+
+pub without-first : (past next : Past) (worker : ℕ) (config : Settings) (resumed : Bool) (first : ℕ) (cut cut' calls : List ℕ) (present : State) → IsKeptWhole past calls (told config resumed past first cut present calls) → IsCutOnce worker past next
+    → ((w : ℕ) → slice_index cut' w ≡ slice_index cut w + one_of worker w) → length cut' ≡ length cut
+    → IsWithoutFirst 1 (told config resumed past first cut present calls) (told config resumed next (first + 1) cut' present calls)
+without-first past next worker config resumed first cut cut' calls present k once each len = record {
+  gone = once.first ∷ [];
+  many = refl;
+  were = once.were;
+  left = opened-with past next config resumed first cut cut' calls present _ (ap (λ (p : Past). p.opening) once.left ∙ ap (λ (s : State). Some s) (moved past next worker config resumed first cut calls present k once));
+  workers = len;
+  counts = λ w lt. omega (arith, each w, ap (λ n. one_of n w) once.by, ap (by_worker w) once.were, by_worker_first w once.first next.entries);
+}
+
+-- where none is cut away
+pub without-none : (c : Chronicle) → IsWithoutFirst 0 c c
+without-none c = record {
+  gone = [];
+  many = refl;
+  were = refl;
+  left = chronicle-with c c c.opening c.opening c.first_kept (c.first_kept + 0) refl refl (omega arith);
+  workers = refl;
+  counts = λ w lt. refl;
+}
+
+-- some are cut away, and then others
+pub without-then : (n m : ℕ) (c d e : Chronicle) → IsWithoutFirst n c d → IsWithoutFirst m d e → IsWithoutFirst (n + m) c e
+without-then n m c d e a b =
+    let opened : state_after d.opening (first_kept_stamp d) (calls_of b.gone) ≡ state_after c.opening (first_kept_stamp c) (calls_of (a.gone ++ b.gone)) =
+    ap (λ (x : Chronicle). state_after x.opening (first_kept_stamp x) (calls_of b.gone)) a.left
+    ∙ (ap (λ (k : ℕ). state_after (state_after c.opening (first_kept_stamp c) (calls_of a.gone)) k (calls_of b.gone)) (omega (arith, a.many))
+    ∙ sym (state_after-append c.opening (first_kept_stamp c) a.gone b.gone)) in
+    record {
+      gone = a.gone ++ b.gone;
+      many = omega (arith, length-append a.gone b.gone, a.many, b.many);
+      were = a.were ∙ (ap (λ (es : List Entry). a.gone ++ es) b.were ∙ sym (append_assoc a.gone b.gone e.entries));
+      left = chronicle-with e c _ _ _ _
+          (b.left ∙ ap (λ (x : Chronicle). record x { opening = state_after d.opening (first_kept_stamp d) (calls_of b.gone); first_kept = d.first_kept + m; cut = e.cut; entries = e.entries; room = e.room }) a.left)
+          opened
+          (omega (arith, ap (λ (x : Chronicle). x.first_kept) a.left));
+      workers = b.workers ∙ a.workers;
+      counts = λ w lt. b.counts w (omega (arith, lt, a.workers)) ∙ a.counts w lt;
+    }
+
+-- the room for entries is of no account
+pub without-room : (n room : ℕ) (c d : Chronicle) → IsWithoutFirst n c d → IsWithoutFirst n (record c { room = room }) d
+without-room n room c d w = record { gone = w.gone; many = w.many; were = w.were; left = w.left; workers = w.workers; counts = w.counts }
+
+-- all are cut away: the present state is the opening
+pub whole-all : RunsKeepSoundness → BoundStays → (past next : Past) (config : Settings) (resumed : Bool) (first first' stamp lag room : ℕ) (cut cut' calls : List ℕ) (present : State) → IsKeptWhole past calls (told config resumed past first cut present calls)
+    → next ≡ record { opening = Some present; entries = []; stamp = stamp; lag = lag; room = room } → first' ≡ first + length past.entries → stamp ≡ past.stamp + length past.entries → cut' ≡ calls
+    → IsKeptWhole next calls (told config resumed next first' cut' present calls)
+whole-all law stays past next config resumed first first' stamp lag room cut cut' calls present k left firsts stamps same =
+    subst (λ (p : Past). IsKeptWhole p calls (told config resumed p first' cut' present calls)) (sym left) (record {
+      counted = counted-cut law stays calls cut' (told config resumed past first cut present calls) present [] first' room k.counted refl refl refl firsts same;
+      bare = λ none. absurd (cc);
+      at = omega (arith, stamps, k.at, firsts);
+    })
+
+-- the same where no state is held then
+pub whole-bare : RunsKeepSoundness → BoundStays → (past next : Past) (config : Settings) (resumed : Bool) (first first' stamp lag room : ℕ) (cut cut' calls : List ℕ) (present : State) → IsKeptWhole past calls (told config resumed past first cut present calls)
+    → next ≡ record { opening = None; entries = []; stamp = stamp; lag = lag; room = room } → first' ≡ first + length past.entries → stamp ≡ config.first_stamp + first' → cut' ≡ calls
+    → IsKeptWhole next calls (told config resumed next first' cut' present calls)
+whole-bare law stays past next config resumed first first' stamp lag room cut cut' calls present k left firsts stamps same =
+    subst (λ (p : Past). IsKeptWhole p calls (told config resumed p first' cut' present calls)) (sym left) (record {
+      counted = counted-cut law stays calls cut' (told config resumed past first cut present calls) present [] first' 0 k.counted refl refl refl firsts same;
+      bare = λ _. refl;
+      at = stamps;
+    })
+
+-- the room for entries is of no account
+counted-room : (calls : List ℕ) (c : Chronicle) (room : ℕ) → IsKeptCounted calls c → IsKeptCounted calls (record c { room = room })
+counted-room calls c room k = record {
+  kept = record {
+    replayed = record { run = k.kept.replayed.run; starts = k.kept.replayed.starts };
+    counted = record { booked = k.kept.counted.booked; places = k.kept.counted.places; cut = k.kept.counted.cut; known = k.kept.counted.known; fits = k.kept.counted.fits };
+    opened = record { sound = k.kept.opened.sound; below = k.kept.opened.below; bound = k.kept.opened.bound };
+  };
+  len = k.len;
+  each = k.each;
+}
+
+-- one recorded call more, which is cut away at once with all that was kept
+pub whole-cut : RunsKeepSoundness → BoundStays → (past next : Past) (config : Settings) (resumed : Bool) (first first' stamp lag room : ℕ) (cut cut' calls calls' : List ℕ) (old present : State) (e : Entry) → IsKeptWhole past calls (told config resumed past first cut old calls)
+    → next ≡ record { opening = None; entries = []; stamp = stamp; lag = lag; room = room } → e.worker < length cut → (next_stamp (told config resumed past first cut old calls) + 1) < 2 ^ 64
+    → (let o : Outcome = record { state = present; reply = e.reply } in o) ≡ step old (next_stamp (told config resumed past first cut old calls)) e.call
+    → ((w : ℕ) → slice_index calls' w ≡ slice_index calls w + one_of e.worker w) → sum calls' ≡ sum calls + 1 → length calls' ≡ length calls
+    → first' ≡ first + length past.entries + 1 → stamp ≡ config.first_stamp + first' → cut' ≡ calls'
+    → IsKeptWhole next calls' (told config resumed next first' cut' present calls')
+whole-cut law stays past next config resumed first first' stamp lag room cut cut' calls calls' old present e k left known fits is each all len firsts stamps same =
+    let c : Chronicle = told config resumed past first cut old calls in
+    let more : length (c.entries ++ e ∷ []) ≡ length c.entries + 1 = length-append c.entries (e ∷ []) in
+    let pushed : IsKeptCounted calls' (record c { entries = c.entries ++ e ∷ []; present = present; booked = sum calls' }) = counted-push calls calls' c e (c.entries ++ e ∷ []) present c.room k.counted refl refl known fits is each all len in
+    subst (λ (p : Past). IsKeptWhole p calls' (told config resumed p first' cut' present calls')) (sym left) (record {
+      counted = counted-cut law stays calls' cut' (record c { entries = c.entries ++ e ∷ []; present = present; booked = sum calls' }) present [] first' 0 pushed refl refl refl (omega (arith, firsts, more)) same;
+      bare = λ _. refl;
+      at = stamps;
+    })
+
+-- and so all kept entries are gone
+pub without-all : (past next : Past) (config : Settings) (resumed : Bool) (first first' : ℕ) (cut cut' calls : List ℕ) (present : State) → IsKeptWhole past calls (told config resumed past first cut present calls)
+    → next.opening ≡ None → next.entries ≡ [] → first' ≡ first + length past.entries → cut' ≡ calls
+    → IsWithoutFirst (length past.entries) (told config resumed past first cut present calls) (told config resumed next first' cut' present calls)
+without-all past next config resumed first first' cut cut' calls present k bare none firsts same =
+    let c : Chronicle = told config resumed past first cut present calls in
+    record {
+      gone = past.entries;
+      many = refl;
+      were = sym (append-nil past.entries) ∙ ap (λ (es : List Entry). past.entries ++ es) (sym none);
+      left = chronicle-with (told config resumed next first' cut' present calls) c _ _ _ _
+          refl
+          (ap (λ o. opening_of o present) bare ∙ k.counted.kept.replayed.run.ends)
+          firsts;
+      workers = ap length same ∙ k.counted.len;
+      counts = λ w lt. ap (λ (es : List Entry). slice_index cut' w + by_worker w es) none ∙ recorded-cut calls cut' c present first' 0 k.counted same w lt;
+    }
+
+-- a run ends in the present state
+pub ends-of : (past : Past) (config : Settings) (resumed : Bool) (first : ℕ) (cut calls : List ℕ) (present : State) → IsKeptWhole past calls (told config resumed past first cut present calls)
+    → (opening : State) → past.opening ≡ Some opening → present ≡ state_after opening past.stamp (calls_of past.entries)
+ends-of past config resumed first cut calls present k opening is =
+    k.counted.kept.replayed.run.ends
+    ∙ (ap (λ o. state_after (opening_of o present) (config.first_stamp + first) (calls_of past.entries)) is
+    ∙ ap (λ n. state_after opening n (calls_of past.entries)) (sym k.at))
+
+-- some are cut away behind a call
+pub without-after : (n : ℕ) (old made d : Chronicle) (worker : ℕ) (call : Call) → made ≡ counted old made.entries made.present made.room → made.entries ≡ old.entries ++ entry_of old worker call ∷ [] → made.present ≡ (outcome old call).state
+    → IsWithoutFirst n made d → IsWithoutFirst n (after_call old worker call) d
+without-after n old made d worker call is entries present w =
+    let same : record made { room = 0 } ≡ after_call old worker call =
+    ap (λ (c : Chronicle). record c { room = 0 }) is
+    ∙ (ap (λ (es : List Entry). counted old es made.present 0) entries
+    ∙ ap (λ (s : State). counted old (old.entries ++ entry_of old worker call ∷ []) s 0) present) in
+    subst (λ (c : Chronicle). IsWithoutFirst n c d) same (without-room n 0 made d w)
+
+given : (past next : Past) (config : Settings) (resumed : Bool) (first : ℕ) (cut calls : List ℕ) (present table : State) → IsKeptWhole past calls (told config resumed past first cut present calls) → (held : Option State) → past.opening ≡ held
+    → table ≡ opening_of held present → (past.opening ≢ None → next ≡ past) → (past.opening ≡ None → next ≡ record past { opening = Some table })
+    → IsKeptWhole next calls (told config resumed next first cut present calls)
+    × (told config resumed next first cut present calls ≡ record (told config resumed past first cut present calls) { room = room_of next.opening next.room })
+given past next config resumed first cut calls present table k (Some state) is same some none =
+    let left : next ≡ past = some (λ e. absurd (cc)) in (
+      subst (λ (p : Past). IsKeptWhole p calls (told config resumed p first cut present calls)) (sym left) k,
+      ap (λ (p : Past). record (told config resumed p first cut present calls) { room = room_of next.opening next.room }) left,
+    )
+given past next config resumed first cut calls present table k None is same some none =
+    let left : next ≡ record past { opening = Some table } = none is in
+    let stays : table ≡ opening_of past.opening present = same ∙ sym (ap (λ o. opening_of o present) is) in
+    let opened : (room : ℕ) → record (told config resumed past first cut present calls) { opening = table; room = room } ≡ record (told config resumed past first cut present calls) { room = room } =
+    λ room. ap (λ (s : State). record (told config resumed past first cut present calls) { opening = s; room = room }) stays in (
+      subst (λ (p : Past). IsKeptWhole p calls (told config resumed p first cut present calls)) (sym left) (record {
+        counted = subst (λ (c : Chronicle). IsKeptCounted calls c) (sym (opened past.room)) (counted-room calls (told config resumed past first cut present calls) past.room k.counted);
+        bare = λ e. absurd (cc);
+        at = k.at;
+      }),
+      ap (λ (p : Past). record (told config resumed p first cut present calls) { room = room_of next.opening next.room }) left ∙ opened (room_of next.opening next.room),
+    )
+
+-- a table of the opening is held where none was
+pub whole-given : (past next : Past) (config : Settings) (resumed : Bool) (first : ℕ) (cut calls : List ℕ) (present table : State) → IsKeptWhole past calls (told config resumed past first cut present calls)
+    → table ≡ opening_of past.opening present → (past.opening ≢ None → next ≡ past) → (past.opening ≡ None → next ≡ record past { opening = Some table })
+    → IsKeptWhole next calls (told config resumed next first cut present calls)
+    × (told config resumed next first cut present calls ≡ record (told config resumed past first cut present calls) { room = room_of next.opening next.room })
+whole-given past next config resumed first cut calls present table k same some none = given past next config resumed first cut calls present table k past.opening refl same some none
