@@ -76,6 +76,8 @@ def compare(given: argparse.Namespace) -> int:
         print(found)
         return STATUS_FAULT
     print(f"{tally.cases} cases, {tally.calls} calls: no difference")
+    if tally.not_compared:
+        print(f"not compared: {', '.join(tally.not_compared)}")
     for name, times in sorted(tally.declared.items()):
         print(f"declared {name}: {times} times")
     return STATUS_DONE
