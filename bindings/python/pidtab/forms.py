@@ -33,6 +33,11 @@ class Method(NamedTuple):
         """What the method of the table tells."""
         return getattr(table, self.name)(*self.positional, **self.named)
 
+    def shown(self) -> str:
+        """The call as Python has it."""
+        words = [*map(repr, self.positional), *(f"{name}={value!r}" for name, value in self.named.items())]
+        return f"{self.name}({', '.join(words)})"
+
     def fits(self, table: object) -> bool:
         """Whether the table has such a method, which takes such arguments."""
         method = getattr(table, self.name, None)

@@ -5,13 +5,14 @@ import os
 import select
 import subprocess
 import tempfile
-from collections.abc import Sequence
+from collections.abc import Iterable, Sequence
 from typing import Protocol
 
 from pidtab.answers import Forked, Reaped
 from pidtab.faults import WORDS, ProgramMissing, shorten
 from pidtab.forms import ALL_FORMS, TELLS_NOTHING, Form, Method, method_of, say_answer
 from pidtab.listing import Listing, write_list
+from pidtab.methods import check_names, forms_of
 
 # How long a command may take to answer a line, and to end once its input has.
 PATIENCE = 10.0
@@ -41,8 +42,8 @@ class Peer(Protocol):
     def list_text(self) -> str | None:
         """Its list, where it has one."""
 
-    def forms(self) -> list[Form]:
-        """The forms that it can be asked."""
+    def forms(self, left_out: Iterable[Form] = ()) -> list[Form]:
+        """The forms that it can be asked. `Misnamed` where one that was not left out would be missed by a slip."""
 
     def close(self) -> None:
         """Ends it."""
@@ -109,9 +110,11 @@ class ObjectPeer:
         told = self.table.list() if callable(getattr(self.table, "list", None)) else None  # type: ignore[attr-defined]
         return write_list(told) if isinstance(told, Listing) else None
 
-    def forms(self) -> list[Form]:
+    def forms(self, left_out: Iterable[Form] = ()) -> list[Form]:
         """Those whose method it has, with such arguments."""
-        return [form for form in ALL_FORMS.values() if method_of(form.line([0] * len(form.kinds))).fits(self.table)]
+        found = forms_of(self.table)
+        check_names(self.table, found, left_out)
+        return found
 
     def close(self) -> None:
         """Closes it, where it can be closed."""
@@ -132,7 +135,7 @@ class LinePeer(ObjectPeer):
         except Exception as fault:
             return self._broken(fault)
 
-    def forms(self) -> list[Form]:
+    def forms(self, left_out: Iterable[Form] = ()) -> list[Form]:
         """All: what it does not know, it refuses."""
         return list(ALL_FORMS.values())
 
@@ -211,7 +214,7 @@ class CommandPeer:
             return f"no list in {PATIENCE:g} s\n"
         return done.stdout.decode("latin-1") if done.returncode == 0 else f"the list ended with status {done.returncode}\n"
 
-    def forms(self) -> list[Form]:
+    def forms(self, left_out: Iterable[Form] = ()) -> list[Form]:
         """All: what it does not know, it refuses."""
         return list(ALL_FORMS.values())
 

@@ -6,6 +6,7 @@ import io
 from collections import Counter
 from collections.abc import Callable, Iterable
 from dataclasses import dataclass, field
+from difflib import get_close_matches
 from typing import Any, NamedTuple
 
 from pidtab.calls import Calls
@@ -13,7 +14,9 @@ from pidtab.faults import Refusal
 from pidtab.listing import Listing
 from pidtab.oci import BadConfig, Description, read_config
 
-__all__ = ["DOCKER", "KUBERNETES", "BadConfig", "Container", "Description", "Moment", "Restart", "Sample", "Simulation", "World", "read_config"]
+__all__ = [
+    "DOCKER", "KUBERNETES", "BadConfig", "Container", "Description", "Moment", "NoContainer", "Restart", "Sample", "Simulation", "World", "read_config",
+]  # fmt: skip
 
 # The runtime is the init of the root namespace, which starts all containers and waits for them.
 RUNTIME = 1
@@ -64,6 +67,26 @@ class Container:
         return self.init in self.tasks
 
 
+class NoContainer(KeyError):
+    """No container has the name: it was never started."""
+
+    def __init__(self, name: str, names: Iterable[str]) -> None:
+        super().__init__(name)
+        self.name = name
+        self.like = get_close_matches(str(name), names, 1)
+
+    def __str__(self) -> str:
+        meant = f": is {self.like[0]!r} meant?" if self.like else ": it was never started"
+        return f"no container {self.name!r}{meant}"
+
+
+class Containers(dict[str, Container]):
+    """Containers by their names."""
+
+    def __missing__(self, name: str) -> Container:
+        raise NoContainer(name, map(str, self))
+
+
 class World:
     """Containers on a table, by name. It has no time: another engine of events may drive it as well as a `Simulation`.
 
@@ -72,7 +95,7 @@ class World:
 
     def __init__(self, table: Calls) -> None:
         self.table = table
-        self.containers: dict[str, Container] = {}
+        self.containers = Containers()
         self.refused: Counter[str] = Counter()
         self.forks = 0
 

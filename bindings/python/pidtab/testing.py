@@ -2,6 +2,8 @@
 
 import os
 import shlex
+import sys
+import warnings
 from collections import Counter
 from collections.abc import Callable, Iterable, Mapping, Sequence
 from dataclasses import dataclass, field
@@ -10,6 +12,7 @@ from typing import Any, NamedTuple
 
 try:
     from hypothesis import Verbosity, seed, settings, strategies
+    from hypothesis.errors import Flaky, StopTest
     from hypothesis.stateful import RuleBasedStateMachine, rule, run_state_machine_as_test
 except ImportError as missing:
     raise ImportError("pidtab.testing needs Hypothesis: `pip install pidtab[testing]`, or python3-hypothesis of Debian") from missing
@@ -18,6 +21,7 @@ from pidtab.aim import GREATEST_PICK, Aim
 from pidtab.calls import Calls
 from pidtab.faults import LibraryFault
 from pidtab.forms import ALL_FORMS, QUERIES, Form, select_forms
+from pidtab.methods import Misnamed, name_missing
 from pidtab.peer import CommandPeer, LeftOut, LinePeer, ObjectPeer, Peer
 from pidtab.process import Process
 from pidtab.sight import Sight
@@ -25,6 +29,11 @@ from pidtab.table import Table
 
 DEFAULT_CASES = 300
 DEFAULT_STEPS = 40
+
+__all__ = [
+    "Aimed", "Case", "Comparison", "Different", "Met", "Misnamed", "NotCompared", "Rig", "Tally", "Unsteady", "agree", "aimed", "calls", "compare", "machine",
+    "open_default", "read_declared",
+]  # fmt: skip
 
 # How often a form is drawn, for one of the others.
 OFTEN = {"fork": 4, "exit": 3}
@@ -62,6 +71,10 @@ class Different(AssertionError):
         return "".join(f"{line}\n" for line in self.lines)
 
 
+class Unsteady(AssertionError):
+    """A table that does not answer the same calls the same each time, so that no difference can be shrunk."""
+
+
 def agree(yours: str, pidtab: str) -> bool:
     """Whether two answers are the same, where yours may leave out the end of a refusal, and the root number of a child."""
     is_part = pidtab.startswith("E") or pidtab.startswith("child ")
@@ -78,13 +91,21 @@ def read_declared(text: str) -> Declared:
     return lambda met: all(fnmatchcase(part, pattern) for part, pattern in zip(met, patterns))
 
 
+class NotCompared(UserWarning):
+    """Calls of pidtab that a comparison does not make, as yours has none of them."""
+
+
 @dataclass
 class Tally:
-    """What a comparison has seen: the cases and the calls, also those that led to a smaller case, and how often each declared difference came."""
+    """What a comparison has seen: the whole cases, the calls in them, how often each declared difference came, and the calls that were never compared.
+
+    A difference takes more cases than were asked for: those that led to a smaller one.
+    """
 
     cases: int = 0
     calls: int = 0
     declared: Counter[str] = field(default_factory=Counter)
+    not_compared: tuple[str, ...] = ()
 
 
 @dataclass(frozen=True)
@@ -94,7 +115,18 @@ class Rig:
     open_yours: Callable[[], Peer]
     open_table: Callable[[], Calls]
     declared: Mapping[str, Declared]
-    tally: Tally
+    # What was asked for, by its names or as all that there is.
+    wanted: Sequence[Form]
+    tally: Tally = field(default_factory=Tally)
+    # The names of the forms that both have answered.
+    answered: set[str] = field(default_factory=set)
+
+    def finish(self) -> Tally:
+        """The tally, with what was asked for and never compared."""
+        if not self.tally.calls:
+            raise ValueError("nothing was compared: yours has left each call out")
+        self.tally.not_compared = tuple(name_missing([it for it in self.wanted if it.name in self.answered], self.wanted))
+        return self.tally
 
 
 class Aimed(NamedTuple):
@@ -123,7 +155,6 @@ class Case:
             self.table.close()
             raise
         self.sight = Sight(self.table.list())
-        rig.tally.cases += 1
 
     def step(self, call: Aimed) -> None:
         """Asks both a call."""
@@ -136,7 +167,7 @@ class Case:
             return
         (pidtab,) = self.table.answers([line])
         self.lines.append(line)
-        self.rig.tally.calls += 1
+        self.rig.answered.add(form.name)
         self._judge(Met(line, yours, pidtab), form)
         if form.command not in QUERIES and not pidtab.startswith("E"):
             self.sight = Sight(self.table.list())
@@ -152,8 +183,11 @@ class Case:
         self.rig.tally.declared[name] += 1
         self.parted = not (form.command in QUERIES or (met.yours.startswith("E") and met.pidtab.startswith("E")))
 
-    def end(self) -> None:
-        """Compares the lists, where yours has one, and closes both."""
+    def end(self, is_whole: bool) -> None:
+        """Compares the lists, where yours has one, and closes both. A case that is not whole is one that Hypothesis gave up, and is not counted."""
+        if is_whole:
+            self.rig.tally.cases += 1
+            self.rig.tally.calls += len(self.lines)
         try:
             yours = None if self.parted else self.yours.list_text()
             if yours is not None and yours != self.table.list_text():
@@ -193,7 +227,7 @@ class Comparison(RuleBasedStateMachine):
 
     def teardown(self) -> None:
         """Closes both tables."""
-        self.case.end()
+        self.case.end(not isinstance(sys.exc_info()[1], StopTest))
 
 
 def open_default() -> Calls:
@@ -228,18 +262,25 @@ def words_of(command: str | Sequence[str]) -> list[str]:
     return shlex.split(command) if isinstance(command, str) else [os.fspath(word) for word in command]
 
 
-def forms_for(open_yours: Callable[[], Peer], names: Iterable[str], without: Iterable[str]) -> list[Form]:
-    """The forms that are compared: those that are named, or else all that yours has, but for some."""
-    left_out = {form.name for form in select_forms(without)}
-    wanted = select_forms(names)
-    if not wanted:
-        peer = open_yours()
-        wanted = peer.forms()
+def forms_of_yours(open_yours: Callable[[], Peer], wanted: Sequence[Form], left_out: Sequence[Form]) -> list[Form]:
+    """The forms that a table of yours has of those that are wanted. What it lacks is a warning."""
+    peer = open_yours()
+    try:
+        found = [form for form in peer.forms(left_out) if form in wanted]
+    finally:
         peer.close()
-    found = [form for form in wanted if form.name not in left_out]
-    if not found:
-        raise ValueError("nothing to compare: your table has no method of pidtab.Calls, or all were left out")
+    missing = name_missing(found, wanted)
+    if found and missing:
+        warnings.warn(f"not compared, as yours has no such method: {', '.join(missing)}", NotCompared, stacklevel=level_of_user())
     return found
+
+
+def level_of_user() -> int:
+    """How many calls above the caller of this the first is that is not of this module."""
+    frame, level = sys._getframe(1), 1
+    while frame.f_back and frame.f_globals["__name__"] == __name__:
+        frame, level = frame.f_back, level + 1
+    return level
 
 
 def machine(
@@ -254,17 +295,23 @@ def machine(
     """A state machine for Hypothesis that compares your table with one of pidtab, call by call. Its `TestCase` is one for unittest and pytest.
 
     `yours` makes an object with some of the methods of `pidtab.Calls`, or is a command that speaks the script language. `list_command` is one that
-    reads a script and writes the list. Only `calls` are made, or else all that the object has, but those of `without`. A difference that is `declared`
-    by its name, as `LINE => YOURS | PIDTAB` or as a function of a `Met`, is counted, and ends its case if the two states part by it.
+    reads a script and writes the list. Only `calls` are made, or else all that the object has, but those of `without`. What it lacks is a warning, and a
+    method that seems to be one of them by another name is a `Misnamed`. A difference that is `declared` by its name, as `LINE => YOURS | PIDTAB` or as a
+    function of a `Met`, is counted, and ends its case if the two states part by it.
     """
     open_yours = opener_of(yours, list_command)
     known = {name: read_declared(it) if isinstance(it, str) else it for name, it in (declared or {}).items()}
-    strategy = aimed(forms_for(open_yours, calls, without))
+    named, left_out = select_forms(calls), select_forms(without)
+    wanted = [form for form in named or ALL_FORMS.values() if form not in left_out]
+    forms = wanted if named else forms_of_yours(open_yours, wanted, left_out)
+    if not forms:
+        raise ValueError("nothing to compare: your table has no method of pidtab.Calls, or all were left out")
+    strategy = aimed(forms)
 
     class Compared(Comparison):
         """Asks both one call after the other."""
 
-        rig = Rig(open_yours, open_table, known, Tally())
+        rig = Rig(open_yours, open_table, known, wanted)
 
         @rule(call=strategy)
         def ask(self, call: Aimed) -> None:
@@ -301,4 +348,6 @@ def compare(
             with open(save, "w", encoding="ascii") as file:
                 file.write(found.script)
         raise
-    return compared.rig.tally
+    except Flaky:
+        raise Unsteady("yours differed once, and not when it was asked the same calls again: make it steady, or declare by what it differs") from None
+    return compared.rig.finish()

@@ -7,7 +7,7 @@ from pathlib import Path
 
 from pidtab import Table
 from pidtab.oci import BadConfig, Description, read_config
-from pidtab.sim import DOCKER, KUBERNETES, Restart, Simulation, World
+from pidtab.sim import DOCKER, KUBERNETES, NoContainer, Restart, Simulation, World
 from tests.ways import need_library
 
 # As `runc spec` writes it, with fewer of its lists' items.
@@ -160,8 +160,19 @@ class Worlds(Tables):
         world.start("web", Description())
         with self.assertRaisesRegex(ValueError, "^the container web is up$"):
             world.start("web")
-        with self.assertRaises(KeyError):
-            world.fork("db")
+
+    def test_a_name_that_no_container_has(self) -> None:
+        world = World(self.table)
+        with self.assertRaises(NoContainer) as fault:
+            world.fork("web")
+        self.assertEqual(str(fault.exception), "no container 'web': it was never started")
+        self.assertIsInstance(fault.exception, KeyError)
+        world.start("web-1", Description())
+        for action in (world.fork, world.bomb, world.end, world.stop):
+            with self.subTest(action.__name__), self.assertRaises(NoContainer) as fault:
+                action("web1")
+            self.assertEqual(str(fault.exception), "no container 'web1': is 'web-1' meant?")
+        self.assertEqual(self.tasks(), [(1,), (2, 1)])
 
 
 class Timelines(Tables):

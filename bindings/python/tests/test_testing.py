@@ -7,6 +7,7 @@ import sys
 import tempfile
 import time
 import unittest
+import warnings
 from contextlib import suppress
 from pathlib import Path
 from unittest import mock
@@ -60,8 +61,9 @@ MOST_CALLS = 5
 
 
 def setUpModule() -> None:
-    """Without Hypothesis there is nothing to test here."""
+    """Without Hypothesis there is nothing to test here. What the toy lacks is the same for all tests but those of the warning."""
     need_hypothesis()
+    warnings.simplefilter("ignore", testing.NotCompared)
 
 
 def toy_command(*words: str) -> list[str]:
@@ -132,6 +134,20 @@ class Found(unittest.TestCase):
             compare(Forgetful, calls=["fork"], begin_at=1)
         self.assertEqual((found.exception.lines, found.exception.met.line), (("fork 1",), "(the list)"))
 
+    def test_one_that_is_not_steady(self) -> None:
+        class Moody(Toy):
+            """Forgets its group in the first of all cases that ask for it."""
+
+            is_moody = True
+
+            def getpgid(self, caller: int, pid: int = 0) -> int:
+                found = super().getpgid(caller, pid)
+                moody, Moody.is_moody = Moody.is_moody, False
+                return 99 if moody else found
+
+        with self.assertRaisesRegex(testing.Unsteady, "^yours differed once, and not when it was asked the same calls again: "):
+            compare(Moody, begin_at=1, cases=50)
+
     def test_an_object_that_answers_lines(self) -> None:
         class Lines:
             """The toy, asked by lines."""
@@ -170,6 +186,92 @@ class Found(unittest.TestCase):
         case("runTest").run(result)
         ((_, said),) = [*result.failures, *result.errors]
         self.assertIn("pidtab EACCES executed", said)
+
+
+class Forker:
+    """What all tables of these tests have."""
+
+    def fork(self, caller: int, new: bool = False) -> int:
+        return 2
+
+
+class Names(unittest.TestCase):
+    """What a table lacks, and what it has by another name."""
+
+    def misnamed(self, **methods: object) -> str:
+        """What is said of a table with these methods."""
+        with self.assertRaises(testing.Misnamed) as fault:
+            testing.machine(type("Mine", (), methods))
+        return str(fault.exception)
+
+    def test_a_call_by_another_name(self) -> None:
+        for name, meant in [
+            ("waitpid", "wait"), ("wait4", "wait"), ("execve", "exec"), ("get_ppid", "getppid"), ("getPid", "getpid"), ("setpgrp", "setpgid"),
+            ("set_subreaper", "subreaper"), ("rmdir", "rm"), ("frok", "fork"),
+        ]:  # fmt: skip
+            with self.subTest(name):
+                said = self.misnamed(**{name: lambda table, caller: 0, "getsid": lambda table, caller, pid: 0})
+                self.assertIn(f"`{name}` would not be compared: the method for it is named `{meant}`", said)
+
+    def test_a_call_with_other_arguments(self) -> None:
+        said = self.misnamed(fork=Forker.fork, exit=lambda table, caller: None, getpgid=lambda table: 0)
+        self.assertIn("`exit` does not take the arguments of pidtab.Calls: it is called as exit(1, 1)", said)
+        self.assertIn("`getpgid` does not take the arguments of pidtab.Calls: it is called as getpgid(1, 1)", said)
+
+    def test_what_was_left_out_on_purpose(self) -> None:
+        table = type("Mine", (Forker,), {"waitpid": lambda table, caller: 0, "exit": lambda table: None})
+        testing.machine(table, without=["wait", "exit"])
+        testing.machine(table, calls=["fork"])
+
+    def test_a_helper_is_no_call(self) -> None:
+        for name in ("reap", "parent_of", "next_number", "processes", "tick", "_wait4", "is_live", "groups", "forks_so_far"):
+            with self.subTest(name):
+                testing.machine(type("Mine", (Forker,), {name: lambda table, caller: 0}))
+        # One that has the call itself may have another like it.
+        testing.machine(type("Mine", (Forker,), {"vfork": Forker.fork, "clone": Forker.fork}))
+
+    def test_what_it_lacks_is_a_warning(self) -> None:
+        class Mine(Forker):
+            def wait(self, caller: int) -> None:
+                pass
+
+        lacks = "exec, exit, wait pid, wait own, wait group, setpgid, setsid, getpid, getppid, getpgid, getsid, nspid, next, "
+        with self.assertWarnsRegex(testing.NotCompared, f"^not compared, as yours has no such method: {lacks}") as warned:
+            testing.machine(Mine)
+        self.assertEqual(warned.filename, __file__)
+        with self.assertWarnsRegex(testing.NotCompared, "method: exec, exit, setpgid, ") as warned:
+            testing.machine(Mine, without=["wait"])
+        with warnings.catch_warnings():
+            warnings.simplefilter("error", testing.NotCompared)
+            testing.machine(Mine, calls=["fork"])
+            testing.machine(Mine, without=[name for name in ALL_FORMS if name not in ("fork", "wait any")])
+
+
+class Counts(unittest.TestCase):
+    """The tally of a comparison."""
+
+    def setUp(self) -> None:
+        need_library()
+
+    def test_cases_are_those_that_were_asked_for(self) -> None:
+        for cases in (1, 20, 100):
+            with self.subTest(cases):
+                self.assertEqual(compare(Toy, cases=cases, steps=10, **ONE_NAMESPACE).cases, cases)
+
+    def test_what_was_never_compared(self) -> None:
+        class Shy(Toy):
+            def exec(self, caller: int) -> None:
+                raise NotImplementedError
+
+        self.assertEqual(compare(Shy, calls=["fork", "exec", "wait any"], without=["fork new"], cases=20).not_compared, ("exec",))
+
+    def test_a_table_that_leaves_all_out(self) -> None:
+        class Silent:
+            def answer(self, line: str) -> str:
+                raise NotImplementedError
+
+        with self.assertRaisesRegex(ValueError, "^nothing was compared: yours has left each call out$"):
+            compare(Silent, cases=5)
 
 
 class Declared(unittest.TestCase):
@@ -261,7 +363,7 @@ class Program(unittest.TestCase):
             Path(folder, "known").write_text("# mine\n\nexecuted: setpgid * => * | EACCES executed\n")
             done = launch(*WORDS, "--declared", f"{folder}/known", *toy_command("executed"))
         self.assertEqual((done.returncode, done.stderr), (0, ""))
-        self.assertRegex(done.stdout, r"\A\d+ cases, \d+ calls: no difference\ndeclared executed: \d+ times\n\Z")
+        self.assertRegex(done.stdout, r"\A40 cases, \d+ calls: no difference\ndeclared executed: \d+ times\n\Z")
 
     def test_misuse(self) -> None:
         with tempfile.NamedTemporaryFile("w") as file:

@@ -1,9 +1,10 @@
 """The numbers of docs/STABLE.md: the version of a release, and that of the interface, wherever they are written."""
 
+import ast
 import re
 import unittest
 
-from tests.pages import read_page, section
+from tests.pages import REPOSITORY, read_page, section
 
 VERSION = r"(\d+\.\d+\.\d+(?:-dev)?)"
 
@@ -45,6 +46,25 @@ FORMS = {
     "bindings/python/pidtab/replay.py": r'^FORM, MODEL = "(\d+)", "\d+"$',
 }
 
+# Where the least Python of the package is written, and where that of the gate.
+PYTHONS = {
+    "bindings/python/pyproject.toml": r'^requires-python = ">=(\d+\.\d+)"$',
+    "bindings/python/README.md": r"of Python (\d+\.\d+) or later",
+    "README.md": r"\bPython (\d+\.\d+)\b",
+    "CONTRIBUTING.md": r"\bPython (\d+\.\d+) or later",
+    "docs/LIBRARY.md": r"\bPython (\d+\.\d+) or later",
+    "docs/TESTED.md": r"`make linux` needs Python (\d+\.\d+)",
+    "linux/README.md": r"\bPython (\d+\.\d+) or later",
+}
+PYTHONS_OF_THE_GATE = {
+    "CONTRIBUTING.md": r"\bPython (\d+\.\d+) is enough for the gate",
+    "docs/GATE.md": r"\bPython (\d+\.\d+) or later",
+    "docs/TESTED.md": r"`make test` and `make hostile` need a C compiler and Python (\d+\.\d+) or later",
+}
+
+# The folders of what the gate runs by Python.
+OF_THE_GATE = "tools", "hostile"
+
 # What the first library of interface 1 exported, and so each later one.
 RELEASED = {"pidtab_version", "pidtab_open", "pidtab_close", "pidtab_line", "pidtab_list", "pidtab_call"}
 
@@ -83,6 +103,21 @@ class Versions(unittest.TestCase):
     def test_the_log(self) -> None:
         for places in (MODELS, FORMS):
             self.assertEqual({tuple(found(page, pattern)) for page, pattern in places.items()}, {("1",)})
+
+    def test_python(self) -> None:
+        for places, least in ((PYTHONS, "3.10"), (PYTHONS_OF_THE_GATE, "3.8")):
+            self.assertEqual({page: set(found(page, pattern)) for page, pattern in places.items()}, {page: {least} for page in places})
+
+    def test_the_gate_is_for_an_old_python(self) -> None:
+        files = [REPOSITORY / "bindings/c/test_guard", *(it for folder in OF_THE_GATE for it in (REPOSITORY / folder).iterdir() if it.is_file())]
+        texts = {file: file.read_text(encoding="utf-8") for file in files}
+        scripts = {file: text for file, text in texts.items() if file.suffix == ".py" or text.startswith("#!/usr/bin/env python3")}
+        self.assertGreater(len(scripts), 10)
+        for file, text in scripts.items():
+            with self.subTest(file.name):
+                ast.parse(text, feature_version=(3, 8))
+                # Methods of str that came later.
+                self.assertNotRegex(text, r"\.remove(?:prefix|suffix)\(")
 
     def test_the_functions_that_stay(self) -> None:
         # Those that the header declares and does not define are exported.
