@@ -64,8 +64,8 @@ fn boxed_resume(
 impl PidtabRecord {
     /// Opens a record that goes on as the text says, behind so many recorded calls of each worker. The result is the
     /// status: `BUSY`; `OUT_OF_RANGE` for the number of workers; `BAD_TEXT` for the form, and `fault` says why;
-    /// `OUT_OF_RANGE` for the sum of the counts; `BAD_TEXT` for the table; `NO_MEMORY`. It costs two tables: the present
-    /// one, and that of the opening.
+    /// `OUT_OF_RANGE` for the sum of the counts; `BAD_TEXT` for the table; `NO_MEMORY`. It costs two tables: the
+    /// present one, and that of the opening.
     pub fn load(
         &mut self,
         alloc: Global,

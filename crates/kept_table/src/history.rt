@@ -4,7 +4,8 @@
 //! in two steps. From the first on it is no longer kept, and it waits at the front of the ring. In the second its call
 //! is made on what is held, and it is dropped. Contracts see the state that the calls which wait will lead to. So
 //! nothing is seen of the second step, which may find no memory.
-ghost use Rattle.std.specs.Prelude.{◌≡◌, ◌≢◌, ◌+◌, ◌-◌, ◌<◌, ◌≤◌, ◌^◌, ◌↔◌, ℕ, IsTrue, IsSome, IfOk, IfSome, OnOk, OnErr};
+ghost use Rattle.std.specs.Prelude.{◌≡◌, ◌≢◌, ◌+◌, ◌-◌, ◌<◌, ◌≤◌, ◌^◌};
+ghost use Rattle.std.specs.Prelude.{◌↔◌, ℕ, IsTrue, IsSome, IfOk, IfSome, OnOk, OnErr};
 ghost use Rattle.std.specs.Prelude.{[], ◌∷◌, ◌++◌, length, slice_get, Some, None, vec_len};
 ghost use Rattle.std.specs.VecDeque.{deque_len, deque_capacity};
 ghost use Rattle.std.specs.Option.{option_copied, option_map};
@@ -108,8 +109,8 @@ impl History {
         Some(&last.reply)
     }
 
-    /// The state that the kept entries begin in: where there are none, the present one. The error is want of memory, here
-    /// or before: where calls wait, they found none.
+    /// The state that the kept entries begin in: where there are none, the present one. The error is want of memory,
+    /// here or before: where calls wait, they found none.
     pub(crate) fn snapshot(&self, present: &PidTable) -> Result<Plain, AllocError>
         requires { self.now.entries ≡ [] → opening_of self.now.opening present.now ≡ present.now }
         ensures { IfOk result (Shows (opening_of self.now.opening present.now)) }
@@ -137,7 +138,8 @@ impl History {
     ) -> Result<(), AllocError>
         requires below { self.old.opening ≡ None → IsBelow self.old.stamp table.now }
         requires root { IsTrue is_root → self.old.opening ≡ None → table.now ≡ root_state config.now.pid_max }
-        ensures ok { OnOk result (self.new ≡ record self.old { opening = Some (opening_of self.old.opening table.now) }) }
+        ensures ok { OnOk result
+            (self.new ≡ record self.old { opening = Some (opening_of self.old.opening table.now) }) }
         ensures err { OnErr result (self.new ≡ self.old) }
         ensures none { OnErr result (self.old.opening ≡ None) }
     {

@@ -12,7 +12,8 @@ ghost use Rattle.pid_types.specs.Shown.{Shows};
 ghost use Rattle.pid_types.specs.Sound.{IsBelow};
 ghost use Rattle.pid_types.specs.Step.{step, may_grow};
 ghost use Rattle.translate.specs.Stat.{stat_at, glimpse_in, IsSeen};
-ghost use Rattle.kept_table.specs.Calls.{begun, resumed, outcome, entry_of, after_call, counted, cut_at, IsWithoutFirst};
+ghost use Rattle.kept_table.specs.Calls.{begun, resumed, outcome, entry_of};
+ghost use Rattle.kept_table.specs.Calls.{after_call, counted, cut_at, IsWithoutFirst};
 ghost use Rattle.kept_table.specs.Chronicle.{Chronicle, total, next_stamp, recorded, recorded_by_all, kept_entry};
 ghost use Rattle.kept_table.specs.Chronicle.{last_reply, by_worker};
 ghost use Rattle.kept_table.specs.Promise.{IsSubtreeCount, KeepsPromise};
@@ -333,9 +334,10 @@ impl Kept {
     }
 
     /// Makes the present state the opening, and empties the history. Stamps and ordinals go on, and the room for
-    /// entries stays. The opening moves on by steps: it costs each kept call once more, and no copy. A step that finds no
-    /// memory is made by later calls, two behind each, and its entry is held until then. Only where the opening is held
-    /// as a snapshot ([`Kept::cut_first`]) it costs a copy of the whole table, and the error is want of memory for that.
+    /// entries stays. The opening moves on by steps: it costs each kept call once more, and no copy. A step that finds
+    /// no memory is made by later calls, two behind each, and its entry is held until then. Only where the opening is
+    /// held as a snapshot ([`Kept::cut_first`]) it costs a copy of the whole table, and the error is want of memory for
+    /// that.
     pub fn checkpoint(&mut self) -> Result<(), AllocError>
         ensures ok { OnOk result (self.new ≡ cut_at self.old (total self.old) self.new.cut self.new.room) }
         ensures recorded { OnOk result
@@ -426,10 +428,10 @@ impl Kept {
         Ok(())
     }
 
-    /// Cuts the first kept entry away: the state that its call leads to is the opening. It answers whether there was one
-    /// to cut. Where the opening is held as a snapshot no call can be made on it, and the answer is no: so it is where
-    /// calls were made by [`Kept::make_and_cut`], or the record goes on from a saved table, and it has no second table
-    /// by [`Kept::give_opening`].
+    /// Cuts the first kept entry away: the state that its call leads to is the opening. It answers whether there was
+    /// one to cut. Where the opening is held as a snapshot no call can be made on it, and the answer is no: so it is
+    /// where calls were made by [`Kept::make_and_cut`], or the record goes on from a saved table, and it has no second
+    /// table by [`Kept::give_opening`].
     ///
     /// It costs what the call costs. Where that finds no memory the entry is cut all the same, and its call is made
     /// later: at a later call or a later cut.
@@ -448,9 +450,9 @@ impl Kept {
         true
     }
 
-    /// Makes a call of the worker as [`Kept::make_call`] does, writes the reply, and then keeps at most so many entries,
-    /// the call's among them: [`Kept::keep_at_most`]. So a bound that was lowered is reached by the next calls, one entry
-    /// a call nearer, and no call waits for all. An error changes nothing.
+    /// Makes a call of the worker as [`Kept::make_call`] does, writes the reply, and then keeps at most so many
+    /// entries, the call's among them: [`Kept::keep_at_most`]. So a bound that was lowered is reached by the next
+    /// calls, one entry a call nearer, and no call waits for all. An error changes nothing.
     pub fn make_call_keeping(
         &mut self,
         worker: usize,
@@ -480,8 +482,9 @@ impl Kept {
         Ok(())
     }
 
-    /// Gives a record that goes on from a saved table a second table of the same state, which lags behind from now on: so
-    /// its history is cut without a copy of the table. Where the record holds its opening already, this does nothing.
+    /// Gives a record that goes on from a saved table a second table of the same state, which lags behind from now on:
+    /// so its history is cut without a copy of the table. Where the record holds its opening already, this does
+    /// nothing.
     pub fn give_opening(&mut self, opening: PidTable)
         requires { opening ≡ self.old.opening }
         ensures { self.new ≡ record self.old { room = self.new.room } }
@@ -548,8 +551,8 @@ fn added(counts: &[u64]) -> u64
     all
 }
 
-/// Keeps how many calls of each worker there were, where all are cut away. Where no entry was kept, only the count of the
-/// worker who made the last call differs, and no other is copied.
+/// Keeps how many calls of each worker there were, where all are cut away. Where no entry was kept, only the count of
+/// the worker who made the last call differs, and no other is copied.
 #[inline(always)]
 fn cut_with(cut: &mut Vec<u64>, calls: &[u64], worker: usize, is_bare: bool)
     requires known { worker < length calls.now }

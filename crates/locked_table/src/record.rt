@@ -12,7 +12,8 @@ ghost use Rattle.pid_types.specs.Membership.{IsIn};
 ghost use Rattle.pid_types.specs.Shown.{Shows};
 ghost use Rattle.pid_types.specs.Sound.{IsBelow};
 ghost use Rattle.pid_types.specs.Step.{may_grow};
-ghost use Rattle.kept_table.specs.Calls.{begun, resumed, outcome, entry_of, after_call, counted, cut_at, IsWithoutFirst};
+ghost use Rattle.kept_table.specs.Calls.{begun, resumed, outcome, entry_of};
+ghost use Rattle.kept_table.specs.Calls.{after_call, counted, cut_at, IsWithoutFirst};
 ghost use Rattle.kept_table.specs.Chronicle.{Chronicle, total, next_stamp, recorded, recorded_by_all, kept_entry};
 ghost use Rattle.kept_table.specs.Chronicle.{last_reply};
 ghost use Rattle.kept_table.specs.Promise.{IsSubtreeCount, KeepsPromise};
@@ -311,9 +312,9 @@ impl<L: Ledger, const N: usize> Record<L, N> {
         Ok(())
     }
 
-    /// Makes a call as [`Record::make_call`] does, writes the reply, and then keeps at most so many entries: it cuts the
-    /// first ones away, two at most. So the history stays bounded, and no call waits for a copy of the table. It costs
-    /// at most two calls more: [`Kept::make_call_keeping`].
+    /// Makes a call as [`Record::make_call`] does, writes the reply, and then keeps at most so many entries: it cuts
+    /// the first ones away, two at most. So the history stays bounded, and no call waits for a copy of the table. It
+    /// costs at most two calls more: [`Kept::make_call_keeping`].
     pub fn make_call_keeping(
         &mut self,
         seat: &mut Seat<L, N>,
@@ -336,8 +337,7 @@ impl<L: Ledger, const N: usize> Record<L, N> {
         ensures no_memory { result ≡ Err CallFault.NoMemory → 0 < self.old.room → IsTrue (may_grow call) }
     {
         let _total = self.kept.total();
-        self.kept
-            .make_call_keeping(seat.worker, call, keep, reply)?;
+        self.kept.make_call_keeping(seat.worker, call, keep, reply)?;
         book_call(&mut self.book, seat);
         Ok(())
     }

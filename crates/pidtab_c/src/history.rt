@@ -109,9 +109,9 @@ pub extern "C" fn pidtab_record_entry(
 
 /// Cuts the history: the present state becomes the opening, and no entry is kept. Stamps and ordinals go on.
 ///
-/// `CLOSED` where there is no open record; `NO_MEMORY`. It costs each kept call once more, on the table of the opening. A
-/// record that has no such table pays for a copy of the whole table, and only there is there want of memory: no function
-/// of this library makes one.
+/// `CLOSED` where there is no open record; `NO_MEMORY`. It costs each kept call once more, on the table of the opening.
+/// A record that has no such table pays for a copy of the whole table, and only there is there want of memory: no
+/// function of this library makes one.
 #[unsafe(no_mangle)]
 pub extern "C" fn pidtab_record_checkpoint(alloc: Global, table: &mut PidtabRecord) -> u32
     ensures done { result ≡ DONE → Cuts table.old.handle.held table.new.handle.held }
@@ -152,8 +152,8 @@ pub extern "C" fn pidtab_record_checkpoint_at(
     status
 }
 
-/// Cuts first entries away where more than so many are kept: two at most, so that no caller waits long. Behind each call
-/// it keeps the history bounded; [`crate::record_calls::pidtab_record_call_keeping`] has both in one.
+/// Cuts first entries away where more than so many are kept: two at most, so that no caller waits long. Behind each
+/// call it keeps the history bounded; [`crate::record_calls::pidtab_record_call_keeping`] has both in one.
 ///
 /// `CLOSED` where there is no open record. It costs the calls that are cut away, once more.
 #[unsafe(no_mangle)]
@@ -211,8 +211,8 @@ pub extern "C" fn pidtab_record_list(
 }
 
 /// Puts the list of the state that the kept history begins in at the front of the room, as [`pidtab_record_list`] does
-/// with the present state, with the same statuses. It costs a copy of that whole state, and the text. `NO_MEMORY` may come of a cut before,
-/// whose calls found none on the table of the opening: later calls make up for it.
+/// with the present state, with the same statuses. It costs a copy of that whole state, and the text. `NO_MEMORY` may
+/// come of a cut before, whose calls found none on the table of the opening: later calls make up for it.
 #[unsafe(no_mangle)]
 pub extern "C" fn pidtab_record_opening(
     alloc: Global,
