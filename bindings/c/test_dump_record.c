@@ -337,7 +337,7 @@ static void threads_go_on(void)
 	CHECK(pidtab_record_close(&record) == PIDTAB_DONE);
 
 	share(text, 300);
-	CHECK(pidtab_shared_counts(&shared, &first_kept, &recorded) == PIDTAB_DONE && recorded == 80 + THREADS * EACH && first_kept == 80 + 1800);
+	CHECK(pidtab_shared_counts(&shared, &first_kept, &recorded) == PIDTAB_DONE && recorded == 80 + THREADS * EACH && first_kept == 80 + THREADS * EACH - 300);
 	pidtab_shared_close(&shared);
 
 	/* Nothing is to be closed. */

@@ -183,17 +183,33 @@ static void *loads_record(void *unused)
 	return unused;
 }
 
+/* Forks that are cut away take memory on both tables. */
+static void forks_for_a_cut(void)
+{
+	struct pidtab_call call = { .operation = PIDTAB_FORK, .caller = 1 };
+	struct pidtab_reply reply;
+	uint64_t ordinal;
+
+	CHECK(pidtab_record_call_keeping(&record, 0, &call, 8, &reply, &ordinal) == PIDTAB_DONE);
+}
+
 static void *cuts(void *unused)
 {
-	CHECK(pidtab_record_checkpoint(&record) == PIDTAB_DONE);
+	while (hold) {
+		forks_for_a_cut();
+		CHECK(pidtab_record_checkpoint(&record) == PIDTAB_DONE);
+	}
 	return unused;
 }
 
 static void *cuts_at(void *unused)
 {
 	uint64_t first, recorded;
-	CHECK(pidtab_record_counts(&record, &first, &recorded) == PIDTAB_DONE);
-	CHECK(pidtab_record_checkpoint_at(&record, recorded) == PIDTAB_DONE);
+	while (hold) {
+		forks_for_a_cut();
+		CHECK(pidtab_record_counts(&record, &first, &recorded) == PIDTAB_DONE);
+		CHECK(pidtab_record_checkpoint_at(&record, recorded) == PIDTAB_DONE);
+	}
 	return unused;
 }
 
@@ -215,6 +231,7 @@ static void each_function_of_a_record_is_busy(void)
 
 	CHECK(pidtab_record_open(&record, 32768, 1, 2) == PIDTAB_BUSY && pidtab_record_open(&record, 0, 0, 0) == PIDTAB_BUSY);
 	CHECK(pidtab_record_call(&record, 0, &call, &reply, &one) == PIDTAB_BUSY);
+	CHECK(pidtab_record_call_keeping(&record, 0, &call, 1, &reply, &one) == PIDTAB_BUSY && pidtab_record_keep(&record, 0) == PIDTAB_BUSY);
 	CHECK(pidtab_record_line(&record, 0, "getpid 1", 8, room, sizeof room, &size, &one) == PIDTAB_BUSY);
 	CHECK(pidtab_record_ask(&record, &call, &reply) == PIDTAB_BUSY);
 	CHECK(pidtab_record_counts(&record, &one, &other) == PIDTAB_BUSY && pidtab_record_worker(&record, 0, &one) == PIDTAB_BUSY);
