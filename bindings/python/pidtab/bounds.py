@@ -10,6 +10,10 @@ LEAST_PID_MAX = 301
 GREATEST_PID_MAX = 4194304
 
 
+class Unnamed(int):
+    """A setting as it is where nobody names one."""
+
+
 def check_range(name: str, number: SupportsIndex, least: int, greatest: int) -> int:
     """The same, if it is an integer in the range."""
     number = index(number)

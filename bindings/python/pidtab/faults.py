@@ -15,6 +15,10 @@ class SeatsTaken(RuntimeError):
     """Each worker of a shared table has its seat already."""
 
 
+class OtherSettings(UserWarning):
+    """A saved history was resumed with settings that are not its own, which stay."""
+
+
 class NotKept(LookupError):
     """The history has no entry with the ordinal: it was cut away, or there is no such call yet."""
 

@@ -3,13 +3,15 @@
 import ctypes
 import os
 import threading
+import warnings
 import weakref
 from collections.abc import Callable, Iterator, Sequence
 from itertools import islice
+from operator import index
 
 from pidtab.answers import Stat
-from pidtab.bounds import DEFAULT_PID_MAX, check_pid_max, check_range
-from pidtab.faults import NotKept, SaverEnded, SeatsTaken, TableClosed, Unsaved
+from pidtab.bounds import DEFAULT_PID_MAX, Unnamed, check_pid_max, check_range
+from pidtab.faults import NotKept, OtherSettings, SaverEnded, SeatsTaken, TableClosed, Unsaved
 from pidtab.history import Counts, Entry, read_entry
 from pidtab.labels import Labelled, Labels
 from pidtab.library import call_later, find_library, load_shared
@@ -160,6 +162,8 @@ class Shared(Labelled, Owner):
     _hold: Hold | None = None
     # None where it was neither loaded nor saved.
     _file: SavedFile | None = None
+    # Whether the number of workers is that of a file.
+    _is_loaded = False
     # Whether a thread saves, or may wait for one that does.
     _has_saver = False
     # The text that it was made of, and the ordinal of its first call then; empty where its history begins with the root init.
@@ -204,22 +208,28 @@ class Shared(Labelled, Owner):
     def resume(
         cls,
         path: FilePath,
-        workers: int = 4,
+        workers: int = Unnamed(4),
         *,
-        pid_max: int = DEFAULT_PID_MAX,
-        first_stamp: int = 1,
+        pid_max: int = Unnamed(DEFAULT_PID_MAX),
+        first_stamp: int = Unnamed(1),
         keep: int = 0,
         library: str | os.PathLike[str] | None = None,
     ) -> "Shared":
         """The same, with a torn end cut off the file, so that `save` goes on with it.
 
-        A file that is not there, is empty, or ends within its head is begun, and the table has these settings.
+        A file that is not there, is empty, or ends within its head is begun, and the table has these settings. Any other keeps its own: then one of
+        these that was named and is another is an `OtherSettings`, which is a warning.
         """
+        named = {name: it for name, it in (("workers", workers), ("pid_max", pid_max), ("first_stamp", first_stamp)) if not isinstance(it, Unnamed)}
         head = PidtabSavedHead(
             check_pid_max(pid_max), check_range("workers", workers, 1, MOST_WORKERS), check_range("first_stamp", first_stamp, 1, GREATEST_NUMBER)
         )
         keep = check_range("keep", keep, 0, GREATEST_NUMBER)
-        return cls._load(path, library, os.O_RDWR | os.O_CREAT, lambda file, at: file.resume(head, at, keep))
+        shared = cls._load(path, library, os.O_RDWR | os.O_CREAT, lambda file, at: file.resume(head, at, keep))
+        other = [f"{name} is {getattr(shared, name)}, and not {it}" for name, it in named.items() if getattr(shared, name) != index(it)]
+        if other:
+            warnings.warn(f"{os.fsdecode(path)}: the settings of a saved history stay: {', '.join(other)}", OtherSettings, stacklevel=2)
+        return shared
 
     @classmethod
     def _load(
@@ -234,7 +244,7 @@ class Shared(Labelled, Owner):
         file.check(hold.status, "load")
         head = file.at.head
         shared.workers, shared.pid_max, shared.first_stamp, shared.keep = head.workers, head.pid_max, head.first_stamp, 0
-        shared._file = file
+        shared._file, shared._is_loaded = file, True
         shared._begin(hold)
         return shared
 
@@ -413,7 +423,8 @@ class Shared(Labelled, Owner):
         """The seat of the next worker, from 0 on; `SeatsTaken` where each has its own. An interrupt amid it may lose a seat."""
         worker = ctypes.c_uint32()
         if self._status("pidtab_shared_seat", worker) != DONE:
-            raise SeatsTaken(f"each of the {self.workers} workers has its seat: open the table with more, at most {MOST_WORKERS}")
+            more = "the saved history has no more, and threads may share a seat" if self._is_loaded else f"open the table with more, at most {MOST_WORKERS}"
+            raise SeatsTaken(f"{'the one worker' if self.workers == 1 else f'each of the {self.workers} workers'} has its seat: {more}")
         return Seat(self, worker.value)
 
     @property

@@ -11,12 +11,13 @@ import tempfile
 import threading
 import time
 import unittest
+import warnings
 from pathlib import Path
 from types import FrameType
 from typing import Any
 from unittest import mock
 
-from pidtab import BadHistory, Counts, Entry, NotKept, Saved, Seat, Shared, TableClosed
+from pidtab import BadHistory, Counts, Entry, NotKept, OtherSettings, Saved, Seat, SeatsTaken, Shared, TableClosed
 from tests.alarms import Awaiting, alarms
 from tests.pages import fenced, read_page, section
 from tests.programs import ARCHIVE, BUILT, STRICT, need_archive, need_tool
@@ -284,10 +285,28 @@ class Resumes(Files):
             with Shared.resume(self.path, 3, pid_max=400, first_stamp=9) as shared:
                 self.assertEqual((shared.workers, shared.pid_max, shared.first_stamp, shared.saved), (3, 400, 9, Saved(0, BLOCK, 0)))
                 self.assertEqual((shared.seat().mk(), shared.save(self.path)), (9, Saved(1, 2 * BLOCK, 0)))
-            # The settings of the file are its own.
-            with Shared.resume(self.path, 2) as again:
-                self.assertEqual((again.workers, again.pid_max, again.first_stamp, again.saved), (3, 400, 9, Saved(1, 2 * BLOCK, 0)))
             self.path.unlink()
+
+    def test_the_settings_of_a_file_are_its_own(self) -> None:
+        Shared.resume(self.path, 3, pid_max=400, first_stamp=9).close()
+        with self.assertWarnsRegex(OtherSettings, f"^{re.escape(str(self.path))}: the settings of a saved history stay: workers is 3, and not 2$") as warned:
+            again = Shared.resume(self.path, 2, pid_max=400)
+        self.assertEqual((warned.filename, again.workers, again.pid_max, again.first_stamp), (__file__, 3, 400, 9))
+        again.close()
+        with self.assertWarnsRegex(OtherSettings, "stay: pid_max is 400, and not 32768, first_stamp is 9, and not 1$"):
+            Shared.resume(self.path, pid_max=32768, first_stamp=1).close()
+        with warnings.catch_warnings():
+            warnings.simplefilter("error")
+            Shared.resume(self.path).close()
+            Shared.resume(self.path, 3, pid_max=400, first_stamp=9, keep=5).close()
+
+    def test_more_seats_than_the_file_has_workers(self) -> None:
+        Shared.resume(self.path, 1).close()
+        for again in (self.load(), Shared.resume(self.path)):
+            again.seat()
+            with self.assertRaisesRegex(SeatsTaken, "^the one worker has its seat: the saved history has no more, and threads may share a seat$"):
+                again.seat()
+            again.close()
 
     def test_numbers(self) -> None:
         for name, least, greatest in (("workers", 1, 16), ("pid_max", 301, 4194304), ("first_stamp", 1, 2**64 - 1), ("keep", 0, 2**64 - 1)):
