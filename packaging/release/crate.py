@@ -17,15 +17,20 @@ def copy(source, folder, names, where):
         shutil.copyfile(source.folder / folder / name, where / name)
 
 
-def make(source, built, parts):
-    """Packs pidtab-VERSION.crate."""
-    name = f"pidtab-{source.version}"
-    stage = parts.parent / "crate"
+def lay_out(source, built, stage):
+    """Puts the crate into a folder."""
     copy(source, "bindings/rust", [it for it in source.below("bindings/rust") if not it.startswith(LEFT_OUT)], stage)
     if built.assembler:
         add_sources(source, built, stage / "c")
         copy(source, "packaging/portable", ["source.rs"], stage)
         write_text(stage / "Cargo.toml", source.read("bindings/rust/Cargo.toml") + COMPILER)
     write_text(stage / "LICENSE", source.read("LICENSE"))
+
+
+def make(source, built, parts):
+    """Packs pidtab-VERSION.crate."""
+    name = f"pidtab-{source.version}"
+    stage = parts.parent / "crate"
+    lay_out(source, built, stage)
     settle(stage, source.time)
     write_tarball(parts / f"{name}.crate", stage, name, source.time)
