@@ -72,7 +72,7 @@ def compare(given: argparse.Namespace) -> int:
     wishes = {"calls": given.calls, "without": given.without, "declared": declared, "list_command": given.list}
     try:
         tally = testing.compare(given.command, save=given.save, cases=given.cases, steps=given.steps, begin_at=given.seed, **wishes)
-    except testing.Different as found:
+    except (testing.Different, testing.Unsteady) as found:
         print(found)
         return STATUS_FAULT
     print(f"{tally.cases} cases, {tally.calls} calls: no difference")

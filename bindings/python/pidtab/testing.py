@@ -12,7 +12,7 @@ from typing import Any, NamedTuple
 
 try:
     from hypothesis import Verbosity, seed, settings, strategies
-    from hypothesis.errors import StopTest
+    from hypothesis.errors import Flaky, StopTest
     from hypothesis.stateful import RuleBasedStateMachine, rule, run_state_machine_as_test
 except ImportError as missing:
     raise ImportError("pidtab.testing needs Hypothesis: `pip install pidtab[testing]`, or python3-hypothesis of Debian") from missing
@@ -31,7 +31,7 @@ DEFAULT_CASES = 300
 DEFAULT_STEPS = 40
 
 __all__ = [
-    "Aimed", "Case", "Comparison", "Different", "Met", "Misnamed", "NotCompared", "Rig", "Tally", "agree", "aimed", "calls", "compare", "machine",
+    "Aimed", "Case", "Comparison", "Different", "Met", "Misnamed", "NotCompared", "Rig", "Tally", "Unsteady", "agree", "aimed", "calls", "compare", "machine",
     "open_default", "read_declared",
 ]  # fmt: skip
 
@@ -69,6 +69,10 @@ class Different(AssertionError):
     def script(self) -> str:
         """The calls, one line each."""
         return "".join(f"{line}\n" for line in self.lines)
+
+
+class Unsteady(AssertionError):
+    """A table that does not answer the same calls the same each time, so that no difference can be shrunk."""
 
 
 def agree(yours: str, pidtab: str) -> bool:
@@ -344,4 +348,6 @@ def compare(
             with open(save, "w", encoding="ascii") as file:
                 file.write(found.script)
         raise
+    except Flaky:
+        raise Unsteady("yours differed once, and not when it was asked the same calls again: make it steady, or declare by what it differs") from None
     return compared.rig.finish()

@@ -134,6 +134,20 @@ class Found(unittest.TestCase):
             compare(Forgetful, calls=["fork"], begin_at=1)
         self.assertEqual((found.exception.lines, found.exception.met.line), (("fork 1",), "(the list)"))
 
+    def test_one_that_is_not_steady(self) -> None:
+        class Moody(Toy):
+            """Forgets its group in the first of all cases that ask for it."""
+
+            is_moody = True
+
+            def getpgid(self, caller: int, pid: int = 0) -> int:
+                found = super().getpgid(caller, pid)
+                moody, Moody.is_moody = Moody.is_moody, False
+                return 99 if moody else found
+
+        with self.assertRaisesRegex(testing.Unsteady, "^yours differed once, and not when it was asked the same calls again: "):
+            compare(Moody, begin_at=1, cases=50)
+
     def test_an_object_that_answers_lines(self) -> None:
         class Lines:
             """The toy, asked by lines."""
@@ -249,7 +263,7 @@ class Counts(unittest.TestCase):
             def exec(self, caller: int) -> None:
                 raise NotImplementedError
 
-        self.assertEqual(compare(Shy, calls=["fork", "exec", "wait"], without=["fork new"], cases=20).not_compared, ("exec",))
+        self.assertEqual(compare(Shy, calls=["fork", "exec", "wait any"], without=["fork new"], cases=20).not_compared, ("exec",))
 
     def test_a_table_that_leaves_all_out(self) -> None:
         class Silent:
