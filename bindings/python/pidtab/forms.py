@@ -62,6 +62,12 @@ def read_form(text: str) -> Form:
 
 ALL_FORMS: dict[str, Form] = {form.name: form for form in map(read_form, FORMS)}
 
+
+def form_of(line: str) -> Form:
+    """The form of a good line."""
+    return ALL_FORMS[" ".join(word for word in line.split(" ") if not word.lstrip("-").isdigit())]
+
+
 # Calls that change nothing, and those that tell nothing.
 QUERIES = frozenset({"getpid", "getppid", "getpgid", "getsid", "nspid", "next", "count"})
 TELLS_NOTHING = frozenset({"exec", "exit", "setpgid", "join", "subreaper", "rm", "limit", "move"})

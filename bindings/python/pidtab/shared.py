@@ -104,7 +104,8 @@ class Seat(NumberCalls):
 
     def close(self) -> None:
         """Gives the seat up: it makes no more calls. The table stays open, and the seat is not handed out again."""
-        self._closed = True
+        # The second has a call look at the first.
+        self._closed = self._left = True
 
     def _settings(self) -> str:
         return f"worker={self.worker} pid_max={self.pid_max}"

@@ -20,7 +20,7 @@ except ImportError as missing:
 from pidtab.aim import GREATEST_PICK, Aim
 from pidtab.calls import Calls
 from pidtab.faults import LibraryFault
-from pidtab.forms import ALL_FORMS, QUERIES, Form, select_forms
+from pidtab.forms import ALL_FORMS, QUERIES, Form, form_of, select_forms
 from pidtab.methods import Misnamed, name_missing
 from pidtab.peer import CommandPeer, LeftOut, LinePeer, ObjectPeer, Peer
 from pidtab.process import Process
@@ -158,19 +158,24 @@ class Case:
 
     def step(self, call: Aimed) -> None:
         """Asks both a call."""
+        form = ALL_FORMS[call.form]
+        pidtab = self.ask(call.line(self.sight), form)
+        if pidtab and form.command not in QUERIES and not pidtab.startswith("E"):
+            self.sight = Sight(self.table.list())
+
+    def ask(self, line: str, form: Form) -> str | None:
+        """Asks both a line: what pidtab answers, or None where it was not asked."""
         if self.parted:
-            return
-        form, line = ALL_FORMS[call.form], call.line(self.sight)
+            return None
         try:
             yours = self.yours.answer(line)
         except LeftOut:
-            return
+            return None
         (pidtab,) = self.table.answers([line])
         self.lines.append(line)
         self.rig.answered.add(form.name)
         self._judge(Met(line, yours, pidtab), form)
-        if form.command not in QUERIES and not pidtab.startswith("E"):
-            self.sight = Sight(self.table.list())
+        return pidtab
 
     def _judge(self, met: Met, form: Form) -> None:
         """Raises a difference, if it was not declared."""
@@ -201,6 +206,29 @@ class Case:
         both = [*zip(yours.splitlines(), self.table.list_text().splitlines())]
         first = next((pair for pair in both if pair[0] != pair[1]), ("one is longer", "the lists begin with the same lines"))
         return Met(THE_LIST, *first)
+
+
+def play_again(rig: Rig, lines: Iterable[str]) -> Different | None:
+    """The difference that these lines show, of two new tables."""
+    case = Case(rig)
+    try:
+        try:
+            for line in lines:
+                case.ask(line, form_of(line))
+        finally:
+            case.end(False)
+    except Different as found:
+        return found
+    return None
+
+
+def leave_out(rig: Rig, found: Different) -> Different:
+    """A difference without the lines that it does not need. Hypothesis leaves some: without a call, a later one may be aimed elsewhere."""
+    for place in reversed(range(len(found.lines) - 1)):
+        if place < len(found.lines) - 1:
+            shorter = play_again(rig, found.lines[:place] + found.lines[place + 1 :])
+            found = shorter if shorter and len(shorter.lines) < len(found.lines) else found
+    return found
 
 
 def aimed(forms: Iterable[Form]) -> strategies.SearchStrategy[Aimed]:
@@ -343,11 +371,12 @@ def compare(
     )
     try:
         run_state_machine_as_test(compared, settings=wanted)
-    except Different as found:
+    except Different as first:
+        found = leave_out(compared.rig, first)
         if save is not None:
             with open(save, "w", encoding="ascii") as file:
                 file.write(found.script)
-        raise
+        raise found from found.__cause__
     except Flaky:
         raise Unsteady("yours differed once, and not when it was asked the same calls again: make it steady, or declare by what it differs") from None
     return compared.rig.finish()

@@ -13,7 +13,7 @@ from pathlib import Path
 from unittest import mock
 
 from pidtab import Table
-from pidtab.forms import ALL_FORMS, method_of, select_forms
+from pidtab.forms import ALL_FORMS, form_of, method_of, select_forms
 from pidtab.language import FORMS, judge
 from pidtab.listing import Listing, read_list
 from pidtab.peer import CommandPeer, LeftOut, ObjectPeer
@@ -108,6 +108,17 @@ class Found(unittest.TestCase):
         self.assertEqual([toy.answer(line) for line in lines][-1], found.met.yours)
         right = ObjectPeer(Toy())
         self.assertTrue(agree([right.answer(line) for line in lines][-1], found.met.pidtab))
+
+    def test_no_line_is_left_that_is_not_needed(self) -> None:
+        rig = testing.machine(lambda: Toy("grandparent"), **ONE_NAMESPACE).rig
+        needed = ("fork 1", "fork 2", "fork 3", "exit 3 0", "getppid 4")
+        for lines in (("fork 1", "getpid 1", "fork 2", "fork 3", "exec 2", "exit 3 0", "fork 4", "setsid 4", "getppid 4"), needed):
+            found = testing.play_again(rig, lines)
+            assert found
+            self.assertEqual(testing.leave_out(rig, found).lines, needed)
+        self.assertIsNone(testing.play_again(rig, needed[:-1]))
+        self.assertEqual([form_of(line).name for line in ("limit 3 max", "setpgid 1 0 -1", "next 1 group 4", "fork 1 new")],
+                         ["limit max", "setpgid", "next group", "fork new"])  # fmt: skip
 
     def test_none_where_there_is_none(self) -> None:
         tally = compare(Toy, begin_at=1, cases=150)
