@@ -219,7 +219,7 @@ func TestATableOfATextCutsWhatItHas(t *testing.T) {
 	for i := 0; i < 5; i++ {
 		want(t, "getpid", of(seat.Getpid(1)), uint32(1), nil)
 	}
-	wantCounts(t, shared, 4, 5)
+	wantCounts(t, shared, 3, 5)
 }
 
 func TestAClosedTableHasNoText(t *testing.T) {

@@ -396,10 +396,10 @@ func TestEntriesThatAreCutAsTheyLoad(t *testing.T) {
 		t.Fatal(err)
 	}
 	t.Cleanup(again.Close)
-	wantCounts(t, again, 100, 100)
+	wantCounts(t, again, 90, 100)
 	forked(t, seatOf(t, again), 20)
 	forked(t, seat, 20)
-	wantCounts(t, again, 100, 120)
+	wantCounts(t, again, 90, 120)
 	save(t, again, file, saved)
 	want(t, "bytes", of(file.Bytes(), nil), bytesOf(t, shared), nil)
 }

@@ -257,7 +257,7 @@ impl Shared {
     /// is made again, and its reply compared with the saved one. It costs what the calls cost.
     ///
     /// A torn end, which is that of a writer that was stopped, is left out: [`Saved::left_out`] has its length. Where `keep` is not 0, the
-    /// history is cut whenever it has so many entries; later it is not.
+    /// history keeps at most so many entries while it loads; later it is not cut.
     ///
     /// # Errors
     /// With the place of the call at fault: `Torn`, `NotSaved`, `OtherVersion`, `WrongByte`, `Settings`; `Table(Differs)` where its reply is

@@ -210,5 +210,5 @@ fn it_cuts_what_it_has() {
         assert_eq!(seat.getpid(1), Ok(1));
     }
     let counts = shared.counts().expect("counts");
-    assert_eq!((counts.first_kept, counts.recorded), (4, 5));
+    assert_eq!((counts.first_kept, counts.recorded), (3, 5));
 }
