@@ -1,8 +1,8 @@
 /* pidtab.h - Linux process identifiers as one table, in this process.
  *
  * What each function does to a table is proved (crates/pidtab_c). Around each proved function stand a few lines of C, bindings/c/guard.c and
- * guard_record.c, which mark the table, and are only tested, as the shared and the saved ones are. This header is written by hand to fit;
- * bindings/c/test.c and test_guard compare it.
+ * guard_record.c, which mark the table, and are only tested, as the shared and the saved ones are. This header is written to fit, in part
+ * by tools/interface; bindings/c/test.c and test_guard compare it.
  *
  * One function at a time works on a table: while one does, each other that another thread calls is PIDTAB_BUSY, and does nothing.
  * Threads that take turns under a lock never see it. Two tables share nothing.
@@ -207,27 +207,28 @@ enum pidtab_kind {
 	PIDTAB_REFUSED   /* error, refusal: enum pidtab_refusal, first: the id of what refused, if it has one */
 };
 
+/* Written by tools/interface: refusals. */
 /* Why the table refuses a call. The numbers stay as they are. */
 enum pidtab_refusal {
-	PIDTAB_NO_CALLER = 1,  /* ESRCH: no live task has the caller's number */
-	PIDTAB_NO_TASK,        /* ESRCH: no task is there, or none that the call may be made on */
-	PIDTAB_NO_CHILD,       /* ECHILD: no child matches */
-	PIDTAB_NO_NUMBER,      /* EAGAIN: the namespace with the id has no free number */
-	PIDTAB_PIDS_LIMIT,     /* EAGAIN: the control group with the id has as many tasks as its limit allows */
-	PIDTAB_SPACE_FALLEN,   /* ENOMEM: the namespace for the caller's children has fallen */
-	PIDTAB_TOO_DEEP,       /* ENOSPC: a namespace below one of level 32 */
-	PIDTAB_ELSEWHERE,      /* EINVAL: a new namespace from a caller whose children go into another */
-	PIDTAB_BAD_GROUP,      /* EINVAL: a negative process group */
-	PIDTAB_OTHER_SESSION,  /* EPERM: a child in another session */
-	PIDTAB_IS_LEADER,      /* EPERM: a session leader, or a process group leader */
-	PIDTAB_NO_GROUP,       /* EPERM: no such group in the caller's session */
-	PIDTAB_EXECUTED,       /* EACCES: a child that has executed */
-	PIDTAB_ROOT_INIT,      /* EBUSY: the exit of the root init */
-	PIDTAB_NO_CONTROL,     /* ENOENT: no control group has the id */
-	PIDTAB_CONTROL_BUSY,   /* EBUSY: a control group with live tasks or children */
-	PIDTAB_ROOT_CONTROL,   /* EINVAL: the root control group, which has no limit and stays */
-	PIDTAB_BAD_LIMIT,      /* EINVAL: a limit above 4194304 */
-	PIDTAB_CONTROL_DEPTH   /* EAGAIN: a control group below one of level 64 */
+	PIDTAB_NO_CALLER = 1,      /* ESRCH: no live task has the caller's root number */
+	PIDTAB_NO_TASK = 2,        /* ESRCH: no task is there, or none that the call may be made on */
+	PIDTAB_NO_CHILD = 3,       /* ECHILD: no child matches */
+	PIDTAB_NO_NUMBER = 4,      /* EAGAIN: the namespace with the id has no free number */
+	PIDTAB_PIDS_LIMIT = 5,     /* EAGAIN: the control group with the id has as many tasks as its limit allows */
+	PIDTAB_SPACE_FALLEN = 6,   /* ENOMEM: the namespace for the caller's children has fallen */
+	PIDTAB_TOO_DEEP = 7,       /* ENOSPC: a namespace below one of level 32, the deepest */
+	PIDTAB_ELSEWHERE = 8,      /* EINVAL: a new namespace from a caller whose children go into another namespace */
+	PIDTAB_BAD_GROUP = 9,      /* EINVAL: a negative process group */
+	PIDTAB_OTHER_SESSION = 10, /* EPERM: a child in another session */
+	PIDTAB_IS_LEADER = 11,     /* EPERM: a session leader, or a process group leader */
+	PIDTAB_NO_GROUP = 12,      /* EPERM: no such process group in the caller's session */
+	PIDTAB_EXECUTED = 13,      /* EACCES: a child that has executed */
+	PIDTAB_ROOT_INIT = 14,     /* EBUSY: the exit of the root namespace's init */
+	PIDTAB_NO_CONTROL = 15,    /* ENOENT: no control group has the id */
+	PIDTAB_CONTROL_BUSY = 16,  /* EBUSY: a control group with live tasks or children */
+	PIDTAB_ROOT_CONTROL = 17,  /* EINVAL: the root control group, which has no limit and stays */
+	PIDTAB_BAD_LIMIT = 18,     /* EINVAL: a limit above 4194304 */
+	PIDTAB_CONTROL_DEPTH = 19  /* EAGAIN: a control group below one of level 64, the deepest */
 };
 
 /* The word of a refusal in the answers of the script language, as no-caller. */
@@ -235,13 +236,13 @@ static inline const char *pidtab_word(uint32_t refusal)
 {
 	static const char *const words[] = {
 		"no-such-refusal",
-		"no-caller", "no-task", "no-child", "no-number", "pids-limit", "space-fallen",
-		"too-deep", "elsewhere", "bad-group", "other-session", "is-leader", "no-group",
-		"executed", "root-init", "no-control", "control-busy", "root-control",
-		"bad-limit", "control-depth"
+		"no-caller", "no-task", "no-child", "no-number", "pids-limit", "space-fallen", "too-deep",
+		"elsewhere", "bad-group", "other-session", "is-leader", "no-group", "executed", "root-init",
+		"no-control", "control-busy", "root-control", "bad-limit", "control-depth"
 	};
 	return words[refusal < sizeof words / sizeof words[0] ? refusal : 0];
 }
+/* The end of refusals. */
 
 #define PIDTAB_KILLED 256
 #define PIDTAB_LEVELS_MAX 33

@@ -1,4 +1,4 @@
-// bindings/c/pidtab.h by hand: its numbers, and where the fields of its structs stand. A test compares them.
+// bindings/c/pidtab.h: its numbers, and where the fields of its structs stand. A test compares what is written by hand.
 
 export const DEFAULT_PID_MAX = 32768;
 export const LEAST_PID_MAX = 301;
@@ -30,14 +30,21 @@ export const USES = ["task", "group", "session"];
 
 export const KIND = { FORKED: 0, OK: 1, NUMBER: 2, LEVELS: 3, REAPED: 4, NONE_YET: 5, COUNTED: 6, CONTROL: 7, END: 8, REFUSED: 9 };
 
+// Written by tools/interface: refusals.
 /** The words of the refusals, by their numbers from 1 on. */
-export const REFUSALS = (
-  "no-caller no-task no-child no-number pids-limit space-fallen too-deep elsewhere bad-group other-session is-leader no-group executed " +
-  "root-init no-control control-busy root-control bad-limit control-depth"
-).split(" ");
+export const REFUSALS = [
+  "no-caller", "no-task", "no-child", "no-number", "pids-limit", "space-fallen", "too-deep", "elsewhere", "bad-group", "other-session",
+  "is-leader", "no-group", "executed", "root-init", "no-control", "control-busy", "root-control", "bad-limit", "control-depth",
+];
+
+/** Behind these words stands the id of the namespace, or of the control group, that refuses. */
+export const WITH_ID = ["no-number", "pids-limit"];
 
 /** The errnos of Linux that a refusal may have. */
-export const ERRNOS = { 1: "EPERM", 2: "ENOENT", 3: "ESRCH", 10: "ECHILD", 11: "EAGAIN", 12: "ENOMEM", 13: "EACCES", 16: "EBUSY", 22: "EINVAL", 28: "ENOSPC" };
+export const ERRNOS = {
+  1: "EPERM", 2: "ENOENT", 3: "ESRCH", 10: "ECHILD", 11: "EAGAIN", 12: "ENOMEM", 13: "EACCES", 16: "EBUSY", 22: "EINVAL", 28: "ENOSPC",
+};
+// The end of refusals.
 
 /** Why a text is that of no table, by the numbers of the faults from 1 on. */
 export const TEXT_FAULTS = [

@@ -52,7 +52,6 @@ test("the numbers are those of the header", () => {
 });
 
 test("the words are those of the header", () => {
-  assert.deepEqual(header.REFUSALS, readWords("words").slice(1));
   assert.deepEqual(header.TEXT_FAULTS, readWords("faults").slice(1));
 });
 

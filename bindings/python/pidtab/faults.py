@@ -146,6 +146,7 @@ REFUSALS: dict[int, type[Refusal]] = {
 }
 
 
+# Written by tools/interface: refusals.
 # The words of the refusals, by their numbers from 1 on.
 WORDS = (
     "no-caller", "no-task", "no-child", "no-number", "pids-limit", "space-fallen", "too-deep", "elsewhere", "bad-group", "other-session",
@@ -154,6 +155,7 @@ WORDS = (
 
 # Behind these words stands the id of the namespace, or the control group, that refuses.
 WORDS_WITH_ID = ("no-number", "pids-limit")
+# The end of refusals.
 
 
 # What a text is that of no table for, by the numbers of the faults from 1 on.

@@ -18,11 +18,11 @@ from unittest import mock
 
 from pidtab import Calls, LibraryFault, LibraryMissing, Process, Table, TableClosed, find_library, raw
 from pidtab.calls import KINDS
-from pidtab.faults import TEXT_FAULTS, WORDS
+from pidtab.faults import TEXT_FAULTS
 from pidtab.language import FORMS
 from pidtab.library import load_library
 from tests.alarms import alarms
-from tests.pages import REPOSITORY, quoted, read_page, rows, section
+from tests.pages import REPOSITORY, read_page
 from tests.programs import need_tool
 from tests.ways import ask, need_library, need_program, open_stand_in
 
@@ -45,12 +45,6 @@ PASSED: dict[str, type] = {
     "struct pidtab_saved *": raw.SAVED, "struct pidtab_saved_head *": raw.SAVED_HEAD, "int ": ctypes.c_int, "bool ": ctypes.c_bool,
     "uint32_t *": raw.NUMBER_32, "uint64_t *": raw.NUMBER_64, "size_t ": raw.SIZE_T, "uint32_t ": raw.U32, "uint64_t ": raw.U64,
 }  # fmt: skip
-
-# The words of docs/SCRIPT.md, in the order of their numbers, which stay.
-REFUSALS = [
-    "no-caller", "no-task", "no-child", "no-number", "pids-limit", "space-fallen", "too-deep", "elsewhere", "bad-group", "other-session",
-    "is-leader", "no-group", "executed", "root-init", "no-control", "control-busy", "root-control", "bad-limit", "control-depth",
-]  # fmt: skip
 
 
 def header(name: str = "pidtab.h") -> str:
@@ -134,12 +128,6 @@ class Header(unittest.TestCase):
         self.assertLessEqual(left_out, set(declared))
         for name, (_, arguments) in known.items():
             self.assertEqual([takes(it) for it in declared[name].split(", ") if it != "void"], arguments, name)
-
-    def test_the_words_of_refusals(self) -> None:
-        self.assertEqual(list(WORDS), REFUSALS)
-        page = [quoted(row[0])[0].split(" ")[1] for row in rows(section(read_page("docs/SCRIPT.md"), "## Refusals"))]
-        self.assertEqual(sorted(page), sorted(WORDS))
-
 
     def test_the_words_of_faults_of_a_text(self) -> None:
         (words,) = re.findall(r'"no fault", ((?:"[a-z ]+",? ?)+) }', header())

@@ -1,6 +1,6 @@
 //! That `raw.rs` is `bindings/c/pidtab.h`, and what it has of `pidtab_saved.h`: numbers, structs and functions.
 use crate::raw::*;
-use crate::{Refusal, TextFault};
+use crate::TextFault;
 use std::fs;
 
 /// `pidtab.h`.
@@ -122,22 +122,6 @@ fn the_choices_and_kinds_are_those_of_the_header() {
             ("REFUSED", REFUSED),
         ],
     );
-}
-
-/// A refusal's name in the header is its word in capital letters, with `_` for `-`.
-#[test]
-fn the_refusals_are_those_of_the_header() {
-    let refusals = (1..=19).map(|it| (it, Refusal::of(it, 0).name()));
-    let names: Vec<_> = refusals
-        .clone()
-        .map(|(number, word)| (word.to_uppercase().replace('-', "_"), number))
-        .collect();
-    let names: Vec<_> = names.iter().map(|it| (it.0.as_str(), it.1)).collect();
-    same_enum("pidtab_refusal", &names);
-    let header = header();
-    let told = body(&header, "words[] =").split(',').skip(1);
-    let told: Vec<_> = told.map(|it| it.trim().trim_matches('"')).collect();
-    assert_eq!(told, refusals.map(|it| it.1).collect::<Vec<_>>());
 }
 
 /// The words of the header, in the order of their numbers from 1 on.

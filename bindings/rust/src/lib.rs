@@ -146,8 +146,9 @@ pub struct Reaped {
 /// use pidtab::Refusal::*;
 /// fn all(it: pidtab::Refusal) {
 ///     match it {
-///         NoCaller | NoTask | NoChild | NoNumber(_) | PidsLimit(_) | SpaceFallen | TooDeep | Elsewhere | BadGroup | OtherSession => {}
-///         IsLeader | NoGroup | Executed | RootInit | NoControl | ControlBusy | RootControl | BadLimit | ControlDepth => {}
+// Written by tools/interface: refusals.
+///         NoCaller | NoTask | NoChild | NoNumber(_) | PidsLimit(_) | SpaceFallen | TooDeep | Elsewhere | BadGroup | OtherSession | IsLeader | NoGroup | Executed | RootInit | NoControl | ControlBusy | RootControl | BadLimit | ControlDepth => {}
+// The end of refusals.
 ///     }
 /// }
 /// ```

@@ -1,0 +1,31 @@
+"""The package for JavaScript."""
+
+from names import strings, wrapped
+
+HEADER = "bindings/js/src/header.js"
+
+
+def listed(name, words):
+    """A list of words."""
+    return [f"export const {name} = [", *wrapped(f"{strings(words)},", "  ", 140), "];"]
+
+
+def refusals(tables):
+    """The words of refusals, and their errnos."""
+    rows = tables["refusals"]
+    errnos = sorted((it.value, it.name) for it in tables["errnos"] if it.name in {row.error for row in rows})
+    return [
+        "/** The words of the refusals, by their numbers from 1 on. */",
+        *listed("REFUSALS", [it.word for it in rows]),
+        "",
+        "/** Behind these words stands the id of the namespace, or of the control group, that refuses. */",
+        f"export const WITH_ID = [{strings([it.word for it in rows if it.id != '-'])}];",
+        "",
+        "/** The errnos of Linux that a refusal may have. */",
+        "export const ERRNOS = {",
+        *wrapped(", ".join(f'{value}: "{name}"' for value, name in errnos) + ",", "  ", 140),
+        "};",
+    ]
+
+
+PARTS = {(HEADER, "refusals"): refusals}

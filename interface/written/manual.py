@@ -1,0 +1,37 @@
+"""The manual pages, in mdoc."""
+
+import textwrap
+
+from names import capitals, sentence
+
+PIDTAB = "man/pidtab.3"
+
+
+def table(sample, head, rows):
+    """A table: its widest cells, its head, and its rows, each of cells."""
+    widest = " ".join(f'"{cell}"' for cell in sample)
+    said = " Ta ".join(f"Sy {cell}" for cell in head)
+    return [f".Bl -column {widest}", f".It {said}", *[".It " + " Ta ".join(cells) for cells in rows], ".El"]
+
+
+def filled(text):
+    """A text in lines of at most 80 columns."""
+    return textwrap.wrap(text, 80, break_on_hyphens=False)
+
+
+def refusals(tables):
+    """The refusals with their numbers."""
+    rows = [(f"Dv PIDTAB_{capitals(it.word)}", str(it.number), f"Er {it.error}", it.word) for it in tables["refusals"]]
+    return table(("PIDTAB_OTHER_SESSION", "number", "ECHILD", "control-depth"), ("refusal", "number", "error", "word"), rows)
+
+
+def answers(tables):
+    """The refusals as answers to lines, and when each comes."""
+    lines = [".Bl -tag -width Ds"]
+    for it in tables["refusals"]:
+        behind = "" if it.id == "-" else f" {it.id}"
+        lines += [f".It Li {it.error} {it.word}{behind}", *filled(sentence(it.sentence.format(id=it.id)))]
+    return [*lines, ".El"]
+
+
+PARTS = {(PIDTAB, "refusals"): refusals, ("man/pidtab.5", "refusals"): answers}
