@@ -20,7 +20,7 @@ def with_id(sentence):
 
 def sentence(text):
     """With a capital letter and a full stop."""
-    return f"{text[0].upper()}{text[1:]}."
+    return f"{text[0].upper()}{text[1:]}." if text[0].isalpha() else f"{text}."
 
 
 def strings(words):

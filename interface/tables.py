@@ -12,6 +12,12 @@ KINDS = {
     "letter or -": r"[A-Z]|-",
     "yes or no": r"yes|no",
     "sentence": r"[^\s.].*[^\s.]",
+    "sentence or -": r"[^\s.].*[^\s.]|-",
+    "words": r"[a-z]+( [a-z]+)*",
+    "owner": r"table|record|saved",
+    "errno or -": r"E[A-Z]+|-",
+    "place": r"1|K|-",
+    "part": r"form|table|none",
     "list": r"[a-z][a-z0-9-]*( \([^()]+\))?(, [a-z][a-z0-9-]*( \([^()]+\))?)*",
 }
 
@@ -19,15 +25,22 @@ KINDS = {
 COLUMNS = {
     "errnos": {"name": "capitals", "value": "number", "python": "name or -"},
     "refusals": {"number": "number", "error": "capitals", "word": "word", "id": "letter or -", "sentence": "sentence"},
+    "statuses": {"name": "capitals", "error": "errno or -", "of": "owner", "sentence": "sentence", "when": "sentence or -"},
+    "faults": {
+        "number": "number", "name": "capitals", "rust": "name", "words": "words", "line": "place", "of": "part", "sentence": "sentence", "page": "sentence or -",
+    },
     "calls": {"number": "number", "call": "word", "model": "name", "query": "yes or no", "refusals": "list"},
-}
+}  # fmt: skip
 
 # The columns in which no cell comes twice, and those whose numbers go up by one.
-UNIQUE = {"errnos": ("name", "value"), "refusals": ("number", "word"), "calls": ("number", "call", "model")}
-FIRST = {"refusals": 1, "calls": 0}
+UNIQUE = {
+    "errnos": ("name", "value"), "refusals": ("number", "word"), "calls": ("number", "call", "model"), "statuses": ("name", "error", "sentence"),
+    "faults": ("number", "name", "rust", "words"),
+}  # fmt: skip
+FIRST = {"refusals": 1, "calls": 0, "faults": 1}
 
 # A column whose cells stand in a column of another table.
-KNOWN = {("refusals", "error"): ("errnos", "name"), ("calls", "refusals"): ("refusals", "word")}
+KNOWN = {("refusals", "error"): ("errnos", "name"), ("calls", "refusals"): ("refusals", "word"), ("statuses", "error"): ("errnos", "name")}
 
 
 class TableFault(Exception):
@@ -35,10 +48,10 @@ class TableFault(Exception):
 
 
 class Row:
-    """A row: its line in the file, and its cells by their columns."""
+    """A row: the line of the file where it stands, and its cells by their columns."""
 
-    def __init__(self, line, cells):
-        self.line = line
+    def __init__(self, at, cells):
+        self.at = at
         self.__dict__.update(cells)
 
     def cell(self, column):
@@ -97,16 +110,16 @@ def check_unique(table):
     for column in UNIQUE[table.name]:
         seen = {}
         for row in table.rows:
-            first = seen.setdefault(row.cell(column), row.line)
-            if first != row.line:
-                raise table.fault(row.line, f"{column} {row.cell(column)} stands in line {first} already")
+            first = seen.setdefault(row.cell(column), row.at)
+            if first != row.at:
+                raise table.fault(row.at, f"{column} {row.cell(column)} stands in line {first} already")
 
 
 def check_numbers(table):
     """The numbers go up by one."""
     for wanted, row in enumerate(table.rows, FIRST[table.name]):
         if row.number != wanted:
-            raise table.fault(row.line, f"the number is {row.number}, and {wanted} comes next")
+            raise table.fault(row.at, f"the number is {row.number}, and {wanted} comes next")
 
 
 def check_known(tables, name, column):
@@ -115,8 +128,8 @@ def check_known(tables, name, column):
     known = {row.cell(there) for row in tables[other].rows}
     for row in tables[name].rows:
         for word in words_of(row.cell(column)):
-            if word not in known:
-                raise tables[name].fault(row.line, f"{column} {word!r} is not in interface/{other}.tbl")
+            if word not in known | {"-"}:
+                raise tables[name].fault(row.at, f"{column} {word!r} is not in interface/{other}.tbl")
 
 
 def read_tables(folder):

@@ -34,17 +34,18 @@ struct pidtab {
 };
 #define PIDTAB_INIT { 0, false, false }
 
+/* Written by tools/interface: statuses. */
 /* What a function answers: 0, or a number of Linux's errno. Any status but PIDTAB_DONE says that the table is as it was.
  * A call that the table refuses, as ESRCH no-caller, is PIDTAB_DONE: its answer or reply says so. */
 enum pidtab_status {
 	PIDTAB_DONE = 0,
 	PIDTAB_CLOSED = 9,        /* EBADF: there is no open table */
-	PIDTAB_NO_MEMORY = 12,    /* ENOMEM */
+	PIDTAB_NO_MEMORY = 12,    /* ENOMEM: there is no memory */
 	PIDTAB_BUSY = 16,         /* EBUSY: another thread's call works on the table; or an open finds it open */
 	PIDTAB_OUT_OF_RANGE = 22, /* EINVAL: pid_max, or what a call takes */
 	PIDTAB_NO_ROOM = 34,      /* ERANGE: size says what is needed */
 	PIDTAB_EMPTY_LINE = 61,   /* ENODATA: a line of 0 bytes has no answer */
-	PIDTAB_BAD_LINE = 71,     /* EPROTO */
+	PIDTAB_BAD_LINE = 71,     /* EPROTO: the line is none of the script language */
 	PIDTAB_SPENT = 75,        /* EOVERFLOW: after 2^64 - 2 calls */
 	PIDTAB_BAD_TEXT = 117     /* EUCLEAN: the text is that of no table; the fault says why */
 };
@@ -90,6 +91,7 @@ static inline const char *pidtab_text(uint32_t status)
 	}
 	return "no such status";
 }
+/* The end of statuses. */
 
 /* The number of this interface. */
 #define PIDTAB_VERSION 1
@@ -118,39 +120,41 @@ uint32_t pidtab_list(struct pidtab *table, void *bytes, size_t room, size_t *siz
  * text, and its SHA-256 is in it. DONE, CLOSED, NO_MEMORY, and NO_ROOM as pidtab_list has it. */
 uint32_t pidtab_dump(struct pidtab *table, void *bytes, size_t room, size_t *size);
 
+/* Written by tools/interface: faults. */
 /* Why a text is that of no table. */
 enum pidtab_fault_kind {
-	PIDTAB_FAULT_BAD_LINE = 1,      /* the line is none of those that the form has there */
-	PIDTAB_FAULT_WRONG_DIGEST,      /* the last line is not that of the text before it */
-	PIDTAB_FAULT_BAD_SETTINGS,      /* pid_max is out of range, or some id is not below the stamp */
-	PIDTAB_FAULT_UNSORTED,          /* the number or id is not above that of the line before */
-	PIDTAB_FAULT_UNKNOWN_PARENT,    /* no line has the task's parent, or the namespace around the namespace */
-	PIDTAB_FAULT_UNKNOWN_NAMESPACE, /* no line has the namespace */
-	PIDTAB_FAULT_UNKNOWN_GROUP,     /* no line has the control group */
-	PIDTAB_FAULT_BAD_NAME,          /* a name has too few numbers, too many, or one out of range */
-	PIDTAB_FAULT_TAKEN_NUMBER,      /* two names have one number */
-	PIDTAB_FAULT_NO_INIT,           /* no task is the init of a namespace that has not fallen */
-	PIDTAB_FAULT_NO_NUMBER,         /* comes no more */
-	PIDTAB_FAULT_IMPOSSIBLE         /* in no table is this line beside the others */
+	PIDTAB_FAULT_BAD_LINE = 1,          /* the line is none of those that the form has there */
+	PIDTAB_FAULT_WRONG_DIGEST = 2,      /* the last line is not that of the text before it */
+	PIDTAB_FAULT_BAD_SETTINGS = 3,      /* pid_max is out of range, or some id is not below the stamp */
+	PIDTAB_FAULT_UNSORTED = 4,          /* the number or id is not above that of the line before */
+	PIDTAB_FAULT_UNKNOWN_PARENT = 5,    /* no line has the task's parent, or the namespace around the namespace */
+	PIDTAB_FAULT_UNKNOWN_NAMESPACE = 6, /* no line has the namespace */
+	PIDTAB_FAULT_UNKNOWN_GROUP = 7,     /* no line has the control group */
+	PIDTAB_FAULT_BAD_NAME = 8,          /* a name has too few numbers, too many, or one out of range */
+	PIDTAB_FAULT_TAKEN_NUMBER = 9,      /* two names have one number */
+	PIDTAB_FAULT_NO_INIT = 10,          /* no task is the init of a namespace that has not fallen */
+	PIDTAB_FAULT_NO_NUMBER = 11,        /* comes no more */
+	PIDTAB_FAULT_IMPOSSIBLE = 12        /* in no sound state is this line beside the others */
 };
+
+/* What a kind of fault says of its line, in the words of docs/SCRIPT.md. */
+static inline const char *pidtab_fault_text(uint32_t kind)
+{
+	static const char *const words[] = {
+		"no fault",
+		"bad line", "wrong digest", "bad settings", "out of order", "unknown parent", "unknown namespace",
+		"unknown control group", "bad name", "number in use twice", "namespace without an init",
+		"no number left", "impossible line"
+	};
+	return words[kind < sizeof words / sizeof words[0] ? kind : 0];
+}
+/* The end of faults. */
 
 /* The first fault of a text that is met. */
 struct pidtab_fault {
 	uint64_t line; /* from 1 on */
 	uint32_t kind; /* enum pidtab_fault_kind */
 };
-
-/* What a kind of fault says of its line, in the words of docs/SCRIPT.md. */
-static inline const char *pidtab_fault_text(uint32_t kind)
-{
-	static const char *const faults[] = {
-		"no fault",
-		"bad line", "wrong digest", "bad settings", "out of order", "unknown parent", "unknown namespace",
-		"unknown control group", "bad name", "number in use twice", "namespace without an init",
-		"no number left", "impossible line"
-	};
-	return faults[kind < sizeof faults / sizeof faults[0] ? kind : 0];
-}
 
 /* Opens a table as a text of pidtab_dump says: each later call has the answer that it would have had there. Any bytes may be given. DONE;
  * BUSY where it is open already; then BAD_TEXT and the fault, which no text of a table has; NO_MEMORY. The fault is zeroes but for BAD_TEXT. */

@@ -24,6 +24,7 @@
 extern "C" {
 #endif
 
+/* Written by tools/interface: statuses. */
 /* What these functions answer besides. */
 enum pidtab_saved_status {
 	PIDTAB_DEVICE = 5,        /* EIO: a read or a write of the file failed; the field `error` has its errno */
@@ -56,6 +57,7 @@ static inline const char *pidtab_saved_text(uint32_t status)
 	}
 	return pidtab_text(status);
 }
+/* The end of statuses. */
 
 /* The version of the form. */
 #define PIDTAB_SAVED_VERSION 1

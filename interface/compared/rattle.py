@@ -13,7 +13,14 @@ MODEL = "crates/pid_types/specs/Refusals.antt"
 LAWS = "crates/model_laws/specs/Refusals.antt"
 ANSWER = "crates/pid_script/src/answer.rt"
 NUMBERS = "crates/foreign_calls/src/numbers.rt"
-PATHS = (CODE, REPLY, CALL, MODEL, LAWS, ANSWER, NUMBERS)
+STATUSES = "crates/foreign_calls/src/status.rt"
+FAULT_CODE = "crates/foreign_calls/src/saved_table.rt"
+FAULT_MODEL = "crates/foreign_calls/specs/Saved.antt"
+FAULT_WORDS = "crates/table_load/src/fault.rt"
+FORM_WORDS = "crates/table_text/src/fault.rt"
+OF_REFUSALS = (CODE, REPLY, CALL, MODEL, LAWS, ANSWER, NUMBERS)
+OF_FAULTS = (STATUSES, FAULT_CODE, FAULT_MODEL, FAULT_WORDS, FORM_WORDS)
+PATHS = (*OF_REFUSALS, *OF_FAULTS)
 
 # A refusal in a pattern, with or without its id; and in the definitions.
 REFUSAL = r"Refusal::(\w+)(?:\(_\))?"
@@ -77,7 +84,7 @@ def compare_laws(source, calls, rows):
 def compare_refusals(tables, top):
     """All that the crates have of refusals."""
     rows, errnos, calls = tables["refusals"], tables["errnos"], tables["calls"]
-    code, reply, call, model, laws, answer, numbers = sources = [Source(top, path) for path in PATHS]
+    code, reply, call, model, laws, answer, numbers = sources = [Source(top, path) for path in OF_REFUSALS]
     compare_refusal_code(code, errnos, rows)
     compare_refusal_model(model, errnos, rows)
     compare_laws(laws, calls, rows)
@@ -92,6 +99,22 @@ def compare_refusals(tables, top):
     return [fault for source in sources for fault in source.faults]
 
 
+def compare_faults(tables, top):
+    """All that the crates have of statuses and of faults of a text."""
+    statuses, code, model, words, form = sources = [Source(top, path) for path in OF_FAULTS]
+    values = {it.name: it.value for it in tables["errnos"]}
+    rows = [it for it in tables["statuses"] if it.of != "saved"]
+    statuses.same_matches("the status", r"^pub const (\w+): u32 = (\d+);", [(it.name, str(values.get(it.error, 0))) for it in rows])
+    statuses.same_matches("the status", r"^/// `(E\w+)`:.*\npub const (\w+):", [(it.error, it.name) for it in rows if it.error != "-"])
+    faults = [it for it in tables["faults"] if it.of != "none"]
+    numbered = [(camel(it.name), str(it.number)) for it in faults]
+    code.same_matches("the fault", r"RestoreFault::(\w+)\(line\) => \(line, (\d+)\)", numbered)
+    model.same_matches("the fault", r"^fault_numbers \(why\.(\w+) n\) = record \{ line = n; kind = (\d+) \}", numbered)
+    for source, known in ((words, faults), (form, [it for it in faults if it.of == "form"])):
+        source.same_matches("the fault", r'#\[error\("line \{0\}: ([^"]*)"\)\]\n    (\w+)\(u64\),', [(it.words, camel(it.name)) for it in known])
+    return [fault for source in sources for fault in source.faults]
+
+
 def differences(tables, top):
     """What differs, as sentences with file and line."""
-    return compare_refusals(tables, top)
+    return compare_refusals(tables, top) + compare_faults(tables, top)

@@ -3,12 +3,13 @@
 from names import capitals, columns, strings, with_id, wrapped
 
 HEADER = "bindings/c/pidtab.h"
+SAVED = "bindings/c/pidtab_saved.h"
 
 
 def enum(name, rows):
     """An enum of rows: a name, its number, and what the comment says."""
     last = len(rows) - 1
-    entries = [(f"\t{word} = {number}{'' if place == last else ','}", f"/* {said} */") for place, (word, number, said) in enumerate(rows)]
+    entries = [(f"\t{word} = {number}{'' if place == last else ','}", said and f"/* {said} */") for place, (word, number, said) in enumerate(rows)]
     return [f"enum {name} {{", *columns(entries), "};"]
 
 
@@ -33,4 +34,56 @@ def refusals(tables):
     ]  # fmt: skip
 
 
-PARTS = {(HEADER, "refusals"): refusals}
+def status_enum(tables, owner):
+    """The statuses of functions of the owner, with their numbers."""
+    values = {it.name: it.value for it in tables["errnos"]}
+    rows = [it for it in tables["statuses"] if it.of == owner]
+    said = {it.name: "" if it.error == "-" else f"{it.error}: {it.sentence if it.when == '-' else it.when}" for it in rows}
+    return [(f"PIDTAB_{it.name}", values.get(it.error, 0), said[it.name]) for it in rows]
+
+
+def status_text(function, rows, otherwise):
+    """A function from statuses to sentences."""
+    cases = [line for it in rows for line in (f"\tcase PIDTAB_{it.name}:", f'\t\treturn "{it.sentence}";')]
+    return [f"static inline const char *{function}(uint32_t status)", "{", "\tswitch (status) {", *cases, "\t}", f"\treturn {otherwise};", "}"]
+
+
+def statuses(tables):
+    """What the functions of a table and of a record answer."""
+    return [
+        "/* What a function answers: 0, or a number of Linux's errno. Any status but PIDTAB_DONE says that the table is as it was.",
+        " * A call that the table refuses, as ESRCH no-caller, is PIDTAB_DONE: its answer or reply says so. */",
+        *enum("pidtab_status", status_enum(tables, "table")), "",
+        "/* What the functions of a record answer besides. Any status but PIDTAB_DONE says that the record is as it was, but of",
+        " * pidtab_record_replay. */",
+        *enum("pidtab_record_status", status_enum(tables, "record")), "", "/* What a status says, as a sentence. */",
+        *status_text("pidtab_text", [it for it in tables["statuses"] if it.of != "saved"], '"no such status"'),
+    ]  # fmt: skip
+
+
+def saved_statuses(tables):
+    """What the functions of a saved history answer."""
+    return [
+        "/* What these functions answer besides. */", *enum("pidtab_saved_status", status_enum(tables, "saved")), "",
+        "/* What a status says, as a sentence; also one of pidtab.h. */",
+        *status_text("pidtab_saved_text", [it for it in tables["statuses"] if it.of == "saved"], "pidtab_text(status)"),
+    ]  # fmt: skip
+
+
+def faults(tables):
+    """Why a text is that of no table."""
+    rows = tables["faults"]
+    return [
+        "/* Why a text is that of no table. */",
+        *enum("pidtab_fault_kind", [(f"PIDTAB_FAULT_{it.name}", it.number, it.sentence) for it in rows]), "",
+        *lookup("What a kind of fault says of its line, in the words of docs/SCRIPT.md.", "pidtab_fault_text", "kind", "no fault",
+                [it.words for it in rows]),
+    ]  # fmt: skip
+
+
+PARTS = {
+    (HEADER, "refusals"): refusals,
+    (HEADER, "statuses"): statuses,
+    (HEADER, "faults"): faults,
+    (SAVED, "statuses"): saved_statuses,
+}

@@ -30,4 +30,10 @@ def refusals(tables):
     ]
 
 
-PARTS = {("bindings/go/refusal.go", "refusals"): refusals}
+def faults(tables):
+    """The words of the faults of a text."""
+    rows = columns([(f"{it.number}:", f'"{it.words}",') for it in tables["faults"]])
+    return ["", "// The words of the faults, by their numbers.", "var textFaults = [...]string{", *[f"\t{row}" for row in rows], "}", ""]
+
+
+PARTS = {("bindings/go/refusal.go", "refusals"): refusals, ("bindings/go/dump.go", "faults"): faults}

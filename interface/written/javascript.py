@@ -28,4 +28,17 @@ def refusals(tables):
     ]
 
 
-PARTS = {(HEADER, "refusals"): refusals}
+def statuses(tables):
+    """What the functions of a table and a record answer."""
+    values = {it.name: it.value for it in tables["errnos"]}
+    rows = [f"{it.name}: {values.get(it.error, 0)}" for it in tables["statuses"] if it.of != "saved"]
+    return ["export const STATUS = {", *wrapped(", ".join(rows) + ",", "  ", 140), "};"]
+
+
+def faults(tables):
+    """The words of the faults of a text."""
+    comment = "/** Why a text is that of no table, by the numbers of the faults from 1 on. */"
+    return [comment, *listed("TEXT_FAULTS", [it.words for it in tables["faults"]])]
+
+
+PARTS = {(HEADER, "refusals"): refusals, (HEADER, "statuses"): statuses, (HEADER, "faults"): faults}

@@ -34,4 +34,10 @@ def answers(tables):
     return [*lines, ".El"]
 
 
-PARTS = {(PIDTAB, "refusals"): refusals, ("man/pidtab.5", "refusals"): answers}
+def faults(tables):
+    """The faults of a text with their numbers."""
+    rows = [(f"Dv PIDTAB_FAULT_{it.name}", str(it.number), it.words) for it in tables["faults"]]
+    return table(("PIDTAB_FAULT_UNKNOWN_NAMESPACE", "number", "namespace without an init"), ("kind", "number", "words"), rows)
+
+
+PARTS = {(PIDTAB, "refusals"): refusals, ("man/pidtab.5", "refusals"): answers, (PIDTAB, "faults"): faults}

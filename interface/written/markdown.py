@@ -49,8 +49,16 @@ def classes(tables):
     return table(("Words", "Errno", "Class"), rows)
 
 
+def faults_of(tables, part):
+    """The faults of a text of a kind, and when each comes."""
+    rows = [it for it in tables["faults"] if it.of == part]
+    return table(("Fault", "When"), [(f"`line {it.line}: {it.words}`", said(it.sentence if it.page == "-" else it.page)) for it in rows])
+
+
 PARTS = {
     (SCRIPT, "refusals"): answers,
     (SCRIPT, "orders"): orders,
+    (SCRIPT, "faults of the form"): lambda tables: faults_of(tables, "form"),
+    (SCRIPT, "faults of the table"): lambda tables: faults_of(tables, "table"),
     ("bindings/python/README.md", "refusals"): classes,
 }

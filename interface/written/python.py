@@ -3,6 +3,7 @@
 from names import strings, wrapped
 
 FAULTS = "bindings/python/pidtab/faults.py"
+RAW = "bindings/python/pidtab/raw.py"
 
 
 def listed(name, words):
@@ -22,4 +23,19 @@ def refusals(tables):
     ]
 
 
-PARTS = {(FAULTS, "refusals"): refusals}
+def statuses(tables):
+    """What the functions answer."""
+    values = {it.name: it.value for it in tables["errnos"]}
+    heads = {"table": [], "record": ["", "# Of a history besides."], "saved": ["", "# Of a saved history besides."]}
+    lines = []
+    for owner, head in heads.items():
+        lines += [*head, *[f"{it.name} = {values.get(it.error, 0)}" for it in tables["statuses"] if it.of == owner]]
+    return lines
+
+
+def faults(tables):
+    """The words of the faults of a text."""
+    return ["# What a text is that of no table for, by the numbers of the faults from 1 on.", *listed("TEXT_FAULTS", [it.words for it in tables["faults"]])]
+
+
+PARTS = {(FAULTS, "refusals"): refusals, (RAW, "statuses"): statuses, (FAULTS, "faults"): faults}

@@ -1,8 +1,12 @@
 """The package for Rust."""
 
-from names import camel, sentence, with_id, wrapped
+import textwrap
+
+from names import camel, sentence, with_id
 
 FAULT = "bindings/rust/src/fault.rs"
+RAW = "bindings/rust/src/raw.rs"
+LIB = "bindings/rust/src/lib.rs"
 
 ERROR_HEAD = ["#[derive(Clone, Copy, Debug, PartialEq, Eq, Hash)]", "#[non_exhaustive]"]
 
@@ -37,13 +41,52 @@ def refusals(tables):
     ]  # fmt: skip
 
 
+def all_names(names):
+    """A match of all that there are, for an example."""
+    return textwrap.wrap(f"{' | '.join(names)} => {{}}", 120, initial_indent="///         ", subsequent_indent="///         ")
+
+
 def all_refusals(tables):
-    """A match of all refusals that there are, for an example."""
-    names = " | ".join(variant(it, "_").split("::")[1] for it in tables["refusals"])
-    return [line.rstrip() for line in wrapped(f"{names} => {{}}", "///         ", 120)]
+    """A match of all refusals."""
+    return all_names([variant(it, "_").split("::")[1] for it in tables["refusals"]])
+
+
+def all_faults(tables):
+    """A match of all faults of a text."""
+    return all_names([it.rust for it in tables["faults"]])
+
+
+def numbers(name, comment, rows):
+    """Constants in a module of their own, as not each is used: names, types and values."""
+    lines = [f"    pub(crate) const {word}: {kind} = {number};" for word, kind, number in rows]
+    return [f"/// {comment}", "#[allow(dead_code)] // Not each is used here.", f"mod {name} {{", *lines, "}", f"pub(crate) use {name}::*;"]
+
+
+def statuses(tables):
+    """What the functions answer."""
+    values = {it.name: it.value for it in tables["errnos"]}
+    return numbers("statuses", "What the functions answer.", [(it.name, "u32", values.get(it.error, 0)) for it in tables["statuses"]])
+
+
+def faults(tables):
+    """Why a text is that of no table."""
+    rows = tables["faults"]
+    lines = ["/// What is wrong with a text, or with its line: the text is that of no table. More may come.", *ERROR_HEAD, "pub enum TextFault {"]
+    for it in rows:
+        lines += [f"    /// {sentence(it.sentence.replace('pid_max', '`pid_max`', 1))}", f"    {it.rust},"]
+    return [
+        *lines, "}", "", "impl TextFault {", "    /// The fault with the number.", "    pub(crate) fn of(number: u32) -> TextFault {",
+        "        match number {", *matched([(it.number, f"TextFault::{it.rust}") for it in rows]),
+        '            _ => unreachable!("no fault of a text has the number {number}"),', "        }", "    }", "}", "",
+        "impl fmt::Display for TextFault {", "    fn fmt(&self, to: &mut fmt::Formatter<'_>) -> fmt::Result {", "        to.write_str(match self {",
+        *matched([(f"TextFault::{it.rust}", f'"{it.words}"') for it in rows]), "        })", "    }", "}",
+    ]  # fmt: skip
 
 
 PARTS = {
     (FAULT, "refusals"): refusals,
-    ("bindings/rust/src/lib.rs", "refusals"): all_refusals,
+    (LIB, "refusals"): all_refusals,
+    (RAW, "statuses"): statuses,
+    (FAULT, "faults"): faults,
+    (LIB, "faults"): all_faults,
 }

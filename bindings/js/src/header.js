@@ -6,17 +6,12 @@ export const GREATEST_PID_MAX = 4194304;
 export const MOST_WORKERS = 16;
 export const KILLED = 256;
 
+// Written by tools/interface: statuses.
 export const STATUS = {
-  DONE: 0,
-  NOT_KEPT: 2,
-  AGAIN: 11,
-  NO_MEMORY: 12,
-  OUT_OF_RANGE: 22,
-  NO_ROOM: 34,
-  BAD_LINE: 71,
-  SPENT: 75,
-  BAD_TEXT: 117,
+  DONE: 0, CLOSED: 9, NO_MEMORY: 12, BUSY: 16, OUT_OF_RANGE: 22, NO_ROOM: 34, EMPTY_LINE: 61, BAD_LINE: 71, SPENT: 75, BAD_TEXT: 117,
+  NOT_KEPT: 2, AGAIN: 11, DIFFERS: 74,
 };
+// The end of statuses.
 
 const OPERATIONS =
   "FORK GETPID NSPID EXEC EXIT WAIT GETPPID SETPGID SETSID MK RM LIMIT MOVE COUNT GETPGID GETSID NEXT JOIN SUBREAPER".split(" ");
@@ -46,21 +41,13 @@ export const ERRNOS = {
 };
 // The end of refusals.
 
+// Written by tools/interface: faults.
 /** Why a text is that of no table, by the numbers of the faults from 1 on. */
 export const TEXT_FAULTS = [
-  "bad line",
-  "wrong digest",
-  "bad settings",
-  "out of order",
-  "unknown parent",
-  "unknown namespace",
-  "unknown control group",
-  "bad name",
-  "number in use twice",
-  "namespace without an init",
-  "no number left",
-  "impossible line",
+  "bad line", "wrong digest", "bad settings", "out of order", "unknown parent", "unknown namespace", "unknown control group", "bad name",
+  "number in use twice", "namespace without an init", "no number left", "impossible line",
 ];
+// The end of faults.
 
 // The fields by their places, in words of 32 bits. One of 64 bits, as an id, has two words.
 export const CALL = { operation: 0, caller: 1, id: 2, number: 4, choice: 5, pid: 6, pgid: 7 };

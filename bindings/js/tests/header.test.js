@@ -34,25 +34,13 @@ function readStruct(name) {
   return fields;
 }
 
-/** The strings of a table of the header. */
-function readWords(name) {
-  const [, body] = new RegExp(`${name}\\[\\] = \\{([^}]*)\\}`).exec(HEADER);
-  return [...body.matchAll(/"([^"]*)"/g)].map(([, word]) => word);
-}
-
 test("the numbers are those of the header", () => {
-  const statuses = { ...readEnum("pidtab_status"), ...readEnum("pidtab_record_status") };
-  for (const [name, number] of Object.entries(header.STATUS)) assert.equal(number, statuses[name], name);
   assert.deepEqual(header.OPERATION, readEnum("pidtab_operation"));
   assert.deepEqual(header.WHICH, readEnum("pidtab_which"));
   assert.deepEqual(header.KIND, readEnum("pidtab_kind"));
   assert.deepEqual(header.USES.map((use) => `${use.toUpperCase()}S`), Object.keys(readEnum("pidtab_use")));
   assert.equal(header.KILLED, Number(/PIDTAB_KILLED (\d+)/.exec(HEADER)[1]));
   assert.equal(header.MOST_WORKERS, Number(/PIDTAB_MOST_WORKERS (\d+)/.exec(HEADER)[1]));
-});
-
-test("the words are those of the header", () => {
-  assert.deepEqual(header.TEXT_FAULTS, readWords("faults").slice(1));
 });
 
 test("the fields stand where the header has them", () => {

@@ -158,11 +158,13 @@ WORDS_WITH_ID = ("no-number", "pids-limit")
 # The end of refusals.
 
 
+# Written by tools/interface: faults.
 # What a text is that of no table for, by the numbers of the faults from 1 on.
 TEXT_FAULTS = (
     "bad line", "wrong digest", "bad settings", "out of order", "unknown parent", "unknown namespace", "unknown control group", "bad name",
     "number in use twice", "namespace without an init", "no number left", "impossible line",
 )  # fmt: skip
+# The end of faults.
 
 
 def bad_text(line: int, kind: int) -> BadText:

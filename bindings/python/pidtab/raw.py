@@ -5,6 +5,7 @@ import struct
 
 VERSION = 1
 
+# Written by tools/interface: statuses.
 DONE = 0
 CLOSED = 9
 NO_MEMORY = 12
@@ -29,6 +30,7 @@ ENDED = 32
 TORN = 42
 WRONG_BYTE = 84
 OTHER_VERSION = 93
+# The end of statuses.
 
 KILLED = 256
 LEVELS_MAX = 33

@@ -48,6 +48,15 @@ DIFFERENCES = [
     ("bindings/js/pidtab.d.ts", "children. no-control, root-control, control-busy. */", "children. no-control, control-busy. */", "the refusals of rm is"),
     ("bindings/go/calls.go", "Refused as no-task, no-control.", "Refused as no-control.", "the refusals of move is no-control, and in"),
     ("bindings/rust/src/calls.rs", "`Refused` as `NoCaller`, `RootInit`.", "`Refused` as `RootInit`.", "the refusals of exit is root-init, and in"),
+    ("crates/foreign_calls/src/status.rt", "pub const SPENT: u32 = 75;", "pub const SPENT: u32 = 76;", "the status SPENT 76 is not in interface/"),
+    ("crates/foreign_calls/src/status.rt", "/// `ENODATA`: the", "/// `ENOENT`: the", "the status ENOENT EMPTY_LINE is not in interface/"),
+    ("crates/foreign_calls/src/saved_table.rt", "RestoreFault::NoInit(line) => (line, 10)", "RestoreFault::NoInit(line) => (line, 11)", "the fault NoInit 11 is not"),
+    ("crates/foreign_calls/specs/Saved.antt", "(why.BadName n) = record { line = n; kind = 8 }", "(why.BadName n) = record { line = n; kind = 9 }", "BadName 9"),
+    ("crates/table_load/src/fault.rt", "line {0}: out of order", "line {0}: unsorted", "the fault unsorted Unsorted is not in interface/"),
+    ("crates/table_text/src/fault.rt", "line {0}: wrong digest", "line {0}: other digest", "the fault other digest WrongDigest is not in interface/"),
+    ("man/pidtab.3", ".It Dv PIDTAB_NO_ROOM\n.Er ERANGE :", ".It Dv PIDTAB_NO_ROOM\n.Er ENOSPC :", "the status NO_ROOM ENOSPC is not in interface/"),
+    ("man/pidtab_record.3", ".It Dv PIDTAB_AGAIN\n.Er EAGAIN :", ".It Dv PIDTAB_LATER\n.Er EAGAIN :", "the status LATER EAGAIN is not in interface/"),
+    ("man/pidtab_saved.3", ".Er EILSEQ :", ".Er EINVAL :", "the status WRONG_BYTE EINVAL is not in interface/"),
     ("docs/list.schema.json", '"is-leader", "no-group"', '"no-group", "is-leader"', "the words of refusals is"),
     ("docs/list.schema.json", '"EPERM", "EACCES"', '"EPERM", "EBADF"', "the errors of refusals is"),
 ]  # fmt: skip
@@ -66,6 +75,12 @@ FAULTS = [
     ("calls", "no-caller, root-init", "no-caller, root-inits", "refusals 'root-inits' is not in interface/refusals.tbl"),
     ("calls", "no-caller, root-init", "no-caller root-init", "is no list"),
     ("calls", "Exit          | no ", "Exit          | non", "query 'non' is no yes or no"),
+    ("statuses", "EUCLEAN         |", "EUCLEAM         |", "error 'EUCLEAM' is not in interface/errnos.tbl"),
+    ("statuses", "DIFFERS       | EBADMSG         | record |", "DIFFERS       | EBADMSG         | saver |", "of 'saver' is no owner"),
+    ("statuses", "AGAIN         | EAGAIN          | record |", "AGAIN         | EAGAIN          |", "4 cells, and there are 5 columns"),
+    ("faults", "no number left            | -", "no number left            | 2", "line '2' is no place"),
+    ("faults", "12     | IMPOSSIBLE", "13     | IMPOSSIBLE", "the number is 13, and 12 comes next"),
+    ("faults", "12     | IMPOSSIBLE        | Impossible", "12     | IMPOSSIBLE        | NoNumber", "rust NoNumber stands in line"),
     ("errnos", "EBUSY           | 16", "EBUSY           | 13", "value 13 stands in line 12 already"),
 ]
 

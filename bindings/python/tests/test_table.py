@@ -18,7 +18,6 @@ from unittest import mock
 
 from pidtab import Calls, LibraryFault, LibraryMissing, Process, Table, TableClosed, find_library, raw
 from pidtab.calls import KINDS
-from pidtab.faults import TEXT_FAULTS
 from pidtab.language import FORMS
 from pidtab.library import load_library
 from tests.alarms import alarms
@@ -78,8 +77,8 @@ class Header(unittest.TestCase):
     """The numbers, structs and functions are those of the header."""
 
     def test_the_enums(self) -> None:
-        enums = [read_enum(name) for name in ("status", "record_status", "saved_status", "operation", "which", "use", "kind")]
-        self.assertEqual([len(enum) for enum in enums], [10, 3, 7, 19, 4, 3, 10])
+        enums = [read_enum(name) for name in ("operation", "which", "use", "kind")]
+        self.assertEqual([len(enum) for enum in enums], [19, 4, 3, 10])
         for word, number in [entry for enum in enums for entry in enum.items()]:
             self.assertEqual(getattr(raw, word), number, word)
 
@@ -128,10 +127,6 @@ class Header(unittest.TestCase):
         self.assertLessEqual(left_out, set(declared))
         for name, (_, arguments) in known.items():
             self.assertEqual([takes(it) for it in declared[name].split(", ") if it != "void"], arguments, name)
-
-    def test_the_words_of_faults_of_a_text(self) -> None:
-        (words,) = re.findall(r'"no fault", ((?:"[a-z ]+",? ?)+) }', header())
-        self.assertEqual(list(TEXT_FAULTS), re.findall(r'"([a-z ]+)"', words))
 
 
 class Libraries(unittest.TestCase):

@@ -349,6 +349,7 @@ impl From<LineError> for io::Error {
     }
 }
 
+// Written by tools/interface: faults.
 /// What is wrong with a text, or with its line: the text is that of no table. More may come.
 #[derive(Clone, Copy, Debug, PartialEq, Eq, Hash)]
 #[non_exhaustive]
@@ -357,9 +358,9 @@ pub enum TextFault {
     BadLine,
     /// The last line is not that of the text before it.
     WrongDigest,
-    /// `pid_max` is out of its range, or some id is not below the stamp.
+    /// `pid_max` is out of range, or some id is not below the stamp.
     BadSettings,
-    /// The number or the id is not above that of the line before.
+    /// The number or id is not above that of the line before.
     OutOfOrder,
     /// No line has the task's parent, or the namespace around the namespace.
     UnknownParent,
@@ -418,6 +419,7 @@ impl fmt::Display for TextFault {
         })
     }
 }
+// The end of faults.
 
 /// Why no table is made of a text. More reasons may come.
 #[derive(Clone, Copy, Debug, PartialEq, Eq, Hash)]

@@ -1,6 +1,5 @@
 //! That `raw.rs` is `bindings/c/pidtab.h`, and what it has of `pidtab_saved.h`: numbers, structs and functions.
 use crate::raw::*;
-use crate::TextFault;
 use std::fs;
 
 /// `pidtab.h`.
@@ -43,29 +42,6 @@ fn same_enum(name: &str, numbers: &[(&str, u32)]) {
 
 #[test]
 fn the_numbers_are_those_of_the_header() {
-    same_enum(
-        "pidtab_status",
-        &[
-            ("DONE", DONE),
-            ("CLOSED", 9),
-            ("NO_MEMORY", NO_MEMORY),
-            ("BUSY", BUSY),
-            ("OUT_OF_RANGE", OUT_OF_RANGE),
-            ("NO_ROOM", NO_ROOM),
-            ("EMPTY_LINE", EMPTY_LINE),
-            ("BAD_LINE", BAD_LINE),
-            ("SPENT", SPENT),
-            ("BAD_TEXT", BAD_TEXT),
-        ],
-    );
-    same_enum(
-        "pidtab_record_status",
-        &[
-            ("NOT_KEPT", NOT_KEPT),
-            ("AGAIN", AGAIN),
-            ("DIFFERS", DIFFERS),
-        ],
-    );
     same_enum(
         "pidtab_operation",
         &[
@@ -122,17 +98,6 @@ fn the_choices_and_kinds_are_those_of_the_header() {
             ("REFUSED", REFUSED),
         ],
     );
-}
-
-/// The words of the header, in the order of their numbers from 1 on.
-#[test]
-fn the_faults_of_a_text_are_those_of_the_header() {
-    let header = header();
-    let (_, behind) = header.split_once("\"no fault\", ").expect("the words");
-    let words = behind.split_once(" }").expect("a closing brace").0;
-    let told: Vec<_> = words.split(", ").map(|it| it.trim_matches('"')).collect();
-    let known: Vec<_> = (1..=12).map(|it| TextFault::of(it).to_string()).collect();
-    assert_eq!(told, known);
 }
 
 #[test]
@@ -251,23 +216,9 @@ fn the_functions_on_a_record_are_those_of_the_header() {
     }
 }
 
-/// The header has the status with this number.
-fn same_status(header: &str, name: &str, number: u32) {
-    let enumerated = body(header, "enum pidtab_saved_status");
-    let mut words = enumerated.split(", ").map(|it| it.trim());
-    assert!(
-        words.any(|it| it == format!("PIDTAB_{name} = {number}")),
-        "{name}"
-    );
-}
-
 #[test]
 fn what_is_used_of_a_saved_history_is_that_of_its_header() {
     let header = bare("pidtab_saved.h");
-    same_status(&header, "NOT_SAVED", NOT_SAVED);
-    same_status(&header, "TORN", TORN);
-    same_status(&header, "WRONG_BYTE", WRONG_BYTE);
-    same_status(&header, "OTHER_VERSION", OTHER_VERSION);
     for (name, number) in [("BLOCK", SAVED_BLOCK), ("LONGEST", SAVED_LONGEST)] {
         let defined = format!("#define PIDTAB_SAVED_{name} {number} ");
         assert!(header.contains(&defined), "{name}");

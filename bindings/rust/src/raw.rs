@@ -8,24 +8,33 @@ use std::ptr;
 
 pub(crate) const VERSION: u32 = 1;
 
-pub(crate) const DONE: u32 = 0;
-pub(crate) const NO_MEMORY: u32 = 12;
-pub(crate) const BUSY: u32 = 16;
-pub(crate) const OUT_OF_RANGE: u32 = 22;
-pub(crate) const NO_ROOM: u32 = 34;
-pub(crate) const EMPTY_LINE: u32 = 61;
-pub(crate) const BAD_LINE: u32 = 71;
-pub(crate) const SPENT: u32 = 75;
-pub(crate) const BAD_TEXT: u32 = 117;
-
-pub(crate) const NOT_KEPT: u32 = 2;
-pub(crate) const AGAIN: u32 = 11;
-pub(crate) const DIFFERS: u32 = 74;
-
-pub(crate) const NOT_SAVED: u32 = 8;
-pub(crate) const TORN: u32 = 42;
-pub(crate) const WRONG_BYTE: u32 = 84;
-pub(crate) const OTHER_VERSION: u32 = 93;
+// Written by tools/interface: statuses.
+/// What the functions answer.
+#[allow(dead_code)] // Not each is used here.
+mod statuses {
+    pub(crate) const DONE: u32 = 0;
+    pub(crate) const CLOSED: u32 = 9;
+    pub(crate) const NO_MEMORY: u32 = 12;
+    pub(crate) const BUSY: u32 = 16;
+    pub(crate) const OUT_OF_RANGE: u32 = 22;
+    pub(crate) const NO_ROOM: u32 = 34;
+    pub(crate) const EMPTY_LINE: u32 = 61;
+    pub(crate) const BAD_LINE: u32 = 71;
+    pub(crate) const SPENT: u32 = 75;
+    pub(crate) const BAD_TEXT: u32 = 117;
+    pub(crate) const NOT_KEPT: u32 = 2;
+    pub(crate) const AGAIN: u32 = 11;
+    pub(crate) const DIFFERS: u32 = 74;
+    pub(crate) const DEVICE: u32 = 5;
+    pub(crate) const NOT_SAVED: u32 = 8;
+    pub(crate) const NOT_EMPTY: u32 = 17;
+    pub(crate) const ENDED: u32 = 32;
+    pub(crate) const TORN: u32 = 42;
+    pub(crate) const WRONG_BYTE: u32 = 84;
+    pub(crate) const OTHER_VERSION: u32 = 93;
+}
+pub(crate) use statuses::*;
+// The end of statuses.
 
 pub(crate) const FORK: u32 = 0;
 pub(crate) const GETPID: u32 = 1;
