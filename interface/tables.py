@@ -18,6 +18,11 @@ KINDS = {
     "errno or -": r"E[A-Z]+|-",
     "place": r"1|K|-",
     "part": r"form|table|none",
+    "kind": r"reply|which|use",
+    "word or -": r"[a-z][a-z0-9-]*|-",
+    "type": r"number|long|size",
+    "header": r"interface|saved|packages",
+    "constant or -": r"[a-z_]+/src/[a-z_]+\.rt [A-Z_]+|-",
     "list": r"[a-z][a-z0-9-]*( \([^()]+\))?(, [a-z][a-z0-9-]*( \([^()]+\))?)*",
 }
 
@@ -29,15 +34,17 @@ COLUMNS = {
     "faults": {
         "number": "number", "name": "capitals", "rust": "name", "words": "words", "line": "place", "of": "part", "sentence": "sentence", "page": "sentence or -",
     },
+    "kinds": {"of": "kind", "number": "number", "name": "capitals", "model": "name", "word": "word or -", "tells": "sentence"},
+    "bounds": {"name": "capitals", "value": "number", "type": "type", "of": "header", "source": "constant or -", "sentence": "sentence"},
     "calls": {"number": "number", "call": "word", "model": "name", "query": "yes or no", "refusals": "list"},
 }  # fmt: skip
 
 # The columns in which no cell comes twice, and those whose numbers go up by one.
 UNIQUE = {
     "errnos": ("name", "value"), "refusals": ("number", "word"), "calls": ("number", "call", "model"), "statuses": ("name", "error", "sentence"),
-    "faults": ("number", "name", "rust", "words"),
+    "faults": ("number", "name", "rust", "words"), "kinds": ("name",), "bounds": ("name", "sentence"),
 }  # fmt: skip
-FIRST = {"refusals": 1, "calls": 0, "faults": 1}
+FIRST = {"refusals": 1, "calls": 0, "faults": 1, "kinds": 0}
 
 # A column whose cells stand in a column of another table.
 KNOWN = {("refusals", "error"): ("errnos", "name"), ("calls", "refusals"): ("refusals", "word"), ("statuses", "error"): ("errnos", "name")}
@@ -116,8 +123,12 @@ def check_unique(table):
 
 
 def check_numbers(table):
-    """The numbers go up by one."""
-    for wanted, row in enumerate(table.rows, FIRST[table.name]):
+    """The numbers go up by one, in the kinds of each."""
+    following = {}
+    for row in table.rows:
+        group = row.cell("of") if table.name == "kinds" else ""
+        wanted = following.get(group, FIRST[table.name])
+        following[group] = wanted + 1
         if row.number != wanted:
             raise table.fault(row.at, f"the number is {row.number}, and {wanted} comes next")
 

@@ -93,8 +93,16 @@ static inline const char *pidtab_text(uint32_t status)
 }
 /* The end of statuses. */
 
-/* The number of this interface. */
-#define PIDTAB_VERSION 1
+/* Written by tools/interface: bounds. */
+#define PIDTAB_VERSION 1          /* the number of this interface */
+#define PIDTAB_LONGEST_ANSWER 362 /* no answer to a line is longer */
+#define PIDTAB_LONGEST_CALL 42    /* no line of a call is longer */
+#define PIDTAB_KILLED 256         /* the status of a child that the fall of its namespace killed */
+#define PIDTAB_LEVELS_MAX 33      /* no task has more numbers */
+#define PIDTAB_MOST_WORKERS 16    /* no record has more workers */
+/* The end of bounds. */
+
+/* The number of the interface that the library has, which is PIDTAB_VERSION of its header. */
 uint32_t pidtab_version(void);
 
 /* Opens a table with process 1 alone; pid_max is 301 to 4194304. DONE, BUSY, OUT_OF_RANGE, NO_MEMORY. Each of the functions below may be
@@ -103,9 +111,6 @@ uint32_t pidtab_open(struct pidtab *table, uint32_t pid_max);
 
 /* Frees the table. A table that is not open stays so. DONE; one that is BUSY is not closed. */
 uint32_t pidtab_close(struct pidtab *table);
-
-/* No answer is longer. */
-#define PIDTAB_LONGEST_ANSWER 362
 
 /* Makes the call on a line of the script language (docs/SCRIPT.md), which has no newline. The answer has size bytes, no newline
  * and no zero byte behind it; its room is at least PIDTAB_LONGEST_ANSWER. DONE, CLOSED, EMPTY_LINE, BAD_LINE, NO_ROOM, SPENT, and
@@ -183,9 +188,20 @@ enum pidtab_operation {
 	PIDTAB_SUBREAPER  /* caller; choice 1: on, 0: off */
 };
 
-enum pidtab_which { PIDTAB_ANY, PIDTAB_CHILD, PIDTAB_OWN_GROUP, PIDTAB_GROUP };
+/* Written by tools/interface: choices. */
+enum pidtab_which {
+	PIDTAB_ANY = 0,       /* any child */
+	PIDTAB_CHILD = 1,     /* the child with the number */
+	PIDTAB_OWN_GROUP = 2, /* the children in the caller's process group */
+	PIDTAB_GROUP = 3      /* the children in the process group with the number */
+};
 
-enum pidtab_use { PIDTAB_TASKS, PIDTAB_GROUPS, PIDTAB_SESSIONS };
+enum pidtab_use {
+	PIDTAB_TASKS = 0,   /* a task, live or ended */
+	PIDTAB_GROUPS = 1,  /* a process group */
+	PIDTAB_SESSIONS = 2 /* a session */
+};
+/* The end of choices. */
 
 struct pidtab_call {
 	uint32_t operation;
@@ -197,19 +213,21 @@ struct pidtab_call {
 	int32_t pgid;
 };
 
+/* Written by tools/interface: kinds. */
 /* A reply as numbers. What a kind does not tell is 0. */
 enum pidtab_kind {
-	PIDTAB_FORKED,   /* first: the child's number to the caller, second: its root number */
-	PIDTAB_OK,
-	PIDTAB_NUMBER,   /* first */
-	PIDTAB_LEVELS,   /* count of levels */
-	PIDTAB_REAPED,   /* first: the child, second: its status, or PIDTAB_KILLED */
-	PIDTAB_NONE_YET,
-	PIDTAB_COUNTED,  /* first */
-	PIDTAB_CONTROL,  /* first: the id */
-	PIDTAB_END,
-	PIDTAB_REFUSED   /* error, refusal: enum pidtab_refusal, first: the id of what refused, if it has one */
+	PIDTAB_FORKED = 0,   /* first: the child's number to the caller, second: its root number */
+	PIDTAB_OK = 1,       /* nothing */
+	PIDTAB_NUMBER = 2,   /* first */
+	PIDTAB_LEVELS = 3,   /* the first count of levels, outermost first */
+	PIDTAB_REAPED = 4,   /* first: the child, second: its status, or PIDTAB_KILLED where its namespace fell */
+	PIDTAB_NONE_YET = 5, /* nothing: children match, and none of them has ended */
+	PIDTAB_COUNTED = 6,  /* first */
+	PIDTAB_CONTROL = 7,  /* first: the id */
+	PIDTAB_END = 8,      /* nothing: no number follows */
+	PIDTAB_REFUSED = 9   /* error, refusal: its number, first: the id of what refused, if it has one */
 };
+/* The end of kinds. */
 
 /* Written by tools/interface: refusals. */
 /* Why the table refuses a call. The numbers stay as they are. */
@@ -248,9 +266,6 @@ static inline const char *pidtab_word(uint32_t refusal)
 }
 /* The end of refusals. */
 
-#define PIDTAB_KILLED 256
-#define PIDTAB_LEVELS_MAX 33
-
 struct pidtab_reply {
 	uint32_t kind;
 	uint32_t error;
@@ -288,9 +303,6 @@ struct pidtab_task {
 /* Reads the task with the number in the caller's namespace, where 0 is the caller, and a zombie too: as getpgid finds it. It is no
  * call, as pidtab_ask is none. What the table refuses is PIDTAB_DONE: the task says so. DONE, CLOSED. */
 uint32_t pidtab_stat(struct pidtab *table, uint32_t caller, uint32_t number, struct pidtab_task *task);
-
-/* No line of a call is longer. */
-#define PIDTAB_LONGEST_CALL 42
 
 /* Writes the call as a line of the script language, without a newline and a zero byte: pidtab_line makes the same call of it. It needs
  * no table. DONE; OUT_OF_RANGE where the numbers say no call; NO_ROOM where the line is longer than the room, and then too size is its
@@ -452,7 +464,6 @@ struct pidtab_record {
 };
 #define PIDTAB_RECORD_INIT { 0, false, false }
 
-#define PIDTAB_MOST_WORKERS 16
 
 /* Opens a record with process 1 alone, for 1 to 16 workers; first_stamp is at least 1. DONE, BUSY, OUT_OF_RANGE, NO_MEMORY. Each of
  * the functions below may be BUSY too. */

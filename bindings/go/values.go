@@ -46,6 +46,8 @@ type Call struct {
 // ReplyKind is what a Reply tells.
 type ReplyKind uint32
 
+// Written by tools/interface: kinds.
+
 // The kinds of a Reply, with its fields that each tells.
 const (
 	ReplyForked  ReplyKind = C.PIDTAB_FORKED   // First: the child's number to the caller, Second: its root number
@@ -57,8 +59,10 @@ const (
 	ReplyCounted ReplyKind = C.PIDTAB_COUNTED  // First
 	ReplyControl ReplyKind = C.PIDTAB_CONTROL  // First: the id
 	ReplyEnd     ReplyKind = C.PIDTAB_END      // nothing: no number follows
-	ReplyRefused ReplyKind = C.PIDTAB_REFUSED  // Errno, Refusal, First: the id of what refused, if it has one
+	ReplyRefused ReplyKind = C.PIDTAB_REFUSED  // Errno, Refusal: its number, First: the id of what refused, if it has one
 )
+
+// The end of kinds.
 
 // Reply is a reply as a value; == compares two. What its kind does not tell is 0.
 type Reply struct {

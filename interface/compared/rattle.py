@@ -20,7 +20,11 @@ FAULT_WORDS = "crates/table_load/src/fault.rt"
 FORM_WORDS = "crates/table_text/src/fault.rt"
 OF_REFUSALS = (CODE, REPLY, CALL, MODEL, LAWS, ANSWER, NUMBERS)
 OF_FAULTS = (STATUSES, FAULT_CODE, FAULT_MODEL, FAULT_WORDS, FORM_WORDS)
-PATHS = (*OF_REFUSALS, *OF_FAULTS)
+OF_BOUNDS = (
+    "crates/foreign_calls/src/record.rt", "crates/pid_script/src/answer.rt", "crates/pid_script/src/call.rt", "crates/pid_types/src/config.rt",
+    "crates/pid_types/src/plain.rt", "crates/pidtab_c/src/lib.rt",
+)  # fmt: skip
+PATHS = (*OF_REFUSALS, *OF_FAULTS, *OF_BOUNDS)
 
 # A refusal in a pattern, with or without its id; and in the definitions.
 REFUSAL = r"Refusal::(\w+)(?:\(_\))?"
@@ -115,6 +119,35 @@ def compare_faults(tables, top):
     return [fault for source in sources for fault in source.faults]
 
 
+def compare_kinds(tables, top):
+    """All that the crates have of the kinds of a reply, and of choices."""
+    numbers, reply = Source(top, NUMBERS), Source(top, REPLY)
+    which, use, replies = [[it for it in tables["kinds"] if it.of == name] for name in ("which", "use", "reply")]
+    numbers.same_matches("the choice", r"^        (\d+) => Some\(Which::(\w+)", [(str(it.number), it.model) for it in which])
+    numbers.same_matches("the choice", r"^        (\d+) => Some\(Kind::(\w+)", [(str(it.number), it.model) for it in use])
+    told = numbers.found(r"Reply::(\w+)[^=]*?=> put_values\(reply, (\d+)") + numbers.found(r"^fn put_(levels|refusal)\((?:.|\n)*?put_values\(reply, (\d+)")
+    models = {"levels": "Levels", "refusal": "Refused"}
+    facts = [(line, (models.get(name, name), number)) for line, (name, number) in told]
+    numbers.same("the kind", facts, [(it.model, str(it.number)) for it in replies])
+    killed = str(next(it.value for it in tables["bounds"] if it.name == "KILLED"))
+    numbers.same_matches("the status", r"put_values\(reply, 4, u64::from\(\*child\), (\d+)\)", [(killed,)])
+    names, line = variants(reply, "\npub enum Reply {\n")
+    reply.same_order("the order of replies", line, names, [it.model for it in replies])
+    return numbers.faults + reply.faults
+
+
+def compare_bounds(tables, top):
+    """The constants of the crates that bound the interface."""
+    faults = []
+    for it in (row for row in tables["bounds"] if row.source != "-"):
+        path, name = it.source.split(" ")
+        source = Source(top, f"crates/{path}")
+        found = [(line, (value.replace("_", ""),)) for line, (value,) in source.found(rf"^pub const {name}: \w+ = ([\d_]+);")]
+        source.same(f"the bound {name}", found, [(str(it.value),)])
+        faults += source.faults
+    return faults
+
+
 def differences(tables, top):
     """What differs, as sentences with file and line."""
-    return compare_refusals(tables, top) + compare_faults(tables, top)
+    return [*compare_refusals(tables, top), *compare_faults(tables, top), *compare_kinds(tables, top), *compare_bounds(tables, top)]

@@ -81,7 +81,32 @@ def faults(tables):
     ]  # fmt: skip
 
 
+def bounds_of(tables, owner):
+    """The bounds of a header."""
+    rows = [it for it in tables["bounds"] if it.of == owner]
+    return columns([(f"#define PIDTAB_{it.name} {it.value}", f"/* {it.sentence} */") for it in rows])
+
+
+def choices(tables):
+    """What the choice of a wait and of a next says."""
+    lines = []
+    for name in ("which", "use"):
+        lines += ["", *enum(f"pidtab_{name}", [(f"PIDTAB_{it.name}", it.number, it.tells) for it in tables["kinds"] if it.of == name])]
+    return lines[1:]
+
+
+def kinds(tables):
+    """The kinds of a reply."""
+    names = {name: name for name in ("first", "second", "count", "levels", "error", "refusal")}
+    rows = [(f"PIDTAB_{it.name}", it.number, it.tells.format(killed="PIDTAB_KILLED", **names)) for it in tables["kinds"] if it.of == "reply"]
+    return ["/* A reply as numbers. What a kind does not tell is 0. */", *enum("pidtab_kind", rows)]
+
+
 PARTS = {
+    (HEADER, "bounds"): lambda tables: bounds_of(tables, "interface"),
+    (SAVED, "bounds"): lambda tables: bounds_of(tables, "saved"),
+    (HEADER, "choices"): choices,
+    (HEADER, "kinds"): kinds,
     (HEADER, "refusals"): refusals,
     (HEADER, "statuses"): statuses,
     (HEADER, "faults"): faults,

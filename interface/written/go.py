@@ -36,4 +36,12 @@ def faults(tables):
     return ["", "// The words of the faults, by their numbers.", "var textFaults = [...]string{", *[f"\t{row}" for row in rows], "}", ""]
 
 
-PARTS = {("bindings/go/refusal.go", "refusals"): refusals, ("bindings/go/dump.go", "faults"): faults}
+def kinds(tables):
+    """The kinds of a reply."""
+    names = {"error": "Errno", **{name: name.capitalize() for name in ("first", "second", "count", "levels", "refusal")}}
+    rows = [(f"Reply{'OK' if it.name == 'OK' else camel(it.name)}", f"ReplyKind = C.PIDTAB_{it.name}", f"// {it.tells.format(killed='256', **names)}")
+            for it in tables["kinds"] if it.of == "reply"]  # fmt: skip
+    return ["", "// The kinds of a Reply, with its fields that each tells.", *constants(rows), ""]
+
+
+PARTS = {("bindings/go/values.go", "kinds"): kinds, ("bindings/go/refusal.go", "refusals"): refusals, ("bindings/go/dump.go", "faults"): faults}

@@ -41,4 +41,27 @@ def faults(tables):
     return [comment, *listed("TEXT_FAULTS", [it.words for it in tables["faults"]])]
 
 
-PARTS = {(HEADER, "refusals"): refusals, (HEADER, "statuses"): statuses, (HEADER, "faults"): faults}
+def named(name, rows):
+    """An object from names to numbers."""
+    return f"export const {name} = {{ {', '.join(f'{it.name}: {it.number}' for it in rows)} }};"
+
+
+def kinds(tables):
+    """What a choice says, and the kinds of a reply."""
+    which, use, reply = [[it for it in tables["kinds"] if it.of == name] for name in ("which", "use", "reply")]
+    uses = f"export const USES = [{strings([it.word for it in use])}];"
+    return ["/** Of a wait: whom it means. */", named("WHICH", which), "", "/** Of a next, in the order of their numbers. */", uses, "", named("KIND", reply)]
+
+
+def bounds(tables):
+    """The bounds of the header and of pid_max."""
+    return [f"export const {it.name} = {it.value};" for it in tables["bounds"] if it.of != "saved"]
+
+
+PARTS = {
+    (HEADER, "bounds"): bounds,
+    (HEADER, "kinds"): kinds,
+    (HEADER, "refusals"): refusals,
+    (HEADER, "statuses"): statuses,
+    (HEADER, "faults"): faults,
+}

@@ -40,4 +40,11 @@ def faults(tables):
     return table(("PIDTAB_FAULT_UNKNOWN_NAMESPACE", "number", "namespace without an init"), ("kind", "number", "words"), rows)
 
 
-PARTS = {(PIDTAB, "refusals"): refusals, ("man/pidtab.5", "refusals"): answers, (PIDTAB, "faults"): faults}
+def kinds(tables):
+    """The kinds of a reply, and what each tells."""
+    names = {name: name for name in ("first", "second", "count", "levels", "error", "refusal")}
+    rows = [(f"Dv PIDTAB_{it.name}", it.tells.format(killed="Dv PIDTAB_KILLED No", **names)) for it in tables["kinds"] if it.of == "reply"]
+    return table(("PIDTAB_NONE_YET", "tells"), ("kind", "what it tells"), rows)
+
+
+PARTS = {(PIDTAB, "kinds"): kinds, (PIDTAB, "refusals"): refusals, ("man/pidtab.5", "refusals"): answers, (PIDTAB, "faults"): faults}

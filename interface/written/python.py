@@ -38,4 +38,25 @@ def faults(tables):
     return ["# What a text is that of no table for, by the numbers of the faults from 1 on.", *listed("TEXT_FAULTS", [it.words for it in tables["faults"]])]
 
 
-PARTS = {(FAULTS, "refusals"): refusals, (RAW, "statuses"): statuses, (FAULTS, "faults"): faults}
+def kinds(tables):
+    """What a choice says, and the kinds of a reply."""
+    lines = []
+    for name in ("which", "use", "reply"):
+        names = [it.name for it in tables["kinds"] if it.of == name]
+        lines += ["", f"{', '.join(names)} = range({len(names)})"]
+    return lines[1:]
+
+
+def bounds_of(tables, owner):
+    """The bounds of an owner."""
+    return [f"{it.name} = {it.value}" for it in tables["bounds"] if it.of == owner]
+
+
+PARTS = {
+    ("bindings/python/pidtab/bounds.py", "bounds"): lambda tables: bounds_of(tables, "packages"),
+    (RAW, "bounds"): lambda tables: bounds_of(tables, "interface"),
+    (RAW, "kinds"): kinds,
+    (FAULTS, "refusals"): refusals,
+    (RAW, "statuses"): statuses,
+    (FAULTS, "faults"): faults,
+}

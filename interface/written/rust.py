@@ -83,7 +83,21 @@ def faults(tables):
     ]  # fmt: skip
 
 
+def kinds(tables):
+    """The kinds of a reply, and what a choice says."""
+    return numbers("kinds", "The kinds of a reply, and what a choice says.", [(it.name, "u32", it.number) for it in tables["kinds"]])
+
+
+def bounds(tables):
+    """The bounds of the headers."""
+    types = {"number": "u32", "long": "u64", "size": "usize"}
+    rows = [(it.name, types[it.type], it.value) for it in tables["bounds"] if it.of != "packages"]
+    return numbers("bounds", "The bounds of the headers.", rows)
+
+
 PARTS = {
+    (RAW, "kinds"): kinds,
+    (RAW, "bounds"): bounds,
     (FAULT, "refusals"): refusals,
     (LIB, "refusals"): all_refusals,
     (RAW, "statuses"): statuses,

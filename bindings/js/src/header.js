@@ -1,10 +1,16 @@
 // bindings/c/pidtab.h: its numbers, and where the fields of its structs stand. A test compares what is written by hand.
 
+// Written by tools/interface: bounds.
+export const VERSION = 1;
+export const LONGEST_ANSWER = 362;
+export const LONGEST_CALL = 42;
+export const KILLED = 256;
+export const LEVELS_MAX = 33;
+export const MOST_WORKERS = 16;
 export const DEFAULT_PID_MAX = 32768;
 export const LEAST_PID_MAX = 301;
 export const GREATEST_PID_MAX = 4194304;
-export const MOST_WORKERS = 16;
-export const KILLED = 256;
+// The end of bounds.
 
 // Written by tools/interface: statuses.
 export const STATUS = {
@@ -17,6 +23,7 @@ const OPERATIONS =
   "FORK GETPID NSPID EXEC EXIT WAIT GETPPID SETPGID SETSID MK RM LIMIT MOVE COUNT GETPGID GETSID NEXT JOIN SUBREAPER".split(" ");
 export const OPERATION = Object.fromEntries(OPERATIONS.map((name, number) => [name, number]));
 
+// Written by tools/interface: kinds.
 /** Of a wait: whom it means. */
 export const WHICH = { ANY: 0, CHILD: 1, OWN_GROUP: 2, GROUP: 3 };
 
@@ -24,6 +31,7 @@ export const WHICH = { ANY: 0, CHILD: 1, OWN_GROUP: 2, GROUP: 3 };
 export const USES = ["task", "group", "session"];
 
 export const KIND = { FORKED: 0, OK: 1, NUMBER: 2, LEVELS: 3, REAPED: 4, NONE_YET: 5, COUNTED: 6, CONTROL: 7, END: 8, REFUSED: 9 };
+// The end of kinds.
 
 // Written by tools/interface: refusals.
 /** The words of the refusals, by their numbers from 1 on. */

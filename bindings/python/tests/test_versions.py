@@ -23,11 +23,11 @@ DEV = "-dev", ".dev0"
 # Where the number of the interface is written.
 INTERFACES = {
     "docs/STABLE.md": r"^- The \*interface\* is (\d+)\.",
-    "bindings/c/pidtab.h": r"^#define PIDTAB_VERSION (\d+)$",
+    "bindings/c/pidtab.h": r"^#define PIDTAB_VERSION (\d+) ",
     "bindings/c/pidtab.pc.in": r"^interface=(\d+)$",
     "bindings/c/pidtab.map": r"^PIDTAB_(\d+) \{$",
     "bindings/python/pidtab/raw.py": r"^VERSION = (\d+)$",
-    "bindings/rust/src/raw.rs": r"^pub\(crate\) const VERSION: u32 = (\d+);$",
+    "bindings/rust/src/raw.rs": r"^    pub\(crate\) const VERSION: u32 = (\d+);$",
     "Makefile": r"-soname,libpidtab\.so\.(\d+)",
 }
 

@@ -68,55 +68,6 @@ fn the_numbers_are_those_of_the_header() {
     );
 }
 
-#[test]
-fn the_choices_and_kinds_are_those_of_the_header() {
-    same_enum(
-        "pidtab_which",
-        &[
-            ("ANY", ANY),
-            ("CHILD", CHILD),
-            ("OWN_GROUP", OWN_GROUP),
-            ("GROUP", GROUP),
-        ],
-    );
-    same_enum(
-        "pidtab_use",
-        &[("TASKS", TASKS), ("GROUPS", GROUPS), ("SESSIONS", SESSIONS)],
-    );
-    same_enum(
-        "pidtab_kind",
-        &[
-            ("FORKED", FORKED),
-            ("OK", OK),
-            ("NUMBER", NUMBER),
-            ("LEVELS", LEVELS),
-            ("REAPED", REAPED),
-            ("NONE_YET", NONE_YET),
-            ("COUNTED", COUNTED),
-            ("CONTROL", CONTROL),
-            ("END", END),
-            ("REFUSED", REFUSED),
-        ],
-    );
-}
-
-#[test]
-fn the_bounds_are_those_of_the_header() {
-    let header = header();
-    for (name, number) in [
-        ("VERSION", u64::from(VERSION)),
-        ("KILLED", KILLED),
-        ("LEVELS_MAX", LEVELS_MAX as u64),
-        ("LONGEST_ANSWER", LONGEST_ANSWER as u64),
-        ("MOST_WORKERS", u64::from(MOST_WORKERS)),
-    ] {
-        assert!(
-            header.contains(&format!("#define PIDTAB_{name} {number} ")),
-            "{name}"
-        );
-    }
-}
-
 /// A struct of the header, by its fields.
 fn same_struct(header: &str, name: &str, fields: &str) {
     assert_eq!(body(header, &format!("struct {name}")), fields);
@@ -219,10 +170,6 @@ fn the_functions_on_a_record_are_those_of_the_header() {
 #[test]
 fn what_is_used_of_a_saved_history_is_that_of_its_header() {
     let header = bare("pidtab_saved.h");
-    for (name, number) in [("BLOCK", SAVED_BLOCK), ("LONGEST", SAVED_LONGEST)] {
-        let defined = format!("#define PIDTAB_SAVED_{name} {number} ");
-        assert!(header.contains(&defined), "{name}");
-    }
     let head = "uint32_t pid_max; uint32_t workers; uint64_t first_stamp;";
     same_struct(&header, "pidtab_saved_head", head);
     let behind = "size_t *size, uint64_t *sum);";

@@ -6,8 +6,6 @@ use std::ffi::c_void;
 use std::mem::{offset_of, size_of};
 use std::ptr;
 
-pub(crate) const VERSION: u32 = 1;
-
 // Written by tools/interface: statuses.
 /// What the functions answer.
 #[allow(dead_code)] // Not each is used here.
@@ -56,33 +54,47 @@ pub(crate) const NEXT: u32 = 16;
 pub(crate) const JOIN: u32 = 17;
 pub(crate) const SUBREAPER: u32 = 18;
 
-pub(crate) const ANY: u32 = 0;
-pub(crate) const CHILD: u32 = 1;
-pub(crate) const OWN_GROUP: u32 = 2;
-pub(crate) const GROUP: u32 = 3;
+// Written by tools/interface: kinds.
+/// The kinds of a reply, and what a choice says.
+#[allow(dead_code)] // Not each is used here.
+mod kinds {
+    pub(crate) const FORKED: u32 = 0;
+    pub(crate) const OK: u32 = 1;
+    pub(crate) const NUMBER: u32 = 2;
+    pub(crate) const LEVELS: u32 = 3;
+    pub(crate) const REAPED: u32 = 4;
+    pub(crate) const NONE_YET: u32 = 5;
+    pub(crate) const COUNTED: u32 = 6;
+    pub(crate) const CONTROL: u32 = 7;
+    pub(crate) const END: u32 = 8;
+    pub(crate) const REFUSED: u32 = 9;
+    pub(crate) const ANY: u32 = 0;
+    pub(crate) const CHILD: u32 = 1;
+    pub(crate) const OWN_GROUP: u32 = 2;
+    pub(crate) const GROUP: u32 = 3;
+    pub(crate) const TASKS: u32 = 0;
+    pub(crate) const GROUPS: u32 = 1;
+    pub(crate) const SESSIONS: u32 = 2;
+}
+pub(crate) use kinds::*;
+// The end of kinds.
 
-pub(crate) const TASKS: u32 = 0;
-pub(crate) const GROUPS: u32 = 1;
-pub(crate) const SESSIONS: u32 = 2;
-
-pub(crate) const FORKED: u32 = 0;
-pub(crate) const OK: u32 = 1;
-pub(crate) const NUMBER: u32 = 2;
-pub(crate) const LEVELS: u32 = 3;
-pub(crate) const REAPED: u32 = 4;
-pub(crate) const NONE_YET: u32 = 5;
-pub(crate) const COUNTED: u32 = 6;
-pub(crate) const CONTROL: u32 = 7;
-pub(crate) const END: u32 = 8;
-pub(crate) const REFUSED: u32 = 9;
-
-pub(crate) const KILLED: u64 = 256;
-pub(crate) const LEVELS_MAX: usize = 33;
-pub(crate) const LONGEST_ANSWER: usize = 362;
-#[cfg(test)]
-pub(crate) const MOST_WORKERS: u32 = 16;
-pub(crate) const SAVED_BLOCK: usize = 48;
-pub(crate) const SAVED_LONGEST: usize = 192;
+// Written by tools/interface: bounds.
+/// The bounds of the headers.
+#[allow(dead_code)] // Not each is used here.
+mod bounds {
+    pub(crate) const VERSION: u32 = 1;
+    pub(crate) const LONGEST_ANSWER: usize = 362;
+    pub(crate) const LONGEST_CALL: usize = 42;
+    pub(crate) const KILLED: u64 = 256;
+    pub(crate) const LEVELS_MAX: usize = 33;
+    pub(crate) const MOST_WORKERS: u32 = 16;
+    pub(crate) const SAVED_VERSION: u32 = 1;
+    pub(crate) const SAVED_BLOCK: usize = 48;
+    pub(crate) const SAVED_LONGEST: usize = 192;
+}
+pub(crate) use bounds::*;
+// The end of bounds.
 
 /// A table, or none, or a record, or none: it begins as zeroes. The two structs of the header are alike.
 #[repr(C)]
