@@ -23,6 +23,9 @@ KINDS = {
     "type": r"number|long|size",
     "header": r"interface|saved|packages",
     "constant or -": r"[a-z_]+/src/[a-z_]+\.rt [A-Z_]+|-",
+    "functions": r"[a-z_]+(, [a-z_]+)*",
+    "release": r"\d+\.\d+\.\d+",
+    "method or -": r"[A-Z]\w*((\.|::)\w+)?|-",
     "list": r"[a-z][a-z0-9-]*( \([^()]+\))?(, [a-z][a-z0-9-]*( \([^()]+\))?)*",
 }
 
@@ -36,6 +39,10 @@ COLUMNS = {
     },
     "kinds": {"of": "kind", "number": "number", "name": "capitals", "model": "name", "word": "word or -", "tells": "sentence"},
     "bounds": {"name": "capitals", "value": "number", "type": "type", "of": "header", "source": "constant or -", "sentence": "sentence"},
+    "functions": {
+        "functions": "functions", "since": "release", "python": "method or -", "rust": "method or -", "go": "method or -",
+        "javascript": "method or -", "sentence": "sentence",
+    },
     "calls": {"number": "number", "call": "word", "model": "name", "query": "yes or no", "refusals": "list"},
 }  # fmt: skip
 
@@ -43,6 +50,7 @@ COLUMNS = {
 UNIQUE = {
     "errnos": ("name", "value"), "refusals": ("number", "word"), "calls": ("number", "call", "model"), "statuses": ("name", "error", "sentence"),
     "faults": ("number", "name", "rust", "words"), "kinds": ("name",), "bounds": ("name", "sentence"),
+    "functions": ("functions", "sentence"),
 }  # fmt: skip
 FIRST = {"refusals": 1, "calls": 0, "faults": 1, "kinds": 0}
 

@@ -55,7 +55,18 @@ def faults_of(tables, part):
     return table(("Fault", "When"), [(f"`line {it.line}: {it.words}`", said(it.sentence if it.page == "-" else it.page)) for it in rows])
 
 
+def functions(tables):
+    """The functions of C, and what has them in each package."""
+    rows = []
+    for it in tables["functions"]:
+        names = ", ".join(f"`pidtab_{name}`" for name in words_of(it.functions))
+        packages = [it.cell(language) for language in ("python", "rust", "go", "javascript")]
+        rows.append((it.sentence, names, *["none" if cell == "-" else f"`{cell}`" for cell in packages]))
+    return table(("What it does", "C", "Python", "Rust", "Go", "JavaScript"), rows)
+
+
 PARTS = {
+    ("docs/LIBRARY.md", "functions"): functions,
     (SCRIPT, "refusals"): answers,
     (SCRIPT, "orders"): orders,
     (SCRIPT, "faults of the form"): lambda tables: faults_of(tables, "form"),

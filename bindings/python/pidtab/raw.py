@@ -1,4 +1,4 @@
-"""`bindings/c/pidtab.h`, `pidtab_shared.h` and `pidtab_saved.h` by hand: their numbers, structs and functions. A test compares them."""
+"""`bindings/c/pidtab.h`, `pidtab_shared.h` and `pidtab_saved.h`: their numbers, structs and functions. A test compares what is written by hand."""
 
 import ctypes
 import struct

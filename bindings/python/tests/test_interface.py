@@ -9,7 +9,8 @@ import tempfile
 import unittest
 from pathlib import Path
 
-from tests.pages import REPOSITORY
+from tests.pages import REPOSITORY, read_page
+from tests.test_versions import RELEASED
 
 
 def load_tool():
@@ -69,6 +70,22 @@ DIFFERENCES = [
     ("man/pidtab.3", ".It Dv PIDTAB_NO_ROOM\n.Er ERANGE :", ".It Dv PIDTAB_NO_ROOM\n.Er ENOSPC :", "the status NO_ROOM ENOSPC is not in interface/"),
     ("man/pidtab_record.3", ".It Dv PIDTAB_AGAIN\n.Er EAGAIN :", ".It Dv PIDTAB_LATER\n.Er EAGAIN :", "the status LATER EAGAIN is not in interface/"),
     ("man/pidtab_saved.3", ".Er EILSEQ :", ".Er EINVAL :", "the status WRONG_BYTE EINVAL is not in interface/"),
+    ("bindings/c/pidtab.h", "uint32_t pidtab_version(void);", "uint32_t pidtab_versions(void);", "pidtab_versions is not in interface/functions.tbl"),
+    ("bindings/c/pidtab_shared.h", "uint32_t pidtab_shared_ask(", "uint32_t pidtab_shared_query(", "pidtab_shared_query is not in interface/functions.tbl"),
+    ("bindings/c/pidtab_saved.h", "void pidtab_saved_end(struct", "void pidtab_saved_stop(struct", "pidtab_saved_end is in no header"),
+    ("bindings/python/pidtab/native.py", "    def stat(self, caller", "    def status(self, caller", "the package for python has no Ask.stat"),
+    ("bindings/python/pidtab/shared.py", "    def checkpoint_at(self", "    def cut_at(self", "the package for python has no Shared.checkpoint_at"),
+    ("bindings/python/pidtab/table.py", "    def dump(self)", "    def text(self)", "the package for python has no Table.dump"),
+    ("bindings/rust/src/blocks.rs", "    pub fn put(", "    pub fn append(", "the package for rust has no Blocks::put"),
+    ("bindings/rust/src/lib.rs", "    pub fn dump(&mut self)", "    pub fn text(&mut self)", "the package for rust has no Table::dump"),
+    ("bindings/rust/src/saved.rs", "    pub fn trim(", "    pub fn cut(", "the package for rust has no Saved::trim"),
+    ("bindings/rust/src/shared.rs", "    pub fn seat(&self)", "    pub fn sit(&self)", "the package for rust has no Shared::seat"),
+    ("bindings/rust/src/stat.rs", "    pub fn stat(", "    pub fn status(", "the package for rust has no Table::stat"),
+    ("bindings/go/dump.go", "func (table *Table) Dump()", "func (table *Table) Text()", "the package for go has no Table.Dump"),
+    ("bindings/go/saved.go", "func (saved *Saved) Trim(", "func (saved *Saved) Cut(", "the package for go has no Saved.Trim"),
+    ("bindings/go/saver.go", "func (shared *Shared) Serve(", "func (shared *Shared) Saver(", "the package for go has no Shared.Serve"),
+    ("bindings/go/shared.go", "func OpenShared(", "func NewShared(", "the package for go has no OpenShared"),
+    ("bindings/go/table.go", "func (table *Table) List()", "func (table *Table) Lists()", "the package for go has no Table.List"),
     ("docs/list.schema.json", '"is-leader", "no-group"', '"no-group", "is-leader"', "the words of refusals is"),
     ("docs/list.schema.json", '"EPERM", "EACCES"', '"EPERM", "EBADF"', "the errors of refusals is"),
 ]  # fmt: skip
@@ -97,6 +114,8 @@ FAULTS = [
     ("kinds", "use   | 2 ", "uses  | 2 ", "of 'uses' is no kind"),
     ("bounds", "pidtab_c/src/lib.rt VERSION", "pidtab_c/src/lib.rt       ", "source 'pidtab_c/src/lib.rt' is no constant or -"),
     ("bounds", "| size   | saved     | -                                          | the longest entry", "| sizes  | saved     | - | the longest entry", "type 'sizes' is no type"),
+    ("functions", "saved_end                 ", "saved-end                 ", "functions 'saved-end' is no functions"),
+    ("functions", "saved_trim                                                    | 0.2.0", "saved_trim                                                    | 0.2", "since '0.2' is no release"),
     ("errnos", "EBUSY           | 16", "EBUSY           | 13", "value 13 stands in line 12 already"),
 ]
 
@@ -158,7 +177,7 @@ class Interface(unittest.TestCase):
                 status, said = self.say()
                 self.restore(path, text)
                 self.assertEqual(status, 1)
-                self.assertRegex(said, rf"^tools/interface: {path}:\d+: ")
+                self.assertRegex(said, rf"^tools/interface: (?:{path}|interface/functions.tbl):\d+: ")
                 self.assertIn(wanted, said)
 
     def test_the_line_of_a_difference(self):
@@ -182,6 +201,12 @@ class Interface(unittest.TestCase):
         self.say("write")
         changed = {path for path, _ in PARTS if (self.top / path).read_text(encoding="utf-8") != (REPOSITORY / path).read_text(encoding="utf-8")}
         self.assertEqual(changed, {"bindings/c/pidtab.h", "bindings/go/refusal.go", "bindings/rust/src/fault.rs", "docs/SCRIPT.md", "man/pidtab.5"})
+
+    def test_since_when(self):
+        rows = TOOL.read_tables(self.top / "interface")["functions"]
+        first = {f"pidtab_{name}" for row in rows if row.since == "0.1.0" for name in row.functions.split(", ")}
+        self.assertEqual(first, RELEASED)
+        self.assertLessEqual({row.since for row in rows}, {"0.1.0", read_page("VERSION").strip().replace("-dev", "")})
 
     def test_other_words(self):
         status, said = self.say("read")

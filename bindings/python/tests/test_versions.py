@@ -63,7 +63,7 @@ PYTHONS_OF_THE_GATE = {
 }
 
 # The folders of what the gate runs by Python.
-OF_THE_GATE = "tools", "hostile"
+OF_THE_GATE = "tools", "hostile", "interface", "interface/written", "interface/compared"
 
 # What the first library of interface 1 exported, and so each later one.
 RELEASED = {"pidtab_version", "pidtab_open", "pidtab_close", "pidtab_line", "pidtab_list", "pidtab_call"}

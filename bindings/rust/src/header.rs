@@ -1,4 +1,4 @@
-//! That `raw.rs` is `bindings/c/pidtab.h`, and what it has of `pidtab_saved.h`: numbers, structs and functions.
+//! That what is by hand in `raw.rs` is `bindings/c/pidtab.h`, and what it has of `pidtab_saved.h`: operations, structs and functions.
 use crate::raw::*;
 use std::fs;
 

@@ -1,4 +1,4 @@
-//! `bindings/c/pidtab.h` by hand, and what of `pidtab_saved.h` works in memory: numbers, structs and functions, and an owner for each struct
+//! `bindings/c/pidtab.h`, and what of `pidtab_saved.h` works in memory: numbers, structs and functions, and an owner for each struct
 //! that is opened and closed. All unsafe code of the crate is here. `header.rs` compares the first part with the headers.
 #![allow(unsafe_code)]
 
