@@ -18,6 +18,14 @@ def with_id(sentence):
     return sentence.replace("{id}", "with the id")
 
 
+FIELDS = ("caller", "id", "number", "choice", "pid", "pgid")
+
+
+def takes(row, **said):
+    """What a call takes, its fields by these names or their own, and whether it is a query."""
+    return row.takes.format(**{**{field: field for field in FIELDS}, **said}) + ("; a query" if row.query == "yes" else "")
+
+
 def sentence(text):
     """With a capital letter and a full stop."""
     return f"{text[0].upper()}{text[1:]}." if text[0].isalpha() else f"{text}."

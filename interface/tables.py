@@ -43,7 +43,7 @@ COLUMNS = {
         "functions": "functions", "since": "release", "python": "method or -", "rust": "method or -", "go": "method or -",
         "javascript": "method or -", "sentence": "sentence",
     },
-    "calls": {"number": "number", "call": "word", "model": "name", "query": "yes or no", "refusals": "list"},
+    "calls": {"number": "number", "call": "word", "model": "name", "query": "yes or no", "takes": "sentence", "refusals": "list"},
 }  # fmt: skip
 
 # The columns in which no cell comes twice, and those whose numbers go up by one.

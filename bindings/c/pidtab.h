@@ -165,28 +165,30 @@ struct pidtab_fault {
  * BUSY where it is open already; then BAD_TEXT and the fault, which no text of a table has; NO_MEMORY. The fault is zeroes but for BAD_TEXT. */
 uint32_t pidtab_load(struct pidtab *table, const void *text, size_t length, struct pidtab_fault *fault);
 
-/* A call as numbers. What an operation does not take is not looked at. */
+/* Written by tools/interface: operations. */
+/* A call as numbers. What an operation does not take is not looked at; pidtab_ask answers a query too. */
 enum pidtab_operation {
-	PIDTAB_FORK,      /* caller; choice 1: into a new namespace */
-	PIDTAB_GETPID,    /* caller */
-	PIDTAB_NSPID,     /* caller, number */
-	PIDTAB_EXEC,      /* caller */
-	PIDTAB_EXIT,      /* caller, number: the status, 0 to 255 */
-	PIDTAB_WAIT,      /* caller, choice: enum pidtab_which, number */
-	PIDTAB_GETPPID,   /* caller */
-	PIDTAB_SETPGID,   /* caller, pid, pgid */
-	PIDTAB_SETSID,    /* caller */
-	PIDTAB_MK,        /* id: of the parent */
-	PIDTAB_RM,        /* id */
-	PIDTAB_LIMIT,     /* id; choice 1: number is the limit, 0: no limit */
-	PIDTAB_MOVE,      /* caller: who is moved, id */
-	PIDTAB_COUNT,     /* id */
-	PIDTAB_GETPGID,   /* caller, number */
-	PIDTAB_GETSID,    /* caller, number */
-	PIDTAB_NEXT,      /* caller, choice: enum pidtab_use, number */
-	PIDTAB_JOIN,      /* caller, number */
-	PIDTAB_SUBREAPER  /* caller; choice 1: on, 0: off */
+	PIDTAB_FORK = 0,      /* caller; choice 1: into a new namespace */
+	PIDTAB_GETPID = 1,    /* caller; a query */
+	PIDTAB_NSPID = 2,     /* caller, number: of the task; a query */
+	PIDTAB_EXEC = 3,      /* caller */
+	PIDTAB_EXIT = 4,      /* caller, number: the status, 0 to 255 */
+	PIDTAB_WAIT = 5,      /* caller, number, choice: enum pidtab_which */
+	PIDTAB_GETPPID = 6,   /* caller; a query */
+	PIDTAB_SETPGID = 7,   /* caller, pid, pgid */
+	PIDTAB_SETSID = 8,    /* caller */
+	PIDTAB_MK = 9,        /* id: of the parent */
+	PIDTAB_RM = 10,       /* id */
+	PIDTAB_LIMIT = 11,    /* id; choice 1: number is the limit, 0: no limit */
+	PIDTAB_MOVE = 12,     /* caller: who is moved, id */
+	PIDTAB_COUNT = 13,    /* id; a query */
+	PIDTAB_GETPGID = 14,  /* caller, number: of the task, 0 for the caller; a query */
+	PIDTAB_GETSID = 15,   /* caller, number: of the task, 0 for the caller; a query */
+	PIDTAB_NEXT = 16,     /* caller, choice: enum pidtab_use, number: where to begin; a query */
+	PIDTAB_JOIN = 17,     /* caller, number: of the task */
+	PIDTAB_SUBREAPER = 18 /* caller; choice 1: on, 0: off */
 };
+/* The end of operations. */
 
 /* Written by tools/interface: choices. */
 enum pidtab_which {

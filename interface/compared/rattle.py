@@ -20,10 +20,7 @@ FAULT_WORDS = "crates/table_load/src/fault.rt"
 FORM_WORDS = "crates/table_text/src/fault.rt"
 OF_REFUSALS = (CODE, REPLY, CALL, MODEL, LAWS, ANSWER, NUMBERS)
 OF_FAULTS = (STATUSES, FAULT_CODE, FAULT_MODEL, FAULT_WORDS, FORM_WORDS)
-OF_BOUNDS = (
-    "crates/foreign_calls/src/record.rt", "crates/pid_script/src/answer.rt", "crates/pid_script/src/call.rt", "crates/pid_types/src/config.rt",
-    "crates/pid_types/src/plain.rt", "crates/pidtab_c/src/lib.rt",
-)  # fmt: skip
+OF_BOUNDS = [f"crates/{path}.rt" for path in ("foreign_calls/src/record", "pid_script/src/call", "pid_types/src/config", "pid_types/src/plain", "pidtab_c/src/lib")]
 PATHS = (*OF_REFUSALS, *OF_FAULTS, *OF_BOUNDS)
 
 # A refusal in a pattern, with or without its id; and in the definitions.

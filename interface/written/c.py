@@ -1,6 +1,6 @@
 """The headers of C."""
 
-from names import capitals, columns, strings, with_id, wrapped
+from names import capitals, columns, strings, takes, with_id, wrapped
 
 HEADER = "bindings/c/pidtab.h"
 SAVED = "bindings/c/pidtab_saved.h"
@@ -102,7 +102,14 @@ def kinds(tables):
     return ["/* A reply as numbers. What a kind does not tell is 0. */", *enum("pidtab_kind", rows)]
 
 
+def operations(tables):
+    """The calls as numbers."""
+    rows = [(f"PIDTAB_{capitals(it.call)}", it.number, takes(it, which="enum pidtab_which", use="enum pidtab_use")) for it in tables["calls"]]
+    return ["/* A call as numbers. What an operation does not take is not looked at; pidtab_ask answers a query too. */", *enum("pidtab_operation", rows)]
+
+
 PARTS = {
+    (HEADER, "operations"): operations,
     (HEADER, "bounds"): lambda tables: bounds_of(tables, "interface"),
     (SAVED, "bounds"): lambda tables: bounds_of(tables, "saved"),
     (HEADER, "choices"): choices,

@@ -1,6 +1,6 @@
 """The package for Go, whose other numbers are those of the headers of C."""
 
-from names import camel, columns, with_id, wrapped
+from names import camel, capitals, columns, takes, with_id, wrapped
 
 
 def constants(rows):
@@ -44,4 +44,15 @@ def kinds(tables):
     return ["", "// The kinds of a Reply, with its fields that each tells.", *constants(rows), ""]
 
 
-PARTS = {("bindings/go/values.go", "kinds"): kinds, ("bindings/go/refusal.go", "refusals"): refusals, ("bindings/go/dump.go", "faults"): faults}
+def operations(tables):
+    """The calls as numbers."""
+    which = ", ".join(f"{it.number} for {it.tells}" for it in tables["kinds"] if it.of == "which")
+    fields = {"caller": "Caller", "id": "ID", "number": "Number", "choice": "Choice", "pid": "Pid", "pgid": "Pgid", "which": which, "use": "a Kind"}
+    return [
+        "", "// The operations, by their names in the script language, with the fields of a Call that each takes; the others are not looked at. A query is",
+        "// one that Ask answers too.",
+        *constants([(f"Op{camel(it.call)}", f"Operation = C.PIDTAB_{capitals(it.call)}", f"// {takes(it, **fields)}") for it in tables["calls"]]), "",
+    ]  # fmt: skip
+
+
+PARTS = {("bindings/go/values.go", "operations"): operations, ("bindings/go/values.go", "kinds"): kinds, ("bindings/go/refusal.go", "refusals"): refusals, ("bindings/go/dump.go", "faults"): faults}

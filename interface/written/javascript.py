@@ -1,6 +1,6 @@
 """The package for JavaScript."""
 
-from names import strings, wrapped
+from names import capitals, strings, wrapped
 
 HEADER = "bindings/js/src/header.js"
 
@@ -58,7 +58,14 @@ def bounds(tables):
     return [f"export const {it.name} = {it.value};" for it in tables["bounds"] if it.of != "saved"]
 
 
+def operations(tables):
+    """The calls as numbers."""
+    rows = ", ".join(f"{capitals(it.call)}: {it.number}" for it in tables["calls"])
+    return ["export const OPERATION = {", *wrapped(f"{rows},", "  ", 140), "};"]
+
+
 PARTS = {
+    (HEADER, "operations"): operations,
     (HEADER, "bounds"): bounds,
     (HEADER, "kinds"): kinds,
     (HEADER, "refusals"): refusals,

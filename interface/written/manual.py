@@ -2,7 +2,7 @@
 
 import textwrap
 
-from names import capitals, sentence
+from names import capitals, sentence, takes
 
 PIDTAB = "man/pidtab.3"
 
@@ -47,4 +47,10 @@ def kinds(tables):
     return table(("PIDTAB_NONE_YET", "tells"), ("kind", "what it tells"), rows)
 
 
-PARTS = {(PIDTAB, "kinds"): kinds, (PIDTAB, "refusals"): refusals, ("man/pidtab.5", "refusals"): answers, (PIDTAB, "faults"): faults}
+def operations(tables):
+    """The calls as numbers, with what each takes."""
+    rows = [(f"Dv PIDTAB_{capitals(it.call)}", f"Ic {it.call}", takes(it, which="enum pidtab_which", use="enum pidtab_use")) for it in tables["calls"]]
+    return table(("PIDTAB_SUBREAPER", "subreaper", "takes"), ("operation", "in a script", "takes"), rows)
+
+
+PARTS = {(PIDTAB, "operations"): operations, (PIDTAB, "kinds"): kinds, (PIDTAB, "refusals"): refusals, ("man/pidtab.5", "refusals"): answers, (PIDTAB, "faults"): faults}

@@ -1,6 +1,6 @@
 """The package for Python."""
 
-from names import strings, wrapped
+from names import capitals, strings, wrapped
 
 FAULTS = "bindings/python/pidtab/faults.py"
 RAW = "bindings/python/pidtab/raw.py"
@@ -52,7 +52,14 @@ def bounds_of(tables, owner):
     return [f"{it.name} = {it.value}" for it in tables["bounds"] if it.of == owner]
 
 
+def operations(tables):
+    """The calls as numbers."""
+    names = [capitals(it.call) for it in tables["calls"]]
+    return [f"{', '.join(names[:10])} = range(10)", f"{', '.join(names[10:])} = range(10, {len(names)})"]
+
+
 PARTS = {
+    (RAW, "operations"): operations,
     ("bindings/python/pidtab/bounds.py", "bounds"): lambda tables: bounds_of(tables, "packages"),
     (RAW, "bounds"): lambda tables: bounds_of(tables, "interface"),
     (RAW, "kinds"): kinds,

@@ -2,7 +2,7 @@
 
 import textwrap
 
-from names import camel, sentence, with_id
+from names import camel, capitals, sentence, with_id
 
 FAULT = "bindings/rust/src/fault.rs"
 RAW = "bindings/rust/src/raw.rs"
@@ -95,7 +95,13 @@ def bounds(tables):
     return numbers("bounds", "The bounds of the headers.", rows)
 
 
+def operations(tables):
+    """The calls as numbers."""
+    return numbers("operations", "The operations.", [(capitals(it.call), "u32", it.number) for it in tables["calls"]])
+
+
 PARTS = {
+    (RAW, "operations"): operations,
     (RAW, "kinds"): kinds,
     (RAW, "bounds"): bounds,
     (FAULT, "refusals"): refusals,

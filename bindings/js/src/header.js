@@ -19,9 +19,12 @@ export const STATUS = {
 };
 // The end of statuses.
 
-const OPERATIONS =
-  "FORK GETPID NSPID EXEC EXIT WAIT GETPPID SETPGID SETSID MK RM LIMIT MOVE COUNT GETPGID GETSID NEXT JOIN SUBREAPER".split(" ");
-export const OPERATION = Object.fromEntries(OPERATIONS.map((name, number) => [name, number]));
+// Written by tools/interface: operations.
+export const OPERATION = {
+  FORK: 0, GETPID: 1, NSPID: 2, EXEC: 3, EXIT: 4, WAIT: 5, GETPPID: 6, SETPGID: 7, SETSID: 8, MK: 9, RM: 10, LIMIT: 11, MOVE: 12, COUNT: 13,
+  GETPGID: 14, GETSID: 15, NEXT: 16, JOIN: 17, SUBREAPER: 18,
+};
+// The end of operations.
 
 // Written by tools/interface: kinds.
 /** Of a wait: whom it means. */

@@ -8,19 +8,6 @@ import * as header from "../src/header.js";
 
 const HEADER = readFileSync(new URL("../../c/pidtab.h", import.meta.url), "utf8").replace(/\/\*[^]*?\*\//g, "");
 
-/** The names of an enum with their numbers. */
-function readEnum(name) {
-  const [, body] = new RegExp(`enum ${name} \\{([^}]*)\\}`).exec(HEADER);
-  let next = 0;
-  return Object.fromEntries(
-    body.split(",").map((row) => {
-      const [, word, number] = /PIDTAB_(\w+)(?: = (\d+))?/.exec(row);
-      next = number === undefined ? next : Number(number);
-      return [word, next++];
-    }),
-  );
-}
-
 /** The fields of a struct by their places, in words of 32 bits. */
 function readStruct(name) {
   const [, body] = new RegExp(`struct ${name} \\{([^}]*)\\}`).exec(HEADER);
@@ -33,10 +20,6 @@ function readStruct(name) {
   }
   return fields;
 }
-
-test("the operations are those of the header", () => {
-  assert.deepEqual(header.OPERATION, readEnum("pidtab_operation"));
-});
 
 test("the fields stand where the header has them", () => {
   for (const [name, fields] of Object.entries({ pidtab_call: header.CALL, pidtab_reply: header.REPLY, pidtab_task: header.TASK, pidtab_fault: header.FAULT })) {

@@ -39,8 +39,10 @@ LEVELS_MAX = 33
 MOST_WORKERS = 16
 # The end of bounds.
 
+# Written by tools/interface: operations.
 FORK, GETPID, NSPID, EXEC, EXIT, WAIT, GETPPID, SETPGID, SETSID, MK = range(10)
 RM, LIMIT, MOVE, COUNT, GETPGID, GETSID, NEXT, JOIN, SUBREAPER = range(10, 19)
+# The end of operations.
 
 # Written by tools/interface: kinds.
 ANY, CHILD, OWN_GROUP, GROUP = range(4)

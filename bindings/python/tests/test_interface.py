@@ -103,6 +103,7 @@ FAULTS = [
     ("refusals", "a child in another session", "a child in another session.", "is no sentence"),
     ("calls", "no-caller, root-init", "no-caller, root-inits", "refusals 'root-inits' is not in interface/refusals.tbl"),
     ("calls", "no-caller, root-init", "no-caller root-init", "is no list"),
+    ("calls", "15     | getsid", "14     | getsid", "number 14 stands in line"),
     ("calls", "Exit          | no ", "Exit          | non", "query 'non' is no yes or no"),
     ("statuses", "EUCLEAN         |", "EUCLEAM         |", "error 'EUCLEAM' is not in interface/errnos.tbl"),
     ("statuses", "DIFFERS       | EBADMSG         | record |", "DIFFERS       | EBADMSG         | saver |", "of 'saver' is no owner"),

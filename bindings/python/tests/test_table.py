@@ -58,15 +58,6 @@ def body(words: str) -> str:
     return behind.partition(" }")[0]
 
 
-def read_enum(name: str) -> dict[str, int]:
-    """The words of an enum with their numbers."""
-    numbers: dict[str, int] = {}
-    for entry in body(f"enum pidtab_{name}").split(","):
-        word, _, given = entry.strip().removeprefix("PIDTAB_").partition(" = ")
-        numbers[word] = int(given) if given else max(numbers.values(), default=-1) + 1
-    return numbers
-
-
 def takes(argument: str) -> type:
     """The type of ctypes for what a function of the header takes."""
     (kind,) = re.findall(r"^(?:const )?((?:struct )?\w+ \*?)\w+$", argument)
@@ -75,12 +66,6 @@ def takes(argument: str) -> type:
 
 class Header(unittest.TestCase):
     """The numbers, structs and functions are those of the header."""
-
-    def test_the_operations(self) -> None:
-        operations = read_enum("operation")
-        self.assertEqual(len(operations), 19)
-        for word, number in operations.items():
-            self.assertEqual(getattr(raw, word), number, word)
 
     def test_the_kinds_of_next(self) -> None:
         uses = re.findall(r"PIDTAB_([A-Z]+)S\b", body("enum pidtab_use"))

@@ -1,4 +1,4 @@
-//! That what is by hand in `raw.rs` is `bindings/c/pidtab.h`, and what it has of `pidtab_saved.h`: operations, structs and functions.
+//! That what is by hand in `raw.rs` is `bindings/c/pidtab.h`, and what it has of `pidtab_saved.h`: structs and functions.
 use crate::raw::*;
 use std::fs;
 
@@ -23,49 +23,6 @@ fn bare(name: &str) -> String {
 fn body<'a>(header: &'a str, words: &str) -> &'a str {
     let (_, behind) = header.split_once(&format!("{words} {{ ")).expect(words);
     behind.split_once(" }").expect("a closing brace").0
-}
-
-/// The header has an enum with these numbers and no others, in this order.
-fn same_enum(name: &str, numbers: &[(&str, u32)]) {
-    let header = header();
-    let mut next = 0;
-    let mut told = Vec::new();
-    for word in body(&header, &format!("enum {name}")).split(',') {
-        let (word, number) = word.split_once('=').unwrap_or((word, ""));
-        next = number.trim().parse().unwrap_or(next);
-        told.push((word.trim().trim_start_matches("PIDTAB_").to_owned(), next));
-        next += 1;
-    }
-    let wanted: Vec<_> = numbers.iter().map(|it| (it.0.to_owned(), it.1)).collect();
-    assert_eq!(told, wanted, "{name}");
-}
-
-#[test]
-fn the_numbers_are_those_of_the_header() {
-    same_enum(
-        "pidtab_operation",
-        &[
-            ("FORK", FORK),
-            ("GETPID", GETPID),
-            ("NSPID", NSPID),
-            ("EXEC", EXEC),
-            ("EXIT", EXIT),
-            ("WAIT", WAIT),
-            ("GETPPID", GETPPID),
-            ("SETPGID", SETPGID),
-            ("SETSID", SETSID),
-            ("MK", MK),
-            ("RM", RM),
-            ("LIMIT", LIMIT),
-            ("MOVE", MOVE),
-            ("COUNT", COUNT),
-            ("GETPGID", GETPGID),
-            ("GETSID", GETSID),
-            ("NEXT", NEXT),
-            ("JOIN", JOIN),
-            ("SUBREAPER", SUBREAPER),
-        ],
-    );
 }
 
 /// A struct of the header, by its fields.

@@ -34,25 +34,32 @@ mod statuses {
 pub(crate) use statuses::*;
 // The end of statuses.
 
-pub(crate) const FORK: u32 = 0;
-pub(crate) const GETPID: u32 = 1;
-pub(crate) const NSPID: u32 = 2;
-pub(crate) const EXEC: u32 = 3;
-pub(crate) const EXIT: u32 = 4;
-pub(crate) const WAIT: u32 = 5;
-pub(crate) const GETPPID: u32 = 6;
-pub(crate) const SETPGID: u32 = 7;
-pub(crate) const SETSID: u32 = 8;
-pub(crate) const MK: u32 = 9;
-pub(crate) const RM: u32 = 10;
-pub(crate) const LIMIT: u32 = 11;
-pub(crate) const MOVE: u32 = 12;
-pub(crate) const COUNT: u32 = 13;
-pub(crate) const GETPGID: u32 = 14;
-pub(crate) const GETSID: u32 = 15;
-pub(crate) const NEXT: u32 = 16;
-pub(crate) const JOIN: u32 = 17;
-pub(crate) const SUBREAPER: u32 = 18;
+// Written by tools/interface: operations.
+/// The operations.
+#[allow(dead_code)] // Not each is used here.
+mod operations {
+    pub(crate) const FORK: u32 = 0;
+    pub(crate) const GETPID: u32 = 1;
+    pub(crate) const NSPID: u32 = 2;
+    pub(crate) const EXEC: u32 = 3;
+    pub(crate) const EXIT: u32 = 4;
+    pub(crate) const WAIT: u32 = 5;
+    pub(crate) const GETPPID: u32 = 6;
+    pub(crate) const SETPGID: u32 = 7;
+    pub(crate) const SETSID: u32 = 8;
+    pub(crate) const MK: u32 = 9;
+    pub(crate) const RM: u32 = 10;
+    pub(crate) const LIMIT: u32 = 11;
+    pub(crate) const MOVE: u32 = 12;
+    pub(crate) const COUNT: u32 = 13;
+    pub(crate) const GETPGID: u32 = 14;
+    pub(crate) const GETSID: u32 = 15;
+    pub(crate) const NEXT: u32 = 16;
+    pub(crate) const JOIN: u32 = 17;
+    pub(crate) const SUBREAPER: u32 = 18;
+}
+pub(crate) use operations::*;
+// The end of operations.
 
 // Written by tools/interface: kinds.
 /// The kinds of a reply, and what a choice says.
