@@ -81,6 +81,7 @@ gate:
 	@tools/gate --check
 	@tools/gate --budget $(GATE_MINUTES)
 	@tools/guard --check
+	@tools/interface --check
 	@bindings/c/test_guard
 	rt ci
 	@$(MAKE) -s hostile

@@ -1,8 +1,8 @@
 /* pidtab.h - Linux process identifiers as one table, in this process.
  *
  * What each function does to a table is proved (crates/pidtab_c). Around each proved function stand a few lines of C, bindings/c/guard.c and
- * guard_record.c, which mark the table, and are only tested, as the shared and the saved ones are. This header is written by hand to fit;
- * bindings/c/test.c and test_guard compare it.
+ * guard_record.c, which mark the table, and are only tested, as the shared and the saved ones are. This header is written to fit, in part
+ * by tools/interface; bindings/c/test.c and test_guard compare it.
  *
  * One function at a time works on a table: while one does, each other that another thread calls is PIDTAB_BUSY, and does nothing.
  * Threads that take turns under a lock never see it. Two tables share nothing.
@@ -34,17 +34,18 @@ struct pidtab {
 };
 #define PIDTAB_INIT { 0, false, false }
 
+/* Written by tools/interface: statuses. */
 /* What a function answers: 0, or a number of Linux's errno. Any status but PIDTAB_DONE says that the table is as it was.
  * A call that the table refuses, as ESRCH no-caller, is PIDTAB_DONE: its answer or reply says so. */
 enum pidtab_status {
 	PIDTAB_DONE = 0,
 	PIDTAB_CLOSED = 9,        /* EBADF: there is no open table */
-	PIDTAB_NO_MEMORY = 12,    /* ENOMEM */
+	PIDTAB_NO_MEMORY = 12,    /* ENOMEM: there is no memory */
 	PIDTAB_BUSY = 16,         /* EBUSY: another thread's call works on the table; or an open finds it open */
 	PIDTAB_OUT_OF_RANGE = 22, /* EINVAL: pid_max, or what a call takes */
 	PIDTAB_NO_ROOM = 34,      /* ERANGE: size says what is needed */
 	PIDTAB_EMPTY_LINE = 61,   /* ENODATA: a line of 0 bytes has no answer */
-	PIDTAB_BAD_LINE = 71,     /* EPROTO */
+	PIDTAB_BAD_LINE = 71,     /* EPROTO: the line is none of the script language */
 	PIDTAB_SPENT = 75,        /* EOVERFLOW: after 2^64 - 2 calls */
 	PIDTAB_BAD_TEXT = 117     /* EUCLEAN: the text is that of no table; the fault says why */
 };
@@ -90,9 +91,18 @@ static inline const char *pidtab_text(uint32_t status)
 	}
 	return "no such status";
 }
+/* The end of statuses. */
 
-/* The number of this interface. */
-#define PIDTAB_VERSION 1
+/* Written by tools/interface: bounds. */
+#define PIDTAB_VERSION 1          /* the number of this interface */
+#define PIDTAB_LONGEST_ANSWER 362 /* no answer to a line is longer */
+#define PIDTAB_LONGEST_CALL 42    /* no line of a call is longer */
+#define PIDTAB_KILLED 256         /* the status of a child that the fall of its namespace killed */
+#define PIDTAB_LEVELS_MAX 33      /* no task has more numbers */
+#define PIDTAB_MOST_WORKERS 16    /* no record has more workers */
+/* The end of bounds. */
+
+/* The number of the interface that the library has, which is PIDTAB_VERSION of its header. */
 uint32_t pidtab_version(void);
 
 /* Opens a table with process 1 alone; pid_max is 301 to 4194304. DONE, BUSY, OUT_OF_RANGE, NO_MEMORY. Each of the functions below may be
@@ -101,9 +111,6 @@ uint32_t pidtab_open(struct pidtab *table, uint32_t pid_max);
 
 /* Frees the table. A table that is not open stays so. DONE; one that is BUSY is not closed. */
 uint32_t pidtab_close(struct pidtab *table);
-
-/* No answer is longer. */
-#define PIDTAB_LONGEST_ANSWER 362
 
 /* Makes the call on a line of the script language (docs/SCRIPT.md), which has no newline. The answer has size bytes, no newline
  * and no zero byte behind it; its room is at least PIDTAB_LONGEST_ANSWER. DONE, CLOSED, EMPTY_LINE, BAD_LINE, NO_ROOM, SPENT, and
@@ -118,21 +125,35 @@ uint32_t pidtab_list(struct pidtab *table, void *bytes, size_t room, size_t *siz
  * text, and its SHA-256 is in it. DONE, CLOSED, NO_MEMORY, and NO_ROOM as pidtab_list has it. */
 uint32_t pidtab_dump(struct pidtab *table, void *bytes, size_t room, size_t *size);
 
+/* Written by tools/interface: faults. */
 /* Why a text is that of no table. */
 enum pidtab_fault_kind {
-	PIDTAB_FAULT_BAD_LINE = 1,      /* the line is none of those that the form has there */
-	PIDTAB_FAULT_WRONG_DIGEST,      /* the last line is not that of the text before it */
-	PIDTAB_FAULT_BAD_SETTINGS,      /* pid_max is out of range, or some id is not below the stamp */
-	PIDTAB_FAULT_UNSORTED,          /* the number or id is not above that of the line before */
-	PIDTAB_FAULT_UNKNOWN_PARENT,    /* no line has the task's parent, or the namespace around the namespace */
-	PIDTAB_FAULT_UNKNOWN_NAMESPACE, /* no line has the namespace */
-	PIDTAB_FAULT_UNKNOWN_GROUP,     /* no line has the control group */
-	PIDTAB_FAULT_BAD_NAME,          /* a name has too few numbers, too many, or one out of range */
-	PIDTAB_FAULT_TAKEN_NUMBER,      /* two names have one number */
-	PIDTAB_FAULT_NO_INIT,           /* no task is the init of a namespace that has not fallen */
-	PIDTAB_FAULT_NO_NUMBER,         /* comes no more */
-	PIDTAB_FAULT_IMPOSSIBLE         /* in no table is this line beside the others */
+	PIDTAB_FAULT_BAD_LINE = 1,          /* the line is none of those that the form has there */
+	PIDTAB_FAULT_WRONG_DIGEST = 2,      /* the last line is not that of the text before it */
+	PIDTAB_FAULT_BAD_SETTINGS = 3,      /* pid_max is out of range, or some id is not below the stamp */
+	PIDTAB_FAULT_UNSORTED = 4,          /* the number or id is not above that of the line before */
+	PIDTAB_FAULT_UNKNOWN_PARENT = 5,    /* no line has the task's parent, or the namespace around the namespace */
+	PIDTAB_FAULT_UNKNOWN_NAMESPACE = 6, /* no line has the namespace */
+	PIDTAB_FAULT_UNKNOWN_GROUP = 7,     /* no line has the control group */
+	PIDTAB_FAULT_BAD_NAME = 8,          /* a name has too few numbers, too many, or one out of range */
+	PIDTAB_FAULT_TAKEN_NUMBER = 9,      /* two names have one number */
+	PIDTAB_FAULT_NO_INIT = 10,          /* no task is the init of a namespace that has not fallen */
+	PIDTAB_FAULT_NO_NUMBER = 11,        /* comes no more */
+	PIDTAB_FAULT_IMPOSSIBLE = 12        /* in no sound state is this line beside the others */
 };
+
+/* What a kind of fault says of its line, in the words of docs/SCRIPT.md. */
+static inline const char *pidtab_fault_text(uint32_t kind)
+{
+	static const char *const words[] = {
+		"no fault",
+		"bad line", "wrong digest", "bad settings", "out of order", "unknown parent", "unknown namespace",
+		"unknown control group", "bad name", "number in use twice", "namespace without an init",
+		"no number left", "impossible line"
+	};
+	return words[kind < sizeof words / sizeof words[0] ? kind : 0];
+}
+/* The end of faults. */
 
 /* The first fault of a text that is met. */
 struct pidtab_fault {
@@ -140,48 +161,49 @@ struct pidtab_fault {
 	uint32_t kind; /* enum pidtab_fault_kind */
 };
 
-/* What a kind of fault says of its line, in the words of docs/SCRIPT.md. */
-static inline const char *pidtab_fault_text(uint32_t kind)
-{
-	static const char *const faults[] = {
-		"no fault",
-		"bad line", "wrong digest", "bad settings", "out of order", "unknown parent", "unknown namespace",
-		"unknown control group", "bad name", "number in use twice", "namespace without an init",
-		"no number left", "impossible line"
-	};
-	return faults[kind < sizeof faults / sizeof faults[0] ? kind : 0];
-}
-
 /* Opens a table as a text of pidtab_dump says: each later call has the answer that it would have had there. Any bytes may be given. DONE;
  * BUSY where it is open already; then BAD_TEXT and the fault, which no text of a table has; NO_MEMORY. The fault is zeroes but for BAD_TEXT. */
 uint32_t pidtab_load(struct pidtab *table, const void *text, size_t length, struct pidtab_fault *fault);
 
-/* A call as numbers. What an operation does not take is not looked at. */
+/* Written by tools/interface: operations. */
+/* A call as numbers. What an operation does not take is not looked at; pidtab_ask answers a query too. */
 enum pidtab_operation {
-	PIDTAB_FORK,      /* caller; choice 1: into a new namespace */
-	PIDTAB_GETPID,    /* caller */
-	PIDTAB_NSPID,     /* caller, number */
-	PIDTAB_EXEC,      /* caller */
-	PIDTAB_EXIT,      /* caller, number: the status, 0 to 255 */
-	PIDTAB_WAIT,      /* caller, choice: enum pidtab_which, number */
-	PIDTAB_GETPPID,   /* caller */
-	PIDTAB_SETPGID,   /* caller, pid, pgid */
-	PIDTAB_SETSID,    /* caller */
-	PIDTAB_MK,        /* id: of the parent */
-	PIDTAB_RM,        /* id */
-	PIDTAB_LIMIT,     /* id; choice 1: number is the limit, 0: no limit */
-	PIDTAB_MOVE,      /* caller: who is moved, id */
-	PIDTAB_COUNT,     /* id */
-	PIDTAB_GETPGID,   /* caller, number */
-	PIDTAB_GETSID,    /* caller, number */
-	PIDTAB_NEXT,      /* caller, choice: enum pidtab_use, number */
-	PIDTAB_JOIN,      /* caller, number */
-	PIDTAB_SUBREAPER  /* caller; choice 1: on, 0: off */
+	PIDTAB_FORK = 0,      /* caller; choice 1: into a new namespace */
+	PIDTAB_GETPID = 1,    /* caller; a query */
+	PIDTAB_NSPID = 2,     /* caller, number: of the task; a query */
+	PIDTAB_EXEC = 3,      /* caller */
+	PIDTAB_EXIT = 4,      /* caller, number: the status, 0 to 255 */
+	PIDTAB_WAIT = 5,      /* caller, number, choice: enum pidtab_which */
+	PIDTAB_GETPPID = 6,   /* caller; a query */
+	PIDTAB_SETPGID = 7,   /* caller, pid, pgid */
+	PIDTAB_SETSID = 8,    /* caller */
+	PIDTAB_MK = 9,        /* id: of the parent */
+	PIDTAB_RM = 10,       /* id */
+	PIDTAB_LIMIT = 11,    /* id; choice 1: number is the limit, 0: no limit */
+	PIDTAB_MOVE = 12,     /* caller: who is moved, id */
+	PIDTAB_COUNT = 13,    /* id; a query */
+	PIDTAB_GETPGID = 14,  /* caller, number: of the task, 0 for the caller; a query */
+	PIDTAB_GETSID = 15,   /* caller, number: of the task, 0 for the caller; a query */
+	PIDTAB_NEXT = 16,     /* caller, choice: enum pidtab_use, number: where to begin; a query */
+	PIDTAB_JOIN = 17,     /* caller, number: of the task */
+	PIDTAB_SUBREAPER = 18 /* caller; choice 1: on, 0: off */
+};
+/* The end of operations. */
+
+/* Written by tools/interface: choices. */
+enum pidtab_which {
+	PIDTAB_ANY = 0,       /* any child */
+	PIDTAB_CHILD = 1,     /* the child with the number */
+	PIDTAB_OWN_GROUP = 2, /* the children in the caller's process group */
+	PIDTAB_GROUP = 3      /* the children in the process group with the number */
 };
 
-enum pidtab_which { PIDTAB_ANY, PIDTAB_CHILD, PIDTAB_OWN_GROUP, PIDTAB_GROUP };
-
-enum pidtab_use { PIDTAB_TASKS, PIDTAB_GROUPS, PIDTAB_SESSIONS };
+enum pidtab_use {
+	PIDTAB_TASKS = 0,   /* a task, live or ended */
+	PIDTAB_GROUPS = 1,  /* a process group */
+	PIDTAB_SESSIONS = 2 /* a session */
+};
+/* The end of choices. */
 
 struct pidtab_call {
 	uint32_t operation;
@@ -193,41 +215,44 @@ struct pidtab_call {
 	int32_t pgid;
 };
 
+/* Written by tools/interface: kinds. */
 /* A reply as numbers. What a kind does not tell is 0. */
 enum pidtab_kind {
-	PIDTAB_FORKED,   /* first: the child's number to the caller, second: its root number */
-	PIDTAB_OK,
-	PIDTAB_NUMBER,   /* first */
-	PIDTAB_LEVELS,   /* count of levels */
-	PIDTAB_REAPED,   /* first: the child, second: its status, or PIDTAB_KILLED */
-	PIDTAB_NONE_YET,
-	PIDTAB_COUNTED,  /* first */
-	PIDTAB_CONTROL,  /* first: the id */
-	PIDTAB_END,
-	PIDTAB_REFUSED   /* error, refusal: enum pidtab_refusal, first: the id of what refused, if it has one */
+	PIDTAB_FORKED = 0,   /* first: the child's number to the caller, second: its root number */
+	PIDTAB_OK = 1,       /* nothing */
+	PIDTAB_NUMBER = 2,   /* first */
+	PIDTAB_LEVELS = 3,   /* the first count of levels, outermost first */
+	PIDTAB_REAPED = 4,   /* first: the child, second: its status, or PIDTAB_KILLED where its namespace fell */
+	PIDTAB_NONE_YET = 5, /* nothing: children match, and none of them has ended */
+	PIDTAB_COUNTED = 6,  /* first */
+	PIDTAB_CONTROL = 7,  /* first: the id */
+	PIDTAB_END = 8,      /* nothing: no number follows */
+	PIDTAB_REFUSED = 9   /* error, refusal: its number, first: the id of what refused, if it has one */
 };
+/* The end of kinds. */
 
+/* Written by tools/interface: refusals. */
 /* Why the table refuses a call. The numbers stay as they are. */
 enum pidtab_refusal {
-	PIDTAB_NO_CALLER = 1,  /* ESRCH: no live task has the caller's number */
-	PIDTAB_NO_TASK,        /* ESRCH: no task is there, or none that the call may be made on */
-	PIDTAB_NO_CHILD,       /* ECHILD: no child matches */
-	PIDTAB_NO_NUMBER,      /* EAGAIN: the namespace with the id has no free number */
-	PIDTAB_PIDS_LIMIT,     /* EAGAIN: the control group with the id has as many tasks as its limit allows */
-	PIDTAB_SPACE_FALLEN,   /* ENOMEM: the namespace for the caller's children has fallen */
-	PIDTAB_TOO_DEEP,       /* ENOSPC: a namespace below one of level 32 */
-	PIDTAB_ELSEWHERE,      /* EINVAL: a new namespace from a caller whose children go into another */
-	PIDTAB_BAD_GROUP,      /* EINVAL: a negative process group */
-	PIDTAB_OTHER_SESSION,  /* EPERM: a child in another session */
-	PIDTAB_IS_LEADER,      /* EPERM: a session leader, or a process group leader */
-	PIDTAB_NO_GROUP,       /* EPERM: no such group in the caller's session */
-	PIDTAB_EXECUTED,       /* EACCES: a child that has executed */
-	PIDTAB_ROOT_INIT,      /* EBUSY: the exit of the root init */
-	PIDTAB_NO_CONTROL,     /* ENOENT: no control group has the id */
-	PIDTAB_CONTROL_BUSY,   /* EBUSY: a control group with live tasks or children */
-	PIDTAB_ROOT_CONTROL,   /* EINVAL: the root control group, which has no limit and stays */
-	PIDTAB_BAD_LIMIT,      /* EINVAL: a limit above 4194304 */
-	PIDTAB_CONTROL_DEPTH   /* EAGAIN: a control group below one of level 64 */
+	PIDTAB_NO_CALLER = 1,      /* ESRCH: no live task has the caller's root number */
+	PIDTAB_NO_TASK = 2,        /* ESRCH: no task is there, or none that the call may be made on */
+	PIDTAB_NO_CHILD = 3,       /* ECHILD: no child matches */
+	PIDTAB_NO_NUMBER = 4,      /* EAGAIN: the namespace with the id has no free number */
+	PIDTAB_PIDS_LIMIT = 5,     /* EAGAIN: the control group with the id has as many tasks as its limit allows */
+	PIDTAB_SPACE_FALLEN = 6,   /* ENOMEM: the namespace for the caller's children has fallen */
+	PIDTAB_TOO_DEEP = 7,       /* ENOSPC: a namespace below one of level 32, the deepest */
+	PIDTAB_ELSEWHERE = 8,      /* EINVAL: a new namespace from a caller whose children go into another namespace */
+	PIDTAB_BAD_GROUP = 9,      /* EINVAL: a negative process group */
+	PIDTAB_OTHER_SESSION = 10, /* EPERM: a child in another session */
+	PIDTAB_IS_LEADER = 11,     /* EPERM: a session leader, or a process group leader */
+	PIDTAB_NO_GROUP = 12,      /* EPERM: no such process group in the caller's session */
+	PIDTAB_EXECUTED = 13,      /* EACCES: a child that has executed */
+	PIDTAB_ROOT_INIT = 14,     /* EBUSY: the exit of the root namespace's init */
+	PIDTAB_NO_CONTROL = 15,    /* ENOENT: no control group has the id */
+	PIDTAB_CONTROL_BUSY = 16,  /* EBUSY: a control group with live tasks or children */
+	PIDTAB_ROOT_CONTROL = 17,  /* EINVAL: the root control group, which has no limit and stays */
+	PIDTAB_BAD_LIMIT = 18,     /* EINVAL: a limit above 4194304 */
+	PIDTAB_CONTROL_DEPTH = 19  /* EAGAIN: a control group below one of level 64, the deepest */
 };
 
 /* The word of a refusal in the answers of the script language, as no-caller. */
@@ -235,16 +260,13 @@ static inline const char *pidtab_word(uint32_t refusal)
 {
 	static const char *const words[] = {
 		"no-such-refusal",
-		"no-caller", "no-task", "no-child", "no-number", "pids-limit", "space-fallen",
-		"too-deep", "elsewhere", "bad-group", "other-session", "is-leader", "no-group",
-		"executed", "root-init", "no-control", "control-busy", "root-control",
-		"bad-limit", "control-depth"
+		"no-caller", "no-task", "no-child", "no-number", "pids-limit", "space-fallen", "too-deep",
+		"elsewhere", "bad-group", "other-session", "is-leader", "no-group", "executed", "root-init",
+		"no-control", "control-busy", "root-control", "bad-limit", "control-depth"
 	};
 	return words[refusal < sizeof words / sizeof words[0] ? refusal : 0];
 }
-
-#define PIDTAB_KILLED 256
-#define PIDTAB_LEVELS_MAX 33
+/* The end of refusals. */
 
 struct pidtab_reply {
 	uint32_t kind;
@@ -283,9 +305,6 @@ struct pidtab_task {
 /* Reads the task with the number in the caller's namespace, where 0 is the caller, and a zombie too: as getpgid finds it. It is no
  * call, as pidtab_ask is none. What the table refuses is PIDTAB_DONE: the task says so. DONE, CLOSED. */
 uint32_t pidtab_stat(struct pidtab *table, uint32_t caller, uint32_t number, struct pidtab_task *task);
-
-/* No line of a call is longer. */
-#define PIDTAB_LONGEST_CALL 42
 
 /* Writes the call as a line of the script language, without a newline and a zero byte: pidtab_line makes the same call of it. It needs
  * no table. DONE; OUT_OF_RANGE where the numbers say no call; NO_ROOM where the line is longer than the room, and then too size is its
@@ -447,7 +466,6 @@ struct pidtab_record {
 };
 #define PIDTAB_RECORD_INIT { 0, false, false }
 
-#define PIDTAB_MOST_WORKERS 16
 
 /* Opens a record with process 1 alone, for 1 to 16 workers; first_stamp is at least 1. DONE, BUSY, OUT_OF_RANGE, NO_MEMORY. Each of
  * the functions below may be BUSY too. */

@@ -24,6 +24,7 @@
 extern "C" {
 #endif
 
+/* Written by tools/interface: statuses. */
 /* What these functions answer besides. */
 enum pidtab_saved_status {
 	PIDTAB_DEVICE = 5,        /* EIO: a read or a write of the file failed; the field `error` has its errno */
@@ -56,13 +57,13 @@ static inline const char *pidtab_saved_text(uint32_t status)
 	}
 	return pidtab_text(status);
 }
+/* The end of statuses. */
 
-/* The version of the form. */
-#define PIDTAB_SAVED_VERSION 1
-
-/* The head and each entry are whole blocks of so many bytes. The longest entry is that of an nspid with 33 levels. */
-#define PIDTAB_SAVED_BLOCK 48
-#define PIDTAB_SAVED_LONGEST 192
+/* Written by tools/interface: bounds. */
+#define PIDTAB_SAVED_VERSION 1   /* the version of the form */
+#define PIDTAB_SAVED_BLOCK 48    /* the head and each entry are whole blocks of so many bytes */
+#define PIDTAB_SAVED_LONGEST 192 /* the longest entry, that of an nspid with 33 levels */
+/* The end of bounds. */
 
 /* The settings that the record was opened with, as pidtab_record_open takes them. */
 struct pidtab_saved_head {

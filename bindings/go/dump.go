@@ -31,12 +31,25 @@ func (fault TextError) Unwrap() error {
 	return ErrBadText
 }
 
+// Written by tools/interface: faults.
+
 // The words of the faults, by their numbers.
 var textFaults = [...]string{
-	1: "bad line", 2: "wrong digest", 3: "bad settings", 4: "out of order", 5: "unknown parent", 6: "unknown namespace",
-	7: "unknown control group", 8: "bad name", 9: "number in use twice", 10: "namespace without an init", 11: "no number left",
+	1:  "bad line",
+	2:  "wrong digest",
+	3:  "bad settings",
+	4:  "out of order",
+	5:  "unknown parent",
+	6:  "unknown namespace",
+	7:  "unknown control group",
+	8:  "bad name",
+	9:  "number in use twice",
+	10: "namespace without an init",
+	11: "no number left",
 	12: "impossible line",
 }
+
+// The end of faults.
 
 // textFaultOf is what a status says of a text; nothing where it is done.
 func textFaultOf(status C.uint32_t, fault *C.struct_pidtab_fault) error {

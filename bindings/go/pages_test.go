@@ -4,8 +4,6 @@ import (
 	"os"
 	"os/exec"
 	"path/filepath"
-	"reflect"
-	"regexp"
 	"strconv"
 	"strings"
 	"testing"
@@ -84,21 +82,6 @@ func between(t *testing.T, text, word, end string) string {
 		t.Fatal("no " + word)
 	}
 	return before
-}
-
-// A refusal's name in the header is its word in capital letters, with _ for -.
-func TestTheRefusalsAreThoseOfTheHeader(t *testing.T) {
-	header := read(t, "bindings/c/pidtab.h")
-	var names, told []Word
-	for _, found := range regexp.MustCompile(`PIDTAB_([A-Z_]+)`).FindAllStringSubmatch(between(t, header, "enum pidtab_refusal {", "};"), -1) {
-		names = append(names, Word(strings.ToLower(strings.ReplaceAll(found[1], "_", "-"))))
-	}
-	for _, found := range regexp.MustCompile(`"([a-z-]+)"`).FindAllStringSubmatch(between(t, header, "words[] = {", "};"), -1) {
-		told = append(told, Word(found[1]))
-	}
-	if !reflect.DeepEqual(names, words[1:]) || !reflect.DeepEqual(told[1:], words[1:]) {
-		t.Error(words, names, told)
-	}
 }
 
 // block is the code of a kind in a section of the page.

@@ -45,18 +45,20 @@ func (stopped ReplayError) Unwrap() error {
 // Word is why the table refuses a call, as the script language has it.
 type Word string
 
+// Written by tools/interface: refusals.
+
 // The words, in the order of their numbers. Behind NoNumber stands the id of a namespace, behind PidsLimit that of a control group.
 const (
 	NoCaller     Word = "no-caller"     // no live task has the caller's root number
-	NoTask       Word = "no-task"       // no such task, or the call is not allowed on it
+	NoTask       Word = "no-task"       // no task is there, or none that the call may be made on
 	NoChild      Word = "no-child"      // no child matches
-	NoNumber     Word = "no-number"     // the namespace has no free number
-	PidsLimit    Word = "pids-limit"    // the control group has as many tasks as its limit allows
+	NoNumber     Word = "no-number"     // the namespace with the id has no free number
+	PidsLimit    Word = "pids-limit"    // the control group with the id has as many tasks as its limit allows
 	SpaceFallen  Word = "space-fallen"  // the namespace for the caller's children has fallen
 	TooDeep      Word = "too-deep"      // a namespace below one of level 32, the deepest
-	Elsewhere    Word = "elsewhere"     // a new namespace from a caller whose children go into another one
+	Elsewhere    Word = "elsewhere"     // a new namespace from a caller whose children go into another namespace
 	BadGroup     Word = "bad-group"     // a negative process group
-	OtherSession Word = "other-session" // a child that is in another session
+	OtherSession Word = "other-session" // a child in another session
 	IsLeader     Word = "is-leader"     // a session leader, or a process group leader
 	NoGroup      Word = "no-group"      // no such process group in the caller's session
 	Executed     Word = "executed"      // a child that has executed
@@ -67,6 +69,19 @@ const (
 	BadLimit     Word = "bad-limit"     // a limit above 4194304
 	ControlDepth Word = "control-depth" // a control group below one of level 64, the deepest
 )
+
+// The words of the refusals, by their numbers from 1 on.
+var words = [...]Word{
+	"", NoCaller, NoTask, NoChild, NoNumber, PidsLimit, SpaceFallen, TooDeep, Elsewhere, BadGroup, OtherSession, IsLeader, NoGroup, Executed,
+	RootInit, NoControl, ControlBusy, RootControl, BadLimit, ControlDepth,
+}
+
+// hasID is whether an id stands behind the word.
+func (word Word) hasID() bool {
+	return word == NoNumber || word == PidsLimit
+}
+
+// The end of refusals.
 
 // Refusal is an error of a call that the table refuses, which changes nothing but that the call is counted. Its errno is wrapped:
 // errors.Is(err, syscall.ESRCH).
@@ -87,17 +102,11 @@ func (refusal Refusal) Unwrap() error {
 	return refusal.Errno
 }
 
-// The words of the refusals, by their numbers from 1 on.
-var words = [...]Word{
-	"", NoCaller, NoTask, NoChild, NoNumber, PidsLimit, SpaceFallen, TooDeep, Elsewhere, BadGroup, OtherSession, IsLeader, NoGroup, Executed,
-	RootInit, NoControl, ControlBusy, RootControl, BadLimit, ControlDepth,
-}
-
 // refusalOf is what a reply says that is a refusal.
 func refusalOf(reply *C.struct_pidtab_reply) error {
 	refusal := Refusal{Errno: syscall.Errno(reply.error), Word: words[reply.refusal]}
 	refusal.Why = string(refusal.Word)
-	if refusal.Word == NoNumber || refusal.Word == PidsLimit {
+	if refusal.Word.hasID() {
 		refusal.ID = uint64(reply.first)
 		refusal.Why = fmt.Sprintf("%s %d", refusal.Word, refusal.ID)
 	}

@@ -8,6 +8,8 @@ import "syscall"
 // Operation is what a Call asks for.
 type Operation uint32
 
+// Written by tools/interface: operations.
+
 // The operations, by their names in the script language, with the fields of a Call that each takes; the others are not looked at. A query is
 // one that Ask answers too.
 const (
@@ -16,7 +18,7 @@ const (
 	OpNspid     Operation = C.PIDTAB_NSPID     // Caller, Number: of the task; a query
 	OpExec      Operation = C.PIDTAB_EXEC      // Caller
 	OpExit      Operation = C.PIDTAB_EXIT      // Caller, Number: the status, 0 to 255
-	OpWait      Operation = C.PIDTAB_WAIT      // Caller, Choice 0: any child, 1: the child Number, 2: those of the own group, 3: those of the group Number
+	OpWait      Operation = C.PIDTAB_WAIT      // Caller, Number, Choice: 0 for any child, 1 for the child with the number, 2 for the children in the caller's process group, 3 for the children in the process group with the number
 	OpGetppid   Operation = C.PIDTAB_GETPPID   // Caller; a query
 	OpSetpgid   Operation = C.PIDTAB_SETPGID   // Caller, Pid, Pgid
 	OpSetsid    Operation = C.PIDTAB_SETSID    // Caller
@@ -32,6 +34,8 @@ const (
 	OpSubreaper Operation = C.PIDTAB_SUBREAPER // Caller; Choice 1: on, 0: off
 )
 
+// The end of operations.
+
 // Call is a call as a value; == compares two.
 type Call struct {
 	Operation Operation
@@ -46,6 +50,8 @@ type Call struct {
 // ReplyKind is what a Reply tells.
 type ReplyKind uint32
 
+// Written by tools/interface: kinds.
+
 // The kinds of a Reply, with its fields that each tells.
 const (
 	ReplyForked  ReplyKind = C.PIDTAB_FORKED   // First: the child's number to the caller, Second: its root number
@@ -57,8 +63,10 @@ const (
 	ReplyCounted ReplyKind = C.PIDTAB_COUNTED  // First
 	ReplyControl ReplyKind = C.PIDTAB_CONTROL  // First: the id
 	ReplyEnd     ReplyKind = C.PIDTAB_END      // nothing: no number follows
-	ReplyRefused ReplyKind = C.PIDTAB_REFUSED  // Errno, Refusal, First: the id of what refused, if it has one
+	ReplyRefused ReplyKind = C.PIDTAB_REFUSED  // Errno, Refusal: its number, First: the id of what refused, if it has one
 )
+
+// The end of kinds.
 
 // Reply is a reply as a value; == compares two. What its kind does not tell is 0.
 type Reply struct {

@@ -1,6 +1,6 @@
 // What is thrown: refusals of the table, as the kernel's errors, and what else a call may come to. What is misused is a TypeError or a RangeError.
 
-import { ERRNOS, REFUSALS, STATUS, TEXT_FAULTS } from "./header.js";
+import { ERRNOS, REFUSALS, STATUS, TEXT_FAULTS, WITH_ID } from "./header.js";
 
 /** More of a line is not told. */
 const MOST_TOLD = 200;
@@ -66,9 +66,6 @@ export class Differs extends PidtabError {
 export function shorten(text) {
   return text.length <= MOST_TOLD ? text : `${text.slice(0, MOST_TOLD)}..`;
 }
-
-/** Behind these words stands the id of the namespace, or of the control group, that refuses. */
-const WITH_ID = ["no-number", "pids-limit"];
 
 /** The word of a refusal by its number, and the id behind it, or null. */
 export function wordOf(number, id) {

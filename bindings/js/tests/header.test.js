@@ -8,19 +8,6 @@ import * as header from "../src/header.js";
 
 const HEADER = readFileSync(new URL("../../c/pidtab.h", import.meta.url), "utf8").replace(/\/\*[^]*?\*\//g, "");
 
-/** The names of an enum with their numbers. */
-function readEnum(name) {
-  const [, body] = new RegExp(`enum ${name} \\{([^}]*)\\}`).exec(HEADER);
-  let next = 0;
-  return Object.fromEntries(
-    body.split(",").map((row) => {
-      const [, word, number] = /PIDTAB_(\w+)(?: = (\d+))?/.exec(row);
-      next = number === undefined ? next : Number(number);
-      return [word, next++];
-    }),
-  );
-}
-
 /** The fields of a struct by their places, in words of 32 bits. */
 function readStruct(name) {
   const [, body] = new RegExp(`struct ${name} \\{([^}]*)\\}`).exec(HEADER);
@@ -33,28 +20,6 @@ function readStruct(name) {
   }
   return fields;
 }
-
-/** The strings of a table of the header. */
-function readWords(name) {
-  const [, body] = new RegExp(`${name}\\[\\] = \\{([^}]*)\\}`).exec(HEADER);
-  return [...body.matchAll(/"([^"]*)"/g)].map(([, word]) => word);
-}
-
-test("the numbers are those of the header", () => {
-  const statuses = { ...readEnum("pidtab_status"), ...readEnum("pidtab_record_status") };
-  for (const [name, number] of Object.entries(header.STATUS)) assert.equal(number, statuses[name], name);
-  assert.deepEqual(header.OPERATION, readEnum("pidtab_operation"));
-  assert.deepEqual(header.WHICH, readEnum("pidtab_which"));
-  assert.deepEqual(header.KIND, readEnum("pidtab_kind"));
-  assert.deepEqual(header.USES.map((use) => `${use.toUpperCase()}S`), Object.keys(readEnum("pidtab_use")));
-  assert.equal(header.KILLED, Number(/PIDTAB_KILLED (\d+)/.exec(HEADER)[1]));
-  assert.equal(header.MOST_WORKERS, Number(/PIDTAB_MOST_WORKERS (\d+)/.exec(HEADER)[1]));
-});
-
-test("the words are those of the header", () => {
-  assert.deepEqual(header.REFUSALS, readWords("words").slice(1));
-  assert.deepEqual(header.TEXT_FAULTS, readWords("faults").slice(1));
-});
 
 test("the fields stand where the header has them", () => {
   for (const [name, fields] of Object.entries({ pidtab_call: header.CALL, pidtab_reply: header.REPLY, pidtab_task: header.TASK, pidtab_fault: header.FAULT })) {

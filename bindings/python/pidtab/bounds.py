@@ -5,9 +5,11 @@ import threading
 from operator import index
 from typing import SupportsIndex
 
+# Written by tools/interface: bounds.
 DEFAULT_PID_MAX = 32768
 LEAST_PID_MAX = 301
 GREATEST_PID_MAX = 4194304
+# The end of bounds.
 
 
 class Unnamed(int):

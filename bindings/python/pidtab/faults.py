@@ -146,6 +146,7 @@ REFUSALS: dict[int, type[Refusal]] = {
 }
 
 
+# Written by tools/interface: refusals.
 # The words of the refusals, by their numbers from 1 on.
 WORDS = (
     "no-caller", "no-task", "no-child", "no-number", "pids-limit", "space-fallen", "too-deep", "elsewhere", "bad-group", "other-session",
@@ -154,13 +155,16 @@ WORDS = (
 
 # Behind these words stands the id of the namespace, or the control group, that refuses.
 WORDS_WITH_ID = ("no-number", "pids-limit")
+# The end of refusals.
 
 
+# Written by tools/interface: faults.
 # What a text is that of no table for, by the numbers of the faults from 1 on.
 TEXT_FAULTS = (
     "bad line", "wrong digest", "bad settings", "out of order", "unknown parent", "unknown namespace", "unknown control group", "bad name",
     "number in use twice", "namespace without an init", "no number left", "impossible line",
 )  # fmt: skip
+# The end of faults.
 
 
 def bad_text(line: int, kind: int) -> BadText:

@@ -1,10 +1,9 @@
-"""`bindings/c/pidtab.h`, `pidtab_shared.h` and `pidtab_saved.h` by hand: their numbers, structs and functions. A test compares them."""
+"""`bindings/c/pidtab.h`, `pidtab_shared.h` and `pidtab_saved.h`: their numbers, structs and functions. A test compares what is written by hand."""
 
 import ctypes
 import struct
 
-VERSION = 1
-
+# Written by tools/interface: statuses.
 DONE = 0
 CLOSED = 9
 NO_MEMORY = 12
@@ -29,20 +28,29 @@ ENDED = 32
 TORN = 42
 WRONG_BYTE = 84
 OTHER_VERSION = 93
+# The end of statuses.
 
+# Written by tools/interface: bounds.
+VERSION = 1
+LONGEST_ANSWER = 362
+LONGEST_CALL = 42
 KILLED = 256
 LEVELS_MAX = 33
-LONGEST_ANSWER = 362
 MOST_WORKERS = 16
+# The end of bounds.
 
+# Written by tools/interface: operations.
 FORK, GETPID, NSPID, EXEC, EXIT, WAIT, GETPPID, SETPGID, SETSID, MK = range(10)
 RM, LIMIT, MOVE, COUNT, GETPGID, GETSID, NEXT, JOIN, SUBREAPER = range(10, 19)
+# The end of operations.
 
+# Written by tools/interface: kinds.
 ANY, CHILD, OWN_GROUP, GROUP = range(4)
 
 TASKS, GROUPS, SESSIONS = range(3)
 
 FORKED, OK, NUMBER, LEVELS, REAPED, NONE_YET, COUNTED, CONTROL, END, REFUSED = range(10)
+# The end of kinds.
 
 
 class Pidtab(ctypes.Structure):

@@ -18,11 +18,10 @@ from unittest import mock
 
 from pidtab import Calls, LibraryFault, LibraryMissing, Process, Table, TableClosed, find_library, raw
 from pidtab.calls import KINDS
-from pidtab.faults import TEXT_FAULTS, WORDS
 from pidtab.language import FORMS
 from pidtab.library import load_library
 from tests.alarms import alarms
-from tests.pages import REPOSITORY, quoted, read_page, rows, section
+from tests.pages import REPOSITORY, read_page
 from tests.programs import need_tool
 from tests.ways import ask, need_library, need_program, open_stand_in
 
@@ -46,12 +45,6 @@ PASSED: dict[str, type] = {
     "uint32_t *": raw.NUMBER_32, "uint64_t *": raw.NUMBER_64, "size_t ": raw.SIZE_T, "uint32_t ": raw.U32, "uint64_t ": raw.U64,
 }  # fmt: skip
 
-# The words of docs/SCRIPT.md, in the order of their numbers, which stay.
-REFUSALS = [
-    "no-caller", "no-task", "no-child", "no-number", "pids-limit", "space-fallen", "too-deep", "elsewhere", "bad-group", "other-session",
-    "is-leader", "no-group", "executed", "root-init", "no-control", "control-busy", "root-control", "bad-limit", "control-depth",
-]  # fmt: skip
-
 
 def header(name: str = "pidtab.h") -> str:
     """A header of C without its comments, each run of white space one space."""
@@ -65,15 +58,6 @@ def body(words: str) -> str:
     return behind.partition(" }")[0]
 
 
-def read_enum(name: str) -> dict[str, int]:
-    """The words of an enum with their numbers."""
-    numbers: dict[str, int] = {}
-    for entry in body(f"enum pidtab_{name}").split(","):
-        word, _, given = entry.strip().removeprefix("PIDTAB_").partition(" = ")
-        numbers[word] = int(given) if given else max(numbers.values(), default=-1) + 1
-    return numbers
-
-
 def takes(argument: str) -> type:
     """The type of ctypes for what a function of the header takes."""
     (kind,) = re.findall(r"^(?:const )?((?:struct )?\w+ \*?)\w+$", argument)
@@ -82,16 +66,6 @@ def takes(argument: str) -> type:
 
 class Header(unittest.TestCase):
     """The numbers, structs and functions are those of the header."""
-
-    def test_the_enums(self) -> None:
-        enums = [read_enum(name) for name in ("status", "record_status", "saved_status", "operation", "which", "use", "kind")]
-        self.assertEqual([len(enum) for enum in enums], [10, 3, 7, 19, 4, 3, 10])
-        for word, number in [entry for enum in enums for entry in enum.items()]:
-            self.assertEqual(getattr(raw, word), number, word)
-
-    def test_the_bounds(self) -> None:
-        for name in ("VERSION", "KILLED", "LEVELS_MAX", "LONGEST_ANSWER", "MOST_WORKERS"):
-            self.assertIn(f"#define PIDTAB_{name} {getattr(raw, name)} ", header())
 
     def test_the_kinds_of_next(self) -> None:
         uses = re.findall(r"PIDTAB_([A-Z]+)S\b", body("enum pidtab_use"))
@@ -134,16 +108,6 @@ class Header(unittest.TestCase):
         self.assertLessEqual(left_out, set(declared))
         for name, (_, arguments) in known.items():
             self.assertEqual([takes(it) for it in declared[name].split(", ") if it != "void"], arguments, name)
-
-    def test_the_words_of_refusals(self) -> None:
-        self.assertEqual(list(WORDS), REFUSALS)
-        page = [quoted(row[0])[0].split(" ")[1] for row in rows(section(read_page("docs/SCRIPT.md"), "## Refusals"))]
-        self.assertEqual(sorted(page), sorted(WORDS))
-
-
-    def test_the_words_of_faults_of_a_text(self) -> None:
-        (words,) = re.findall(r'"no fault", ((?:"[a-z ]+",? ?)+) }', header())
-        self.assertEqual(list(TEXT_FAULTS), re.findall(r'"([a-z ]+)"', words))
 
 
 class Libraries(unittest.TestCase):

@@ -23,11 +23,11 @@ DEV = "-dev", ".dev0"
 # Where the number of the interface is written.
 INTERFACES = {
     "docs/STABLE.md": r"^- The \*interface\* is (\d+)\.",
-    "bindings/c/pidtab.h": r"^#define PIDTAB_VERSION (\d+)$",
+    "bindings/c/pidtab.h": r"^#define PIDTAB_VERSION (\d+) ",
     "bindings/c/pidtab.pc.in": r"^interface=(\d+)$",
     "bindings/c/pidtab.map": r"^PIDTAB_(\d+) \{$",
     "bindings/python/pidtab/raw.py": r"^VERSION = (\d+)$",
-    "bindings/rust/src/raw.rs": r"^pub\(crate\) const VERSION: u32 = (\d+);$",
+    "bindings/rust/src/raw.rs": r"^    pub\(crate\) const VERSION: u32 = (\d+);$",
     "Makefile": r"-soname,libpidtab\.so\.(\d+)",
 }
 
@@ -63,7 +63,7 @@ PYTHONS_OF_THE_GATE = {
 }
 
 # The folders of what the gate runs by Python.
-OF_THE_GATE = "tools", "hostile"
+OF_THE_GATE = "tools", "hostile", "interface", "interface/written", "interface/compared"
 
 # What the first library of interface 1 exported, and so each later one.
 RELEASED = {"pidtab_version", "pidtab_open", "pidtab_close", "pidtab_line", "pidtab_list", "pidtab_call"}

@@ -2,13 +2,14 @@
 use crate::raw;
 use std::{fmt, io};
 
+// Written by tools/interface: refusals.
 /// Why the table refuses a call. Nothing has changed then, but that the call is counted. More refusals may come.
 #[derive(Clone, Copy, Debug, PartialEq, Eq, Hash)]
 #[non_exhaustive]
 pub enum Refusal {
     /// No live task has the caller's root number.
     NoCaller,
-    /// No such task, or the call is not allowed on it.
+    /// No task is there, or none that the call may be made on.
     NoTask,
     /// No child matches.
     NoChild,
@@ -24,7 +25,7 @@ pub enum Refusal {
     Elsewhere,
     /// A negative process group.
     BadGroup,
-    /// A child that is in another session.
+    /// A child in another session.
     OtherSession,
     /// A session leader, or a process group leader.
     IsLeader,
@@ -73,24 +74,6 @@ impl Refusal {
         }
     }
 
-    /// Its number, 1 to 19, which stays the same from release to release.
-    pub fn number(self) -> u32 {
-        self.row().0
-    }
-
-    /// Its word in the answers of the script language, as `no-caller`.
-    pub fn name(self) -> &'static str {
-        self.row().1
-    }
-
-    /// The id of what refuses, 0 where it has none.
-    pub(crate) fn id(self) -> u64 {
-        match self {
-            Refusal::NoNumber(id) | Refusal::PidsLimit(id) => id,
-            _ => 0,
-        }
-    }
-
     /// The number and the word.
     fn row(self) -> (u32, &'static str) {
         match self {
@@ -115,13 +98,39 @@ impl Refusal {
             Refusal::ControlDepth => (19, "control-depth"),
         }
     }
+
+    /// The id of what refuses, where it has one.
+    fn id_behind(self) -> Option<u64> {
+        match self {
+            Refusal::NoNumber(id) | Refusal::PidsLimit(id) => Some(id),
+            _ => None,
+        }
+    }
+}
+// The end of refusals.
+
+impl Refusal {
+    /// Its number, 1 to 19, which stays the same from release to release.
+    pub fn number(self) -> u32 {
+        self.row().0
+    }
+
+    /// Its word in the answers of the script language, as `no-caller`.
+    pub fn name(self) -> &'static str {
+        self.row().1
+    }
+
+    /// The id of what refuses, 0 where it has none.
+    pub(crate) fn id(self) -> u64 {
+        self.id_behind().unwrap_or(0)
+    }
 }
 
 impl fmt::Display for Refusal {
     fn fmt(&self, to: &mut fmt::Formatter<'_>) -> fmt::Result {
-        match self {
-            Refusal::NoNumber(id) | Refusal::PidsLimit(id) => write!(to, "{} {id}", self.name()),
-            _ => to.write_str(self.name()),
+        match self.id_behind() {
+            Some(id) => write!(to, "{} {id}", self.name()),
+            None => to.write_str(self.name()),
         }
     }
 }
@@ -340,6 +349,7 @@ impl From<LineError> for io::Error {
     }
 }
 
+// Written by tools/interface: faults.
 /// What is wrong with a text, or with its line: the text is that of no table. More may come.
 #[derive(Clone, Copy, Debug, PartialEq, Eq, Hash)]
 #[non_exhaustive]
@@ -348,9 +358,9 @@ pub enum TextFault {
     BadLine,
     /// The last line is not that of the text before it.
     WrongDigest,
-    /// `pid_max` is out of its range, or some id is not below the stamp.
+    /// `pid_max` is out of range, or some id is not below the stamp.
     BadSettings,
-    /// The number or the id is not above that of the line before.
+    /// The number or id is not above that of the line before.
     OutOfOrder,
     /// No line has the task's parent, or the namespace around the namespace.
     UnknownParent,
@@ -409,6 +419,7 @@ impl fmt::Display for TextFault {
         })
     }
 }
+// The end of faults.
 
 /// Why no table is made of a text. More reasons may come.
 #[derive(Clone, Copy, Debug, PartialEq, Eq, Hash)]

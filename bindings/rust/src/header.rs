@@ -1,6 +1,5 @@
-//! That `raw.rs` is `bindings/c/pidtab.h`, and what it has of `pidtab_saved.h`: numbers, structs and functions.
+//! That what is by hand in `raw.rs` is `bindings/c/pidtab.h`, and what it has of `pidtab_saved.h`: structs and functions.
 use crate::raw::*;
-use crate::{Refusal, TextFault};
 use std::fs;
 
 /// `pidtab.h`.
@@ -24,148 +23,6 @@ fn bare(name: &str) -> String {
 fn body<'a>(header: &'a str, words: &str) -> &'a str {
     let (_, behind) = header.split_once(&format!("{words} {{ ")).expect(words);
     behind.split_once(" }").expect("a closing brace").0
-}
-
-/// The header has an enum with these numbers and no others, in this order.
-fn same_enum(name: &str, numbers: &[(&str, u32)]) {
-    let header = header();
-    let mut next = 0;
-    let mut told = Vec::new();
-    for word in body(&header, &format!("enum {name}")).split(',') {
-        let (word, number) = word.split_once('=').unwrap_or((word, ""));
-        next = number.trim().parse().unwrap_or(next);
-        told.push((word.trim().trim_start_matches("PIDTAB_").to_owned(), next));
-        next += 1;
-    }
-    let wanted: Vec<_> = numbers.iter().map(|it| (it.0.to_owned(), it.1)).collect();
-    assert_eq!(told, wanted, "{name}");
-}
-
-#[test]
-fn the_numbers_are_those_of_the_header() {
-    same_enum(
-        "pidtab_status",
-        &[
-            ("DONE", DONE),
-            ("CLOSED", 9),
-            ("NO_MEMORY", NO_MEMORY),
-            ("BUSY", BUSY),
-            ("OUT_OF_RANGE", OUT_OF_RANGE),
-            ("NO_ROOM", NO_ROOM),
-            ("EMPTY_LINE", EMPTY_LINE),
-            ("BAD_LINE", BAD_LINE),
-            ("SPENT", SPENT),
-            ("BAD_TEXT", BAD_TEXT),
-        ],
-    );
-    same_enum(
-        "pidtab_record_status",
-        &[
-            ("NOT_KEPT", NOT_KEPT),
-            ("AGAIN", AGAIN),
-            ("DIFFERS", DIFFERS),
-        ],
-    );
-    same_enum(
-        "pidtab_operation",
-        &[
-            ("FORK", FORK),
-            ("GETPID", GETPID),
-            ("NSPID", NSPID),
-            ("EXEC", EXEC),
-            ("EXIT", EXIT),
-            ("WAIT", WAIT),
-            ("GETPPID", GETPPID),
-            ("SETPGID", SETPGID),
-            ("SETSID", SETSID),
-            ("MK", MK),
-            ("RM", RM),
-            ("LIMIT", LIMIT),
-            ("MOVE", MOVE),
-            ("COUNT", COUNT),
-            ("GETPGID", GETPGID),
-            ("GETSID", GETSID),
-            ("NEXT", NEXT),
-            ("JOIN", JOIN),
-            ("SUBREAPER", SUBREAPER),
-        ],
-    );
-}
-
-#[test]
-fn the_choices_and_kinds_are_those_of_the_header() {
-    same_enum(
-        "pidtab_which",
-        &[
-            ("ANY", ANY),
-            ("CHILD", CHILD),
-            ("OWN_GROUP", OWN_GROUP),
-            ("GROUP", GROUP),
-        ],
-    );
-    same_enum(
-        "pidtab_use",
-        &[("TASKS", TASKS), ("GROUPS", GROUPS), ("SESSIONS", SESSIONS)],
-    );
-    same_enum(
-        "pidtab_kind",
-        &[
-            ("FORKED", FORKED),
-            ("OK", OK),
-            ("NUMBER", NUMBER),
-            ("LEVELS", LEVELS),
-            ("REAPED", REAPED),
-            ("NONE_YET", NONE_YET),
-            ("COUNTED", COUNTED),
-            ("CONTROL", CONTROL),
-            ("END", END),
-            ("REFUSED", REFUSED),
-        ],
-    );
-}
-
-/// A refusal's name in the header is its word in capital letters, with `_` for `-`.
-#[test]
-fn the_refusals_are_those_of_the_header() {
-    let refusals = (1..=19).map(|it| (it, Refusal::of(it, 0).name()));
-    let names: Vec<_> = refusals
-        .clone()
-        .map(|(number, word)| (word.to_uppercase().replace('-', "_"), number))
-        .collect();
-    let names: Vec<_> = names.iter().map(|it| (it.0.as_str(), it.1)).collect();
-    same_enum("pidtab_refusal", &names);
-    let header = header();
-    let told = body(&header, "words[] =").split(',').skip(1);
-    let told: Vec<_> = told.map(|it| it.trim().trim_matches('"')).collect();
-    assert_eq!(told, refusals.map(|it| it.1).collect::<Vec<_>>());
-}
-
-/// The words of the header, in the order of their numbers from 1 on.
-#[test]
-fn the_faults_of_a_text_are_those_of_the_header() {
-    let header = header();
-    let (_, behind) = header.split_once("\"no fault\", ").expect("the words");
-    let words = behind.split_once(" }").expect("a closing brace").0;
-    let told: Vec<_> = words.split(", ").map(|it| it.trim_matches('"')).collect();
-    let known: Vec<_> = (1..=12).map(|it| TextFault::of(it).to_string()).collect();
-    assert_eq!(told, known);
-}
-
-#[test]
-fn the_bounds_are_those_of_the_header() {
-    let header = header();
-    for (name, number) in [
-        ("VERSION", u64::from(VERSION)),
-        ("KILLED", KILLED),
-        ("LEVELS_MAX", LEVELS_MAX as u64),
-        ("LONGEST_ANSWER", LONGEST_ANSWER as u64),
-        ("MOST_WORKERS", u64::from(MOST_WORKERS)),
-    ] {
-        assert!(
-            header.contains(&format!("#define PIDTAB_{name} {number} ")),
-            "{name}"
-        );
-    }
 }
 
 /// A struct of the header, by its fields.
@@ -267,27 +124,9 @@ fn the_functions_on_a_record_are_those_of_the_header() {
     }
 }
 
-/// The header has the status with this number.
-fn same_status(header: &str, name: &str, number: u32) {
-    let enumerated = body(header, "enum pidtab_saved_status");
-    let mut words = enumerated.split(", ").map(|it| it.trim());
-    assert!(
-        words.any(|it| it == format!("PIDTAB_{name} = {number}")),
-        "{name}"
-    );
-}
-
 #[test]
 fn what_is_used_of_a_saved_history_is_that_of_its_header() {
     let header = bare("pidtab_saved.h");
-    same_status(&header, "NOT_SAVED", NOT_SAVED);
-    same_status(&header, "TORN", TORN);
-    same_status(&header, "WRONG_BYTE", WRONG_BYTE);
-    same_status(&header, "OTHER_VERSION", OTHER_VERSION);
-    for (name, number) in [("BLOCK", SAVED_BLOCK), ("LONGEST", SAVED_LONGEST)] {
-        let defined = format!("#define PIDTAB_SAVED_{name} {number} ");
-        assert!(header.contains(&defined), "{name}");
-    }
     let head = "uint32_t pid_max; uint32_t workers; uint64_t first_stamp;";
     same_struct(&header, "pidtab_saved_head", head);
     let behind = "size_t *size, uint64_t *sum);";

@@ -106,8 +106,10 @@ pub struct Reaped {
 /// use pidtab::TextFault::*;
 /// fn all(it: pidtab::TextFault) {
 ///     match it {
-///         BadLine | WrongDigest | BadSettings | OutOfOrder | UnknownParent | UnknownNamespace | UnknownControl | BadName => {}
-///         TakenNumber | NoInit | NoNumber | Impossible => {}
+// Written by tools/interface: faults.
+///         BadLine | WrongDigest | BadSettings | OutOfOrder | UnknownParent | UnknownNamespace | UnknownControl |
+///         BadName | TakenNumber | NoInit | NoNumber | Impossible => {}
+// The end of faults.
 ///     }
 /// }
 /// ```
@@ -146,8 +148,11 @@ pub struct Reaped {
 /// use pidtab::Refusal::*;
 /// fn all(it: pidtab::Refusal) {
 ///     match it {
-///         NoCaller | NoTask | NoChild | NoNumber(_) | PidsLimit(_) | SpaceFallen | TooDeep | Elsewhere | BadGroup | OtherSession => {}
-///         IsLeader | NoGroup | Executed | RootInit | NoControl | ControlBusy | RootControl | BadLimit | ControlDepth => {}
+// Written by tools/interface: refusals.
+///         NoCaller | NoTask | NoChild | NoNumber(_) | PidsLimit(_) | SpaceFallen | TooDeep | Elsewhere | BadGroup |
+///         OtherSession | IsLeader | NoGroup | Executed | RootInit | NoControl | ControlBusy | RootControl | BadLimit |
+///         ControlDepth => {}
+// The end of refusals.
 ///     }
 /// }
 /// ```

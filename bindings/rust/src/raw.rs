@@ -1,4 +1,4 @@
-//! `bindings/c/pidtab.h` by hand, and what of `pidtab_saved.h` works in memory: numbers, structs and functions, and an owner for each struct
+//! `bindings/c/pidtab.h`, and what of `pidtab_saved.h` works in memory: numbers, structs and functions, and an owner for each struct
 //! that is opened and closed. All unsafe code of the crate is here. `header.rs` compares the first part with the headers.
 #![allow(unsafe_code)]
 
@@ -6,74 +6,102 @@ use std::ffi::c_void;
 use std::mem::{offset_of, size_of};
 use std::ptr;
 
-pub(crate) const VERSION: u32 = 1;
+// Written by tools/interface: statuses.
+/// What the functions answer.
+#[allow(dead_code)] // Not each is used here.
+mod statuses {
+    pub(crate) const DONE: u32 = 0;
+    pub(crate) const CLOSED: u32 = 9;
+    pub(crate) const NO_MEMORY: u32 = 12;
+    pub(crate) const BUSY: u32 = 16;
+    pub(crate) const OUT_OF_RANGE: u32 = 22;
+    pub(crate) const NO_ROOM: u32 = 34;
+    pub(crate) const EMPTY_LINE: u32 = 61;
+    pub(crate) const BAD_LINE: u32 = 71;
+    pub(crate) const SPENT: u32 = 75;
+    pub(crate) const BAD_TEXT: u32 = 117;
+    pub(crate) const NOT_KEPT: u32 = 2;
+    pub(crate) const AGAIN: u32 = 11;
+    pub(crate) const DIFFERS: u32 = 74;
+    pub(crate) const DEVICE: u32 = 5;
+    pub(crate) const NOT_SAVED: u32 = 8;
+    pub(crate) const NOT_EMPTY: u32 = 17;
+    pub(crate) const ENDED: u32 = 32;
+    pub(crate) const TORN: u32 = 42;
+    pub(crate) const WRONG_BYTE: u32 = 84;
+    pub(crate) const OTHER_VERSION: u32 = 93;
+}
+pub(crate) use statuses::*;
+// The end of statuses.
 
-pub(crate) const DONE: u32 = 0;
-pub(crate) const NO_MEMORY: u32 = 12;
-pub(crate) const BUSY: u32 = 16;
-pub(crate) const OUT_OF_RANGE: u32 = 22;
-pub(crate) const NO_ROOM: u32 = 34;
-pub(crate) const EMPTY_LINE: u32 = 61;
-pub(crate) const BAD_LINE: u32 = 71;
-pub(crate) const SPENT: u32 = 75;
-pub(crate) const BAD_TEXT: u32 = 117;
+// Written by tools/interface: operations.
+/// The operations.
+#[allow(dead_code)] // Not each is used here.
+mod operations {
+    pub(crate) const FORK: u32 = 0;
+    pub(crate) const GETPID: u32 = 1;
+    pub(crate) const NSPID: u32 = 2;
+    pub(crate) const EXEC: u32 = 3;
+    pub(crate) const EXIT: u32 = 4;
+    pub(crate) const WAIT: u32 = 5;
+    pub(crate) const GETPPID: u32 = 6;
+    pub(crate) const SETPGID: u32 = 7;
+    pub(crate) const SETSID: u32 = 8;
+    pub(crate) const MK: u32 = 9;
+    pub(crate) const RM: u32 = 10;
+    pub(crate) const LIMIT: u32 = 11;
+    pub(crate) const MOVE: u32 = 12;
+    pub(crate) const COUNT: u32 = 13;
+    pub(crate) const GETPGID: u32 = 14;
+    pub(crate) const GETSID: u32 = 15;
+    pub(crate) const NEXT: u32 = 16;
+    pub(crate) const JOIN: u32 = 17;
+    pub(crate) const SUBREAPER: u32 = 18;
+}
+pub(crate) use operations::*;
+// The end of operations.
 
-pub(crate) const NOT_KEPT: u32 = 2;
-pub(crate) const AGAIN: u32 = 11;
-pub(crate) const DIFFERS: u32 = 74;
+// Written by tools/interface: kinds.
+/// The kinds of a reply, and what a choice says.
+#[allow(dead_code)] // Not each is used here.
+mod kinds {
+    pub(crate) const FORKED: u32 = 0;
+    pub(crate) const OK: u32 = 1;
+    pub(crate) const NUMBER: u32 = 2;
+    pub(crate) const LEVELS: u32 = 3;
+    pub(crate) const REAPED: u32 = 4;
+    pub(crate) const NONE_YET: u32 = 5;
+    pub(crate) const COUNTED: u32 = 6;
+    pub(crate) const CONTROL: u32 = 7;
+    pub(crate) const END: u32 = 8;
+    pub(crate) const REFUSED: u32 = 9;
+    pub(crate) const ANY: u32 = 0;
+    pub(crate) const CHILD: u32 = 1;
+    pub(crate) const OWN_GROUP: u32 = 2;
+    pub(crate) const GROUP: u32 = 3;
+    pub(crate) const TASKS: u32 = 0;
+    pub(crate) const GROUPS: u32 = 1;
+    pub(crate) const SESSIONS: u32 = 2;
+}
+pub(crate) use kinds::*;
+// The end of kinds.
 
-pub(crate) const NOT_SAVED: u32 = 8;
-pub(crate) const TORN: u32 = 42;
-pub(crate) const WRONG_BYTE: u32 = 84;
-pub(crate) const OTHER_VERSION: u32 = 93;
-
-pub(crate) const FORK: u32 = 0;
-pub(crate) const GETPID: u32 = 1;
-pub(crate) const NSPID: u32 = 2;
-pub(crate) const EXEC: u32 = 3;
-pub(crate) const EXIT: u32 = 4;
-pub(crate) const WAIT: u32 = 5;
-pub(crate) const GETPPID: u32 = 6;
-pub(crate) const SETPGID: u32 = 7;
-pub(crate) const SETSID: u32 = 8;
-pub(crate) const MK: u32 = 9;
-pub(crate) const RM: u32 = 10;
-pub(crate) const LIMIT: u32 = 11;
-pub(crate) const MOVE: u32 = 12;
-pub(crate) const COUNT: u32 = 13;
-pub(crate) const GETPGID: u32 = 14;
-pub(crate) const GETSID: u32 = 15;
-pub(crate) const NEXT: u32 = 16;
-pub(crate) const JOIN: u32 = 17;
-pub(crate) const SUBREAPER: u32 = 18;
-
-pub(crate) const ANY: u32 = 0;
-pub(crate) const CHILD: u32 = 1;
-pub(crate) const OWN_GROUP: u32 = 2;
-pub(crate) const GROUP: u32 = 3;
-
-pub(crate) const TASKS: u32 = 0;
-pub(crate) const GROUPS: u32 = 1;
-pub(crate) const SESSIONS: u32 = 2;
-
-pub(crate) const FORKED: u32 = 0;
-pub(crate) const OK: u32 = 1;
-pub(crate) const NUMBER: u32 = 2;
-pub(crate) const LEVELS: u32 = 3;
-pub(crate) const REAPED: u32 = 4;
-pub(crate) const NONE_YET: u32 = 5;
-pub(crate) const COUNTED: u32 = 6;
-pub(crate) const CONTROL: u32 = 7;
-pub(crate) const END: u32 = 8;
-pub(crate) const REFUSED: u32 = 9;
-
-pub(crate) const KILLED: u64 = 256;
-pub(crate) const LEVELS_MAX: usize = 33;
-pub(crate) const LONGEST_ANSWER: usize = 362;
-#[cfg(test)]
-pub(crate) const MOST_WORKERS: u32 = 16;
-pub(crate) const SAVED_BLOCK: usize = 48;
-pub(crate) const SAVED_LONGEST: usize = 192;
+// Written by tools/interface: bounds.
+/// The bounds of the headers.
+#[allow(dead_code)] // Not each is used here.
+mod bounds {
+    pub(crate) const VERSION: u32 = 1;
+    pub(crate) const LONGEST_ANSWER: usize = 362;
+    pub(crate) const LONGEST_CALL: usize = 42;
+    pub(crate) const KILLED: u64 = 256;
+    pub(crate) const LEVELS_MAX: usize = 33;
+    pub(crate) const MOST_WORKERS: u32 = 16;
+    pub(crate) const SAVED_VERSION: u32 = 1;
+    pub(crate) const SAVED_BLOCK: usize = 48;
+    pub(crate) const SAVED_LONGEST: usize = 192;
+}
+pub(crate) use bounds::*;
+// The end of bounds.
 
 /// A table, or none, or a record, or none: it begins as zeroes. The two structs of the header are alike.
 #[repr(C)]

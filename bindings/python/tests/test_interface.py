@@ -1,0 +1,218 @@
+"""What tools/interface says of a repository with a difference planted: in each part, in each source that is compared, and in each table."""
+
+import importlib.machinery
+import importlib.util
+import shutil
+import subprocess
+import sys
+import tempfile
+import unittest
+from pathlib import Path
+
+from tests.pages import REPOSITORY, read_page
+from tests.test_versions import RELEASED
+
+
+def load_tool():
+    """The tool as a module."""
+    loader = importlib.machinery.SourceFileLoader("interface_tool", str(REPOSITORY / "tools" / "interface"))
+    module = importlib.util.module_from_spec(importlib.util.spec_from_loader("interface_tool", loader))
+    loader.exec_module(module)
+    return module
+
+
+TOOL = load_tool()
+PARTS = sorted(TOOL.all_parts())
+COMPARED = sorted({path for module in TOOL.COMPARED for path in module.PATHS})
+
+# A source that is compared and not written: what is changed in it, and what is said of that.
+DIFFERENCES = [
+    ("crates/pid_types/src/refusal.rt", "Refusal::TooDeep => 7,", "Refusal::TooDeep => 8,", "the refusal TooDeep 8 is not in interface/"),
+    ("crates/pid_types/src/refusal.rt", 'Refusal::TooDeep => b"too-deep"', 'Refusal::TooDeep => b"deep"', "the refusal TooDeep deep is not in"),
+    ("crates/pid_types/src/refusal.rt", "Refusal::NoChild => Errno::Echild", "Refusal::NoChild => Errno::Esrch", "the refusal NoChild Esrch is not"),
+    ("crates/pid_types/src/refusal.rt", "Errno::Echild => 10,", "Errno::Echild => 11,", "the errno Echild 11 is not in"),
+    ("crates/pid_types/src/refusal.rt", 'Errno::Echild => b"ECHILD"', 'Errno::Echild => b"ECHILDREN"', "the errno Echild ECHILDREN is not in"),
+    ("crates/pid_types/src/refusal.rt", "            Refusal::BadLimit => 18,\n", "", "the refusal BadLimit 18 of interface/ is missing"),
+    ("crates/pid_types/specs/Refusals.antt", "refusal_entry TooDeep = record { number = 7;", "refusal_entry TooDeep = record { number = 6;", "TooDeep 6"),
+    ("crates/pid_types/specs/Refusals.antt", 'codes "EINVAL"; value = 22', 'codes "EINVAL"; value = 23', "Einval EINVAL 23"),
+    ("crates/pid_types/src/reply.rt", "    SpaceFallen,\n    /// A namespace below one of level 32, the deepest.\n    TooDeep,",
+     "    TooDeep,\n    /// A namespace below one of level 32, the deepest.\n    SpaceFallen,", "the order of refusals is NoCaller, "),
+    ("crates/pid_types/src/reply.rt", "    BadLimit,\n", "    BadLimit(u64),\n", "what has an id is NoNumber, PidsLimit, BadLimit,"),
+    ("crates/pid_types/src/call.rt", "    Exec { caller: Pid },", "    Execute { caller: Pid },", "the order of calls is Fork, GetPid, NsPid, Execute,"),
+    ("crates/model_laws/specs/Refusals.antt", "NoControl (λ c.\n    refuse (deepest_control", "ControlBusy (λ c.\n    refuse (deepest_control",
+     "the order of MakeControl is control-busy, control-depth, and in interface/ no-control, control-depth"),
+    ("crates/model_laws/specs/Refusals.antt", "× (p ≡ caller.name.space → ⊥)) Elsewhere", "× (p ≡ caller.name.space → ⊥)) TooDeep", "the order of Fork is"),
+    ("crates/model_laws/specs/Refusals.antt", "is_query (Count id) = true\n", "", "the query Count of interface/ is missing"),
+    ("crates/pid_script/src/answer.rt", 'b"EBUSY root-init"', 'b"EPERM root-init"', "the answer RootInit EPERM root-init is not in"),
+    ("crates/foreign_calls/src/numbers.rt", "10 => Some(Call::RemoveControl", "11 => Some(Call::RemoveControl", "the operation 11 RemoveControl is not in"),
+    ("bindings/python/pidtab/calls.py", "executed, is-leader, no-group.", "is-leader, executed, no-group.", "the refusals of setpgid is"),
+    ("bindings/js/pidtab.d.ts", "children. no-control, root-control, control-busy. */", "children. no-control, control-busy. */", "the refusals of rm is"),
+    ("bindings/go/calls.go", "Refused as no-task, no-control.", "Refused as no-control.", "the refusals of move is no-control, and in"),
+    ("bindings/rust/src/calls.rs", "`Refused` as `NoCaller`, `RootInit`.", "`Refused` as `RootInit`.", "the refusals of exit is root-init, and in"),
+    ("crates/foreign_calls/src/status.rt", "pub const SPENT: u32 = 75;", "pub const SPENT: u32 = 76;", "the status SPENT 76 is not in interface/"),
+    ("crates/foreign_calls/src/status.rt", "/// `ENODATA`: the", "/// `ENOENT`: the", "the status ENOENT EMPTY_LINE is not in interface/"),
+    ("crates/foreign_calls/src/saved_table.rt", "RestoreFault::NoInit(line) => (line, 10)", "RestoreFault::NoInit(line) => (line, 11)", "the fault NoInit 11 is not"),
+    ("crates/foreign_calls/specs/Saved.antt", "(why.BadName n) = record { line = n; kind = 8 }", "(why.BadName n) = record { line = n; kind = 9 }", "BadName 9"),
+    ("crates/table_load/src/fault.rt", "line {0}: out of order", "line {0}: unsorted", "the fault unsorted Unsorted is not in interface/"),
+    ("crates/table_text/src/fault.rt", "line {0}: wrong digest", "line {0}: other digest", "the fault other digest WrongDigest is not in interface/"),
+    ("crates/foreign_calls/src/numbers.rt", "2 => Some(Which::OwnGroup)", "4 => Some(Which::OwnGroup)", "the choice 4 OwnGroup is not in interface/"),
+    ("crates/foreign_calls/src/numbers.rt", "2 => Some(Kind::Session)", "3 => Some(Kind::Session)", "the choice 3 Session is not in interface/"),
+    ("crates/foreign_calls/src/numbers.rt", "put_values(reply, 7, *id, 0)", "put_values(reply, 8, *id, 0)", "the kind Control 8 is not in interface/"),
+    ("crates/foreign_calls/src/numbers.rt", "put_values(reply, 9, first, 0)", "put_values(reply, 10, first, 0)", "the kind Refused 10 is not in interface/"),
+    ("crates/foreign_calls/src/numbers.rt", "put_values(reply, 4, u64::from(*child), 256)", "put_values(reply, 4, u64::from(*child), 257)", "the status 257"),
+    ("crates/pid_types/src/reply.rt", "pub enum Reply {\n", "pub enum Reply {\n    /// Nothing.\n    Nothing,\n", "the order of replies is Nothing, Forked,"),
+    ("crates/pid_types/src/plain.rt", "pub const LEVELS: usize = 33;", "pub const LEVELS: usize = 34;", "the bound LEVELS 34 is not in interface/"),
+    ("crates/pid_types/src/config.rt", "pub const LEAST_PID_MAX: u32 = 301;", "pub const LEAST_PID_MAX: u32 = 300;", "the bound LEAST_PID_MAX 300 is not in"),
+    ("crates/pid_script/src/answer.rt", "pub const LONGEST_ANSWER: usize = 362;", "pub const LONGEST_ANSWER: usize = 363;", "the bound LONGEST_ANSWER 363"),
+    ("crates/pid_script/src/call.rt", "pub const LONGEST_CALL: usize = 42;", "pub const LONGEST_CALL: usize = 43;", "the bound LONGEST_CALL 43 is not in"),
+    ("crates/foreign_calls/src/record.rt", "pub const MOST_WORKERS: u32 = 16;", "pub const MOST_WORKERS: u32 = 17;", "the bound MOST_WORKERS 17 is not in"),
+    ("crates/pidtab_c/src/lib.rt", "pub const VERSION: u32 = 1;", "pub const VERSION: u32 = 2;", "the bound VERSION 2 is not in interface/"),
+    ("man/pidtab.3", ".It Dv PIDTAB_NO_ROOM\n.Er ERANGE :", ".It Dv PIDTAB_NO_ROOM\n.Er ENOSPC :", "the status NO_ROOM ENOSPC is not in interface/"),
+    ("man/pidtab_record.3", ".It Dv PIDTAB_AGAIN\n.Er EAGAIN :", ".It Dv PIDTAB_LATER\n.Er EAGAIN :", "the status LATER EAGAIN is not in interface/"),
+    ("man/pidtab_saved.3", ".Er EILSEQ :", ".Er EINVAL :", "the status WRONG_BYTE EINVAL is not in interface/"),
+    ("bindings/c/pidtab.h", "uint32_t pidtab_version(void);", "uint32_t pidtab_versions(void);", "pidtab_versions is not in interface/functions.tbl"),
+    ("bindings/c/pidtab_shared.h", "uint32_t pidtab_shared_ask(", "uint32_t pidtab_shared_query(", "pidtab_shared_query is not in interface/functions.tbl"),
+    ("bindings/c/pidtab_saved.h", "void pidtab_saved_end(struct", "void pidtab_saved_stop(struct", "pidtab_saved_end is in no header"),
+    ("bindings/python/pidtab/native.py", "    def stat(self, caller", "    def status(self, caller", "the package for python has no Ask.stat"),
+    ("bindings/python/pidtab/shared.py", "    def checkpoint_at(self", "    def cut_at(self", "the package for python has no Shared.checkpoint_at"),
+    ("bindings/python/pidtab/table.py", "    def dump(self)", "    def text(self)", "the package for python has no Table.dump"),
+    ("bindings/rust/src/blocks.rs", "    pub fn put(", "    pub fn append(", "the package for rust has no Blocks::put"),
+    ("bindings/rust/src/lib.rs", "    pub fn dump(&mut self)", "    pub fn text(&mut self)", "the package for rust has no Table::dump"),
+    ("bindings/rust/src/saved.rs", "    pub fn trim(", "    pub fn cut(", "the package for rust has no Saved::trim"),
+    ("bindings/rust/src/shared.rs", "    pub fn seat(&self)", "    pub fn sit(&self)", "the package for rust has no Shared::seat"),
+    ("bindings/rust/src/stat.rs", "    pub fn stat(", "    pub fn status(", "the package for rust has no Table::stat"),
+    ("bindings/go/dump.go", "func (table *Table) Dump()", "func (table *Table) Text()", "the package for go has no Table.Dump"),
+    ("bindings/go/saved.go", "func (saved *Saved) Trim(", "func (saved *Saved) Cut(", "the package for go has no Saved.Trim"),
+    ("bindings/go/saver.go", "func (shared *Shared) Serve(", "func (shared *Shared) Saver(", "the package for go has no Shared.Serve"),
+    ("bindings/go/shared.go", "func OpenShared(", "func NewShared(", "the package for go has no OpenShared"),
+    ("bindings/go/table.go", "func (table *Table) List()", "func (table *Table) Lists()", "the package for go has no Table.List"),
+    ("docs/list.schema.json", '"is-leader", "no-group"', '"no-group", "is-leader"', "the words of refusals is"),
+    ("docs/list.schema.json", '"EPERM", "EACCES"', '"EPERM", "EBADF"', "the errors of refusals is"),
+]  # fmt: skip
+
+# A table: what is changed in it, and what is said of that.
+FAULTS = [
+    ("refusals", "number | error  | word          | id | sentence", "number | error  | word          | sentence", "the columns are not number | error |"),
+    ("refusals", "| too-deep      | -  |", "| too-deep      |", "4 cells, and there are 5 columns"),
+    ("refusals", "7      | ENOSPC", "6      | ENOSPC", "number 6 stands in line 15 already"),
+    ("refusals", "7      | ENOSPC", "70     | ENOSPC", "the number is 70, and 7 comes next"),
+    ("refusals", "7      | ENOSPC", "seven  | ENOSPC", "number 'seven' is no number"),
+    ("refusals", "ENOSPC | too-deep", "ENOSPE | too-deep", "error 'ENOSPE' is not in interface/errnos.tbl"),
+    ("refusals", "EPERM  | is-leader", "EPERM  | too-deep", "word too-deep stands in line 16 already"),
+    ("refusals", "too-deep ", "too deep ", "word 'too deep' is no word"),
+    ("refusals", "a child in another session", "a child in another session.", "is no sentence"),
+    ("calls", "no-caller, root-init", "no-caller, root-inits", "refusals 'root-inits' is not in interface/refusals.tbl"),
+    ("calls", "no-caller, root-init", "no-caller root-init", "is no list"),
+    ("calls", "15     | getsid", "14     | getsid", "number 14 stands in line"),
+    ("calls", "Exit          | no ", "Exit          | non", "query 'non' is no yes or no"),
+    ("statuses", "EUCLEAN         |", "EUCLEAM         |", "error 'EUCLEAM' is not in interface/errnos.tbl"),
+    ("statuses", "DIFFERS       | EBADMSG         | record |", "DIFFERS       | EBADMSG         | saver |", "of 'saver' is no owner"),
+    ("statuses", "AGAIN         | EAGAIN          | record |", "AGAIN         | EAGAIN          |", "4 cells, and there are 5 columns"),
+    ("faults", "no number left            | -", "no number left            | 2", "line '2' is no place"),
+    ("faults", "12     | IMPOSSIBLE", "13     | IMPOSSIBLE", "the number is 13, and 12 comes next"),
+    ("faults", "12     | IMPOSSIBLE        | Impossible", "12     | IMPOSSIBLE        | NoNumber", "rust NoNumber stands in line"),
+    ("kinds", "which | 2      | OWN_GROUP", "which | 6      | OWN_GROUP", "the number is 6, and 2 comes next"),
+    ("kinds", "use   | 2 ", "uses  | 2 ", "of 'uses' is no kind"),
+    ("bounds", "pidtab_c/src/lib.rt VERSION", "pidtab_c/src/lib.rt       ", "source 'pidtab_c/src/lib.rt' is no constant or -"),
+    ("bounds", "| size   | saved     | -                                          | the longest entry", "| sizes  | saved     | - | the longest entry", "type 'sizes' is no type"),
+    ("functions", "saved_end                 ", "saved-end                 ", "functions 'saved-end' is no functions"),
+    ("functions", "saved_trim                                                    | 0.2.0", "saved_trim                                                    | 0.2", "since '0.2' is no release"),
+    ("errnos", "EBUSY           | 16", "EBUSY           | 13", "value 13 stands in line 12 already"),
+]
+
+
+class Interface(unittest.TestCase):
+    """A copy of what the tool looks at."""
+
+    def setUp(self):
+        self.top = Path(tempfile.mkdtemp())
+        self.addCleanup(shutil.rmtree, self.top)
+        shutil.copytree(REPOSITORY / "interface", self.top / "interface")
+        for path in sorted({"tools/interface", *COMPARED, *(path for path, _ in PARTS)}):
+            (self.top / path).parent.mkdir(parents=True, exist_ok=True)
+            shutil.copy(REPOSITORY / path, self.top / path)
+
+    def say(self, word="--check"):
+        """The status of the tool, and what it says."""
+        done = subprocess.run([sys.executable, self.top / "tools" / "interface", word], capture_output=True, text=True, check=False)
+        return done.returncode, done.stdout + done.stderr
+
+    def plant(self, path, old, new):
+        """Changes a file in one place; gives what was there, and the line."""
+        text = (self.top / path).read_text(encoding="utf-8")
+        self.assertEqual(text.count(old), 1, (path, old))
+        (self.top / path).write_text(text.replace(old, new), encoding="utf-8")
+        return text, text.count("\n", 0, text.index(old)) + 1
+
+    def restore(self, path, text):
+        """Puts back what was there."""
+        (self.top / path).write_text(text, encoding="utf-8")
+
+    def test_what_is_there(self):
+        self.assertEqual(self.say(), (0, ""))
+
+    def test_a_difference_in_each_part(self):
+        for path, name in PARTS:
+            with self.subTest(path, part=name):
+                text = (self.top / path).read_text(encoding="utf-8")
+                lines = text.split("\n")
+                first, last = TOOL.place_of(path, lines, name)
+                place = first + 1 + (last - first - 1) // 2
+                self.restore(path, "\n".join([*lines[:place], lines[place] + "x", *lines[place + 1 :]]))
+                self.assertEqual(self.say(), (1, f"tools/interface: {path}:{place + 1}: {name} is not that of the tables: run tools/interface write\n"))
+                self.assertEqual(self.say("write"), (0, ""))
+                self.assertEqual((self.top / path).read_text(encoding="utf-8"), text)
+
+    def test_a_part_without_its_end(self):
+        path, name = PARTS[0]
+        self.plant(path, TOOL.marks(path, name)[1], "")
+        status, said = self.say("write")
+        self.assertEqual(status, 1)
+        self.assertIn(f"{path}: the line `{TOOL.marks(path, name)[1]}` is there 0 times, not once", said)
+
+    def test_a_difference_in_each_source_that_is_compared(self):
+        self.assertEqual(sorted({path for path, *_ in DIFFERENCES}), COMPARED)
+        for path, old, new, wanted in DIFFERENCES:
+            with self.subTest(path, new=new):
+                text, _ = self.plant(path, old, new)
+                status, said = self.say()
+                self.restore(path, text)
+                self.assertEqual(status, 1)
+                self.assertRegex(said, rf"^tools/interface: (?:{path}|interface/functions.tbl):\d+: ")
+                self.assertIn(wanted, said)
+
+    def test_the_line_of_a_difference(self):
+        path = "crates/pid_types/src/refusal.rt"
+        _, line = self.plant(path, "Refusal::TooDeep => 7,", "Refusal::TooDeep => 8,")
+        self.assertIn(f"tools/interface: {path}:{line}: the refusal TooDeep 8 is not in interface/\n", self.say()[1])
+
+    def test_each_fault_of_a_table(self):
+        for name, old, new, wanted in FAULTS:
+            with self.subTest(name, new=new):
+                path = f"interface/{name}.tbl"
+                text, line = self.plant(path, old, new)
+                status, said = self.say()
+                self.restore(path, text)
+                self.assertEqual(status, 1)
+                self.assertTrue(said.startswith(f"tools/interface: {path}:{line}: "), said)
+                self.assertIn(wanted, said)
+
+    def test_a_change_of_a_table_reaches_each_package(self):
+        self.plant("interface/refusals.tbl", "a negative process group", "a process group below 0")
+        self.say("write")
+        changed = {path for path, _ in PARTS if (self.top / path).read_text(encoding="utf-8") != (REPOSITORY / path).read_text(encoding="utf-8")}
+        self.assertEqual(changed, {"bindings/c/pidtab.h", "bindings/go/refusal.go", "bindings/rust/src/fault.rs", "docs/SCRIPT.md", "man/pidtab.5"})
+
+    def test_since_when(self):
+        rows = TOOL.read_tables(self.top / "interface")["functions"]
+        first = {f"pidtab_{name}" for row in rows if row.since == "0.1.0" for name in row.functions.split(", ")}
+        self.assertEqual(first, RELEASED)
+        self.assertLessEqual({row.since for row in rows}, {"0.1.0", read_page("VERSION").strip().replace("-dev", "")})
+
+    def test_other_words(self):
+        status, said = self.say("read")
+        self.assertEqual((status, said.split("\n")[0]), (2, "Writes what the packages, the headers and the pages have of interface/*.tbl."))
+
+
+if __name__ == "__main__":
+    unittest.main()

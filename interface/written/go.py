@@ -1,0 +1,58 @@
+"""The package for Go, whose other numbers are those of the headers of C."""
+
+from names import camel, capitals, columns, takes, with_id, wrapped
+
+
+def constants(rows):
+    """A block of constants: the name, its type and value, and a comment."""
+    return ["const (", *[f"\t{line}" for line in columns(rows)], ")"]
+
+
+def refusals(tables):
+    """The words of refusals."""
+    rows = tables["refusals"]
+    having = " || ".join(f"word == {camel(it.word)}" for it in rows if it.id != "-")
+    return [
+        "",
+        "// The words, in the order of their numbers. Behind NoNumber stands the id of a namespace, behind PidsLimit that of a control group.",
+        *constants([(camel(it.word), f'Word = "{it.word}"', f"// {with_id(it.sentence)}") for it in rows]),
+        "",
+        "// The words of the refusals, by their numbers from 1 on.",
+        "var words = [...]Word{",
+        *wrapped(", ".join(['""', *[camel(it.word) for it in rows]]) + ",", "\t", 140),
+        "}",
+        "",
+        "// hasID is whether an id stands behind the word.",
+        "func (word Word) hasID() bool {",
+        f"\treturn {having}",
+        "}",
+        "",
+    ]
+
+
+def faults(tables):
+    """The words of the faults of a text."""
+    rows = columns([(f"{it.number}:", f'"{it.words}",') for it in tables["faults"]])
+    return ["", "// The words of the faults, by their numbers.", "var textFaults = [...]string{", *[f"\t{row}" for row in rows], "}", ""]
+
+
+def kinds(tables):
+    """The kinds of a reply."""
+    names = {"error": "Errno", **{name: name.capitalize() for name in ("first", "second", "count", "levels", "refusal")}}
+    rows = [(f"Reply{'OK' if it.name == 'OK' else camel(it.name)}", f"ReplyKind = C.PIDTAB_{it.name}", f"// {it.tells.format(killed='256', **names)}")
+            for it in tables["kinds"] if it.of == "reply"]  # fmt: skip
+    return ["", "// The kinds of a Reply, with its fields that each tells.", *constants(rows), ""]
+
+
+def operations(tables):
+    """The calls as numbers."""
+    which = ", ".join(f"{it.number} for {it.tells}" for it in tables["kinds"] if it.of == "which")
+    fields = {"caller": "Caller", "id": "ID", "number": "Number", "choice": "Choice", "pid": "Pid", "pgid": "Pgid", "which": which, "use": "a Kind"}
+    return [
+        "", "// The operations, by their names in the script language, with the fields of a Call that each takes; the others are not looked at. A query is",
+        "// one that Ask answers too.",
+        *constants([(f"Op{camel(it.call)}", f"Operation = C.PIDTAB_{capitals(it.call)}", f"// {takes(it, **fields)}") for it in tables["calls"]]), "",
+    ]  # fmt: skip
+
+
+PARTS = {("bindings/go/values.go", "operations"): operations, ("bindings/go/values.go", "kinds"): kinds, ("bindings/go/refusal.go", "refusals"): refusals, ("bindings/go/dump.go", "faults"): faults}

@@ -1,0 +1,112 @@
+"""The package for Rust."""
+
+import textwrap
+
+from names import camel, capitals, sentence, with_id
+
+FAULT = "bindings/rust/src/fault.rs"
+RAW = "bindings/rust/src/raw.rs"
+LIB = "bindings/rust/src/lib.rs"
+
+ERROR_HEAD = ["#[derive(Clone, Copy, Debug, PartialEq, Eq, Hash)]", "#[non_exhaustive]"]
+
+
+def variant(row, inner):
+    """A refusal with what stands for its id, where it has one."""
+    return f"Refusal::{camel(row.word)}" + ("" if row.id == "-" else f"({inner})")
+
+
+def matched(arms, depth=2):
+    """The arms of a match."""
+    return ["    " * (depth + 1) + f"{pattern} => {value}," for pattern, value in arms]
+
+
+def refusals(tables):
+    """Why the table refuses a call."""
+    rows = tables["refusals"]
+    having = " | ".join(variant(it, "id") for it in rows if it.id != "-")
+    lines = ["/// Why the table refuses a call. Nothing has changed then, but that the call is counted. More refusals may come.", *ERROR_HEAD,
+             "pub enum Refusal {"]  # fmt: skip
+    for it in rows:
+        lines += [f"    /// {sentence(with_id(it.sentence))}", f"    {variant(it, 'u64').split('::')[1]},"]
+    return [
+        *lines, "}", "", "impl Refusal {", "    /// The refusal with the number, of whatever has the id.",
+        "    pub(crate) fn of(number: u32, id: u64) -> Refusal {", "        match number {",
+        *matched([(it.number, variant(it, "id")) for it in rows]),
+        '            _ => unreachable!("no refusal has the number {number}"),', "        }", "    }", "",
+        "    /// The number and the word.", "    fn row(self) -> (u32, &'static str) {", "        match self {",
+        *matched([(variant(it, "_"), f'({it.number}, "{it.word}")') for it in rows]), "        }", "    }", "",
+        "    /// The id of what refuses, where it has one.", "    fn id_behind(self) -> Option<u64> {", "        match self {",
+        f"            {having} => Some(id),", "            _ => None,", "        }", "    }", "}",
+    ]  # fmt: skip
+
+
+def all_names(names):
+    """A match of all that there are, for an example."""
+    return textwrap.wrap(f"{' | '.join(names)} => {{}}", 120, initial_indent="///         ", subsequent_indent="///         ")
+
+
+def all_refusals(tables):
+    """A match of all refusals."""
+    return all_names([variant(it, "_").split("::")[1] for it in tables["refusals"]])
+
+
+def all_faults(tables):
+    """A match of all faults of a text."""
+    return all_names([it.rust for it in tables["faults"]])
+
+
+def numbers(name, comment, rows):
+    """Constants in a module of their own, as not each is used: names, types and values."""
+    lines = [f"    pub(crate) const {word}: {kind} = {number};" for word, kind, number in rows]
+    return [f"/// {comment}", "#[allow(dead_code)] // Not each is used here.", f"mod {name} {{", *lines, "}", f"pub(crate) use {name}::*;"]
+
+
+def statuses(tables):
+    """What the functions answer."""
+    values = {it.name: it.value for it in tables["errnos"]}
+    return numbers("statuses", "What the functions answer.", [(it.name, "u32", values.get(it.error, 0)) for it in tables["statuses"]])
+
+
+def faults(tables):
+    """Why a text is that of no table."""
+    rows = tables["faults"]
+    lines = ["/// What is wrong with a text, or with its line: the text is that of no table. More may come.", *ERROR_HEAD, "pub enum TextFault {"]
+    for it in rows:
+        lines += [f"    /// {sentence(it.sentence.replace('pid_max', '`pid_max`', 1))}", f"    {it.rust},"]
+    return [
+        *lines, "}", "", "impl TextFault {", "    /// The fault with the number.", "    pub(crate) fn of(number: u32) -> TextFault {",
+        "        match number {", *matched([(it.number, f"TextFault::{it.rust}") for it in rows]),
+        '            _ => unreachable!("no fault of a text has the number {number}"),', "        }", "    }", "}", "",
+        "impl fmt::Display for TextFault {", "    fn fmt(&self, to: &mut fmt::Formatter<'_>) -> fmt::Result {", "        to.write_str(match self {",
+        *matched([(f"TextFault::{it.rust}", f'"{it.words}"') for it in rows]), "        })", "    }", "}",
+    ]  # fmt: skip
+
+
+def kinds(tables):
+    """The kinds of a reply, and what a choice says."""
+    return numbers("kinds", "The kinds of a reply, and what a choice says.", [(it.name, "u32", it.number) for it in tables["kinds"]])
+
+
+def bounds(tables):
+    """The bounds of the headers."""
+    types = {"number": "u32", "long": "u64", "size": "usize"}
+    rows = [(it.name, types[it.type], it.value) for it in tables["bounds"] if it.of != "packages"]
+    return numbers("bounds", "The bounds of the headers.", rows)
+
+
+def operations(tables):
+    """The calls as numbers."""
+    return numbers("operations", "The operations.", [(capitals(it.call), "u32", it.number) for it in tables["calls"]])
+
+
+PARTS = {
+    (RAW, "operations"): operations,
+    (RAW, "kinds"): kinds,
+    (RAW, "bounds"): bounds,
+    (FAULT, "refusals"): refusals,
+    (LIB, "refusals"): all_refusals,
+    (RAW, "statuses"): statuses,
+    (FAULT, "faults"): faults,
+    (LIB, "faults"): all_faults,
+}
