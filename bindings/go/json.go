@@ -14,6 +14,17 @@ var errnoNames = map[syscall.Errno]string{
 	syscall.ENOMEM: "ENOMEM", syscall.EACCES: "EACCES", syscall.EBUSY: "EBUSY", syscall.EINVAL: "EINVAL", syscall.ENOSPC: "ENOSPC",
 }
 
+// stateOf is the word for how a task stands, and the status of one that exited, as docs/list.schema.json has them.
+func stateOf(live, killed bool, status *uint8) (string, *uint8) {
+	if live {
+		return "live", nil
+	}
+	if killed {
+		return "killed", nil
+	}
+	return "exited", status
+}
+
 // MarshalJSON is the child as docs/list.schema.json has it, with null for the status of a killed one.
 func (reaped Reaped) MarshalJSON() ([]byte, error) {
 	status := &reaped.Status

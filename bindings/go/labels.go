@@ -45,11 +45,8 @@ func (it *labels) put(text string, find func(*C.struct_pidtab_task) C.uint32_t) 
 		}
 	}
 	found := new(C.struct_pidtab_task)
-	if err := faultOf(uint32(find(found))); err != nil {
+	if err := foundIn(find(found), found); err != nil {
 		return err
-	}
-	if found.error != 0 {
-		return refusalOf(&C.struct_pidtab_reply{error: found.error, refusal: found.refusal})
 	}
 	root := uint32(found.levels[0])
 	if *it == nil {

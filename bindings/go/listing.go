@@ -69,13 +69,7 @@ type taskObject struct {
 
 // MarshalJSON is the task as docs/list.schema.json has it.
 func (task Task) MarshalJSON() ([]byte, error) {
-	state, status := "exited", &task.Status
-	if task.Live || task.Killed {
-		state, status = "killed", nil
-	}
-	if task.Live {
-		state = "live"
-	}
+	state, status := stateOf(task.Live, task.Killed, &task.Status)
 	return json.Marshal(taskObject{task.Numbers, task.Space, task.Parent, task.Group, task.Session, task.Control,
 		state, status, task.Executed, task.Children, task.Subreaper, task.Label})
 }

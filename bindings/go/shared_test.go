@@ -389,6 +389,7 @@ func TestTheLastStamp(t *testing.T) {
 func allClosed(t *testing.T, shared *Shared, seat *Seat, err error) {
 	t.Helper()
 	want(t, "ask", of(shared.Ask(Call{Operation: OpCount})), Reply{}, err)
+	want(t, "stat", of(shared.Stat(1, 0)), Stat{}, err)
 	want(t, "counts", of(shared.Counts()), Counts{}, err)
 	want(t, "worker", of(shared.Worker(0)), uint64(0), err)
 	want(t, "entry", of(shared.Entry(0)), Entry{}, err)
@@ -454,6 +455,7 @@ func TestASharedCallThatDoesNotEnd(t *testing.T) {
 	want(t, "getpid", of(seat.Getpid(1)), uint32(0), ErrBusy)
 	want(t, "line", of(seat.Line("getpid 1")), "", ErrBusy)
 	want(t, "list", of(shared.List()), "", ErrBusy)
+	want(t, "stat", of(shared.Stat(1, 0)), Stat{}, ErrBusy)
 	shared.Close()
 	shared.own.raw.in_call = false
 	want(t, "getpid", of(seat.Getpid(1)), uint32(1), nil)

@@ -40,7 +40,7 @@ func want(t *testing.T, what string, got told, answer any, err error) {
 }
 
 // play asks lines, of which none may be refused.
-func play(t *testing.T, table *Table, lines ...string) {
+func play(t *testing.T, table interface{ Line(string) (string, error) }, lines ...string) {
 	t.Helper()
 	for _, line := range lines {
 		answer, err := table.Line(line)
@@ -325,7 +325,9 @@ func TestAClosedTable(t *testing.T) {
 	want(t, "line", of(table.Line("getpid 1")), "", ErrClosed)
 	want(t, "empty line", of(table.Line("")), "", ErrClosed)
 	want(t, "list", of(table.List()), "", ErrClosed)
+	want(t, "stat", of(table.Stat(1, 0)), Stat{}, ErrClosed)
 	want(t, "no table", of(new(Table).Getpid(1)), uint32(0), ErrClosed)
+	want(t, "stat of no table", of(new(Table).Stat(1, 0)), Stat{}, ErrClosed)
 }
 
 // As in a forked child, where the thread whose call was under way is not.
@@ -335,6 +337,7 @@ func TestACallThatDoesNotEnd(t *testing.T) {
 	want(t, "getpid", of(table.Getpid(1)), uint32(0), ErrBusy)
 	want(t, "line", of(table.Line("getpid 1")), "", ErrBusy)
 	want(t, "list", of(table.List()), "", ErrBusy)
+	want(t, "stat", of(table.Stat(1, 0)), Stat{}, ErrBusy)
 	table.own.raw.in_call = false
 	want(t, "getpid", of(table.Getpid(1)), uint32(1), nil)
 }

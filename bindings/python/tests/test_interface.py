@@ -85,6 +85,7 @@ DIFFERENCES = [
     ("bindings/go/saved.go", "func (saved *Saved) Trim(", "func (saved *Saved) Cut(", "the package for go has no Saved.Trim"),
     ("bindings/go/saver.go", "func (shared *Shared) Serve(", "func (shared *Shared) Saver(", "the package for go has no Shared.Serve"),
     ("bindings/go/shared.go", "func OpenShared(", "func NewShared(", "the package for go has no OpenShared"),
+    ("bindings/go/stat.go", "func (shared *Shared) Stat(", "func (shared *Shared) Read(", "the package for go has no Shared.Stat"),
     ("bindings/go/table.go", "func (table *Table) List()", "func (table *Table) Lists()", "the package for go has no Table.List"),
     ("docs/list.schema.json", '"is-leader", "no-group"', '"no-group", "is-leader"', "the words of refusals is"),
     ("docs/list.schema.json", '"EPERM", "EACCES"', '"EPERM", "EBADF"', "the errors of refusals is"),
