@@ -80,6 +80,7 @@ DIFFERENCES = [
     ("bindings/rust/src/lib.rs", "    pub fn dump(&mut self)", "    pub fn text(&mut self)", "the package for rust has no Table::dump"),
     ("bindings/rust/src/saved.rs", "    pub fn trim(", "    pub fn cut(", "the package for rust has no Saved::trim"),
     ("bindings/rust/src/shared.rs", "    pub fn seat(&self)", "    pub fn sit(&self)", "the package for rust has no Shared::seat"),
+    ("bindings/rust/src/shared.rs", "    pub fn stat(&self", "    pub fn status(&self", "the package for rust has no Shared::stat"),
     ("bindings/rust/src/stat.rs", "    pub fn stat(", "    pub fn status(", "the package for rust has no Table::stat"),
     ("bindings/go/dump.go", "func (table *Table) Dump()", "func (table *Table) Text()", "the package for go has no Table.Dump"),
     ("bindings/go/saved.go", "func (saved *Saved) Trim(", "func (saved *Saved) Cut(", "the package for go has no Saved.Trim"),

@@ -106,6 +106,7 @@ fn the_functions_on_a_record_are_those_of_the_header() {
         ("call", ", uint32_t worker, const struct pidtab_call *call, struct pidtab_reply *reply, uint64_t *ordinal"),
         ("line", ", uint32_t worker, const void *line, size_t length, void *answer, size_t room, size_t *size, uint64_t *ordinal"),
         ("ask", ", const struct pidtab_call *call, struct pidtab_reply *reply"),
+        ("stat", ", uint32_t caller, uint32_t number, struct pidtab_task *task"),
         ("counts", ", uint64_t *first_kept, uint64_t *recorded"),
         ("worker", ", uint32_t worker, uint64_t *calls"),
         ("entry", ", uint64_t ordinal, uint64_t *worker, struct pidtab_call *call, struct pidtab_reply *reply"),

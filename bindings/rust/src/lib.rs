@@ -310,6 +310,7 @@ mod tests {
         table.raw.mark(true);
         assert_eq!(table.getpid(1), Err(Error::Busy));
         assert_eq!(table.ask(Call::Getpid { caller: 1 }), Err(Error::Busy));
+        assert_eq!(table.stat(1, 0), Err(Error::Busy));
         assert_eq!(table.line("getpid 1"), Err(LineError::Busy));
         assert_eq!(table.list(), Err(Error::Busy));
         assert_eq!(table.dump(), Err(Error::Busy));

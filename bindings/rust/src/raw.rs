@@ -307,6 +307,7 @@ extern "C" {
         ordinal: *mut u64,
     ) -> u32;
     fn pidtab_record_ask(record: *mut Held, call: *const Call, reply: *mut Reply) -> u32;
+    fn pidtab_record_stat(record: *mut Held, caller: u32, number: u32, task: *mut Task) -> u32;
     fn pidtab_record_counts(record: *mut Held, first_kept: *mut u64, recorded: *mut u64) -> u32;
     fn pidtab_record_worker(record: *mut Held, worker: u32, calls: *mut u64) -> u32;
     fn pidtab_record_entry(
@@ -535,6 +536,11 @@ impl Record {
     pub(crate) fn ask(&mut self, call: &Call, reply: &mut Reply) -> u32 {
         // SAFETY: as above.
         unsafe { pidtab_record_ask(&mut *self.held, call, reply) }
+    }
+
+    pub(crate) fn stat(&mut self, caller: u32, number: u32, task: &mut Task) -> u32 {
+        // SAFETY: as above.
+        unsafe { pidtab_record_stat(&mut *self.held, caller, number, task) }
     }
 
     /// The ordinal of the first kept entry, and how many calls were recorded.

@@ -5,7 +5,8 @@
 use crate::calls::sealed::Sealed;
 use crate::labels::Labels;
 use crate::{
-    raw, texts, Call, Calls, Error, LineError, Listing, ReplayError, Reply, SavedError, TextError,
+    raw, texts, Call, Calls, Error, LineError, Listing, ReplayError, Reply, SavedError, Stat,
+    TextError,
 };
 use std::ops::{Deref, DerefMut};
 use std::sync::atomic::{AtomicBool, AtomicU32, AtomicU64, Ordering};
@@ -329,6 +330,24 @@ impl Shared {
         self.lock_for_call().ask(query)
     }
 
+    /// As [`Record::stat`]: reads a task, which is no call.
+    ///
+    /// ```
+    /// use pidtab::{Calls, Shared};
+    ///
+    /// let shared = Shared::open(32768, 1)?;
+    /// shared.seat()?.fork(1, true)?;
+    /// let task = shared.stat(1, 2)?;
+    /// assert_eq!((task.numbers(), task.parent(), task.ended()), (&[2, 1][..], 1, None));
+    /// # Ok::<(), pidtab::Error>(())
+    /// ```
+    ///
+    /// # Errors
+    /// `Refused` as `NoCaller`, `NoTask`; `Busy`.
+    pub fn stat(&self, caller: u32, number: u32) -> Result<Stat, Error> {
+        self.lock_for_call().stat(caller, number)
+    }
+
     /// As [`Record::counts`]: how far the history goes.
     ///
     /// # Errors
@@ -474,6 +493,16 @@ impl Record {
         let mut reply = raw::Reply::BLANK;
         Error::unless_done(self.raw.ask(&query.numbers(), &mut reply))?;
         Ok(Reply::of(&reply))
+    }
+
+    /// Reads the task with the number in the caller's namespace, where 0 is the caller, and a zombie too. It is no call, and is not recorded.
+    /// It takes no memory, and costs what a `getpgid` costs.
+    ///
+    /// # Errors
+    /// `Refused` as `NoCaller`, `NoTask`; `Busy`.
+    pub fn stat(&mut self, caller: u32, number: u32) -> Result<Stat, Error> {
+        let mut task = raw::Task::default();
+        Stat::of(self.raw.stat(caller, number, &mut task), task)
     }
 
     /// The ordinal of the first kept entry, and how many calls were recorded, the cut ones too.
@@ -866,6 +895,7 @@ mod tests {
         assert_eq!(seat.getpid(1), Err(Error::Busy));
         assert_eq!(seat.line("getpid 1"), Err(LineError::Busy));
         assert_eq!(shared.ask(Call::Getpid { caller: 1 }), Err(Error::Busy));
+        assert_eq!(shared.stat(1, 0), Err(Error::Busy));
         assert_eq!(shared.counts(), Err(Error::Busy));
         assert_eq!(shared.worker(0), Err(Error::Busy));
         assert_eq!(shared.entry(0), Err(Error::Busy));

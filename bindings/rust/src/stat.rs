@@ -9,6 +9,18 @@ pub struct Stat {
 }
 
 impl Stat {
+    /// The task that the library has read, with that status.
+    pub(crate) fn of(status: u32, task: raw::Task) -> Result<Stat, Error> {
+        Error::unless_done(status)?;
+        match task.error {
+            0 => Ok(Stat { raw: task }),
+            errno => Err(Error::Refused {
+                errno: errno as i32,
+                refusal: Refusal::of(task.refusal, 0),
+            }),
+        }
+    }
+
     /// Its numbers from the caller's namespace inwards, 1 to 33 of them.
     pub fn numbers(&self) -> &[u32] {
         &self.raw.levels.0[..self.raw.count as usize]
@@ -93,14 +105,7 @@ impl Table {
     /// `Refused` as `NoCaller`, `NoTask`; `Busy`.
     pub fn stat(&mut self, caller: u32, number: u32) -> Result<Stat, Error> {
         let mut task = raw::Task::default();
-        Error::unless_done(self.raw.stat(caller, number, &mut task))?;
-        match task.error {
-            0 => Ok(Stat { raw: task }),
-            errno => Err(Error::Refused {
-                errno: errno as i32,
-                refusal: Refusal::of(task.refusal, 0),
-            }),
-        }
+        Stat::of(self.raw.stat(caller, number, &mut task), task)
     }
 }
 

@@ -274,6 +274,99 @@ fn queries_that_are_no_calls() {
     assert_eq!((counts(&shared), seat.mk(0)), ((0, 1), Ok(2)));
 }
 
+/// What makes the tasks that are read; the id of a namespace or a control group is the number of its call, from 1 on.
+const MADE: [&str; 16] = [
+    "mk 0",
+    "fork 1 new",
+    "fork 2",
+    "fork 3 new",
+    "fork 4",
+    "move 5 1",
+    "setsid 3",
+    "setpgid 4 0 0",
+    "exec 5",
+    "subreaper 4 on",
+    "fork 2",
+    "exit 6 255",
+    "fork 1 new",
+    "join 1 7",
+    "fork 1",
+    "exit 7 3",
+];
+
+/// The tasks in a table, and in one that threads share, by its one seat.
+fn make_tasks(table: &mut Table, seat: &mut Seat<'_>) {
+    for line in MADE {
+        let answer = table.line(line).expect("an answer");
+        assert!(!answer.starts_with('E'), "{line}: {answer}");
+        assert_eq!(seat.line(line), Ok(answer));
+    }
+}
+
+/// By proc(5), getpgid(2) and pid_namespaces(7): a namespace sees its own tasks and those below, and 0 is what it does not see. The fork comes
+/// before the setsid of the parent, so the tasks 4 and 5 are in the session of 1, and 5 in its group.
+#[test]
+fn reads_of_tasks() {
+    let (shared, mut table) = (open(1), Table::open(32768).expect("a table"));
+    make_tasks(&mut table, &mut shared.seat().expect("a seat"));
+    let (exited, killed) = (|status| Some(Ended::Exited(status)), Some(Ended::Killed));
+    for (caller, number, numbers, family, ids, ended, marks) in [
+        (1, 0, &[1][..], (0, 1, 1), (0, 0), None, (false, false)),
+        (1, 2, &[2, 1], (1, 1, 1), (2, 0), None, (false, false)),
+        (1, 3, &[3, 2], (2, 3, 3), (2, 0), None, (false, false)),
+        (3, 0, &[2], (1, 2, 2), (2, 0), None, (false, false)),
+        (1, 4, &[4, 3, 1], (3, 4, 1), (4, 0), None, (false, true)),
+        (4, 0, &[1], (0, 1, 0), (4, 0), None, (false, true)),
+        (1, 5, &[5, 4, 2], (4, 1, 1), (4, 1), None, (true, false)),
+        (2, 4, &[4, 2], (3, 0, 0), (4, 1), None, (true, false)),
+        (5, 2, &[2], (1, 0, 0), (4, 1), None, (true, false)),
+        (
+            1,
+            6,
+            &[6, 5],
+            (2, 1, 1),
+            (2, 0),
+            exited(255),
+            (false, false),
+        ),
+        (1, 7, &[7, 1], (1, 1, 1), (13, 0), exited(3), (false, false)),
+        (1, 8, &[8, 2], (1, 1, 1), (13, 0), killed, (false, false)),
+    ] {
+        for read in [shared.stat(caller, number), table.stat(caller, number)] {
+            let task = read.expect("a task");
+            assert_eq!(task.numbers(), numbers);
+            assert_eq!((task.parent(), task.group(), task.session()), family);
+            assert_eq!(
+                (task.space(), task.control(), task.ended()),
+                (ids.0, ids.1, ended)
+            );
+            assert_eq!((task.executed(), task.subreaper()), marks, "{task:?}");
+        }
+    }
+}
+
+/// A read is no call, also one that is refused.
+#[test]
+fn reads_that_are_refused() {
+    let (shared, mut table) = (open(1), Table::open(32768).expect("a table"));
+    let mut seat = shared.seat().expect("a seat");
+    make_tasks(&mut table, &mut seat);
+    let refused = |refusal| Err(Error::Refused { errno: 3, refusal });
+    for (caller, number, refusal) in [
+        (0, 0, Refusal::NoCaller),
+        (6, 0, Refusal::NoCaller),
+        (u32::MAX, 0, Refusal::NoCaller),
+        (1, 9, Refusal::NoTask),
+        (1, u32::MAX, Refusal::NoTask),
+        (4, 3, Refusal::NoTask),
+    ] {
+        assert_eq!(shared.stat(caller, number), refused(refusal));
+        assert_eq!(table.stat(caller, number), refused(refusal));
+    }
+    assert_eq!(counts(&shared), (0, MADE.len() as u64));
+    assert_eq!((seat.mk(0), table.mk(0)), (Ok(17), Ok(17)));
+}
+
 #[test]
 fn a_cut() {
     let shared = open(1);
