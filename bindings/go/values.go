@@ -3,7 +3,10 @@ package pidtab
 // #include <pidtab.h>
 import "C"
 
-import "syscall"
+import (
+	"syscall"
+	"unsafe"
+)
 
 // Operation is what a Call asks for.
 type Operation uint32
@@ -86,6 +89,19 @@ func (reply Reply) Err() error {
 	}
 	numbers := reply.numbers()
 	return refusalOf(&numbers)
+}
+
+// Line is the call as a line of the script language: Line of a table makes the same call of it. It needs no table. ErrOutOfRange where there is no
+// such operation, or it does not take such a choice or number.
+func (call Call) Line() (string, error) {
+	var line [C.PIDTAB_LONGEST_CALL]C.uint8_t
+	var size C.size_t
+	numbers := call.numbers()
+	status := C.pidtab_call_line(&numbers, unsafe.Pointer(&line[0]), C.size_t(len(line)), &size)
+	if err := faultOf(uint32(status)); err != nil {
+		return "", err
+	}
+	return text(line[:size]), nil
 }
 
 // numbers is the call as the library takes it.

@@ -77,6 +77,7 @@ DIFFERENCES = [
     ("bindings/python/pidtab/shared.py", "    def checkpoint_at(self", "    def cut_at(self", "the package for python has no Shared.checkpoint_at"),
     ("bindings/python/pidtab/table.py", "    def dump(self)", "    def text(self)", "the package for python has no Table.dump"),
     ("bindings/rust/src/blocks.rs", "    pub fn put(", "    pub fn append(", "the package for rust has no Blocks::put"),
+    ("bindings/rust/src/calls.rs", "    pub fn line(self)", "    pub fn text(self)", "the package for rust has no Call::line"),
     ("bindings/rust/src/lib.rs", "    pub fn dump(&mut self)", "    pub fn text(&mut self)", "the package for rust has no Table::dump"),
     ("bindings/rust/src/saved.rs", "    pub fn trim(", "    pub fn cut(", "the package for rust has no Saved::trim"),
     ("bindings/rust/src/shared.rs", "    pub fn seat(&self)", "    pub fn sit(&self)", "the package for rust has no Shared::seat"),
@@ -88,6 +89,7 @@ DIFFERENCES = [
     ("bindings/go/shared.go", "func OpenShared(", "func NewShared(", "the package for go has no OpenShared"),
     ("bindings/go/stat.go", "func (shared *Shared) Stat(", "func (shared *Shared) Read(", "the package for go has no Shared.Stat"),
     ("bindings/go/table.go", "func (table *Table) List()", "func (table *Table) Lists()", "the package for go has no Table.List"),
+    ("bindings/go/values.go", "func (call Call) Line(", "func (call Call) Text(", "the package for go has no Call.Line"),
     ("docs/list.schema.json", '"is-leader", "no-group"', '"no-group", "is-leader"', "the words of refusals is"),
     ("docs/list.schema.json", '"EPERM", "EACCES"', '"EPERM", "EBADF"', "the errors of refusals is"),
 ]  # fmt: skip

@@ -1,5 +1,5 @@
 //! The calls: as values, and each as a method of what makes them.
-use crate::{Child, Error, Reaped, Refusal};
+use crate::{raw, texts, Child, Error, Reaped, Refusal};
 
 /// The children that a wait selects. More ways may come.
 #[derive(Clone, Copy, Debug, PartialEq, Eq, Hash)]
@@ -73,6 +73,23 @@ pub enum Call {
     Join { caller: u32, number: u32 },
     /// [`Calls::subreaper`]: from now on, or no more.
     Subreaper { caller: u32, on: bool },
+}
+
+impl Call {
+    /// The call as a line of the script language, without a newline: `line` of a table makes the same call of it. It needs no table.
+    ///
+    /// ```
+    /// use pidtab::{Call, Calls, Table};
+    ///
+    /// let call = Call::Fork { caller: 1, new_space: true };
+    /// assert_eq!(call.line(), "fork 1 new");
+    /// let mut table = Table::open(32768)?;
+    /// assert_eq!(table.line(call.line())?, "child 2 root 2");
+    /// # Ok::<(), std::io::Error>(())
+    /// ```
+    pub fn line(self) -> String {
+        texts::call_line(|room, size| raw::call_line(&self.numbers(), room, size))
+    }
 }
 
 /// A reply as a value. More replies may come.

@@ -95,6 +95,8 @@ fn the_functions_are_those_of_the_header() {
     ] {
         same_function(&header, name, "pidtab *table", others);
     }
+    let line = "uint32_t pidtab_call_line(const struct pidtab_call *call, void *line, size_t room, size_t *size);";
+    assert!(header.contains(line));
 }
 
 #[test]

@@ -273,6 +273,8 @@ extern "C" {
     fn pidtab_call(table: *mut Held, call: *const Call, reply: *mut Reply) -> u32;
     fn pidtab_ask(table: *mut Held, call: *const Call, reply: *mut Reply) -> u32;
     fn pidtab_stat(table: *mut Held, caller: u32, number: u32, task: *mut Task) -> u32;
+    fn pidtab_call_line(call: *const Call, line: *mut c_void, room: usize, size: *mut usize)
+        -> u32;
     fn pidtab_record_open(record: *mut Held, pid_max: u32, first_stamp: u64, workers: u32) -> u32;
     fn pidtab_record_dump(
         record: *mut Held,
@@ -473,6 +475,13 @@ impl Drop for Table {
         // SAFETY: the table is lent to this call alone; one that is not open stays so. No other thread is in it, so it is closed.
         unsafe { pidtab_close(&mut *self.held) };
     }
+}
+
+/// Writes the call as a line of the script language.
+pub(crate) fn call_line(call: &Call, line: &mut [u8], size: &mut usize) -> u32 {
+    let (room, most) = (line.as_mut_ptr().cast(), line.len());
+    // SAFETY: the line is a slice with this length; the function keeps no pointer, and no two of the three overlap.
+    unsafe { pidtab_call_line(call, room, most, size) }
 }
 
 /// An open record: a table with its history.

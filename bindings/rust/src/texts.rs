@@ -14,6 +14,14 @@ pub(crate) fn answer(
     Ok(String::from_utf8_lossy(&answer[..size]).into_owned())
 }
 
+/// The line that the library writes of a call, for which it has room.
+pub(crate) fn call_line(write: impl FnOnce(&mut [u8], &mut usize) -> u32) -> String {
+    let (mut line, mut size) = ([0u8; raw::LONGEST_CALL], 0);
+    let status = write(&mut line, &mut size);
+    assert_eq!(status, raw::DONE, "each call of this crate has a line");
+    String::from_utf8_lossy(&line[..size]).into_owned()
+}
+
 /// The list, or the text of a table, that the library writes: where the room was too short, it is asked again with as much as it said.
 pub(crate) fn whole(mut write: impl FnMut(&mut [u8], &mut usize) -> u32) -> Result<String, Error> {
     let (mut text, mut size) = (Vec::<u8>::new(), SHORT_TEXT);
