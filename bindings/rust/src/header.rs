@@ -1,5 +1,4 @@
 //! That what is by hand in `raw.rs` is `bindings/c/pidtab.h`, and what it has of `pidtab_saved.h`: structs and functions.
-use crate::raw::*;
 use std::fs;
 
 /// `pidtab.h`.
