@@ -17,8 +17,9 @@ UNDISTURBED = (CRATE / "stdout").read_text()
 # How each run begins that refuses the N-th growth: alone, with the next one, and with all behind it.
 COUNTS = (1, 2, ALL)
 
-# What is to be refused at some growth or other, by the first word of its step; `getpid` grows the history alone.
-TAKE_MEMORY = set("new open opening fork mk reserve checkpoint snapshot list dump job run limited state work workers".split())
+# What is to be refused at some growth or other, by the first word of its step; `getpid` grows the history alone. A checkpoint is refused at
+# none: the opening moves on by the kept calls, and a call that finds no memory there waits.
+TAKE_MEMORY = set("new open opening fork mk reserve snapshot list dump job run limited state work workers".split())
 
 # The layers make a call once more on the spot, so it takes two refusals to have one filled from the start.
 LAYERS = set("numbers controls groups tree array ids".split())
@@ -157,6 +158,7 @@ class Growths(unittest.TestCase):
         self.assertGreater(growth, 200)
         # The layers make a call once more on the spot, so a single refusal shows nothing of them.
         self.assertLessEqual(TAKE_MEMORY | (LAYERS if count > 1 else set()), kinds)
+        self.assertNotIn("checkpoint", kinds)
         # A call that makes nothing needs memory for its entry.
         self.assertTrue(kinds - TAKE_MEMORY - LAYERS)
         self.assertGreater(starts, 0)
