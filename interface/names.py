@@ -36,10 +36,10 @@ def strings(words):
     return ", ".join(f'"{word}"' for word in words)
 
 
-def wrapped(text, indent, width):
-    """The lines of a text of words, none of which is broken at a hyphen or within quotes."""
-    held = text.replace(", ", ",\0").replace(" ", "\1").replace("\0", " ")
-    lines = textwrap.wrap(held, width, initial_indent=indent, subsequent_indent=indent, break_long_words=False, break_on_hyphens=False)
+def wrapped(text, indent, width, first=None):
+    """The lines of a list of words, which is broken behind commas alone. The first line may have another indent."""
+    held, begin = text.replace(", ", ",\0").replace(" ", "\1").replace("\0", " "), indent if first is None else first
+    lines = textwrap.wrap(held, width, initial_indent=begin, subsequent_indent=indent, break_long_words=False, break_on_hyphens=False)
     return [line.replace("\1", " ") for line in lines]
 
 

@@ -13,6 +13,7 @@ KINDS = {
     "yes or no": r"yes|no",
     "sentence": r"[^\s.].*[^\s.]",
     "sentence or -": r"[^\s.].*[^\s.]|-",
+    "sentences": r"[A-Z].*\.",
     "words": r"[a-z]+( [a-z]+)*",
     "owner": r"table|record|saved",
     "errno or -": r"E[A-Z]+|-",
@@ -24,6 +25,8 @@ KINDS = {
     "header": r"interface|saved|packages",
     "constant or -": r"[a-z_]+/src/[a-z_]+\.rt [A-Z_]+|-",
     "functions": r"[a-z_]+(, [a-z_]+)*",
+    "functions or -": r"[a-z_]+(, [a-z_]+)*|-",
+    "statuses or -": r"[A-Z_]+(, [A-Z_]+)*|-",
     "release": r"\d+\.\d+\.\d+",
     "method or -": r"[A-Z]\w*((\.|::)\w+)?|-",
     "list": r"[a-z][a-z0-9-]*( \([^()]+\))?(, [a-z][a-z0-9-]*( \([^()]+\))?)*",
@@ -41,8 +44,9 @@ COLUMNS = {
     "bounds": {"name": "capitals", "value": "number", "type": "type", "of": "header", "source": "constant or -", "sentence": "sentence"},
     "functions": {
         "functions": "functions", "since": "release", "python": "method or -", "rust": "method or -", "go": "method or -",
-        "javascript": "method or -", "sentence": "sentence",
+        "javascript": "method or -", "statuses": "statuses or -", "sentence": "sentence",
     },
+    "results": {"status": "capitals", "functions": "functions or -", "sentence": "sentences"},
     "calls": {"number": "number", "call": "word", "model": "name", "query": "yes or no", "takes": "sentence", "refusals": "list"},
 }  # fmt: skip
 
@@ -50,12 +54,13 @@ COLUMNS = {
 UNIQUE = {
     "errnos": ("name", "value"), "refusals": ("number", "word"), "calls": ("number", "call", "model"), "statuses": ("name", "error", "sentence"),
     "faults": ("number", "name", "rust", "words"), "kinds": ("name",), "bounds": ("name", "sentence"),
-    "functions": ("functions", "sentence"),
+    "functions": ("functions", "sentence"), "results": ("sentence",),
 }  # fmt: skip
 FIRST = {"refusals": 1, "calls": 0, "faults": 1, "kinds": 0}
 
 # A column whose cells stand in a column of another table.
-KNOWN = {("refusals", "error"): ("errnos", "name"), ("calls", "refusals"): ("refusals", "word"), ("statuses", "error"): ("errnos", "name")}
+KNOWN = {("refusals", "error"): ("errnos", "name"), ("calls", "refusals"): ("refusals", "word"), ("statuses", "error"): ("errnos", "name"),
+         ("results", "status"): ("statuses", "name"), ("functions", "statuses"): ("statuses", "name")}  # fmt: skip
 
 
 class TableFault(Exception):

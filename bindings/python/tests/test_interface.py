@@ -22,7 +22,7 @@ def load_tool():
 
 
 TOOL = load_tool()
-PARTS = sorted(TOOL.all_parts())
+PARTS = sorted(TOOL.all_parts(TOOL.read_all(REPOSITORY)))
 COMPARED = sorted({path for module in TOOL.COMPARED for path in module.PATHS})
 
 # A source that is compared and not written: what is changed in it, and what is said of that.
@@ -120,7 +120,10 @@ FAULTS = [
     ("bounds", "pidtab_c/src/lib.rt VERSION", "pidtab_c/src/lib.rt       ", "source 'pidtab_c/src/lib.rt' is no constant or -"),
     ("bounds", "| size   | saved     | -                                          | the longest entry", "| sizes  | saved     | - | the longest entry", "type 'sizes' is no type"),
     ("functions", "saved_end                 ", "saved-end                 ", "functions 'saved-end' is no functions"),
-    ("functions", "saved_trim                                                    | 0.2.0", "saved_trim                                                    | 0.2", "since '0.2' is no release"),
+    ("functions", "saved_trim                                                        | 0.2.0", "saved_trim                                                        | 0.2", "since '0.2' is no release"),
+    ("functions", "CLOSED, AGAIN, NO_MEMORY, DONE", "CLOSED, LATER, NO_MEMORY, DONE", "statuses 'LATER' is not in interface/statuses.tbl"),
+    ("results", "AGAIN        |", "LATER        |", "status 'LATER' is not in interface/statuses.tbl"),
+    ("results", "by now.", "by now", "sentence 'More calls, or fewer, were recorded by now' is no sentences"),
     ("errnos", "EBUSY           | 16", "EBUSY           | 13", "value 13 stands in line 12 already"),
 ]
 
@@ -182,7 +185,7 @@ class Interface(unittest.TestCase):
                 status, said = self.say()
                 self.restore(path, text)
                 self.assertEqual(status, 1)
-                self.assertRegex(said, rf"^tools/interface: (?:{path}|interface/functions.tbl):\d+: ")
+                self.assertRegex(said, rf"(?m)^tools/interface: (?:{path}|interface/functions.tbl):\d+: ")
                 self.assertIn(wanted, said)
 
     def test_the_line_of_a_difference(self):

@@ -1,0 +1,110 @@
+"""What the manual pages have of the functions: their names, what they take, and their statuses."""
+
+import re
+import textwrap
+
+from names import wrapped
+from tables import words_of
+
+# The pages, each with its header, how its functions begin, and what is a table there.
+PAGES = {"man/pidtab.3": ("pidtab.h", ""), "man/pidtab_record.3": ("pidtab.h", "record_"), "man/pidtab_shared.3": ("pidtab_shared.h", "shared_")}
+
+
+def functions_of(tables, path):
+    """The functions of a page, in the order of the header. Those of a record have a page of their own."""
+    header, prefix = PAGES[path]
+    found = tables["headers"].of(header, prefix)
+    return [it for it in found if prefix or not it.name.startswith("record_")]
+
+
+def inline(tables):
+    """The functions of the header that are inline: the calls, and the words of numbers."""
+    calls = [it.call for it in tables["calls"]]
+    found = {it.name: it for it in tables["headers"].functions if it.is_inline}
+    return [found[name] for name in calls], [found[name] for name in ("word", "text", "fault_text")]
+
+
+def names(tables, path):
+    """The head of a page, from which a page for each function is made."""
+    calls, words = inline(tables) if path == "man/pidtab.3" else ([], [])
+    found = [it.name for it in (*functions_of(tables, path), *calls, *words)]
+    return [f".Nm pidtab_{name} ," for name in found[:-1]] + [f".Nm pidtab_{found[-1]}"]
+
+
+def declared(function):
+    """What a function answers and takes."""
+    result = f'"{function.result}"' if " " in function.result else function.result
+    taken = [f'"{it}"' for it in function.arguments] or ["void"]
+    line = f".Fn pidtab_{function.name} {' '.join(taken)}"
+    if len(line) <= 74:
+        return [f".Ft {result}", line]
+    return [f".Ft {result}", f".Fo pidtab_{function.name}", *[f".Fa {it}" for it in taken], ".Fc"]
+
+
+def synopsis(tables, path):
+    """What each function of a page answers and takes."""
+    _, words = inline(tables) if path == "man/pidtab.3" else ([], [])
+    return [line for it in (*functions_of(tables, path), *words) for line in declared(it)]
+
+
+def prototypes(tables):
+    """The calls as functions."""
+    lines = [".Bd -literal"]
+    for it in inline(tables)[0]:
+        said = f"int64_t pidtab_{it.name}({', '.join(str(argument) for argument in it.arguments)});"
+        lines += wrapped(said, "    ", 72, "")
+    return [*lines, ".Ed"]
+
+
+def struct(tables, name):
+    """A struct as the header has it."""
+    return [".Bd -literal", f"struct {name} {{", *[f"\t{it};" for it in tables["headers"].structs[name]], "};", ".Ed"]
+
+
+def said(sentences):
+    """Sentences in mdoc, each on a line of its own, with its macros."""
+    lines = []
+    for sentence in re.split(r"(?<=\.) ", sentences):
+        for part in re.split(r"\s*((?:\{\w+\}|PIDTAB_\w+),?)\s*", sentence.replace(" - ", r" \- ")):
+            macro = re.fullmatch(r"(?:\{(\w+)\}|(PIDTAB_\w+))(,?)", part)
+            if macro:
+                lines.append(f".{'Fa' if macro[1] else 'Dv'} {macro[1] or macro[2]}{' ,' if macro[3] else ''}")
+            elif part:
+                lines += textwrap.wrap(part, 80, break_on_hyphens=False)
+    return lines
+
+
+def sentence_of(tables, status, name):
+    """When the function with this ending has the status."""
+    rows = [it for it in tables["results"] if it.status == status]
+    return next(it.sentence for it in rows if it.functions == "-" or name in words_of(it.functions))
+
+
+def statuses(tables, function):
+    """The statuses of a function, in the order in which they are looked for. A shared table waits where a record is busy."""
+    row = next(it for it in tables["functions"] if function in words_of(it.functions))
+    owner, _, name = function.partition("_")
+    found = [it for it in words_of(row.statuses) if not (owner == "shared" and it == "BUSY")]
+    lines = [".Bl -tag -width PIDTAB_OUT_OF_RANGE -compact"]
+    for status in found:
+        lines += [f".It Dv PIDTAB_{status}", *said(sentence_of(tables, status, name))]
+    return [*lines, ".El"]
+
+
+def part(function, argument):
+    """A part that is made for its page, its function or its struct."""
+    return lambda tables: function(tables, argument)
+
+
+def parts_of(tables):
+    """All parts, by their page and their name."""
+    parts = {("man/pidtab.3", "prototypes"): prototypes}
+    parts |= {("man/pidtab.3", f"struct {name}"): part(struct, f"pidtab_{name}") for name in ("call", "reply", "task")}
+    parts |= {("man/pidtab_record.3", "struct entry"): part(struct, "pidtab_entry")}
+    for path in PAGES:
+        parts |= {(path, "names"): part(names, path), (path, "synopsis"): part(synopsis, path)}
+        for it in functions_of(tables, path) if PAGES[path][1] else ():
+            rows = [row for row in tables["functions"] if it.name in words_of(row.functions) and row.statuses != "-"]
+            if it.result == "uint32_t" and rows:
+                parts[path, f"statuses of {it.name}"] = part(statuses, it.name)
+    return parts
