@@ -156,6 +156,8 @@ uint32_t pidtab_shared_line(struct pidtab_shared *shared, uint32_t worker, const
 	return end_call(shared, status);
 }
 
+/* Written by tools/interface: forwards. */
+
 uint32_t pidtab_shared_ask(struct pidtab_shared *shared, const struct pidtab_call *call, struct pidtab_reply *reply)
 {
 	lock_for_call(shared);
@@ -215,3 +217,4 @@ uint32_t pidtab_shared_dump(struct pidtab_shared *shared, void *bytes, size_t ro
 	lock_before_calls(shared);
 	return unlocked(shared, pidtab_record_dump(&shared->record, bytes, room, size));
 }
+/* The end of forwards. */

@@ -4,6 +4,7 @@ from names import capitals, columns, strings, takes, with_id, wrapped
 
 HEADER = "bindings/c/pidtab.h"
 SAVED = "bindings/c/pidtab_saved.h"
+SHARED = "bindings/c/shared.c"
 
 
 def enum(name, rows):
@@ -108,7 +109,31 @@ def operations(tables):
     return ["/* A call as numbers. What an operation does not take is not looked at; pidtab_ask answers a query too. */", *enum("pidtab_operation", rows)]
 
 
+# What waits for its turn as a call does; all other functions go before the calls.
+AS_CALLS = ("ask", "stat")
+# What is more than the function of a record behind the lock.
+BY_HAND = ("open", "load", "close", "call", "line")
+
+
+def forwards(tables):
+    """The functions of a shared table that do with its lock what the function of a record does."""
+    of = tables["headers"]
+    known, lines = {it.name for it in of.functions}, []
+    for it in of.of("pidtab_shared.h", "shared_"):
+        ending = it.name[len("shared_") :]
+        if ending in BY_HAND or f"record_{ending}" not in known:
+            continue
+        passed = "".join(f", {argument.name}" for argument in it.arguments[1:])
+        lines += [
+            "", f"uint32_t pidtab_{it.name}({', '.join(str(argument) for argument in it.arguments)})", "{",
+            f"\tlock_{'for_call' if ending in AS_CALLS else 'before_calls'}(shared);",
+            f"\treturn unlocked(shared, pidtab_record_{ending}(&shared->record{passed}));", "}",
+        ]  # fmt: skip
+    return lines
+
+
 PARTS = {
+    (SHARED, "forwards"): forwards,
     (HEADER, "operations"): operations,
     (HEADER, "bounds"): lambda tables: bounds_of(tables, "interface"),
     (SAVED, "bounds"): lambda tables: bounds_of(tables, "saved"),

@@ -1,4 +1,4 @@
-"""`bindings/c/pidtab.h`, `pidtab_shared.h` and `pidtab_saved.h`: their numbers, structs and functions. A test compares what is written by hand."""
+"""`bindings/c/pidtab.h`, `pidtab_shared.h` and `pidtab_saved.h`: their numbers, structs and functions."""
 
 import ctypes
 import struct
@@ -53,14 +53,32 @@ FORKED, OK, NUMBER, LEVELS, REAPED, NONE_YET, COUNTED, CONTROL, END, REFUSED = r
 # The end of kinds.
 
 
-class Pidtab(ctypes.Structure):
-    """A table, or none: it begins as zeroes. While it is open it is never copied."""
+# Written by tools/interface: structs.
 
-    _fields_ = [("at", ctypes.c_void_p), ("is_open", ctypes.c_bool), ("in_call", ctypes.c_bool)]
+class Pidtab(ctypes.Structure):
+    """`struct pidtab`."""
+
+    at: int | None
+    is_open: bool
+    in_call: bool
+
+    _fields_ = [
+        ("at", ctypes.c_void_p),
+        ("is_open", ctypes.c_bool),
+        ("in_call", ctypes.c_bool),
+    ]
 
 
 class PidtabCall(ctypes.Structure):
-    """A call as numbers."""
+    """`struct pidtab_call`."""
+
+    operation: int
+    caller: int
+    id: int
+    number: int
+    choice: int
+    pid: int
+    pgid: int
 
     _fields_ = [
         ("operation", ctypes.c_uint32),
@@ -73,12 +91,20 @@ class PidtabCall(ctypes.Structure):
     ]
 
 
-# The same fields. What does not fit into one is an error here, and would be cut off by a structure of ctypes.
-CALL_FIELDS = struct.Struct("=IIQIIii")
+class PidtabFault(ctypes.Structure):
+    """`struct pidtab_fault`."""
+
+    line: int
+    kind: int
+
+    _fields_ = [
+        ("line", ctypes.c_uint64),
+        ("kind", ctypes.c_uint32),
+    ]
 
 
 class PidtabReply(ctypes.Structure):
-    """A reply as numbers."""
+    """`struct pidtab_reply`."""
 
     kind: int
     error: int
@@ -100,7 +126,7 @@ class PidtabReply(ctypes.Structure):
 
 
 class PidtabTask(ctypes.Structure):
-    """A task as a namespace sees it."""
+    """`struct pidtab_task`."""
 
     error: int
     refusal: int
@@ -133,50 +159,45 @@ class PidtabTask(ctypes.Structure):
     ]
 
 
-class PidtabFault(ctypes.Structure):
-    """Why a text is that of no table."""
-
-    line: int
-    kind: int
-
-    _fields_ = [("line", ctypes.c_uint64), ("kind", ctypes.c_uint32)]
-
-
 class PidtabEntry(ctypes.Structure):
-    """A recorded call: whose it was, the call and its reply."""
+    """`struct pidtab_entry`."""
 
     worker: int
     call: PidtabCall
     reply: PidtabReply
 
-    _fields_ = [("worker", ctypes.c_uint64), ("call", PidtabCall), ("reply", PidtabReply)]
-
-
-class PidtabShared(ctypes.Structure):
-    """Room for a table behind a lock, whose size is the platform's: it has some 250 bytes. While it is open it is never copied."""
-
-    _fields_ = [("room", ctypes.c_uint64 * 64)]
+    _fields_ = [
+        ("worker", ctypes.c_uint64),
+        ("call", PidtabCall),
+        ("reply", PidtabReply),
+    ]
 
 
 class PidtabSavedHead(ctypes.Structure):
-    """The settings of a record, as the head of its saved history has them."""
+    """`struct pidtab_saved_head`."""
 
     pid_max: int
     workers: int
     first_stamp: int
 
-    _fields_ = [("pid_max", ctypes.c_uint32), ("workers", ctypes.c_uint32), ("first_stamp", ctypes.c_uint64)]
+    _fields_ = [
+        ("pid_max", ctypes.c_uint32),
+        ("workers", ctypes.c_uint32),
+        ("first_stamp", ctypes.c_uint64),
+    ]
 
 
 class PidtabSaved(ctypes.Structure):
-    """A file that a history is saved to."""
+    """`struct pidtab_saved`."""
 
     head: PidtabSavedHead
     next: int
     bytes: int
     left_out: int
+    sum: int
     part: int
     is_torn: bool
+    file: int
     error: int
 
     _fields_ = [
@@ -190,7 +211,17 @@ class PidtabSaved(ctypes.Structure):
         ("file", ctypes.c_int),
         ("error", ctypes.c_int),
     ]
+# The end of structs.
 
+
+class PidtabShared(ctypes.Structure):
+    """Room for a table behind a lock, whose size is the platform's: it has some 250 bytes. While it is open it is never copied."""
+
+    _fields_ = [("room", ctypes.c_uint64 * 64)]
+
+
+# The fields of a call. What does not fit into one is an error here, and would be cut off by a structure of ctypes.
+CALL_FIELDS = struct.Struct("=IIQIIii")
 
 # The room for any answer.
 Answer = ctypes.c_char * LONGEST_ANSWER
@@ -217,6 +248,7 @@ Function = tuple[type[ctypes.c_uint32] | None, list[type]]
 
 VERSION_FUNCTION: dict[str, Function] = {"pidtab_version": (U32, [])}
 
+# Written by tools/interface: functions.
 # The functions on a table that each library of the interface has.
 FUNCTIONS: dict[str, Function] = {
     **VERSION_FUNCTION,
@@ -229,10 +261,10 @@ FUNCTIONS: dict[str, Function] = {
 
 # Those that an earlier library may lack.
 LATER_FUNCTIONS: dict[str, Function] = {
-    "pidtab_ask": (U32, [TABLE, CALL_BYTES, REPLY]),
-    "pidtab_stat": (U32, [TABLE, U32, U32, TASK]),
     "pidtab_dump": (U32, [TABLE, BYTES, SIZE_T, SIZE]),
     "pidtab_load": (U32, [TABLE, ctypes.c_char_p, SIZE_T, FAULT]),
+    "pidtab_ask": (U32, [TABLE, CALL_BYTES, REPLY]),
+    "pidtab_stat": (U32, [TABLE, U32, U32, TASK]),
 }
 
 # Those on a table behind a lock.
@@ -255,21 +287,22 @@ SHARED_FUNCTIONS: dict[str, Function] = {
 
 # Those of these that an earlier library may lack.
 LATER_SHARED_FUNCTIONS: dict[str, Function] = {
-    "pidtab_shared_dump": (U32, [SHARED, BYTES, SIZE_T, SIZE]),
     "pidtab_shared_load": (U32, [SHARED, ctypes.c_char_p, SIZE_T, NUMBER_64, SIZE_T, U64, FAULT]),
+    "pidtab_shared_dump": (U32, [SHARED, BYTES, SIZE_T, SIZE]),
 }
 
 # Those on the file of its saved history.
 SAVED_FUNCTIONS: dict[str, Function] = {
-    "pidtab_saved_begin": (U32, [SAVED, ctypes.c_int, SAVED_HEAD]),
-    "pidtab_saved_append_shared": (U32, [SAVED, SHARED]),
-    "pidtab_saved_load_shared": (U32, [SAVED, ctypes.c_int, SHARED, U64]),
-    "pidtab_saved_trim": (U32, [SAVED]),
     "pidtab_saved_take_head": (U32, [ctypes.c_char_p, SIZE_T, SAVED_HEAD, SIZE, NUMBER_64]),
     "pidtab_saved_take": (U32, [ctypes.c_char_p, SIZE_T, ENTRIES, SIZE, NUMBER_64]),
-    "pidtab_saved_resume_shared": (U32, [SAVED, ctypes.c_int, SAVED_HEAD, SHARED, U64]),
+    "pidtab_saved_begin": (U32, [SAVED, ctypes.c_int, SAVED_HEAD]),
+    "pidtab_saved_append_shared": (U32, [SAVED, SHARED]),
     "pidtab_saved_serve": (U32, [SAVED, SHARED, U64, ctypes.c_bool]),
     "pidtab_saved_wait": (U32, [SHARED, U64]),
     "pidtab_saved_bound": (None, [SHARED, U64]),
     "pidtab_saved_end": (None, [SHARED]),
+    "pidtab_saved_load_shared": (U32, [SAVED, ctypes.c_int, SHARED, U64]),
+    "pidtab_saved_trim": (U32, [SAVED]),
+    "pidtab_saved_resume_shared": (U32, [SAVED, ctypes.c_int, SAVED_HEAD, SHARED, U64]),
 }
+# The end of functions.

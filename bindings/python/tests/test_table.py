@@ -4,7 +4,6 @@ import ctypes
 import gc
 import os
 import random
-import re
 import subprocess
 import sys
 import tempfile
@@ -13,70 +12,21 @@ import unittest
 from collections.abc import Callable
 from pathlib import Path
 from types import SimpleNamespace
-from typing import Any
 from unittest import mock
 
 from pidtab import Calls, LibraryFault, LibraryMissing, Process, Table, TableClosed, find_library, raw
-from pidtab.calls import KINDS
 from pidtab.language import FORMS
 from pidtab.library import load_library
 from tests.alarms import alarms
-from tests.pages import REPOSITORY, read_page
+from tests.pages import REPOSITORY
 from tests.programs import need_tool
 from tests.ways import ask, need_library, need_program, open_stand_in
 
 SEED = 20
 RANDOM_LINES = 3000
 
-# The names of C for the types of the fields.
-TYPES: dict[str, Any] = {
-    "void *": ctypes.c_void_p, "bool": ctypes.c_bool, "uint32_t": ctypes.c_uint32, "uint64_t": ctypes.c_uint64, "int32_t": ctypes.c_int32,
-    "size_t": ctypes.c_size_t, "int": ctypes.c_int, "struct pidtab_saved_head": raw.PidtabSavedHead,
-    "struct pidtab_call": raw.PidtabCall, "struct pidtab_reply": raw.PidtabReply,
-}  # fmt: skip
-
-# What is passed for them: for bytes that are read, and that are written, and for the address of what else.
-PASSED: dict[str, type] = {
-    "const void *line": ctypes.c_char_p, "const void *text": ctypes.c_char_p, "const void *bytes": ctypes.c_char_p, "const struct pidtab_call *call": raw.CALL_BYTES,
-    "void *": raw.BYTES, "struct pidtab *": raw.TABLE, "struct pidtab_shared *": raw.SHARED,
-    "struct pidtab_call *": raw.CALL, "struct pidtab_reply *": raw.REPLY, "struct pidtab_task *": raw.TASK, "struct pidtab_fault *": raw.FAULT,
-    "struct pidtab_entry *": raw.ENTRIES, "size_t *": raw.SIZE,
-    "struct pidtab_saved *": raw.SAVED, "struct pidtab_saved_head *": raw.SAVED_HEAD, "int ": ctypes.c_int, "bool ": ctypes.c_bool,
-    "uint32_t *": raw.NUMBER_32, "uint64_t *": raw.NUMBER_64, "size_t ": raw.SIZE_T, "uint32_t ": raw.U32, "uint64_t ": raw.U64,
-}  # fmt: skip
-
-
-def header(name: str = "pidtab.h") -> str:
-    """A header of C without its comments, each run of white space one space."""
-    return " ".join(re.sub(r"/\*.*?\*/", " ", read_page(f"bindings/c/{name}"), flags=re.DOTALL).split())
-
-
-def body(words: str) -> str:
-    """What stands between the braces behind the words."""
-    _, found, behind = (header() + header("pidtab_saved.h")).partition(words + " { ")
-    assert found, words
-    return behind.partition(" }")[0]
-
-
-def takes(argument: str) -> type:
-    """The type of ctypes for what a function of the header takes."""
-    (kind,) = re.findall(r"^(?:const )?((?:struct )?\w+ \*?)\w+$", argument)
-    return PASSED.get(argument, PASSED[kind])
-
-
 class Header(unittest.TestCase):
-    """The numbers, structs and functions are those of the header."""
-
-    def test_the_kinds_of_next(self) -> None:
-        uses = re.findall(r"PIDTAB_([A-Z]+)S\b", body("enum pidtab_use"))
-        self.assertEqual(list(KINDS), [use.lower() for use in uses])
-
-    def test_the_structs(self) -> None:
-        tables = (("pidtab", raw.Pidtab), ("pidtab_call", raw.PidtabCall), ("pidtab_reply", raw.PidtabReply), ("pidtab_entry", raw.PidtabEntry))
-        for name, known in (*tables, ("pidtab_task", raw.PidtabTask), ("pidtab_fault", raw.PidtabFault), ("pidtab_saved_head", raw.PidtabSavedHead), ("pidtab_saved", raw.PidtabSaved)):
-            fields = re.findall(r"(void \*|struct \w+|\w+) ?(\w+)(\[PIDTAB_LEVELS_MAX\])?;", body(f"struct {name}"))
-            wanted = [(name, TYPES[kind] * raw.LEVELS_MAX if many else TYPES[kind]) for kind, name, many in fields]
-            self.assertEqual(list(known._fields_), wanted)
+    """The structs are as long as those of the header, of which they are written."""
 
     def test_the_sizes(self) -> None:
         # Those that bindings/c/test.c and test_shared.c assert.
@@ -95,19 +45,6 @@ class Header(unittest.TestCase):
         command = [need_tool("cc"), "-std=c11", "-fsyntax-only", f"-I{REPOSITORY / 'bindings' / 'c'}", "-xc", "-"]
         done = subprocess.run(command, input=code, capture_output=True, text=True, check=False)
         self.assertEqual((done.returncode, done.stderr), (0, ""))
-
-    def test_the_functions(self) -> None:
-        # The package has no records but those behind a lock, and takes that lock for one function at a time. It writes lines itself, and
-        # saves to files alone, which it also reads as they grow.
-        left_out = {"pidtab_shared_lock", "pidtab_shared_unlock", "pidtab_call_line"}
-        left_out |= {f"pidtab_saved_{it}" for it in ("sum", "put", "put_head", "append", "load", "resume")}
-        text = header() + header("pidtab_shared.h") + header("pidtab_saved.h")
-        declared = dict(re.findall(r"(?<!inline )(?:uint32_t |uint64_t |void |\*)(pidtab_(?!record_)\w+)\(([^)]*)\);", text))
-        known = {**raw.FUNCTIONS, **raw.LATER_FUNCTIONS, **raw.SHARED_FUNCTIONS, **raw.LATER_SHARED_FUNCTIONS, **raw.SAVED_FUNCTIONS}
-        self.assertEqual(set(declared) - left_out, set(known))
-        self.assertLessEqual(left_out, set(declared))
-        for name, (_, arguments) in known.items():
-            self.assertEqual([takes(it) for it in declared[name].split(", ") if it != "void"], arguments, name)
 
 
 class Libraries(unittest.TestCase):

@@ -25,8 +25,6 @@
 mod blocks;
 mod calls;
 mod fault;
-#[cfg(test)]
-mod header;
 mod json;
 mod labels;
 mod listing;
@@ -221,7 +219,7 @@ impl Table {
     /// # Panics
     /// As [`Table::open`].
     pub fn from_dump(text: impl AsRef<[u8]>) -> Result<Table, TextError> {
-        let mut fault = raw::Fault::default();
+        let mut fault = raw::Fault::BLANK;
         let loaded = raw::Table::load(text.as_ref(), &mut fault);
         let raw = loaded.map_err(|status| TextError::of(status, fault))?;
         Ok(Table::over(raw))

@@ -8,7 +8,7 @@ fn by(operation: u32, caller: u32, choice: u32, number: u32) -> raw::Call {
         caller,
         number,
         choice,
-        ..raw::Call::default()
+        ..raw::Call::BLANK
     }
 }
 

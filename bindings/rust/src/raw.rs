@@ -1,9 +1,9 @@
 //! `bindings/c/pidtab.h`, and what of `pidtab_saved.h` works in memory: numbers, structs and functions, and an owner for each struct
-//! that is opened and closed. All unsafe code of the crate is here. `header.rs` compares the first part with the headers.
+//! that is opened and closed. All unsafe code of the crate is here.
 #![allow(unsafe_code)]
 
 use std::ffi::c_void;
-use std::mem::{offset_of, size_of};
+use std::mem::size_of;
 use std::ptr;
 
 // Written by tools/interface: statuses.
@@ -122,9 +122,10 @@ impl Held {
     }
 }
 
-/// A call as numbers.
+// Written by tools/interface: structs.
+/// `struct pidtab_call`.
 #[repr(C)]
-#[derive(Clone, Copy, Debug, Default, PartialEq)]
+#[derive(Clone, Copy, Debug, PartialEq)]
 pub(crate) struct Call {
     pub(crate) operation: u32,
     pub(crate) caller: u32,
@@ -135,15 +136,31 @@ pub(crate) struct Call {
     pub(crate) pgid: i32,
 }
 
-/// Why a text is that of no table: a line, from 1 on, and a kind.
+impl Call {
+    pub(crate) const BLANK: Call = Call {
+        operation: 0,
+        caller: 0,
+        id: 0,
+        number: 0,
+        choice: 0,
+        pid: 0,
+        pgid: 0,
+    };
+}
+
+/// `struct pidtab_fault`.
 #[repr(C)]
-#[derive(Clone, Copy, Debug, Default, PartialEq)]
+#[derive(Clone, Copy, Debug, PartialEq)]
 pub(crate) struct Fault {
     pub(crate) line: u64,
     pub(crate) kind: u32,
 }
 
-/// A reply as numbers.
+impl Fault {
+    pub(crate) const BLANK: Fault = Fault { line: 0, kind: 0 };
+}
+
+/// `struct pidtab_reply`.
 #[repr(C)]
 #[derive(Clone, Copy, Debug, PartialEq)]
 pub(crate) struct Reply {
@@ -157,7 +174,6 @@ pub(crate) struct Reply {
 }
 
 impl Reply {
-    /// The room for a reply.
     pub(crate) const BLANK: Reply = Reply {
         kind: 0,
         error: 0,
@@ -169,9 +185,9 @@ impl Reply {
     };
 }
 
-/// A task as the caller's namespace sees it, as numbers.
+/// `struct pidtab_task`.
 #[repr(C)]
-#[derive(Clone, Copy, Debug, Default, PartialEq)]
+#[derive(Clone, Copy, Debug, PartialEq)]
 pub(crate) struct Task {
     pub(crate) error: u32,
     pub(crate) refusal: u32,
@@ -185,21 +201,28 @@ pub(crate) struct Task {
     pub(crate) subreaper: u32,
     pub(crate) space: u64,
     pub(crate) control: u64,
-    pub(crate) levels: Levels,
+    pub(crate) levels: [u32; LEVELS_MAX],
 }
 
-/// The room for a task's numbers.
-#[repr(transparent)]
-#[derive(Clone, Copy, Debug, PartialEq)]
-pub(crate) struct Levels(pub(crate) [u32; LEVELS_MAX]);
-
-impl Default for Levels {
-    fn default() -> Levels {
-        Levels([0; LEVELS_MAX])
-    }
+impl Task {
+    pub(crate) const BLANK: Task = Task {
+        error: 0,
+        refusal: 0,
+        count: 0,
+        parent: 0,
+        group: 0,
+        session: 0,
+        ended: 0,
+        status: 0,
+        executed: 0,
+        subreaper: 0,
+        space: 0,
+        control: 0,
+        levels: [0; LEVELS_MAX],
+    };
 }
 
-/// A recorded call with its worker and its reply, as numbers.
+/// `struct pidtab_entry`.
 #[repr(C)]
 #[derive(Clone, Copy, Debug, PartialEq)]
 pub(crate) struct Entry {
@@ -209,52 +232,47 @@ pub(crate) struct Entry {
 }
 
 impl Entry {
-    /// The room for an entry.
-    pub(crate) fn blank() -> Entry {
-        Entry {
-            worker: 0,
-            call: Call::default(),
-            reply: Reply::BLANK,
-        }
-    }
+    pub(crate) const BLANK: Entry = Entry {
+        worker: 0,
+        call: Call::BLANK,
+        reply: Reply::BLANK,
+    };
 }
 
-/// The settings that a record is opened with, as the head of a saved history has them.
+/// `struct pidtab_saved_head`.
 #[repr(C)]
-#[derive(Clone, Copy, Debug, Default, PartialEq)]
+#[derive(Clone, Copy, Debug, PartialEq)]
 pub(crate) struct SavedHead {
     pub(crate) pid_max: u32,
     pub(crate) workers: u32,
     pub(crate) first_stamp: u64,
 }
 
+impl SavedHead {
+    pub(crate) const BLANK: SavedHead = SavedHead {
+        pid_max: 0,
+        workers: 0,
+        first_stamp: 0,
+    };
+}
+// The end of structs.
+
+impl Entry {
+    /// The room for an entry.
+    pub(crate) fn blank() -> Entry {
+        Entry::BLANK
+    }
+}
+
+// The sizes are those that bindings/c/test.c asserts.
 const _: () = {
-    assert!(size_of::<Held>() == 16);
-    assert!(offset_of!(Held, at) == 0 && offset_of!(Held, is_open) == 8);
-    assert!(offset_of!(Held, in_call) == 9);
-    assert!(size_of::<Call>() == 32);
-    assert!(offset_of!(Call, operation) == 0 && offset_of!(Call, caller) == 4);
-    assert!(offset_of!(Call, id) == 8 && offset_of!(Call, number) == 16);
-    assert!(offset_of!(Call, choice) == 20 && offset_of!(Call, pid) == 24);
-    assert!(offset_of!(Call, pgid) == 28);
-    assert!(size_of::<Reply>() == 168);
-    assert!(offset_of!(Reply, kind) == 0 && offset_of!(Reply, error) == 4);
-    assert!(offset_of!(Reply, refusal) == 8 && offset_of!(Reply, count) == 12);
-    assert!(offset_of!(Reply, first) == 16 && offset_of!(Reply, second) == 24);
-    assert!(offset_of!(Reply, levels) == 32);
-    assert!(size_of::<Task>() == 192 && offset_of!(Task, error) == 0);
-    assert!(offset_of!(Task, refusal) == 4 && offset_of!(Task, count) == 8);
-    assert!(offset_of!(Task, parent) == 12 && offset_of!(Task, group) == 16);
-    assert!(offset_of!(Task, session) == 20 && offset_of!(Task, ended) == 24);
-    assert!(offset_of!(Task, status) == 28 && offset_of!(Task, executed) == 32);
-    assert!(offset_of!(Task, subreaper) == 36 && offset_of!(Task, space) == 40);
-    assert!(offset_of!(Task, control) == 48 && offset_of!(Task, levels) == 56);
-    assert!(size_of::<Entry>() == 208 && offset_of!(Entry, worker) == 0);
-    assert!(offset_of!(Entry, call) == 8 && offset_of!(Entry, reply) == 40);
-    assert!(size_of::<SavedHead>() == 16 && offset_of!(SavedHead, pid_max) == 0);
-    assert!(offset_of!(SavedHead, workers) == 4 && offset_of!(SavedHead, first_stamp) == 8);
+    assert!(size_of::<Held>() == 16 && size_of::<Call>() == 32);
+    assert!(size_of::<Reply>() == 168 && size_of::<Task>() == 192);
+    assert!(size_of::<Entry>() == 208 && size_of::<SavedHead>() == 16);
 };
 
+// Written by tools/interface: functions.
+#[allow(dead_code)] // Not each is used here.
 extern "C" {
     fn pidtab_version() -> u32;
     fn pidtab_open(table: *mut Held, pid_max: u32) -> u32;
@@ -276,25 +294,19 @@ extern "C" {
     fn pidtab_call_line(call: *const Call, line: *mut c_void, room: usize, size: *mut usize)
         -> u32;
     fn pidtab_record_open(record: *mut Held, pid_max: u32, first_stamp: u64, workers: u32) -> u32;
-    fn pidtab_record_dump(
-        record: *mut Held,
-        bytes: *mut c_void,
-        room: usize,
-        size: *mut usize,
-    ) -> u32;
-    fn pidtab_record_load(
-        record: *mut Held,
-        text: *const c_void,
-        length: usize,
-        counts: *const u64,
-        workers: usize,
-        fault: *mut Fault,
-    ) -> u32;
     fn pidtab_record_close(record: *mut Held) -> u32;
     fn pidtab_record_call(
         record: *mut Held,
         worker: u32,
         call: *const Call,
+        reply: *mut Reply,
+        ordinal: *mut u64,
+    ) -> u32;
+    fn pidtab_record_call_keeping(
+        record: *mut Held,
+        worker: u32,
+        call: *const Call,
+        keep: u64,
         reply: *mut Reply,
         ordinal: *mut u64,
     ) -> u32;
@@ -347,6 +359,20 @@ extern "C" {
         room: usize,
         size: *mut usize,
     ) -> u32;
+    fn pidtab_record_dump(
+        record: *mut Held,
+        bytes: *mut c_void,
+        room: usize,
+        size: *mut usize,
+    ) -> u32;
+    fn pidtab_record_load(
+        record: *mut Held,
+        text: *const c_void,
+        length: usize,
+        counts: *const u64,
+        workers: usize,
+        fault: *mut Fault,
+    ) -> u32;
     fn pidtab_saved_put_head(
         head: *const SavedHead,
         bytes: *mut c_void,
@@ -376,6 +402,7 @@ extern "C" {
         sum: *mut u64,
     ) -> u32;
 }
+// The end of functions.
 
 // What the head of the header asks of a caller, and why each function below may be called:
 //
@@ -429,39 +456,60 @@ impl Table {
         done(status, Table { held })
     }
 
-    pub(crate) fn dump(&mut self, text: &mut [u8], size: &mut usize) -> u32 {
-        let (room, most) = (text.as_mut_ptr().cast(), text.len());
-        // SAFETY: the table is open and lent to this call alone; the room is a slice with this length.
-        unsafe { pidtab_dump(&mut *self.held, room, most, size) }
+    // Written by tools/interface: methods of a table.
+    pub(crate) fn line(&mut self, line: &[u8], answer: &mut [u8], size: &mut usize) -> u32 {
+        // SAFETY: it is open and lent to this call alone; each pointer is that of a reference or of a slice with that length.
+        unsafe {
+            pidtab_line(
+                &mut *self.held,
+                line.as_ptr().cast(),
+                line.len(),
+                answer.as_mut_ptr().cast(),
+                answer.len(),
+                size,
+            )
+        }
+    }
+
+    pub(crate) fn list(&mut self, bytes: &mut [u8], size: &mut usize) -> u32 {
+        // SAFETY: it is open and lent to this call alone; each pointer is that of a reference or of a slice with that length.
+        unsafe {
+            pidtab_list(
+                &mut *self.held,
+                bytes.as_mut_ptr().cast(),
+                bytes.len(),
+                size,
+            )
+        }
+    }
+
+    pub(crate) fn dump(&mut self, bytes: &mut [u8], size: &mut usize) -> u32 {
+        // SAFETY: it is open and lent to this call alone; each pointer is that of a reference or of a slice with that length.
+        unsafe {
+            pidtab_dump(
+                &mut *self.held,
+                bytes.as_mut_ptr().cast(),
+                bytes.len(),
+                size,
+            )
+        }
     }
 
     pub(crate) fn call(&mut self, call: &Call, reply: &mut Reply) -> u32 {
-        // SAFETY: the table is open and lent to this call alone; no two of the three overlap.
+        // SAFETY: it is open and lent to this call alone; each pointer is that of a reference or of a slice with that length.
         unsafe { pidtab_call(&mut *self.held, call, reply) }
     }
 
     pub(crate) fn ask(&mut self, call: &Call, reply: &mut Reply) -> u32 {
-        // SAFETY: as above.
+        // SAFETY: it is open and lent to this call alone; each pointer is that of a reference or of a slice with that length.
         unsafe { pidtab_ask(&mut *self.held, call, reply) }
     }
 
     pub(crate) fn stat(&mut self, caller: u32, number: u32, task: &mut Task) -> u32 {
-        // SAFETY: as above.
+        // SAFETY: it is open and lent to this call alone; each pointer is that of a reference or of a slice with that length.
         unsafe { pidtab_stat(&mut *self.held, caller, number, task) }
     }
-
-    pub(crate) fn line(&mut self, line: &[u8], answer: &mut [u8], size: &mut usize) -> u32 {
-        let (bytes, length) = (line.as_ptr().cast(), line.len());
-        let (room, most) = (answer.as_mut_ptr().cast(), answer.len());
-        // SAFETY: as above; the line and the answer are slices with these lengths.
-        unsafe { pidtab_line(&mut *self.held, bytes, length, room, most, size) }
-    }
-
-    pub(crate) fn list(&mut self, text: &mut [u8], size: &mut usize) -> u32 {
-        let (room, most) = (text.as_mut_ptr().cast(), text.len());
-        // SAFETY: as above; the room is a slice with this length.
-        unsafe { pidtab_list(&mut *self.held, room, most, size) }
-    }
+    // The end of methods of a table.
 
     /// As in a forked child, where the thread whose call was under way is not.
     #[cfg(test)]
@@ -513,18 +561,16 @@ impl Record {
         done(status, Record { held })
     }
 
-    pub(crate) fn dump(&mut self, text: &mut [u8], size: &mut usize) -> u32 {
-        let (room, most) = (text.as_mut_ptr().cast(), text.len());
-        // SAFETY: the record is open and lent to this call alone; the room is a slice with this length.
-        unsafe { pidtab_record_dump(&mut *self.held, room, most, size) }
-    }
-
-    pub(crate) fn call(&mut self, worker: u32, call: &Call, reply: &mut Reply) -> Result<u64, u32> {
-        let mut ordinal = 0;
-        // SAFETY: the record is open and lent to this call alone; no two of the four overlap.
-        let status =
-            unsafe { pidtab_record_call(&mut *self.held, worker, call, reply, &mut ordinal) };
-        done(status, ordinal)
+    // Written by tools/interface: methods of a record.
+    pub(crate) fn call(
+        &mut self,
+        worker: u32,
+        call: &Call,
+        reply: &mut Reply,
+        ordinal: &mut u64,
+    ) -> u32 {
+        // SAFETY: it is open and lent to this call alone; each pointer is that of a reference or of a slice with that length.
+        unsafe { pidtab_record_call(&mut *self.held, worker, call, reply, ordinal) }
     }
 
     pub(crate) fn line(
@@ -535,87 +581,121 @@ impl Record {
         size: &mut usize,
         ordinal: &mut u64,
     ) -> u32 {
-        let (bytes, length) = (line.as_ptr().cast(), line.len());
-        let (room, most) = (answer.as_mut_ptr().cast(), answer.len());
-        let held = &mut *self.held;
-        // SAFETY: as above; the line and the answer are slices with these lengths.
-        unsafe { pidtab_record_line(held, worker, bytes, length, room, most, size, ordinal) }
+        // SAFETY: it is open and lent to this call alone; each pointer is that of a reference or of a slice with that length.
+        unsafe {
+            pidtab_record_line(
+                &mut *self.held,
+                worker,
+                line.as_ptr().cast(),
+                line.len(),
+                answer.as_mut_ptr().cast(),
+                answer.len(),
+                size,
+                ordinal,
+            )
+        }
     }
 
     pub(crate) fn ask(&mut self, call: &Call, reply: &mut Reply) -> u32 {
-        // SAFETY: as above.
+        // SAFETY: it is open and lent to this call alone; each pointer is that of a reference or of a slice with that length.
         unsafe { pidtab_record_ask(&mut *self.held, call, reply) }
     }
 
     pub(crate) fn stat(&mut self, caller: u32, number: u32, task: &mut Task) -> u32 {
-        // SAFETY: as above.
+        // SAFETY: it is open and lent to this call alone; each pointer is that of a reference or of a slice with that length.
         unsafe { pidtab_record_stat(&mut *self.held, caller, number, task) }
     }
 
-    /// The ordinal of the first kept entry, and how many calls were recorded.
-    pub(crate) fn counts(&mut self) -> Result<(u64, u64), u32> {
-        let (mut first_kept, mut recorded) = (0, 0);
-        // SAFETY: as above.
-        let status =
-            unsafe { pidtab_record_counts(&mut *self.held, &mut first_kept, &mut recorded) };
-        done(status, (first_kept, recorded))
+    pub(crate) fn counts(&mut self, first_kept: &mut u64, recorded: &mut u64) -> u32 {
+        // SAFETY: it is open and lent to this call alone; each pointer is that of a reference or of a slice with that length.
+        unsafe { pidtab_record_counts(&mut *self.held, first_kept, recorded) }
     }
 
-    pub(crate) fn worker(&mut self, worker: u32) -> Result<u64, u32> {
-        let mut calls = 0;
-        // SAFETY: as above.
-        let status = unsafe { pidtab_record_worker(&mut *self.held, worker, &mut calls) };
-        done(status, calls)
+    pub(crate) fn worker(&mut self, worker: u32, calls: &mut u64) -> u32 {
+        // SAFETY: it is open and lent to this call alone; each pointer is that of a reference or of a slice with that length.
+        unsafe { pidtab_record_worker(&mut *self.held, worker, calls) }
     }
 
-    pub(crate) fn entry(&mut self, ordinal: u64) -> Result<Entry, u32> {
-        let mut entry = Entry::blank();
-        let (worker, call, reply) = (&mut entry.worker, &mut entry.call, &mut entry.reply);
-        // SAFETY: as above; the three are fields of one struct, so they do not overlap.
-        let status = unsafe { pidtab_record_entry(&mut *self.held, ordinal, worker, call, reply) };
-        done(status, entry)
+    pub(crate) fn entry(
+        &mut self,
+        ordinal: u64,
+        worker: &mut u64,
+        call: &mut Call,
+        reply: &mut Reply,
+    ) -> u32 {
+        // SAFETY: it is open and lent to this call alone; each pointer is that of a reference or of a slice with that length.
+        unsafe { pidtab_record_entry(&mut *self.held, ordinal, worker, call, reply) }
     }
 
-    /// How many entries were read.
-    pub(crate) fn read(&mut self, from: u64, entries: &mut [Entry]) -> Result<usize, u32> {
-        let (at, room, mut count) = (entries.as_mut_ptr(), entries.len(), 0);
-        // SAFETY: as above; the entries are a slice with this length.
-        let status = unsafe { pidtab_record_read(&mut *self.held, from, at, room, &mut count) };
-        done(status, count)
+    pub(crate) fn read(&mut self, from: u64, entries: &mut [Entry], count: &mut usize) -> u32 {
+        // SAFETY: it is open and lent to this call alone; each pointer is that of a reference or of a slice with that length.
+        unsafe {
+            pidtab_record_read(
+                &mut *self.held,
+                from,
+                entries.as_mut_ptr(),
+                entries.len(),
+                count,
+            )
+        }
     }
 
     pub(crate) fn replay(&mut self, saved: &[Entry], place: &mut usize) -> u32 {
-        let (at, count) = (saved.as_ptr(), saved.len());
-        // SAFETY: as above; the entries are a slice with this length.
-        unsafe { pidtab_record_replay(&mut *self.held, at, count, place) }
+        // SAFETY: it is open and lent to this call alone; each pointer is that of a reference or of a slice with that length.
+        unsafe { pidtab_record_replay(&mut *self.held, saved.as_ptr(), saved.len(), place) }
     }
 
     pub(crate) fn keep(&mut self, keep: u64) -> u32 {
-        // SAFETY: as above.
+        // SAFETY: it is open and lent to this call alone; each pointer is that of a reference or of a slice with that length.
         unsafe { pidtab_record_keep(&mut *self.held, keep) }
     }
 
     pub(crate) fn checkpoint(&mut self) -> u32 {
-        // SAFETY: as above.
+        // SAFETY: it is open and lent to this call alone; each pointer is that of a reference or of a slice with that length.
         unsafe { pidtab_record_checkpoint(&mut *self.held) }
     }
 
     pub(crate) fn checkpoint_at(&mut self, seen: u64) -> u32 {
-        // SAFETY: as above.
+        // SAFETY: it is open and lent to this call alone; each pointer is that of a reference or of a slice with that length.
         unsafe { pidtab_record_checkpoint_at(&mut *self.held, seen) }
     }
 
-    pub(crate) fn list(&mut self, text: &mut [u8], size: &mut usize) -> u32 {
-        let (room, most) = (text.as_mut_ptr().cast(), text.len());
-        // SAFETY: as above; the room is a slice with this length.
-        unsafe { pidtab_record_list(&mut *self.held, room, most, size) }
+    pub(crate) fn list(&mut self, bytes: &mut [u8], size: &mut usize) -> u32 {
+        // SAFETY: it is open and lent to this call alone; each pointer is that of a reference or of a slice with that length.
+        unsafe {
+            pidtab_record_list(
+                &mut *self.held,
+                bytes.as_mut_ptr().cast(),
+                bytes.len(),
+                size,
+            )
+        }
     }
 
-    pub(crate) fn opening(&mut self, text: &mut [u8], size: &mut usize) -> u32 {
-        let (room, most) = (text.as_mut_ptr().cast(), text.len());
-        // SAFETY: as above.
-        unsafe { pidtab_record_opening(&mut *self.held, room, most, size) }
+    pub(crate) fn opening(&mut self, bytes: &mut [u8], size: &mut usize) -> u32 {
+        // SAFETY: it is open and lent to this call alone; each pointer is that of a reference or of a slice with that length.
+        unsafe {
+            pidtab_record_opening(
+                &mut *self.held,
+                bytes.as_mut_ptr().cast(),
+                bytes.len(),
+                size,
+            )
+        }
     }
+
+    pub(crate) fn dump(&mut self, bytes: &mut [u8], size: &mut usize) -> u32 {
+        // SAFETY: it is open and lent to this call alone; each pointer is that of a reference or of a slice with that length.
+        unsafe {
+            pidtab_record_dump(
+                &mut *self.held,
+                bytes.as_mut_ptr().cast(),
+                bytes.len(),
+                size,
+            )
+        }
+    }
+    // The end of methods of a record.
 
     /// As in a forked child, where the thread whose call was under way is not.
     #[cfg(test)]
@@ -649,7 +729,7 @@ pub(crate) fn put_entry(entry: &Entry, bytes: &mut [u8], sum: &mut u64) -> Resul
 
 /// Reads the head of a saved history from the front of the bytes, with the place for its size.
 pub(crate) fn take_head(bytes: &[u8], size: &mut usize, sum: &mut u64) -> Result<SavedHead, u32> {
-    let (at, length, mut head) = (bytes.as_ptr().cast(), bytes.len(), SavedHead::default());
+    let (at, length, mut head) = (bytes.as_ptr().cast(), bytes.len(), SavedHead::BLANK);
     // SAFETY: as above.
     let status = unsafe { pidtab_saved_take_head(at, length, &mut head, size, sum) };
     done(status, head)

@@ -172,7 +172,7 @@ impl Shared {
         counts: &[u64],
         keep: u64,
     ) -> Result<Shared, TextError> {
-        let (text, mut fault) = (text.as_ref(), raw::Fault::default());
+        let (text, mut fault) = (text.as_ref(), raw::Fault::BLANK);
         let loaded = raw::Record::load(text, counts, &mut fault);
         let raw = loaded.map_err(|status| TextError::of(status, fault))?;
         let (pid_max, stamp) = head_of(text);
@@ -501,7 +501,7 @@ impl Record {
     /// # Errors
     /// `Refused` as `NoCaller`, `NoTask`; `Busy`.
     pub fn stat(&mut self, caller: u32, number: u32) -> Result<Stat, Error> {
-        let mut task = raw::Task::default();
+        let mut task = raw::Task::BLANK;
         Stat::of(self.raw.stat(caller, number, &mut task), task)
     }
 
@@ -510,7 +510,8 @@ impl Record {
     /// # Errors
     /// `Busy`.
     pub fn counts(&mut self) -> Result<Counts, Error> {
-        let (first_kept, recorded) = self.raw.counts().map_err(Error::of)?;
+        let (mut first_kept, mut recorded) = (0, 0);
+        Error::unless_done(self.raw.counts(&mut first_kept, &mut recorded))?;
         Ok(Counts {
             first_kept,
             recorded,
@@ -522,7 +523,9 @@ impl Record {
     /// # Errors
     /// `OutOfRange` where there are not so many workers: they are numbered from 0 on. `Busy`.
     pub fn worker(&mut self, worker: u32) -> Result<u64, Error> {
-        self.raw.worker(worker).map_err(Error::of)
+        let mut calls = 0;
+        Error::unless_done(self.raw.worker(worker, &mut calls))?;
+        Ok(calls)
     }
 
     /// The kept entry with the ordinal.
@@ -530,7 +533,9 @@ impl Record {
     /// # Errors
     /// `NotKept` where it was cut away or is not reached yet, `Busy`.
     pub fn entry(&mut self, ordinal: u64) -> Result<Entry, Error> {
-        let entry = self.raw.entry(ordinal).map_err(Error::of)?;
+        let mut entry = raw::Entry::BLANK;
+        let (worker, call, reply) = (&mut entry.worker, &mut entry.call, &mut entry.reply);
+        Error::unless_done(self.raw.entry(ordinal, worker, call, reply))?;
         Ok(Entry::of(ordinal, &entry))
     }
 
@@ -566,7 +571,9 @@ impl Record {
         from: u64,
         room: &mut [raw::Entry],
     ) -> Result<usize, Error> {
-        self.raw.read(from, room).map_err(Error::of)
+        let mut count = 0;
+        Error::unless_done(self.raw.read(from, room, &mut count))?;
+        Ok(count)
     }
 
     /// Cuts the history: the present state is the opening from now on, and ordinals go on. It costs a copy of the whole table.
@@ -660,9 +667,9 @@ impl Record {
 
     /// Makes a call of the worker: its reply and its ordinal.
     fn call(&mut self, worker: u32, call: Call) -> Result<(Reply, u64), Error> {
-        let mut reply = raw::Reply::BLANK;
-        let made = self.raw.call(worker, &call.numbers(), &mut reply);
-        let ordinal = made.map_err(Error::of)?;
+        let (mut reply, mut ordinal) = (raw::Reply::BLANK, 0);
+        let status = self.raw.call(worker, &call.numbers(), &mut reply, &mut ordinal);
+        Error::unless_done(status)?;
         self.after_call();
         let reply = Reply::of(&reply);
         self.labels.replied(&reply);

@@ -23,7 +23,7 @@ impl Stat {
 
     /// Its numbers from the caller's namespace inwards, 1 to 33 of them.
     pub fn numbers(&self) -> &[u32] {
-        &self.raw.levels.0[..self.raw.count as usize]
+        &self.raw.levels[..self.raw.count as usize]
     }
 
     /// The number of its parent.
@@ -104,7 +104,7 @@ impl Table {
     /// # Errors
     /// `Refused` as `NoCaller`, `NoTask`; `Busy`.
     pub fn stat(&mut self, caller: u32, number: u32) -> Result<Stat, Error> {
-        let mut task = raw::Task::default();
+        let mut task = raw::Task::BLANK;
         Stat::of(self.raw.stat(caller, number, &mut task), task)
     }
 }

@@ -1,0 +1,103 @@
+"""What the package for Rust has of the structs and the functions that the headers of C declare."""
+
+RAW = "bindings/rust/src/raw.rs"
+
+# What each package takes as a value: the structs, and of the functions on saved histories those that work in memory.
+STRUCTS = ("call", "fault", "reply", "task", "entry", "saved_head")
+IN_MEMORY = ("saved_put_head", "saved_put", "saved_take_head", "saved_take")
+
+# What opens, loads and closes has a method by hand, and what keeps so many entries none.
+BY_HAND = ("open", "load", "close", "call_keeping")
+
+NUMBERS = {"uint32_t": "u32", "uint64_t": "u64", "int32_t": "i32", "size_t": "usize", "bool": "bool", "int": "i32"}
+
+
+def camel_struct(kind):
+    """Call of `struct pidtab_call`; a table and a record are held alike."""
+    name = kind.replace("const ", "").replace("struct pidtab", "").strip(" *_")
+    return "Held" if name in ("", "record") else "".join(part.capitalize() for part in name.split("_"))
+
+
+def rust_type(kind):
+    """The type of Rust for what a function takes or answers."""
+    pointer = "*const " if kind.startswith("const ") else "*mut "
+    bare = kind.replace("const ", "").rstrip("* ")
+    name = "c_void" if bare == "void" else NUMBERS.get(bare) or camel_struct(kind)
+    return f"{pointer}{name}" if kind.endswith("*") else name
+
+
+def broken(indent, head, parts, tail, most=100):
+    """A list of parts in one line, or where it is too long in one line each, as rustfmt has it."""
+    line, taken = f"{indent}{head}({', '.join(parts)})", len(", ".join(parts))
+    if len(line + tail) <= (99 if tail.endswith(";") else 100) and taken <= most:
+        return [line + tail]
+    if len(line) <= 92 and tail.endswith(";"):
+        return [line, f"{indent}    {tail.strip()}"]
+    return [f"{indent}{head}(", *[f"{indent}    {part}," for part in parts], f"{indent}){tail}"]
+
+
+def functions(tables):
+    """The functions that the package for Rust calls."""
+    of = tables["headers"]
+    found = [*of.of("pidtab.h"), *[it for it in of.of("pidtab_saved.h") if it.name in IN_MEMORY]]
+    lines = ["#[allow(dead_code)] // Not each is used here.", 'extern "C" {']
+    for it in found:
+        lines += broken("    ", f"fn pidtab_{it.name}", [f"{name}: {rust_type(kind)}" for kind, name, _ in it.arguments], f" -> {rust_type(it.result)};")
+    return [*lines, "}"]
+
+
+def structs(tables):
+    """The structs, and each with nothing but zeroes."""
+    lines = []
+    for name in STRUCTS:
+        fields, camel = tables["headers"].structs[f"pidtab_{name}"], camel_struct(f"pidtab_{name}".replace("pidtab", "struct pidtab"))
+        types = [f"[{rust_type(it.kind)}; LEVELS_MAX]" if it.many else rust_type(it.kind) for it in fields]
+        blanks = ["[0; LEVELS_MAX]" if it.many else f"{kind}::BLANK" if kind[0].isupper() else "0" for it, kind in zip(fields, types)]
+        lines += ["", f"/// `struct pidtab_{name}`.", "#[repr(C)]", "#[derive(Clone, Copy, Debug, PartialEq)]", f"pub(crate) struct {camel} {{"]
+        lines += [f"    pub(crate) {it.name}: {kind}," for it, kind in zip(fields, types)]
+        told = [f"{it.name}: {blank}" for it, blank in zip(fields, blanks)]
+        many = [f"{camel} {{", *[f"        {it}," for it in told], "    };"]
+        begin, *rest = [f"{camel} {{ {', '.join(told)} }};"] if len(", ".join(told)) <= 18 else many
+        lines += ["}", "", f"impl {camel} {{", f"    pub(crate) const BLANK: {camel} = {begin}", *rest, "}"]
+    return lines[1:]
+
+
+def lent(arguments):
+    """What a method takes for the arguments of its function, and what it passes. Room and its size, or bytes and their length, are a slice."""
+    taken, passed, rest = [], [], list(arguments)
+    while rest:
+        kind, name, _ = rest.pop(0)
+        is_read, bare = kind.startswith("const "), "u8" if "void" in kind else rust_type(kind).split(" ")[-1]
+        if kind.endswith("*") and rest and rest[0].kind == "size_t":
+            cast, size = ".cast()" if bare == "u8" else "", rest.pop(0)
+            taken.append(f"{name}: &{'' if is_read else 'mut '}[{bare}]")
+            passed += [f"{name}.{'as_ptr' if is_read else 'as_mut_ptr'}(){cast}", f"{name}.len()"] if size else []
+        else:
+            taken.append(f"{name}: {'&' if is_read else '&mut ' if kind.endswith('*') else ''}{bare}")
+            passed.append(name)
+    return taken, passed
+
+
+def methods(tables, prefix):
+    """A method for each function on a table or a record that is open."""
+    lines = []
+    for it in tables["headers"].of("pidtab.h", prefix):
+        owner, *arguments = it.arguments or [None]
+        ending = it.name[len(prefix) :]
+        if owner is None or owner.kind != f"struct pidtab{'_record' if prefix else ''} *" or ending in BY_HAND:
+            continue
+        taken, passed = lent(arguments)
+        call = broken("            ", f"pidtab_{it.name}", ["&mut *self.held", *passed], "", 60)
+        one = f"        unsafe {{ {call[0].strip()} }}"
+        lines += ["", *broken("    ", f"pub(crate) fn {ending}", ["&mut self", *taken], " -> u32 {")]
+        lines += ["        // SAFETY: it is open and lent to this call alone; each pointer is that of a reference or of a slice with that length."]
+        lines += [one, "    }"] if len(call) == 1 and len(one) <= 100 else ["        unsafe {", *call, "        }", "    }"]
+    return lines[1:]
+
+
+PARTS = {
+    (RAW, "structs"): structs,
+    (RAW, "functions"): functions,
+    (RAW, "methods of a table"): lambda tables: methods(tables, ""),
+    (RAW, "methods of a record"): lambda tables: methods(tables, "record_"),
+}
