@@ -47,6 +47,16 @@ function readControl(line) {
   return { id: BigInt(found.id), parent: idUnless(found.parent, "-"), limit, count: Number(found.count) };
 }
 
+/** Whether numbers have so many bits. */
+const fit = (bits, ...numbers) => numbers.every((it) => it === null || it < 2 ** bits);
+
+// Whether each number of a row is one that a list may have.
+const IN_RANGE = {
+  tasks: (it) => fit(32, ...it.numbers, it.parent, it.group, it.session) && fit(64, it.space, it.control, it.children) && fit(8, it.status),
+  spaces: (it) => fit(64, it.id, it.parent) && fit(32, it.cursor),
+  controls: (it) => fit(64, it.id, it.parent, it.count) && fit(32, it.limit),
+};
+
 const READERS = Object.entries({ tasks: readTask, spaces: readSpace, controls: readControl });
 
 /** What the text of a list says; an Error names the first line that is none of a list. */
@@ -58,8 +68,9 @@ export function readListing(text) {
   for (const [place, line] of lines.entries()) {
     const found = READERS.some(([kind, read]) => {
       const row = read(line);
-      if (row) listing[kind].push(row);
-      return row;
+      if (!row || !IN_RANGE[kind](row)) return false;
+      listing[kind].push(row);
+      return true;
     });
     if (!found) throw new Error(`line ${place + 1}: not a line of a list`);
   }

@@ -212,6 +212,20 @@ def read_control(line: str) -> Control | None:
     return Control(int(found["id"]), parent, limit, int(found["count"]))
 
 
+def fit(bits: int, *numbers: int | None) -> bool:
+    """Whether numbers have so many bits."""
+    return all(number is None or number >> bits == 0 for number in numbers)
+
+
+def is_in_range(item: Item) -> bool:
+    """Whether each number is one that a list may have."""
+    if isinstance(item, Task):
+        return fit(32, *item.numbers, item.parent, item.group, item.session) and fit(64, item.space, item.control, item.children) and fit(8, item.status)
+    if isinstance(item, Space):
+        return fit(64, item.id, item.parent) and fit(32, item.cursor)
+    return fit(64, item.id, item.parent, item.count) and fit(32, item.limit)
+
+
 def read_list(text: str) -> Listing:
     """What the text of a list says; BadList names the first line that is none of a list."""
     lines = text.split("\n")
@@ -222,7 +236,7 @@ def read_list(text: str) -> Listing:
     read: list[Task | Space | Control] = []
     for place, line in enumerate(lines, start=1):
         item = read_task(line) or read_space(line) or read_control(line)
-        if item is None:
+        if item is None or not is_in_range(item):
             raise BadList(f"line {place}: not a line of `pidtab list`")
         read.append(item)
     return Listing(
