@@ -278,6 +278,7 @@ bindings-python:
 
 # From C, under the sanitizers for addresses and undefined behaviour, and under that for threads.
 HELD = -Dmalloc=test_malloc -Drealloc=test_realloc
+CASES_TEST = test_cases shared guard guard_record heap
 RECORD_TEST = test_record guard guard_record
 DUMP_TEST = test_dump guard
 DUMP_RECORD_TEST = test_dump_record shared guard guard_record
@@ -295,7 +296,7 @@ bindings-c:
 		$(SAME_EVERYWHERE) && $(MAKE) -s $(OUT)/proved.a && \
 		$(CC) $(CHECKED) $(HELD) -c -o $(OUT)/test_heap.o bindings/c/heap.c && \
 		$(CC) $(CHECKED) -o $(OUT)/test bindings/c/test.c bindings/c/guard.c $(OUT)/test_heap.o $(OUT)/proved.a && $(RUN) $(OUT)/test && \
-		$(CC) $(CHECKED) -o $(OUT)/test_words bindings/c/test_words.c bindings/c/guard.c bindings/c/heap.c $(OUT)/proved.a && $(RUN) $(OUT)/test_words && \
+		$(CC) $(CHECKED) -o $(OUT)/test_cases $(CASES_TEST:%=bindings/c/%.c) $(OUT)/proved.a && $(RUN) $(OUT)/test_cases interface/cases/*.cases && \
 		$(CC) $(CHECKED) -o $(OUT)/test_record $(RECORD_TEST:%=bindings/c/%.c) $(OUT)/test_heap.o $(OUT)/proved.a && $(RUN) $(OUT)/test_record && \
 		$(CC) $(CHECKED) -o $(OUT)/test_dump $(DUMP_TEST:%=bindings/c/%.c) $(OUT)/test_heap.o $(OUT)/proved.a && $(RUN) $(OUT)/test_dump && \
 		$(CC) $(CHECKED) -o $(OUT)/test_dump_record $(DUMP_RECORD_TEST:%=bindings/c/%.c) $(OUT)/test_heap.o $(OUT)/proved.a && $(RUN) $(OUT)/test_dump_record && \

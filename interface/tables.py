@@ -11,6 +11,8 @@ KINDS = {
     "name or -": r"[A-Za-z][A-Za-z0-9]*|-",
     "letter or -": r"[A-Z]|-",
     "yes or no": r"yes|no",
+    "made": r"yes|new|no",
+    "arguments": r"[a-z_]+(=[a-z]+/[a-z]+\??)?(, [a-z_]+=[a-z]+/[a-z]+\??)*",
     "sentence": r"[^\s.].*[^\s.]",
     "sentence or -": r"[^\s.].*[^\s.]|-",
     "sentences": r"[A-Z].*\.",
@@ -47,7 +49,10 @@ COLUMNS = {
         "javascript": "method or -", "statuses": "statuses or -", "sentence": "sentence",
     },
     "results": {"status": "capitals", "functions": "functions or -", "sentence": "sentences"},
-    "calls": {"number": "number", "call": "word", "model": "name", "query": "yes or no", "takes": "sentence", "refusals": "list"},
+    "calls": {
+        "number": "number", "call": "word", "model": "name", "query": "yes or no", "memory": "yes or no", "makes": "made", "arguments": "arguments",
+        "tells": "statuses or -", "takes": "sentence", "refusals": "list", "page": "sentence or -", "sentence": "sentence",
+    },
 }  # fmt: skip
 
 # The columns in which no cell comes twice, and those whose numbers go up by one.
@@ -60,7 +65,7 @@ FIRST = {"refusals": 1, "calls": 0, "faults": 1, "kinds": 0}
 
 # A column whose cells stand in a column of another table.
 KNOWN = {("refusals", "error"): ("errnos", "name"), ("calls", "refusals"): ("refusals", "word"), ("statuses", "error"): ("errnos", "name"),
-         ("results", "status"): ("statuses", "name"), ("functions", "statuses"): ("statuses", "name")}  # fmt: skip
+         ("calls", "tells"): ("kinds", "name"), ("results", "status"): ("statuses", "name"), ("functions", "statuses"): ("statuses", "name")}  # fmt: skip
 
 
 class TableFault(Exception):

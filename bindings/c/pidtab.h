@@ -281,8 +281,8 @@ struct pidtab_reply {
 /* Makes a call. DONE, CLOSED, OUT_OF_RANGE, SPENT, and NO_MEMORY for FORK and MK alone. */
 uint32_t pidtab_call(struct pidtab *table, const struct pidtab_call *call, struct pidtab_reply *reply);
 
-/* Answers a getpid, getppid, getpgid, getsid, nspid, next or count as a call would be answered, and is none: it uses no stamp, and
- * nothing changes. DONE, CLOSED, and OUT_OF_RANGE for each other operation too. */
+/* Answers a query, as the operations have it, as a call would be answered, and is none: it uses no stamp, and nothing changes.
+ * DONE, CLOSED, and OUT_OF_RANGE for each other operation too. */
 uint32_t pidtab_ask(struct pidtab *table, const struct pidtab_call *call, struct pidtab_reply *reply);
 
 /* A task as the caller's namespace sees it. The numbers of processes are those there, 0 where there is none. */
@@ -312,7 +312,11 @@ uint32_t pidtab_stat(struct pidtab *table, uint32_t caller, uint32_t number, str
 uint32_t pidtab_call_line(const struct pidtab_call *call, void *line, size_t room, size_t *size);
 
 /* Each call as a function: a number, or minus an errno, which is the status or that of the refusal. What tells no number
- * is 0. pidtab_call tells a status from a refusal, and one refusal from another. What a line could not say is -EINVAL, and no call. */
+ * is 0. pidtab_call tells a status from a refusal, and one refusal from another. What a line could not say is -EINVAL, and no call.
+ *
+ * A switch, as new_space, is 0 or 1; so is limited, which says whether there is a limit. pidtab_fork and pidtab_wait answer the child's
+ * number to the caller; where root and status are not null, they have its root number, and its status, 0 to 255 or PIDTAB_KILLED. A wait
+ * answers 0 where none of those that match has ended, and a next where no number follows. */
 
 static inline int64_t pidtab_value(struct pidtab *table, const struct pidtab_call *call, struct pidtab_reply *reply)
 {
@@ -324,68 +328,73 @@ static inline int64_t pidtab_value(struct pidtab *table, const struct pidtab_cal
 	return reply->kind == PIDTAB_LEVELS ? (int64_t)reply->count : (int64_t)reply->first;
 }
 
-static inline int64_t pidtab_do(struct pidtab *table, uint32_t operation, uint32_t caller, uint64_t id, uint32_t number, uint32_t choice)
-{
-	struct pidtab_call call = { operation, caller, id, number, choice, 0, 0 };
-	struct pidtab_reply reply;
-	return pidtab_value(table, &call, &reply);
-}
-
-/* fork(2), or clone(2) with CLONE_NEWPID where new_space is 1 and not 0: the child's number to the caller; *root is its root number. root may be null. */
+/* Written by tools/interface: calls. */
+/* fork(2), or clone(2) with CLONE_NEWPID: a child in the namespace for the caller's children, or in a new one. */
 static inline int64_t pidtab_fork(struct pidtab *table, uint32_t caller, uint32_t new_space, uint32_t *root)
 {
 	struct pidtab_call call = { PIDTAB_FORK, caller, 0, 0, new_space, 0, 0 };
 	struct pidtab_reply reply;
-	int64_t child = pidtab_value(table, &call, &reply);
-	if (child > 0 && root)
+	int64_t told = pidtab_value(table, &call, &reply);
+	if (told > 0 && root)
 		*root = (uint32_t)reply.second;
-	return child;
+	return told;
 }
 
+/* getpid(2): the caller's number in its own namespace. */
 static inline int64_t pidtab_getpid(struct pidtab *table, uint32_t caller)
 {
-	return pidtab_do(table, PIDTAB_GETPID, caller, 0, 0, 0);
-}
-
-/* How many numbers the target has from the caller's namespace inwards; levels has them, outermost first. */
-static inline int64_t pidtab_nspid(struct pidtab *table, uint32_t caller, uint32_t target, uint32_t levels[PIDTAB_LEVELS_MAX])
-{
-	struct pidtab_call call = { PIDTAB_NSPID, caller, 0, target, 0, 0, 0 };
+	struct pidtab_call call = { PIDTAB_GETPID, caller, 0, 0, 0, 0, 0 };
 	struct pidtab_reply reply;
-	int64_t count = pidtab_value(table, &call, &reply);
-	for (int64_t i = 0; i < count; i++)
-		levels[i] = reply.levels[i];
-	return count;
+	return pidtab_value(table, &call, &reply);
 }
 
+/* NSpid of proc(5): the numbers of the task number from the caller's namespace inwards, outermost first: 1 to 33 of them. */
+static inline int64_t pidtab_nspid(struct pidtab *table, uint32_t caller, uint32_t number, uint32_t levels[PIDTAB_LEVELS_MAX])
+{
+	struct pidtab_call call = { PIDTAB_NSPID, caller, 0, number, 0, 0, 0 };
+	struct pidtab_reply reply;
+	int64_t told = pidtab_value(table, &call, &reply);
+	for (int64_t i = 0; i < told; i++)
+		levels[i] = reply.levels[i];
+	return told;
+}
+
+/* execve(2): the caller executes a program. */
 static inline int64_t pidtab_exec(struct pidtab *table, uint32_t caller)
 {
-	return pidtab_do(table, PIDTAB_EXEC, caller, 0, 0, 0);
+	struct pidtab_call call = { PIDTAB_EXEC, caller, 0, 0, 0, 0, 0 };
+	struct pidtab_reply reply;
+	return pidtab_value(table, &call, &reply);
 }
 
-/* The status is 0 to 255. */
+/* _exit(2): the caller ends, and its namespace falls if it is the init there; status is 0 to 255. */
 static inline int64_t pidtab_exit(struct pidtab *table, uint32_t caller, uint32_t status)
 {
-	return pidtab_do(table, PIDTAB_EXIT, caller, 0, status, 0);
+	struct pidtab_call call = { PIDTAB_EXIT, caller, 0, status, 0, 0, 0 };
+	struct pidtab_reply reply;
+	return pidtab_value(table, &call, &reply);
 }
 
-/* waitpid(2) with WNOHANG: the child that was reaped, or 0 where none of those that match has ended. *status is 0 to 255 or
- * PIDTAB_KILLED, and may be null. number is looked at for PIDTAB_CHILD and PIDTAB_GROUP. */
+/* waitpid(2) with WNOHANG: takes an ended child away; none where children match and none of them has ended. */
 static inline int64_t pidtab_wait(struct pidtab *table, uint32_t caller, enum pidtab_which which, uint32_t number, uint32_t *status)
 {
 	struct pidtab_call call = { PIDTAB_WAIT, caller, 0, number, (uint32_t)which, 0, 0 };
 	struct pidtab_reply reply;
-	int64_t child = pidtab_value(table, &call, &reply);
-	if (child > 0 && status)
+	int64_t told = pidtab_value(table, &call, &reply);
+	if (told > 0 && status)
 		*status = (uint32_t)reply.second;
-	return child;
+	return told;
 }
 
+/* getppid(2): the number of the caller's parent, 0 for one that it cannot see. */
 static inline int64_t pidtab_getppid(struct pidtab *table, uint32_t caller)
 {
-	return pidtab_do(table, PIDTAB_GETPPID, caller, 0, 0, 0);
+	struct pidtab_call call = { PIDTAB_GETPPID, caller, 0, 0, 0, 0, 0 };
+	struct pidtab_reply reply;
+	return pidtab_value(table, &call, &reply);
 }
 
+/* setpgid(2): the task pid goes into the group pgid; 0 is the caller, and the task. */
 static inline int64_t pidtab_setpgid(struct pidtab *table, uint32_t caller, int32_t pid, int32_t pgid)
 {
 	struct pidtab_call call = { PIDTAB_SETPGID, caller, 0, 0, 0, pid, pgid };
@@ -393,64 +402,94 @@ static inline int64_t pidtab_setpgid(struct pidtab *table, uint32_t caller, int3
 	return pidtab_value(table, &call, &reply);
 }
 
+/* setsid(2): the caller leads a new session and a new group; its number. */
 static inline int64_t pidtab_setsid(struct pidtab *table, uint32_t caller)
 {
-	return pidtab_do(table, PIDTAB_SETSID, caller, 0, 0, 0);
+	struct pidtab_call call = { PIDTAB_SETSID, caller, 0, 0, 0, 0, 0 };
+	struct pidtab_reply reply;
+	return pidtab_value(table, &call, &reply);
 }
 
-/* The id of the new control group. */
+/* A new control group below the one with the id parent, of which 0 is the root: its id. */
 static inline int64_t pidtab_mk(struct pidtab *table, uint64_t parent)
 {
-	return pidtab_do(table, PIDTAB_MK, 0, parent, 0, 0);
+	struct pidtab_call call = { PIDTAB_MK, 0, parent, 0, 0, 0, 0 };
+	struct pidtab_reply reply;
+	return pidtab_value(table, &call, &reply);
 }
 
+/* Removes a control group without live tasks and children. */
 static inline int64_t pidtab_rm(struct pidtab *table, uint64_t id)
 {
-	return pidtab_do(table, PIDTAB_RM, 0, id, 0, 0);
+	struct pidtab_call call = { PIDTAB_RM, 0, id, 0, 0, 0, 0 };
+	struct pidtab_reply reply;
+	return pidtab_value(table, &call, &reply);
 }
 
-/* Where limited is 0 and not 1 there is no limit from now on. */
+/* How many tasks the control group may have, 0 to 4194304, or none for no limit. */
 static inline int64_t pidtab_limit(struct pidtab *table, uint64_t id, uint32_t limited, uint32_t limit)
 {
-	return pidtab_do(table, PIDTAB_LIMIT, 0, id, limit, limited);
+	struct pidtab_call call = { PIDTAB_LIMIT, 0, id, limit, limited, 0, 0 };
+	struct pidtab_reply reply;
+	return pidtab_value(table, &call, &reply);
 }
 
+/* The task, by its root number, goes into the control group. */
 static inline int64_t pidtab_move(struct pidtab *table, uint32_t task, uint64_t id)
 {
-	return pidtab_do(table, PIDTAB_MOVE, task, id, 0, 0);
+	struct pidtab_call call = { PIDTAB_MOVE, task, id, 0, 0, 0, 0 };
+	struct pidtab_reply reply;
+	return pidtab_value(table, &call, &reply);
 }
 
+/* How many tasks the control group and those below it have. */
 static inline int64_t pidtab_count(struct pidtab *table, uint64_t id)
 {
-	return pidtab_do(table, PIDTAB_COUNT, 0, id, 0, 0);
+	struct pidtab_call call = { PIDTAB_COUNT, 0, id, 0, 0, 0, 0 };
+	struct pidtab_reply reply;
+	return pidtab_value(table, &call, &reply);
 }
 
+/* getpgid(2): the process group of the task pid, where 0 is the caller; 0 where it cannot be seen. */
 static inline int64_t pidtab_getpgid(struct pidtab *table, uint32_t caller, uint32_t pid)
 {
-	return pidtab_do(table, PIDTAB_GETPGID, caller, 0, pid, 0);
+	struct pidtab_call call = { PIDTAB_GETPGID, caller, 0, pid, 0, 0, 0 };
+	struct pidtab_reply reply;
+	return pidtab_value(table, &call, &reply);
 }
 
+/* getsid(2): the session of the task pid, where 0 is the caller; 0 where it cannot be seen. */
 static inline int64_t pidtab_getsid(struct pidtab *table, uint32_t caller, uint32_t pid)
 {
-	return pidtab_do(table, PIDTAB_GETSID, caller, 0, pid, 0);
+	struct pidtab_call call = { PIDTAB_GETSID, caller, 0, pid, 0, 0, 0 };
+	struct pidtab_reply reply;
+	return pidtab_value(table, &call, &reply);
 }
 
-/* The least number at or above `from` that is in use so, or 0 where none follows. */
-static inline int64_t pidtab_next(struct pidtab *table, uint32_t caller, enum pidtab_use use, uint32_t from)
+/* The least number from from on that is in use as that kind in the caller's namespace. */
+static inline int64_t pidtab_next(struct pidtab *table, uint32_t caller, enum pidtab_use kind, uint32_t from)
 {
-	return pidtab_do(table, PIDTAB_NEXT, caller, 0, from, (uint32_t)use);
+	struct pidtab_call call = { PIDTAB_NEXT, caller, 0, from, (uint32_t)kind, 0, 0 };
+	struct pidtab_reply reply;
+	return pidtab_value(table, &call, &reply);
 }
 
-static inline int64_t pidtab_join(struct pidtab *table, uint32_t caller, uint32_t target)
+/* setns(2) with CLONE_NEWPID: the caller's later children go into the namespace of the task number. */
+static inline int64_t pidtab_join(struct pidtab *table, uint32_t caller, uint32_t number)
 {
-	return pidtab_do(table, PIDTAB_JOIN, caller, 0, target, 0);
+	struct pidtab_call call = { PIDTAB_JOIN, caller, 0, number, 0, 0, 0 };
+	struct pidtab_reply reply;
+	return pidtab_value(table, &call, &reply);
 }
 
-/* Where on is 1 it is one from now on, and where on is 0 it is none. */
+/* PR_SET_CHILD_SUBREAPER of prctl(2): the caller takes orphans of its namespace, or no more. */
 static inline int64_t pidtab_subreaper(struct pidtab *table, uint32_t caller, uint32_t on)
 {
-	return pidtab_do(table, PIDTAB_SUBREAPER, caller, 0, 0, on);
+	struct pidtab_call call = { PIDTAB_SUBREAPER, caller, 0, 0, on, 0, 0 };
+	struct pidtab_reply reply;
+	return pidtab_value(table, &call, &reply);
 }
+/* The end of calls. */
 
 /* A table with its history, or none. Its rules are those of a table.
  *

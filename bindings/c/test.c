@@ -1,4 +1,5 @@
-/* Tests of the library from C: each function once, want of memory at each allocation in turn, and threads under a lock. */
+/* Tests of the library from C: each function once, want of memory at each allocation in turn, threads under a lock, and the sentences of
+ * statuses. */
 #include "test.h"
 #include "test_heap.h"
 
@@ -61,34 +62,20 @@ static void each_function(void)
 	CHECK(ask(&table, "getpid 1", answer) == PIDTAB_CLOSED);
 }
 
-static void each_call(void)
+/* What each call answers is in interface/cases. A call that is not made leaves the reply, and a read that is not made the task. */
+static void what_is_no_call(void)
 {
 	struct pidtab table = PIDTAB_INIT;
-	uint32_t root = 0, status = 0, levels[PIDTAB_LEVELS_MAX] = { 0 };
-
-	CHECK(pidtab_open(&table, 32768) == PIDTAB_DONE);
-	CHECK(pidtab_fork(&table, 1, true, &root) == 2 && root == 2);
-	CHECK(pidtab_fork(&table, 2, false, &root) == 2 && root == 3);
-	CHECK(pidtab_nspid(&table, 1, 3, levels) == 2 && levels[0] == 3 && levels[1] == 2);
-	CHECK(pidtab_getpid(&table, 3) == 2 && pidtab_getppid(&table, 3) == 1);
-	CHECK(pidtab_setpgid(&table, 3, 0, 0) == 0 && pidtab_getpgid(&table, 3, 0) == 2);
-	CHECK(pidtab_setpgid(&table, 3, 0, -1) == -EINVAL && pidtab_setsid(&table, 3) == -EPERM);
-	CHECK(pidtab_getsid(&table, 1, 0) == 1 && pidtab_exec(&table, 3) == 0);
-	CHECK(pidtab_next(&table, 1, PIDTAB_TASKS, 3) == 3 && pidtab_next(&table, 1, PIDTAB_TASKS, 4) == 0);
-	int64_t group = pidtab_mk(&table, 0);
-	CHECK(group > 0 && pidtab_move(&table, 3, (uint64_t)group) == 0 && pidtab_count(&table, (uint64_t)group) == 1);
-	CHECK(pidtab_limit(&table, (uint64_t)group, true, 1) == 0 && pidtab_fork(&table, 3, false, NULL) == -EAGAIN);
-	CHECK(pidtab_limit(&table, (uint64_t)group, false, 0) == 0 && pidtab_fork(&table, 3, false, NULL) == 3);
-	CHECK(pidtab_rm(&table, (uint64_t)group) == -EBUSY && pidtab_subreaper(&table, 1, true) == 0);
-	CHECK(pidtab_join(&table, 1, 2) == 0 && pidtab_wait(&table, 1, PIDTAB_ANY, 0, &status) == 0);
-	CHECK(pidtab_exit(&table, 2, 7) == 0 && pidtab_wait(&table, 1, PIDTAB_ANY, 0, &status) == 2 && status == 7);
-	CHECK(pidtab_count(&table, 0) == 1 && pidtab_wait(&table, 1, PIDTAB_CHILD, 5, NULL) == -ECHILD);
-
-	struct pidtab_call bad = { 19, 1, 0, 0, 0, 0, 0 };
+	struct pidtab_call bad = { 99, 1, 0, 0, 0, 0, 0 };
 	struct pidtab_reply reply = { .kind = 77 };
+	struct pidtab_task task = { .count = 77 };
+
+	CHECK(pidtab_stat(&table, 1, 0, &task) == PIDTAB_CLOSED && task.count == 77);
+	CHECK(pidtab_open(&table, 32768) == PIDTAB_DONE);
 	CHECK(pidtab_call(&table, &bad, &reply) == PIDTAB_OUT_OF_RANGE && reply.kind == 77);
-	struct pidtab_call nobody = { PIDTAB_GETPID, 99, 0, 0, 0, 0, 0 };
-	CHECK(pidtab_call(&table, &nobody, &reply) == PIDTAB_DONE && reply.kind == PIDTAB_REFUSED && reply.error == ESRCH && reply.refusal == 1);
+	CHECK(pidtab_ask(&table, &bad, &reply) == PIDTAB_OUT_OF_RANGE && reply.kind == 77);
+	CHECK(pidtab_fork(&table, 1, false, NULL) == 2 && pidtab_exit(&table, 2, 7) == 0);
+	CHECK(pidtab_wait(&table, 1, PIDTAB_ANY, 0, NULL) == 2 && pidtab_wait(&table, 1, PIDTAB_CHILD, 5, NULL) == -ECHILD);
 	pidtab_close(&table);
 }
 
@@ -109,57 +96,6 @@ static void numbers_that_do_not_fit(void)
 	CHECK(answers(&table, "mk 0", "control 2") && pidtab_exit(&table, root, 255) == 0);
 	CHECK(ask(&table, "wait 1 any", answer) == PIDTAB_DONE && strcmp(answer, "reaped 2 exit 255") == 0);
 	CHECK(pidtab_close(&table) == PIDTAB_DONE);
-}
-
-/* The numbers of processes that were read of the task. */
-static bool task_is(struct pidtab *table, uint32_t caller, uint32_t number, uint32_t parent, uint32_t group, uint32_t session, struct pidtab_task *task)
-{
-	memset(task, 0xff, sizeof *task);
-	return pidtab_stat(table, caller, number, task) == PIDTAB_DONE && task->error == 0 && task->refusal == 0
-		&& task->parent == parent && task->group == group && task->session == session;
-}
-
-static bool no_task_is(struct pidtab *table, uint32_t caller, uint32_t number, uint32_t refusal)
-{
-	struct pidtab_task task, none = { .error = ESRCH, .refusal = refusal };
-	memset(&task, 0, sizeof task);
-	return pidtab_stat(table, caller, number, &task) == PIDTAB_DONE && memcmp(&task, &none, offsetof(struct pidtab_task, levels)) == 0
-		&& memcmp(task.levels, none.levels, sizeof none.levels) == 0;
-}
-
-/* The tasks of the list in docs/SCRIPT.md, as the root namespace and the one with id 1 see them. */
-static void each_task(void)
-{
-	struct pidtab table = PIDTAB_INIT;
-	struct pidtab_task task = { .count = 77 };
-
-	CHECK(pidtab_stat(&table, 1, 0, &task) == PIDTAB_CLOSED && task.count == 77);
-	CHECK(pidtab_open(&table, 32768) == PIDTAB_DONE);
-	CHECK(answers(&table, "fork 1 new", "child 2 root 2") && answers(&table, "fork 2", "child 2 root 3"));
-	CHECK(task_is(&table, 1, 3, 2, 1, 1, &task) && task.count == 2 && task.levels[0] == 3 && task.levels[1] == 2 && task.levels[2] == 0);
-	CHECK(task.space == 1 && task.control == 0 && task.ended == 0 && task.status == 0 && task.executed == 0 && task.subreaper == 0);
-	CHECK(task_is(&table, 1, 0, 0, 1, 1, &task) && task.count == 1 && task.levels[0] == 1 && task.space == 0);
-	/* The group and the session are those of the root init, which the inner namespace does not see. */
-	CHECK(task_is(&table, 3, 0, 1, 0, 0, &task) && task.count == 1 && task.levels[0] == 2 && task.space == 1);
-	CHECK(task_is(&table, 3, 1, 0, 0, 0, &task) && task.count == 1 && task.levels[0] == 1);
-	CHECK(no_task_is(&table, 99, 0, PIDTAB_NO_CALLER) && no_task_is(&table, 3, 3, PIDTAB_NO_TASK));
-
-	CHECK(answers(&table, "mk 0", "control 3") && answers(&table, "move 3 3", "ok") && answers(&table, "setsid 3", "2"));
-	CHECK(answers(&table, "exec 3", "ok") && answers(&table, "subreaper 2 on", "ok"));
-	CHECK(task_is(&table, 1, 3, 2, 3, 3, &task) && task.control == 3 && task.executed == 1 && task.subreaper == 0);
-	CHECK(task_is(&table, 3, 1, 0, 0, 0, &task) && task.control == 0 && task.executed == 0 && task.subreaper == 1);
-
-	/* A zombie is there until it is reaped, and calls nobody. */
-	CHECK(answers(&table, "exit 3 9", "ok") && task_is(&table, 2, 2, 1, 2, 2, &task) && task.ended == 1 && task.status == 9);
-	CHECK(no_task_is(&table, 3, 0, PIDTAB_NO_CALLER));
-	CHECK(answers(&table, "wait 2 any", "reaped 2 exit 9") && no_task_is(&table, 2, 2, PIDTAB_NO_TASK));
-	/* The root init's child in the inner namespace is killed with it. */
-	CHECK(answers(&table, "join 1 2", "ok") && answers(&table, "fork 1", "child 4 root 4") && answers(&table, "exit 2 7", "ok"));
-	CHECK(task_is(&table, 1, 2, 1, 1, 1, &task) && task.ended == 1 && task.status == 7);
-	CHECK(task_is(&table, 1, 4, 1, 1, 1, &task) && task.ended == 1 && task.status == PIDTAB_KILLED && task.space == 1);
-	/* None of the reads was a call. */
-	CHECK(answers(&table, "mk 0", "control 13"));
-	pidtab_close(&table);
 }
 
 /* Makes the call on the line with each of its allocations refused in turn; then it is made, and answered as on the twin. */
@@ -250,13 +186,37 @@ static void threads(void)
 	pidtab_close(&shared);
 }
 
+static void no_refusal(void)
+{
+	CHECK(strcmp(pidtab_word(0), "no-such-refusal") == 0);
+	CHECK(strcmp(pidtab_word(99), "no-such-refusal") == 0 && strcmp(pidtab_word(UINT32_MAX), "no-such-refusal") == 0);
+}
+
+/* Each status has a sentence of its own, and nothing else has. */
+static void each_status(void)
+{
+	static const uint32_t statuses[] = { PIDTAB_DONE, PIDTAB_CLOSED, PIDTAB_NO_MEMORY, PIDTAB_BUSY, PIDTAB_OUT_OF_RANGE,
+		PIDTAB_NO_ROOM, PIDTAB_EMPTY_LINE, PIDTAB_BAD_LINE, PIDTAB_SPENT, PIDTAB_NOT_KEPT, PIDTAB_AGAIN, PIDTAB_DIFFERS, PIDTAB_BAD_TEXT };
+	const unsigned count = sizeof statuses / sizeof statuses[0];
+	unsigned known = 0;
+
+	for (uint32_t status = 0; status < 200; status++)
+		known += strcmp(pidtab_text(status), "no such status") != 0;
+	CHECK(known == count && strcmp(pidtab_text(UINT32_MAX), "no such status") == 0);
+	for (unsigned i = 0; i < count; i++)
+		for (unsigned j = 0; j <= i; j++)
+			CHECK((strcmp(pidtab_text(statuses[i]), pidtab_text(statuses[j])) == 0) == (i == j));
+	CHECK(strcmp(pidtab_text(PIDTAB_CLOSED), "the table is not open") == 0);
+}
+
 int main(void)
 {
 	each_function();
-	each_call();
+	what_is_no_call();
 	numbers_that_do_not_fit();
-	each_task();
 	want_of_memory();
 	threads();
+	no_refusal();
+	each_status();
 	return 0;
 }

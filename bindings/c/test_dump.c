@@ -1,5 +1,5 @@
-/* Tests of tables that are saved as texts and loaded again: each status, each fault, texts that are changed or cut at each byte, and want
- * of memory at each allocation in turn. */
+/* Tests of tables that are saved as texts and loaded again: each status, texts that are changed or cut at each byte, and want of memory at
+ * each allocation in turn. Each fault is in interface/cases. */
 #include "test_dump.h"
 #include "test_heap.h"
 
@@ -8,44 +8,12 @@
 _Static_assert(PIDTAB_BAD_TEXT == EUCLEAN && PIDTAB_FAULT_BAD_LINE == 1 && PIDTAB_FAULT_IMPOSSIBLE == 12, "faults");
 _Static_assert(sizeof(struct pidtab_fault) == 16 && offsetof(struct pidtab_fault, kind) == 8, "pidtab_fault");
 
-#define HEAD "pidtab table 1 pid-max 301 stamp 9\n"
-#define INIT "task 1@0 parent - group 1@0 session 1@0 control 0 children 0 live\n"
-#define SPACE "space 0 parent - cursor 2\n"
-#define GROUP "control 0 parent - limit max\n"
-
 /* A fault that nothing has written. */
 #define UNTOLD (struct pidtab_fault){ 77, 77 }
 
 static bool fault_is(struct pidtab_fault fault, uint32_t kind, uint64_t line)
 {
 	return fault.kind == kind && fault.line == line;
-}
-
-/* The calls and the text of docs/SCRIPT.md. */
-static void the_text_of_the_page(void)
-{
-	static const char *const calls[] = { "fork 1", "fork 2 new", "setpgid 3 0 0", "setpgid 2 0 3", "exit 3 0", "wait 2 any" };
-	static const char wanted[] =
-		"pidtab table 1 pid-max 32768 stamp 7\n"
-		"task 1@0 parent - group 1@0 session 1@0 control 0 children 0 live\n"
-		"task 2@0 parent 1@0 group 3,1@2 session 1@0 control 0 children 0 live\n"
-		"space 0 parent - cursor 4\n"
-		"space 2 parent 0 cursor 2 fallen\n"
-		"control 0 parent - limit max\n"
-		"end sha256 43e4b011666adfc0327747421276975e151ed4aaf6d8c75e33dcc6843cccb951\n";
-	struct text text = { (char *)wanted, sizeof wanted - 1 }, again, end = sealed(wanted, sizeof wanted - 77);
-	struct pidtab table = PIDTAB_INIT;
-	char answer[PIDTAB_LONGEST_ANSWER + 1];
-
-	CHECK(same_text(text, end));
-	CHECK(pidtab_open(&table, 32768) == PIDTAB_DONE);
-	for (size_t i = 0; i < sizeof calls / sizeof calls[0]; i++)
-		CHECK(ask(&table, calls[i], answer) == PIDTAB_DONE);
-	again = dumped(&table);
-	CHECK(same_text(text, again));
-	pidtab_close(&table);
-	free(again.bytes);
-	free(end.bytes);
 }
 
 static void each_status(void)
@@ -78,6 +46,7 @@ static void each_status(void)
 	CHECK(pidtab_load(&table, room, size, &fault) == PIDTAB_BUSY && pidtab_open(&table, 32768) == PIDTAB_BUSY);
 	CHECK(pidtab_close(&table) == PIDTAB_DONE && table.at == NULL && !table.is_open && !table.in_call);
 	CHECK(strcmp(pidtab_text(PIDTAB_BAD_TEXT), "the text is that of no table") == 0);
+	CHECK(strcmp(pidtab_fault_text(0), "no fault") == 0 && strcmp(pidtab_fault_text(13), "no fault") == 0);
 }
 
 /* Saves the table and loads it again, in place. The text stays as it is. */
@@ -114,108 +83,6 @@ static void calls_go_on(uint64_t seed, uint32_t pid_max, int calls, int each)
 	CHECK(same_tables(&table, &never) && refused > calls / 10 && refused < calls - calls / 10);
 	pidtab_close(&table);
 	pidtab_close(&never);
-}
-
-/* A loaded table goes on up to the last stamp, and is saved behind it too. */
-static void the_last_stamp(void)
-{
-	static const char said[] = "pidtab table 1 pid-max 301 stamp 18446744073709551614\n" INIT SPACE GROUP;
-	struct text text = sealed(said, sizeof said - 1);
-	struct pidtab table = PIDTAB_INIT;
-	struct pidtab_fault fault;
-	char answer[PIDTAB_LONGEST_ANSWER + 1];
-
-	CHECK(pidtab_load(&table, text.bytes, text.size, &fault) == PIDTAB_DONE);
-	CHECK(answers(&table, "mk 0", "control 18446744073709551614") && ask(&table, "mk 0", answer) == PIDTAB_SPENT);
-	save_and_load(&table);
-	CHECK(ask(&table, "getpid 1", answer) == PIDTAB_SPENT);
-	pidtab_close(&table);
-	free(text.bytes);
-}
-
-/* A text of what is said is refused so. */
-static void is_fault(const char *said, size_t size, uint32_t kind, uint64_t line)
-{
-	struct text text = sealed(said, size);
-	struct pidtab table = PIDTAB_INIT;
-	struct pidtab_fault fault = UNTOLD;
-
-	CHECK(pidtab_load(&table, text.bytes, text.size, &fault) == PIDTAB_BAD_TEXT && fault_is(fault, kind, line));
-	CHECK(table.at == NULL && !table.is_open && !table.in_call);
-	free(text.bytes);
-}
-
-/* Kinds, with the words and the meaning that docs/SCRIPT.md gives them. */
-static const struct {
-	uint32_t kind;
-	const char *words;
-	uint64_t line;
-	const char *said;
-} faults[] = {
-	{ PIDTAB_FAULT_BAD_LINE, "bad line", 2, HEAD "nothing\n" INIT SPACE GROUP },
-	{ PIDTAB_FAULT_WRONG_DIGEST, "wrong digest", 5, HEAD INIT SPACE GROUP },
-	{ PIDTAB_FAULT_BAD_SETTINGS, "bad settings", 1, "pidtab table 1 pid-max 300 stamp 9\n" INIT SPACE GROUP },
-	{ PIDTAB_FAULT_UNSORTED, "out of order", 4, HEAD INIT "task 3@0 parent 1@0 group 1@0 session 1@0 control 0 children 0 live\n"
-		"task 2@0 parent 1@0 group 1@0 session 1@0 control 0 children 0 live\n" SPACE GROUP },
-	{ PIDTAB_FAULT_UNKNOWN_PARENT, "unknown parent", 3, HEAD INIT
-		"task 2@0 parent 7@0 group 1@0 session 1@0 control 0 children 0 live\n" SPACE GROUP },
-	{ PIDTAB_FAULT_UNKNOWN_NAMESPACE, "unknown namespace", 3, HEAD INIT
-		"task 2,1@4 parent 1@0 group 1@0 session 1@0 control 0 children 4 live\n" SPACE GROUP },
-	{ PIDTAB_FAULT_UNKNOWN_GROUP, "unknown control group", 3, HEAD INIT
-		"task 2@0 parent 1@0 group 1@0 session 1@0 control 5 children 0 live\n" SPACE GROUP },
-	{ PIDTAB_FAULT_BAD_NAME, "bad name", 3, HEAD INIT
-		"task 301@0 parent 1@0 group 1@0 session 1@0 control 0 children 0 live\n" SPACE GROUP },
-	{ PIDTAB_FAULT_TAKEN_NUMBER, "number in use twice", 3, HEAD INIT
-		"task 2,1@1 parent 1@0 group 2@0 session 1@0 control 0 children 1 live\n" SPACE "space 1 parent 0 cursor 3\n" GROUP },
-	{ PIDTAB_FAULT_NO_INIT, "namespace without an init", 4, HEAD INIT SPACE "space 3 parent 0 cursor 0\n" GROUP },
-	{ PIDTAB_FAULT_NO_NUMBER, "no number left", 2, NULL },
-	{ PIDTAB_FAULT_IMPOSSIBLE, "impossible line", 4, HEAD INIT SPACE "control 0 parent - limit 7\n" }
-};
-
-/* All numbers are in use, and the root's children go into a namespace that is gone. It was once a fault, and is loaded. */
-static void full_namespace(void)
-{
-	static char said[1 << 15] = HEAD "task 1@0 parent - group 1@0 session 1@0 control 0 children 7 live\n";
-	size_t size = strlen(said);
-
-	for (int number = 2; number < 301; number++)
-		size += (size_t)snprintf(said + size, sizeof said - size,
-			"task %d@0 parent 1@0 group 1@0 session 1@0 control 0 children 0 live\n", number);
-	size += (size_t)snprintf(said + size, sizeof said - size, SPACE GROUP);
-	struct text text = sealed(said, size);
-	struct pidtab table = PIDTAB_INIT;
-	struct pidtab_fault fault;
-
-	CHECK(pidtab_load(&table, text.bytes, text.size, &fault) == PIDTAB_DONE && pidtab_close(&table) == PIDTAB_DONE);
-	free(text.bytes);
-}
-
-/* A digest that is right but for its last digit. */
-static void wrong_digest(const char *said, uint64_t line)
-{
-	struct text text = sealed(said, strlen(said));
-	struct pidtab table = PIDTAB_INIT;
-	struct pidtab_fault fault;
-	char *last = &text.bytes[text.size - 2];
-
-	CHECK(pidtab_load(&table, text.bytes, text.size, &fault) == PIDTAB_DONE && pidtab_close(&table) == PIDTAB_DONE);
-	*last = *last == '0' ? '1' : '0';
-	CHECK(pidtab_load(&table, text.bytes, text.size, &fault) == PIDTAB_BAD_TEXT && fault_is(fault, PIDTAB_FAULT_WRONG_DIGEST, line));
-	free(text.bytes);
-}
-
-static void each_fault(void)
-{
-	for (uint32_t i = 0; i < sizeof faults / sizeof faults[0]; i++) {
-		CHECK(faults[i].kind == i + 1 && strcmp(pidtab_fault_text(i + 1), faults[i].words) == 0);
-		if (faults[i].kind == PIDTAB_FAULT_NO_NUMBER)
-			full_namespace();
-		else if (faults[i].kind == PIDTAB_FAULT_WRONG_DIGEST)
-			wrong_digest(faults[i].said, faults[i].line);
-		else
-			is_fault(faults[i].said, strlen(faults[i].said), faults[i].kind, faults[i].line);
-	}
-	CHECK(strcmp(pidtab_fault_text(0), "no fault") == 0 && strcmp(pidtab_fault_text(13), "no fault") == 0);
 }
 
 /* What the text of a table with cgroups, a fallen namespace and zombies says. */
@@ -331,13 +198,10 @@ static void want_of_memory(void)
 
 int main(void)
 {
-	the_text_of_the_page();
 	each_status();
 	for (uint64_t seed = 1; seed <= 8; seed++)
 		calls_go_on(seed, seed % 2 ? 301 : 32768, 2000, 20 + (int)seed);
 	calls_go_on(9, 32768, 600, 1);
-	the_last_stamp();
-	each_fault();
 	cut_at_each_byte();
 	changed_at_each_byte();
 	want_of_memory();

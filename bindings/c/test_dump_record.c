@@ -206,29 +206,6 @@ static void a_record_goes_on(uint64_t seed, uint64_t first_stamp)
 	CHECK(pidtab_record_close(&record) == PIDTAB_DONE && pidtab_record_close(&loaded) == PIDTAB_DONE && pidtab_record_close(&third) == PIDTAB_DONE);
 }
 
-/* What was before is not kept, and the opening is what was loaded. */
-static void nothing_before_is_kept(void)
-{
-	static const uint64_t six[] = { 2, 4 };
-	static const char wanted[] = "task 1 space 0 parent 0 group 1 session 1 control 0 live\nspace 0 parent - cursor 2\ncontrol 0 parent - limit max count 1\n";
-	struct pidtab_record record = PIDTAB_RECORD_INIT;
-	struct pidtab_entry entry = { .worker = 77 };
-	struct pidtab_reply reply;
-	char room[512], answer[PIDTAB_LONGEST_ANSWER];
-	uint64_t ordinal;
-	size_t size;
-
-	CHECK(loaded_behind(&record, six, 2) == PIDTAB_DONE);
-	CHECK(pidtab_record_read(&record, 5, &entry, 1, &size) == PIDTAB_NOT_KEPT && entry.worker == 77);
-	/* The id of a new cgroup is the stamp of its call. */
-	CHECK(pidtab_record_line(&record, 1, "mk 0", 4, answer, sizeof answer, &size, &ordinal) == PIDTAB_DONE && ordinal == 6);
-	CHECK(size == 9 && strncmp(answer, "control 7", 9) == 0 && calls_of(&record, 0) == 2 && calls_of(&record, 1) == 5);
-	CHECK(pidtab_record_call(&record, 2, &getpid_1, &reply, &ordinal) == PIDTAB_OUT_OF_RANGE);
-	CHECK(pidtab_record_read(&record, 6, &entry, 1, &size) == PIDTAB_DONE && size == 1 && entry.worker == 1 && entry.reply.first == 7);
-	CHECK(pidtab_record_opening(&record, room, sizeof room, &size) == PIDTAB_DONE && size == sizeof wanted - 1 && strncmp(room, wanted, size) == 0);
-	CHECK(pidtab_record_close(&record) == PIDTAB_DONE);
-}
-
 /* A record goes on up to the last stamp, and is saved behind it too. */
 static void the_last_stamp(void)
 {
@@ -355,7 +332,6 @@ int main(void)
 	statuses_of_a_load();
 	for (uint64_t seed = 1; seed <= 4; seed++)
 		a_record_goes_on(seed, seed == 4 ? UINT64_MAX - 2000 : seed);
-	nothing_before_is_kept();
 	the_last_stamp();
 	want_of_memory();
 	threads_go_on();

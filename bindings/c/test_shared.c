@@ -168,25 +168,6 @@ static void a_cut(void)
 	CHECK(pidtab_shared_call(&shared, 3, &call, &reply, &ordinal) == PIDTAB_DONE && ordinal == all);
 }
 
-/* With `keep` the history is never longer: each call behind which it would be cuts the first entry. */
-static void cuts_of_its_own(void)
-{
-	char answer[PIDTAB_LONGEST_ANSWER];
-	uint64_t first_kept, recorded, ordinal;
-	size_t size;
-
-	CHECK(pidtab_shared_open(&shared, 32768, 1, 0, 10) == PIDTAB_OUT_OF_RANGE);
-	CHECK(pidtab_shared_open(&shared, 32768, 1, 1, 10) == PIDTAB_DONE);
-	for (uint64_t i = 0; i < 25; i++) {
-		CHECK(pidtab_shared_line(&shared, 0, "fork 1", 6, answer, sizeof answer, &size, &ordinal) == PIDTAB_DONE && ordinal == i);
-		CHECK(pidtab_shared_counts(&shared, &first_kept, &recorded) == PIDTAB_DONE && recorded == i + 1);
-		CHECK(first_kept == (recorded > 10 ? recorded - 10 : 0));
-	}
-	CHECK(pidtab_shared_checkpoint(&shared) == PIDTAB_DONE);
-	CHECK(pidtab_shared_counts(&shared, &first_kept, &recorded) == PIDTAB_DONE && first_kept == 25 && recorded == 25);
-	pidtab_shared_close(&shared);
-}
-
 int main(void)
 {
 	works = calloc(WORKERS, sizeof *works);
@@ -198,7 +179,6 @@ int main(void)
 	the_history_replays();
 	a_cut();
 	pidtab_shared_close(&shared);
-	cuts_of_its_own();
 	free(works);
 	free(entries);
 	return 0;

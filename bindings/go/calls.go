@@ -67,24 +67,139 @@ func (it calls) Call(call Call) (Reply, error) {
 	return replyOf(reply), nil
 }
 
-// Fork is fork(2), or clone(2) with CLONE_NEWPID, for NewNamespace: a child in the namespace for the caller's children, or in a new one. Refused as
+// Written by tools/interface: calls.
+
+// Fork is fork(2), or clone(2) with CLONE_NEWPID: a child in the namespace for the caller's children, or in a new one. Refused as
 // no-caller, too-deep, elsewhere, space-fallen, no-number, pids-limit; ErrNoMemory.
 func (it calls) Fork(caller uint32, newSpace bool) (Child, error) {
-	reply, err := it.do(C.struct_pidtab_call{operation: C.PIDTAB_FORK, caller: C.uint32_t(caller), choice: number(newSpace)})
+	return childOf(it.do(C.struct_pidtab_call{operation: C.PIDTAB_FORK, caller: C.uint32_t(caller), choice: number(newSpace)}))
+}
+
+// Getpid is getpid(2): the caller's number in its own namespace. Refused as no-caller.
+func (it calls) Getpid(caller uint32) (uint32, error) {
+	return numberOf(it.do(C.struct_pidtab_call{operation: C.PIDTAB_GETPID, caller: C.uint32_t(caller)}))
+}
+
+// Nspid is NSpid of proc(5): the numbers of the task number from the caller's namespace inwards, outermost first: 1 to 33 of them. Refused
+// as no-caller, no-task.
+func (it calls) Nspid(caller, number uint32) ([]uint32, error) {
+	return levelsOf(it.do(C.struct_pidtab_call{operation: C.PIDTAB_NSPID, caller: C.uint32_t(caller), number: C.uint32_t(number)}))
+}
+
+// Exec is execve(2): the caller executes a program. Refused as no-caller.
+func (it calls) Exec(caller uint32) error {
+	return nothingOf(it.do(C.struct_pidtab_call{operation: C.PIDTAB_EXEC, caller: C.uint32_t(caller)}))
+}
+
+// Exit is _exit(2): the caller ends, and its namespace falls if it is the init there; status is 0 to 255. Refused as no-caller, root-init.
+func (it calls) Exit(caller uint32, status uint8) error {
+	return nothingOf(it.do(C.struct_pidtab_call{operation: C.PIDTAB_EXIT, caller: C.uint32_t(caller), number: C.uint32_t(status)}))
+}
+
+// Wait is waitpid(2) with WNOHANG: takes an ended child away; none where children match and none of them has ended. Refused as no-caller,
+// no-child.
+func (it calls) Wait(caller uint32, which Which) (*Reaped, error) {
+	return endedOf(it.do(C.struct_pidtab_call{operation: C.PIDTAB_WAIT, caller: C.uint32_t(caller), number: which.number, choice: which.choice}))
+}
+
+// Getppid is getppid(2): the number of the caller's parent, 0 for one that it cannot see. Refused as no-caller.
+func (it calls) Getppid(caller uint32) (uint32, error) {
+	return numberOf(it.do(C.struct_pidtab_call{operation: C.PIDTAB_GETPPID, caller: C.uint32_t(caller)}))
+}
+
+// Setpgid is setpgid(2): the task pid goes into the group pgid; 0 is the caller, and the task. Refused as no-caller, bad-group, no-task,
+// other-session, executed, is-leader, no-group.
+func (it calls) Setpgid(caller uint32, pid, pgid int32) error {
+	return nothingOf(it.do(C.struct_pidtab_call{operation: C.PIDTAB_SETPGID, caller: C.uint32_t(caller), pid: C.int32_t(pid), pgid: C.int32_t(pgid)}))
+}
+
+// Setsid is setsid(2): the caller leads a new session and a new group; its number. Refused as no-caller, is-leader.
+func (it calls) Setsid(caller uint32) (uint32, error) {
+	return numberOf(it.do(C.struct_pidtab_call{operation: C.PIDTAB_SETSID, caller: C.uint32_t(caller)}))
+}
+
+// Mk is the call mk: a new control group below the one with the id parent, of which 0 is the root: its id. Refused as no-control,
+// control-depth; ErrNoMemory.
+func (it calls) Mk(parent uint64) (uint64, error) {
+	return longOf(it.do(C.struct_pidtab_call{operation: C.PIDTAB_MK, id: C.uint64_t(parent)}))
+}
+
+// Rm is the call rm: removes a control group without live tasks and children. Refused as no-control, root-control, control-busy.
+func (it calls) Rm(id uint64) error {
+	return nothingOf(it.do(C.struct_pidtab_call{operation: C.PIDTAB_RM, id: C.uint64_t(id)}))
+}
+
+// Limit is the call limit: how many tasks the control group may have, 0 to 4194304, or none for no limit. Refused as no-control,
+// root-control, bad-limit.
+func (it calls) Limit(id uint64, limit uint32) error {
+	return nothingOf(it.do(C.struct_pidtab_call{operation: C.PIDTAB_LIMIT, id: C.uint64_t(id), number: C.uint32_t(limit), choice: 1}))
+}
+
+// LimitMax is the call limit for no limit. Refused as no-control, root-control, bad-limit.
+func (it calls) LimitMax(id uint64) error {
+	return nothingOf(it.do(C.struct_pidtab_call{operation: C.PIDTAB_LIMIT, id: C.uint64_t(id)}))
+}
+
+// Move is the call move: the task, by its root number, goes into the control group. Refused as no-task, no-control.
+func (it calls) Move(task uint32, id uint64) error {
+	return nothingOf(it.do(C.struct_pidtab_call{operation: C.PIDTAB_MOVE, caller: C.uint32_t(task), id: C.uint64_t(id)}))
+}
+
+// Count is the call count: how many tasks the control group and those below it have. Refused as no-control.
+func (it calls) Count(id uint64) (uint64, error) {
+	return longOf(it.do(C.struct_pidtab_call{operation: C.PIDTAB_COUNT, id: C.uint64_t(id)}))
+}
+
+// Getpgid is getpgid(2): the process group of the task pid, where 0 is the caller; 0 where it cannot be seen. Refused as no-caller,
+// no-task.
+func (it calls) Getpgid(caller, pid uint32) (uint32, error) {
+	return numberOf(it.do(C.struct_pidtab_call{operation: C.PIDTAB_GETPGID, caller: C.uint32_t(caller), number: C.uint32_t(pid)}))
+}
+
+// Getsid is getsid(2): the session of the task pid, where 0 is the caller; 0 where it cannot be seen. Refused as no-caller, no-task.
+func (it calls) Getsid(caller, pid uint32) (uint32, error) {
+	return numberOf(it.do(C.struct_pidtab_call{operation: C.PIDTAB_GETSID, caller: C.uint32_t(caller), number: C.uint32_t(pid)}))
+}
+
+// Next is the call next: the least number from from on that is in use as that kind in the caller's namespace. Refused as no-caller.
+func (it calls) Next(caller uint32, kind Kind, from uint32) (uint32, error) {
+	return numberOf(it.do(C.struct_pidtab_call{operation: C.PIDTAB_NEXT, caller: C.uint32_t(caller), choice: C.uint32_t(kind), number: C.uint32_t(from)}))
+}
+
+// Join is setns(2) with CLONE_NEWPID: the caller's later children go into the namespace of the task number. Refused as no-caller, no-task.
+func (it calls) Join(caller, number uint32) error {
+	return nothingOf(it.do(C.struct_pidtab_call{operation: C.PIDTAB_JOIN, caller: C.uint32_t(caller), number: C.uint32_t(number)}))
+}
+
+// Subreaper is PR_SET_CHILD_SUBREAPER of prctl(2): the caller takes orphans of its namespace, or no more. Refused as no-caller.
+func (it calls) Subreaper(caller uint32, on bool) error {
+	return nothingOf(it.do(C.struct_pidtab_call{operation: C.PIDTAB_SUBREAPER, caller: C.uint32_t(caller), choice: number(on)}))
+}
+
+// The end of calls.
+
+// What a call tells where it is not refused: a child, a number, an id or a count, the numbers of a task, a child that has ended, or nothing.
+
+func childOf(reply *C.struct_pidtab_reply, err error) (Child, error) {
 	if err != nil {
 		return Child{}, err
 	}
 	return Child{uint32(reply.first), uint32(reply.second)}, nil
 }
 
-// Getpid is the caller's number in its own namespace. Refused as no-caller.
-func (it calls) Getpid(caller uint32) (uint32, error) {
-	return it.ask(C.PIDTAB_GETPID, caller, 0, 0)
+func longOf(reply *C.struct_pidtab_reply, err error) (uint64, error) {
+	if err != nil {
+		return 0, err
+	}
+	return uint64(reply.first), nil
 }
 
-// Nspid has the numbers of the task pid from the caller's namespace inwards, outermost first: 1 to 33 of them. Refused as no-caller, no-task.
-func (it calls) Nspid(caller, pid uint32) ([]uint32, error) {
-	reply, err := it.do(C.struct_pidtab_call{operation: C.PIDTAB_NSPID, caller: C.uint32_t(caller), number: C.uint32_t(pid)})
+func numberOf(reply *C.struct_pidtab_reply, err error) (uint32, error) {
+	number, err := longOf(reply, err)
+	return uint32(number), err
+}
+
+func levelsOf(reply *C.struct_pidtab_reply, err error) ([]uint32, error) {
 	if err != nil {
 		return nil, err
 	}
@@ -95,124 +210,14 @@ func (it calls) Nspid(caller, pid uint32) ([]uint32, error) {
 	return numbers, nil
 }
 
-// Exec is execve(2): the caller executes a program. Refused as no-caller.
-func (it calls) Exec(caller uint32) error {
-	_, err := it.ask(C.PIDTAB_EXEC, caller, 0, 0)
-	return err
-}
-
-// Exit is _exit(2): the caller ends, and its namespace falls if it is the init there. Refused as no-caller, root-init.
-func (it calls) Exit(caller uint32, status uint8) error {
-	_, err := it.ask(C.PIDTAB_EXIT, caller, uint32(status), 0)
-	return err
-}
-
-// Wait is waitpid(2) with WNOHANG: it takes an ended child away, or none where children match and none of them has ended. Refused as
-// no-caller, no-child.
-func (it calls) Wait(caller uint32, which Which) (*Reaped, error) {
-	reply, err := it.do(C.struct_pidtab_call{operation: C.PIDTAB_WAIT, caller: C.uint32_t(caller), number: which.number, choice: which.choice})
+func endedOf(reply *C.struct_pidtab_reply, err error) (*Reaped, error) {
 	if err != nil || reply.kind == C.PIDTAB_NONE_YET {
 		return nil, err
 	}
 	return reapedOf(uint64(reply.first), uint64(reply.second)), nil
 }
 
-// Getppid is the number of the caller's parent, 0 for one that it cannot see. Refused as no-caller.
-func (it calls) Getppid(caller uint32) (uint32, error) {
-	return it.ask(C.PIDTAB_GETPPID, caller, 0, 0)
-}
-
-// Setpgid is setpgid(2): the task pid goes into the group pgid; 0 is the caller, and the task. Refused as no-caller, bad-group, no-task,
-// other-session, executed, is-leader, no-group.
-func (it calls) Setpgid(caller uint32, pid, pgid int32) error {
-	_, err := it.do(C.struct_pidtab_call{operation: C.PIDTAB_SETPGID, caller: C.uint32_t(caller), pid: C.int32_t(pid), pgid: C.int32_t(pgid)})
-	return err
-}
-
-// Setsid is setsid(2): the caller leads a new session and a new group; its number. Refused as no-caller, is-leader.
-func (it calls) Setsid(caller uint32) (uint32, error) {
-	return it.ask(C.PIDTAB_SETSID, caller, 0, 0)
-}
-
-// Mk makes a control group below the one with the id, of which 0 is the root: its id. Refused as no-control, control-depth; ErrNoMemory.
-func (it calls) Mk(parent uint64) (uint64, error) {
-	return it.control(C.PIDTAB_MK, 0, parent)
-}
-
-// Rm removes a control group without live tasks and children. Refused as no-control, root-control, control-busy.
-func (it calls) Rm(id uint64) error {
-	_, err := it.control(C.PIDTAB_RM, 0, id)
-	return err
-}
-
-// Limit is how many tasks the control group may have, 0 to 4194304. Refused as no-control, root-control, bad-limit.
-func (it calls) Limit(id uint64, limit uint32) error {
-	_, err := it.do(C.struct_pidtab_call{operation: C.PIDTAB_LIMIT, id: C.uint64_t(id), number: C.uint32_t(limit), choice: 1})
-	return err
-}
-
-// LimitMax is the same call for no limit, as `limit I max`. Refused as no-control, root-control.
-func (it calls) LimitMax(id uint64) error {
-	_, err := it.control(C.PIDTAB_LIMIT, 0, id)
-	return err
-}
-
-// Move puts the task, by its root number, into the control group. Refused as no-task, no-control.
-func (it calls) Move(task uint32, id uint64) error {
-	_, err := it.control(C.PIDTAB_MOVE, task, id)
-	return err
-}
-
-// Count is how many tasks the control group and those below it have. Refused as no-control.
-func (it calls) Count(id uint64) (uint64, error) {
-	return it.control(C.PIDTAB_COUNT, 0, id)
-}
-
-// Getpgid is the process group of the task pid, where 0 is the caller; 0 where it cannot be seen. Refused as no-caller, no-task.
-func (it calls) Getpgid(caller, pid uint32) (uint32, error) {
-	return it.ask(C.PIDTAB_GETPGID, caller, pid, 0)
-}
-
-// Getsid is the session of the task pid, where 0 is the caller; 0 where it cannot be seen. Refused as no-caller, no-task.
-func (it calls) Getsid(caller, pid uint32) (uint32, error) {
-	return it.ask(C.PIDTAB_GETSID, caller, pid, 0)
-}
-
-// Next is the least number from the given one on that is in use as that kind in the caller's namespace, 0 where none is. Refused as
-// no-caller; ErrOutOfRange for another kind.
-func (it calls) Next(caller uint32, kind Kind, from uint32) (uint32, error) {
-	return it.ask(C.PIDTAB_NEXT, caller, from, C.uint32_t(kind))
-}
-
-// Join is setns(2): the caller's later children go into the namespace of the task pid. Refused as no-caller, no-task.
-func (it calls) Join(caller, pid uint32) error {
-	_, err := it.ask(C.PIDTAB_JOIN, caller, pid, 0)
-	return err
-}
-
-// Subreaper is PR_SET_CHILD_SUBREAPER of prctl(2): the caller takes orphans of its namespace, or no more. Refused as no-caller.
-func (it calls) Subreaper(caller uint32, on bool) error {
-	_, err := it.ask(C.PIDTAB_SUBREAPER, caller, 0, number(on))
-	return err
-}
-
-// ask makes a call that takes a caller and perhaps a number and a choice, and tells one number or none.
-func (it calls) ask(operation C.uint32_t, caller, of uint32, choice C.uint32_t) (uint32, error) {
-	reply, err := it.do(C.struct_pidtab_call{operation: operation, caller: C.uint32_t(caller), number: C.uint32_t(of), choice: choice})
-	if err != nil {
-		return 0, err
-	}
-	return uint32(reply.first), nil
-}
-
-// control makes a call on a control group, which tells a count, an id or nothing.
-func (it calls) control(operation C.uint32_t, task uint32, id uint64) (uint64, error) {
-	reply, err := it.do(C.struct_pidtab_call{operation: operation, caller: C.uint32_t(task), id: C.uint64_t(id)})
-	if err != nil {
-		return 0, err
-	}
-	return uint64(reply.first), nil
-}
+func nothingOf(_ *C.struct_pidtab_reply, err error) error { return err }
 
 // number is 1 for true.
 func number(of bool) C.uint32_t {

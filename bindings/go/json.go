@@ -8,11 +8,23 @@ import (
 	"syscall"
 )
 
+// Written by tools/interface: errnos.
+
 // The names of the errnos that a refusal may have.
 var errnoNames = map[syscall.Errno]string{
-	syscall.EPERM: "EPERM", syscall.ENOENT: "ENOENT", syscall.ESRCH: "ESRCH", syscall.ECHILD: "ECHILD", syscall.EAGAIN: "EAGAIN",
-	syscall.ENOMEM: "ENOMEM", syscall.EACCES: "EACCES", syscall.EBUSY: "EBUSY", syscall.EINVAL: "EINVAL", syscall.ENOSPC: "ENOSPC",
+	syscall.ESRCH:  "ESRCH",
+	syscall.ECHILD: "ECHILD",
+	syscall.EAGAIN: "EAGAIN",
+	syscall.EPERM:  "EPERM",
+	syscall.EACCES: "EACCES",
+	syscall.ENOENT: "ENOENT",
+	syscall.ENOMEM: "ENOMEM",
+	syscall.ENOSPC: "ENOSPC",
+	syscall.EINVAL: "EINVAL",
+	syscall.EBUSY:  "EBUSY",
 }
+
+// The end of errnos.
 
 // stateOf is the word for how a task stands, and the status of one that exited, as docs/list.schema.json has them.
 func stateOf(live, killed bool, status *uint8) (string, *uint8) {

@@ -3,32 +3,10 @@ package pidtab
 import (
 	"encoding/json"
 	"fmt"
-	"os"
 	"reflect"
 	"syscall"
 	"testing"
 )
-
-// The calls whose replies are the lines of bindings/replies.json.
-var replied = []Call{
-	{Operation: OpFork, Caller: 1, Choice: 1},
-	{Operation: OpFork, Caller: 2},
-	{Operation: OpNspid, Caller: 1, Number: 3},
-	{Operation: OpGetpid, Caller: 3},
-	{Operation: OpMk},
-	{Operation: OpLimit, ID: 5, Choice: 1},
-	{Operation: OpMove, Caller: 3, ID: 5},
-	{Operation: OpFork, Caller: 3},
-	{Operation: OpCount, ID: 5},
-	{Operation: OpNext, Caller: 1, Number: 9},
-	{Operation: OpGetpid, Caller: 9},
-	{Operation: OpWait, Caller: 1},
-	{Operation: OpJoin, Caller: 1, Number: 2},
-	{Operation: OpFork, Caller: 1},
-	{Operation: OpExit, Caller: 2, Number: 7},
-	{Operation: OpWait, Caller: 1, Choice: 1, Number: 2},
-	{Operation: OpWait, Caller: 1, Choice: 1, Number: 4},
-}
 
 func asJSON(t *testing.T, value any) string {
 	t.Helper()
@@ -37,24 +15,6 @@ func asJSON(t *testing.T, value any) string {
 		t.Fatal(err)
 	}
 	return string(text)
-}
-
-func TestRepliesAsJSON(t *testing.T) {
-	wanted, err := os.ReadFile("../replies.json")
-	if err != nil {
-		t.Fatal(err)
-	}
-	table, got := open(t, 32768), ""
-	for _, call := range replied {
-		reply, err := table.Call(call)
-		if err != nil {
-			t.Fatal(err)
-		}
-		got += asJSON(t, reply) + "\n"
-	}
-	if got != string(wanted) {
-		t.Errorf("%s and not %s", got, wanted)
-	}
 }
 
 func TestAnswersAsJSON(t *testing.T) {

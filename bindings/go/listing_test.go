@@ -24,27 +24,6 @@ control 18446744073709551615 parent 7 limit 4194304 count 1
 
 func to[T any](it T) *T { return &it }
 
-func TestEachFieldOfAList(t *testing.T) {
-	wanted := Listing{
-		Tasks: []Task{
-			{Numbers: []uint32{1}, Group: 1, Session: 1, Live: true, Subreaper: true},
-			{Numbers: []uint32{2, 1}, Space: 4, Parent: 1, Group: 1, Session: 1, Control: 7, Status: 255},
-			{Numbers: []uint32{3, 2}, Space: 4, Parent: 1, Killed: true, Executed: true},
-			{Numbers: []uint32{5}, Parent: 1, Group: 5, Session: 5, Live: true, Executed: true, Children: to(uint64(4)), Subreaper: true},
-		},
-		Spaces: []Space{{Cursor: 10}, {ID: 4, Parent: to(uint64(0)), Cursor: 3, Fallen: true}},
-		Controls: []Control{
-			{Count: 6},
-			{ID: 7, Parent: to(uint64(0)), Limit: to(uint32(0)), Count: 2},
-			{ID: 1<<64 - 1, Parent: to(uint64(7)), Limit: to(uint32(4194304)), Count: 1},
-		},
-	}
-	want(t, "wide", of(ReadList(wideList)), wanted, nil)
-	if root := wanted.Tasks[1].Root(); root != 2 {
-		t.Error(root)
-	}
-}
-
 func TestLabels(t *testing.T) {
 	listing, err := ReadList(wideList)
 	if err != nil {
@@ -175,30 +154,16 @@ func TestTheListingOfATable(t *testing.T) {
 	want(t, "closed", of(table.Listing()), Listing{}, ErrClosed)
 }
 
+// Each other text that is none is in interface/cases.
 func TestWhatIsNoList(t *testing.T) {
-	const task = "task 1 space 0 parent 0 group 1 session 1 control 0"
-	const none = "not a line of `pidtab list`"
-	faults := map[string]BadList{
-		"":        {1, "no list"},
-		"hello\n": {1, none},
-		"control 0 parent - limit max count 1\n\n": {2, none},
-		task + " alive\n":                          {1, none},
-		task + " live subreaper executed\n":        {1, none},
-		task + " exit 256\n":                       {1, none},
-		task + " live \n":                          {1, none},
-		"task 1, space 0 parent 0 group 1 session 1 control 0 live\n": {1, none},
-		"space 0 parent - cursor\n":                                   {1, none},
-		"space 0 parent - cursor 4294967296\n":                        {1, none},
-		"space 0 parent - cursor 2\r\n":                               {1, none},
-		"space +1 parent - cursor 2\n":                                {1, none},
-		"control 0 parent - limit - count 1\n":                        {1, none},
-		"control 18446744073709551616 parent - limit max count 1\n":   {1, none},
-		"space 0 parent - cursor 2\nspace 1":                          {2, "cut off, without a newline"},
-	}
-	for text, fault := range faults {
+	for text, fault := range map[string]BadList{
+		"":                                   {1, "no list"},
+		"hello\n":                            {1, "not a line of `pidtab list`"},
+		"space 0 parent - cursor 2\nspace 1": {2, "cut off, without a newline"},
+	} {
 		want(t, text, of(ReadList(text)), Listing{}, fault)
 	}
-	if said := (BadList{2, none}).Error(); said != "pidtab: line 2: not a line of `pidtab list`" {
+	if said := (BadList{2, "no list"}).Error(); said != "pidtab: line 2: no list" {
 		t.Error(said)
 	}
 }

@@ -116,38 +116,40 @@ func refusalOf(reply *C.struct_pidtab_reply) error {
 // faultOf is what a status says; nothing where it is done.
 func faultOf(status uint32) error {
 	switch status {
+	// Written by tools/interface: errors.
 	case C.PIDTAB_DONE:
 		return nil
 	case C.PIDTAB_CLOSED:
 		return ErrClosed
 	case C.PIDTAB_NO_MEMORY:
 		return ErrNoMemory
-	case C.PIDTAB_SPENT:
-		return ErrSpent
+	case C.PIDTAB_BUSY:
+		return ErrBusy
 	case C.PIDTAB_OUT_OF_RANGE:
 		return ErrOutOfRange
 	case C.PIDTAB_EMPTY_LINE:
 		return ErrEmptyLine
 	case C.PIDTAB_BAD_LINE:
 		return ErrBadLine
-	case C.PIDTAB_BUSY:
-		return ErrBusy
+	case C.PIDTAB_SPENT:
+		return ErrSpent
 	case C.PIDTAB_NOT_KEPT:
 		return ErrNotKept
 	case C.PIDTAB_AGAIN:
 		return ErrAgain
 	case C.PIDTAB_DIFFERS:
 		return ErrDiffers
+	case C.PIDTAB_NOT_SAVED:
+		return ErrNotSaved
 	case C.PIDTAB_ENDED:
 		return ErrUnsaved
 	case C.PIDTAB_TORN:
 		return ErrTorn
-	case C.PIDTAB_NOT_SAVED:
-		return ErrNotSaved
-	case C.PIDTAB_OTHER_VERSION:
-		return ErrOtherVersion
 	case C.PIDTAB_WRONG_BYTE:
 		return ErrWrongByte
+	case C.PIDTAB_OTHER_VERSION:
+		return ErrOtherVersion
+		// The end of errors.
 	}
 	return fmt.Errorf("pidtab: the library answers with the status %d", status)
 }

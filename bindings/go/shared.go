@@ -95,8 +95,8 @@ func (shared *Shared) Seat() (*Seat, error) {
 	return &Seat{calls{own}, own}, nil
 }
 
-// Ask answers a query as its call would be answered, refusals too. It is no call: nothing changes, and it is not recorded. A query is a getpid,
-// getppid, getpgid, getsid, nspid, next or count; ErrOutOfRange for each other call.
+// Ask answers a query as its call would be answered, refusals too. It is no call: nothing changes, and it is not recorded. The operations say
+// which are queries; ErrOutOfRange for each other call.
 func (shared *Shared) Ask(query Call) (Reply, error) {
 	numbers, reply, held := query.numbers(), new(C.struct_pidtab_reply), shared.held()
 	held.lock.LockForCall()

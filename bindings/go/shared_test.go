@@ -179,49 +179,6 @@ func TestSixteenGoroutinesShareATable(t *testing.T) {
 	want(t, "worker", of(shared.Worker(3)), uint64(each), nil)
 }
 
-func TestEachSeatIsGivenOnce(t *testing.T) {
-	shared := openShared(t, Settings{PidMax: 32768, Workers: 3})
-	for i := uint32(0); i < 3; i++ {
-		if worker := seatOf(t, shared).Worker(); worker != i {
-			t.Error(worker)
-		}
-	}
-	want(t, "no seat", of(shared.Seat()), (*Seat)(nil), ErrOutOfRange)
-}
-
-func TestTheRangesOfSettings(t *testing.T) {
-	for _, settings := range []Settings{{}, {0, 1, 1, 0}, {300, 1, 1, 0}, {4194305, 1, 1, 0}, {32768, 0, 1, 0}, {32768, 17, 1, 0}, {32768, 1<<32 - 1, 1, 0}} {
-		want(t, "settings", of(OpenShared(settings)), (*Shared)(nil), ErrOutOfRange)
-	}
-	openShared(t, Settings{PidMax: 301, Workers: 1, FirstStamp: 1})
-	openShared(t, Settings{PidMax: 4194304, Workers: 16, FirstStamp: math.MaxUint64 - 1, Keep: 1})
-}
-
-func TestCallsLinesAndOrdinals(t *testing.T) {
-	shared := openShared(t, Settings{PidMax: 32768, Workers: 2})
-	seat, other := seatOf(t, shared), seatOf(t, shared)
-	if ordinal, made := seat.Ordinal(); made || ordinal != 0 {
-		t.Error(ordinal, made)
-	}
-	want(t, "fork", of(seat.Fork(1, NewNamespace)), Child{2, 2}, nil)
-	wantOrdinal(t, seat, 0)
-	want(t, "nobody", of(other.Getpid(9)), uint32(0), refused(syscall.ESRCH, "no-caller"))
-	wantOrdinal(t, other, 1)
-	want(t, "line", of(other.Line("getpid 2")), "1", nil)
-	want(t, "refused line", of(other.Line("getpid 9")), "ESRCH no-caller", nil)
-	wantOrdinal(t, other, 3)
-	want(t, "empty", of(other.Line("")), "", ErrEmptyLine)
-	want(t, "bad", of(other.Line("getpid")), "", ErrBadLine)
-	want(t, "no call", of(other.Call(Call{Operation: 19})), Reply{}, ErrOutOfRange)
-	want(t, "no status", of(other.Call(Call{Operation: OpExit, Caller: 2, Number: 256})), Reply{}, ErrOutOfRange)
-	wantOrdinal(t, seat, 0)
-	wantOrdinal(t, other, 3)
-	wantCounts(t, shared, 0, 4)
-	want(t, "worker 0", of(shared.Worker(0)), uint64(1), nil)
-	want(t, "worker 1", of(shared.Worker(1)), uint64(3), nil)
-	want(t, "worker 2", of(shared.Worker(2)), uint64(0), ErrOutOfRange)
-}
-
 // forked makes so many children of process 1: numbers from 2 on, where there are no others.
 func forked(t *testing.T, seat *Seat, times int) {
 	t.Helper()
@@ -232,98 +189,12 @@ func forked(t *testing.T, seat *Seat, times int) {
 	}
 }
 
-func TestEntries(t *testing.T) {
-	shared := openShared(t, Settings{PidMax: 32768, Workers: 2})
-	seatOf(t, shared)
-	forked(t, seatOf(t, shared), 200)
-	wanted := Entry{64, 1, Call{Operation: OpFork, Caller: 1}, Reply{Kind: ReplyForked, First: 66, Second: 66}}
-	want(t, "entry", of(shared.Entry(64)), wanted, nil)
-	want(t, "entry 200", of(shared.Entry(200)), Entry{}, ErrNotKept)
-	for _, most := range []int{0, 1, 63, 64, 65, 136, 137, math.MaxInt} {
-		entries, err := shared.Entries(64, most)
-		if err != nil || len(entries) != least(most, 136) || most > 0 && entries[0] != wanted {
-			t.Error(most, len(entries), err)
-		}
-		for i, entry := range entries {
-			if entry.Ordinal != uint64(64+i) || entry.Reply.First != uint64(66+i) {
-				t.Error(i, entry)
-			}
-		}
-	}
-	want(t, "none", of(shared.Entries(200, 5)), []Entry{}, nil)
-	want(t, "negative", of(shared.Entries(0, -1)), []Entry(nil), ErrOutOfRange)
-	for _, from := range []uint64{201, math.MaxUint64} {
-		want(t, "beyond", of(shared.Entries(from, 0)), []Entry(nil), ErrNotKept)
-		want(t, "beyond", of(shared.Entries(from, math.MaxInt)), []Entry(nil), ErrNotKept)
-	}
-}
-
-// Queries with their replies by docs/SCRIPT.md, where process 1 has a child in a new namespace.
-var queries = []struct {
-	query Call
-	reply Reply
-}{
-	{Call{Operation: OpGetpid, Caller: 2}, Reply{Kind: ReplyNumber, First: 1}},
-	{Call{Operation: OpGetppid, Caller: 2}, Reply{Kind: ReplyNumber}},
-	{Call{Operation: OpNspid, Caller: 1, Number: 2}, Reply{Kind: ReplyLevels, Count: 2, Levels: [33]uint32{2, 1}}},
-	{Call{Operation: OpGetpgid, Caller: 1, Number: 2}, Reply{Kind: ReplyNumber, First: 1}},
-	{Call{Operation: OpGetsid, Caller: 1, Number: 2}, Reply{Kind: ReplyNumber, First: 1}},
-	{Call{Operation: OpNext, Caller: 1, Choice: uint32(Tasks), Number: 2}, Reply{Kind: ReplyNumber, First: 2}},
-	{Call{Operation: OpNext, Caller: 1, Choice: uint32(Tasks), Number: 3}, Reply{Kind: ReplyEnd}},
-	{Call{Operation: OpCount}, Reply{Kind: ReplyCounted, First: 2}},
-	{Call{Operation: OpGetpid, Caller: 9}, Reply{Kind: ReplyRefused, Errno: syscall.ESRCH, Refusal: 1}},
-}
-
-// A query is answered as its call is, and is none: the next id is that of the second call.
-func TestQueriesThatAreNoCalls(t *testing.T) {
-	shared, table := openShared(t, Settings{PidMax: 32768, Workers: 1}), open(t, 32768)
-	seat := seatOf(t, shared)
-	for _, it := range []calls{seat.calls, table.calls} {
-		want(t, "fork", of(it.Fork(1, true)), Child{2, 2}, nil)
-	}
-	for _, it := range queries {
-		want(t, "ask", of(shared.Ask(it.query)), it.reply, nil)
-		want(t, "ask a table", of(table.Ask(it.query)), it.reply, nil)
-	}
-	for _, call := range []Call{{Operation: OpExec, Caller: 1}, {Operation: OpMk}, {Operation: OpNext, Caller: 1, Choice: 3}, {Operation: 19}} {
-		want(t, "no query", of(shared.Ask(call)), Reply{}, ErrOutOfRange)
-		want(t, "no query of a table", of(table.Ask(call)), Reply{}, ErrOutOfRange)
-	}
-	wantCounts(t, shared, 0, 1)
-	want(t, "mk", of(seat.Mk(0)), uint64(2), nil)
-	want(t, "mk of a table", of(table.Mk(0)), uint64(2), nil)
-}
-
 func TestWhatAReplyRefuses(t *testing.T) {
 	reply, err := open(t, 32768).Call(Call{Operation: OpGetpid, Caller: 9})
 	want(t, "refused", told{reply.Err(), err}, refused(syscall.ESRCH, "no-caller"), nil)
 	limited := Reply{Kind: ReplyRefused, Errno: syscall.EAGAIN, Refusal: 5, First: 7}
 	want(t, "limited", only(limited.Err()), nil, refused(syscall.EAGAIN, "pids-limit 7"))
 	want(t, "done", only(Reply{Kind: ReplyOK}.Err()), nil, nil)
-}
-
-func TestACut(t *testing.T) {
-	shared := openShared(t, Settings{PidMax: 32768, Workers: 1})
-	seat := seatOf(t, shared)
-	opening, err := shared.List()
-	forked(t, seat, 2)
-	want(t, "opening", of(shared.Opening()), opening, err)
-	for _, seen := range []uint64{0, 1, 3} {
-		want(t, "another number", only(shared.CheckpointAt(seen)), nil, ErrAgain)
-	}
-	want(t, "checkpoint", only(shared.Checkpoint()), nil, nil)
-	list, err := shared.List()
-	want(t, "opening", of(shared.Opening()), list, err)
-	wantCounts(t, shared, 2, 2)
-	for ordinal := uint64(0); ordinal < 3; ordinal++ {
-		want(t, "entry", of(shared.Entry(ordinal)), Entry{}, ErrNotKept)
-	}
-	want(t, "cut", of(shared.Entries(0, math.MaxInt)), []Entry(nil), ErrNotKept)
-	want(t, "none", of(shared.Entries(2, math.MaxInt)), []Entry{}, nil)
-	want(t, "getpid", of(seat.Getpid(1)), uint32(1), nil)
-	wantOrdinal(t, seat, 2)
-	want(t, "worker", of(shared.Worker(0)), uint64(3), nil)
-	want(t, "checkpoint", only(shared.CheckpointAt(3)), nil, nil)
 }
 
 // With Keep the history is never longer, nor behind a replay.
@@ -351,38 +222,14 @@ func TestCutsOfItsOwn(t *testing.T) {
 	want(t, "list", of(again.List()), list, err)
 }
 
-func TestAReplayThatStops(t *testing.T) {
+func TestWhatAReplayThatStopsSays(t *testing.T) {
 	shared := openShared(t, Settings{PidMax: 32768, Workers: 2})
-	forked(t, seatOf(t, shared), 100)
-	saved, err := shared.Entries(0, math.MaxInt)
-	if err != nil {
-		t.Fatal(err)
+	stopped := shared.Replay([]Entry{{Call: Call{Operation: 99}}})
+	want(t, "no call", only(stopped), nil, ReplayError{0, ErrOutOfRange})
+	if differs := (ReplayError{10, ErrDiffers}); !errors.Is(differs, ErrDiffers) || differs.Error() != "pidtab: a reply is not the saved one: saved entry 10" {
+		t.Error(differs)
 	}
-	saved[70].Worker = 2
-	again := openShared(t, Settings{PidMax: 32768, Workers: 2})
-	want(t, "no such worker", only(again.Replay(saved)), nil, ReplayError{70, ErrOutOfRange})
-	wantCounts(t, again, 0, 70)
-	saved[70].Worker, saved[80].Reply.Second = 1, 7
-	stopped := again.Replay(saved[70:])
-	want(t, "another reply", only(stopped), nil, ReplayError{10, ErrDiffers})
-	if !errors.Is(stopped, ErrDiffers) || stopped.Error() != "pidtab: a reply is not the saved one: saved entry 10" {
-		t.Error(stopped)
-	}
-	wantCounts(t, again, 0, 81)
-	want(t, "worker 1", of(again.Worker(1)), uint64(1), nil)
-	want(t, "nothing", only(again.Replay(nil)), nil, nil)
-	want(t, "no call", only(again.Replay([]Entry{{Call: Call{Operation: 19}}})), nil, ReplayError{0, ErrOutOfRange})
-}
-
-func TestTheLastStamp(t *testing.T) {
-	shared := openShared(t, Settings{PidMax: 32768, Workers: 1, FirstStamp: math.MaxUint64 - 1})
-	seat := seatOf(t, shared)
-	want(t, "mk", of(seat.Mk(0)), uint64(math.MaxUint64-1), nil)
-	want(t, "spent", of(seat.Getpid(1)), uint32(0), ErrSpent)
-	want(t, "spent line", of(seat.Line("getpid 1")), "", ErrSpent)
-	wantOrdinal(t, seat, 0)
-	wantCounts(t, shared, 0, 1)
-	want(t, "ask", of(shared.Ask(Call{Operation: OpGetpid, Caller: 1})), Reply{Kind: ReplyNumber, First: 1}, nil)
+	want(t, "nothing", only(shared.Replay(nil)), nil, nil)
 }
 
 // allClosed says that each method answers so.

@@ -58,8 +58,8 @@ func (table *Table) Close() {
 	table.held().close()
 }
 
-// Ask answers a query as its call would be answered, refusals too. It is no call: nothing changes, and it is not counted. A query is a getpid,
-// getppid, getpgid, getsid, nspid, next or count; ErrOutOfRange for each other call. ErrClosed, ErrBusy.
+// Ask answers a query as its call would be answered, refusals too. It is no call: nothing changes, and it is not counted. The operations say
+// which are queries; ErrOutOfRange for each other call. ErrClosed, ErrBusy.
 func (table *Table) Ask(query Call) (Reply, error) {
 	held, numbers, reply := table.held(), query.numbers(), new(C.struct_pidtab_reply)
 	held.lock.Lock()

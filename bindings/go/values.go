@@ -75,7 +75,7 @@ const (
 type Reply struct {
 	Kind    ReplyKind
 	Errno   syscall.Errno // the error that the kernel would give
-	Refusal uint32        // its number, 1 to 19, as enum pidtab_refusal of pidtab.h has it
+	Refusal uint32        // its number, as enum pidtab_refusal of pidtab.h has it
 	Count   uint32
 	First   uint64
 	Second  uint64

@@ -110,20 +110,22 @@ export function toJson(value: Listing | Task | Space | Control | Stat | Forked |
 
 /** What may be asked and changes nothing. */
 export interface Queries {
-  /** getpid(2): the caller's number in its namespace. no-caller. */
+  // Written by tools/interface: queries.
+  /** getpid(2): the caller's number in its own namespace. no-caller. */
   getpid(caller: number): number;
-  /** getppid(2): its parent's number, 0 for one that it cannot see. no-caller. */
-  getppid(caller: number): number;
-  /** getpgid(2): the group of the task, where 0 is the caller; 0 where it cannot be seen. no-caller, no-task. */
-  getpgid(caller: number, pid?: number): number;
-  /** getsid(2): the session of the task, where 0 is the caller; 0 where it cannot be seen. no-caller, no-task. */
-  getsid(caller: number, pid?: number): number;
-  /** NSpid of proc(5): the task's numbers from the caller's namespace inwards, 1 to 33 of them. no-caller, no-task. */
+  /** NSpid of proc(5): the numbers of the task `pid` from the caller's namespace inwards, outermost first: 1 to 33 of them. no-caller, no-task. */
   nspid(caller: number, pid: number): number[];
-  /** The least number from the start on that is in use so, or null. no-caller. */
-  next(caller: number, use?: Use, start?: number): number | null;
+  /** getppid(2): the number of the caller's parent, 0 for one that it cannot see. no-caller. */
+  getppid(caller: number): number;
   /** How many tasks the control group and those below it have. no-control. */
   count(control?: Long): number;
+  /** getpgid(2): the process group of the task `pid`, where 0 is the caller; 0 where it cannot be seen. no-caller, no-task. */
+  getpgid(caller: number, pid?: number): number;
+  /** getsid(2): the session of the task `pid`, where 0 is the caller; 0 where it cannot be seen. no-caller, no-task. */
+  getsid(caller: number, pid?: number): number;
+  /** The least number from `start` on that is in use as that kind in the caller's namespace. no-caller. */
+  next(caller: number, use?: Use, start?: number): number | null;
+  // The end of queries.
 }
 
 /** Queries as what is no call: they use no stamp, and are not recorded. */
@@ -142,30 +144,32 @@ export interface Calls extends Queries {
   line(text: string): string;
   /** The answers to many raw lines: refusals, "bad line", "no memory" and "spent" are answers here. */
   answers(texts: Iterable<string>): string[];
-  /** fork(2), or clone(2) with CLONE_NEWPID: a child. no-caller, too-deep, elsewhere, space-fallen, no-number, pids-limit. */
+  // Written by tools/interface: calls.
+  /** fork(2), or clone(2) with CLONE_NEWPID: a child in the namespace for the caller's children, or in a new one. no-caller, too-deep, elsewhere, space-fallen, no-number, pids-limit. */
   fork(caller: number, options?: { newSpace?: boolean }): Forked;
-  /** execve(2). no-caller. */
+  /** execve(2): the caller executes a program. no-caller. */
   exec(caller: number): void;
-  /** _exit(2) with a status of 0 to 255; the namespace of an init falls. no-caller, root-init. */
+  /** _exit(2): the caller ends, and its namespace falls if it is the init there; `status` is 0 to 255. no-caller, root-init. */
   exit(caller: number, status?: number): void;
-  /** waitpid(2) with WNOHANG: takes an ended child away. null where children match and none has ended. no-caller, no-child. */
+  /** waitpid(2) with WNOHANG: takes an ended child away; none where children match and none of them has ended. no-caller, no-child. */
   wait(caller: number, which?: Which): Reaped | null;
-  /** setpgid(2); 0 is the caller, and the task. no-caller, bad-group, no-task, other-session, executed, is-leader, no-group. */
+  /** setpgid(2): the task `pid` goes into the group `group`; 0 is the caller, and the task. no-caller, bad-group, no-task, other-session, executed, is-leader, no-group. */
   setpgid(caller: number, pid?: number, group?: number): void;
-  /** setsid(2): the number of the new session. no-caller, is-leader. */
+  /** setsid(2): the caller leads a new session and a new group; its number. no-caller, is-leader. */
   setsid(caller: number): number;
-  /** setns(2) with CLONE_NEWPID: later children go into the namespace of the task. no-caller, no-task. */
-  join(caller: number, pid: number): void;
-  /** PR_SET_CHILD_SUBREAPER of prctl(2). no-caller. */
-  subreaper(caller: number, on?: boolean): void;
-  /** The id of a new control group below the one with the id, by default the root, 0. no-control, control-depth. */
+  /** A new control group below the one with the id `parent`, of which 0 is the root: its id. no-control, control-depth. */
   mk(parent?: Long): bigint;
   /** Removes a control group without live tasks and children. no-control, root-control, control-busy. */
   rm(control: Long): void;
-  /** How many tasks a control group may have, 0 to 4194304; null is no limit. no-control, root-control, bad-limit. */
+  /** How many tasks the control group may have, 0 to 4194304, or none for no limit. no-control, root-control, bad-limit. */
   limit(control: Long, most?: number | null): void;
   /** The task, by its root number, goes into the control group. no-task, no-control. */
   move(task: number, control: Long): void;
+  /** setns(2) with CLONE_NEWPID: the caller's later children go into the namespace of the task `pid`. no-caller, no-task. */
+  join(caller: number, pid: number): void;
+  /** PR_SET_CHILD_SUBREAPER of prctl(2): the caller takes orphans of its namespace, or no more. no-caller. */
+  subreaper(caller: number, on?: boolean): void;
+  // The end of calls.
   /** The table as it stands now. It costs a copy of the table, and so does `listText`. */
   list(): Listing;
   /** The same as text, as `pidtab list` writes it. */
@@ -173,6 +177,13 @@ export interface Calls extends Queries {
   /** Ends it: all methods throw TableClosed from then on. A second time nothing is done. */
   close(): void;
 }
+
+type CallName = Exclude<keyof Calls, "pidMax" | "ask" | "line" | "answers" | "list" | "listText" | "close">;
+type LineOfCall = { [Name in CallName]: (...taken: Parameters<Calls[Name]>) => string };
+
+/** The calls as lines: each method makes no call, and tells the line that makes it, as `new Lines().fork(1)` is "fork 1". It needs no table. */
+export class Lines {}
+export interface Lines extends LineOfCall {}
 
 /** A table. One that nobody has any more is freed, closed or not. */
 export class Table implements Calls {

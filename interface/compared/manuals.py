@@ -1,8 +1,8 @@
-"""The statuses in the manual pages of the functions of C, each with its errno."""
+"""The statuses in the manual page of saved histories, each with its errno."""
 
 from compared.sources import Source
 
-PATHS = ("man/pidtab.3", "man/pidtab_record.3", "man/pidtab_saved.3")
+PATHS = ("man/pidtab_saved.3",)
 
 
 def differences(tables, top):

@@ -6,8 +6,9 @@ RAW = "bindings/rust/src/raw.rs"
 STRUCTS = ("call", "fault", "reply", "task", "entry", "saved_head")
 IN_MEMORY = ("saved_put_head", "saved_put", "saved_take_head", "saved_take")
 
-# What opens, loads and closes has a method by hand, and what keeps so many entries none.
-BY_HAND = ("open", "load", "close", "call_keeping")
+# What closes is called where the owner is dropped, and what keeps so many entries by none.
+BY_HAND = ("close", "call_keeping")
+MAKES = ("open", "load")
 
 NUMBERS = {"uint32_t": "u32", "uint64_t": "u64", "int32_t": "i32", "size_t": "usize", "bool": "bool", "int": "i32"}
 
@@ -78,6 +79,19 @@ def lent(arguments):
     return taken, passed
 
 
+def maker(function, owner, ending, taken, passed):
+    """What opens an owner: a struct of zeroes, and the function on it."""
+    call = broken("", f"pidtab_{function.name}", ["&mut *held", *passed], "", 60)
+    one = f"        let status = unsafe {{ {call[0]} }};"
+    many = broken("            ", f"pidtab_{function.name}", ["&mut *held", *passed], "", 60)
+    return [
+        "", *broken("    ", f"pub(crate) fn {ending}", taken, f" -> Result<{owner}, u32> {{"), "        compare_versions();", "        let mut held = Held::none();",
+        "        // SAFETY: the first pointer is to a struct of zeroes that is this call's alone; each other is that of a reference or of a slice.",
+        *([one] if len(call) == 1 and len(one) <= 100 else ["        let status = unsafe {", *many, "        };"]),
+        f"        done(status, {owner} {{ held }})", "    }",
+    ]  # fmt: skip
+
+
 def methods(tables, prefix):
     """A method for each function on a table or a record that is open."""
     lines = []
@@ -87,6 +101,9 @@ def methods(tables, prefix):
         if owner is None or owner.kind != f"struct pidtab{'_record' if prefix else ''} *" or ending in BY_HAND:
             continue
         taken, passed = lent(arguments)
+        if ending in MAKES:
+            lines += maker(it, "Record" if prefix else "Table", ending, taken, passed)
+            continue
         call = broken("            ", f"pidtab_{it.name}", ["&mut *self.held", *passed], "", 60)
         one = f"        unsafe {{ {call[0].strip()} }}"
         lines += ["", *broken("    ", f"pub(crate) fn {ending}", ["&mut self", *taken], " -> u32 {")]

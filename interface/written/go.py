@@ -1,6 +1,7 @@
 """The package for Go, whose other numbers are those of the headers of C."""
 
-from names import camel, capitals, columns, takes, with_id, wrapped
+from arguments import queries
+from names import camel, capitals, columns, strings, takes, with_id, wrapped
 
 
 def constants(rows):
@@ -55,4 +56,40 @@ def operations(tables):
     ]  # fmt: skip
 
 
-PARTS = {("bindings/go/values.go", "operations"): operations, ("bindings/go/values.go", "kinds"): kinds, ("bindings/go/refusal.go", "refusals"): refusals, ("bindings/go/dump.go", "faults"): faults}
+# What the package has another error for, and what its functions take care of themselves.
+OTHER_ERRORS = {"DONE": "nil", "ENDED": "ErrUnsaved"}
+NO_ERRORS = ("NO_ROOM", "BAD_TEXT", "DEVICE", "NOT_EMPTY")
+
+
+def errors(tables):
+    """The error of each status."""
+    rows = [it for it in tables["statuses"] if it.name not in NO_ERRORS]
+    return [line for it in rows for line in (f"\tcase C.PIDTAB_{it.name}:", f"\t\treturn {OTHER_ERRORS.get(it.name, 'Err' + camel(it.name))}")]
+
+
+def used_errnos(tables):
+    """The errors of the kernel that refusals have."""
+    return [it.name for it in tables["errnos"] if it.name in {row.error for row in tables["refusals"]}]
+
+
+def errnos(tables):
+    """The names of the errors of refusals."""
+    rows = columns([(f"\tsyscall.{name}:", f'"{name}",') for name in used_errnos(tables)])
+    return ["", "// The names of the errnos that a refusal may have.", "var errnoNames = map[syscall.Errno]string{", *rows, "}", ""]
+
+
+def names(tables):
+    """The names of statuses, and the queries, in the test of the cases."""
+    rows = [it for it in tables["statuses"] if it.name not in NO_ERRORS and it.of != "saved"]
+    return [
+        "", "// The names of statuses, in the tables of the interface.", "var statusNames = map[error]string{",
+        *columns([(f"\t{OTHER_ERRORS.get(it.name, 'Err' + camel(it.name))}:", f'"{it.name}",') for it in rows]), "}", "",
+        f"var queryWords = []string{{{strings(queries(tables))}}}", "",
+    ]  # fmt: skip
+
+
+PARTS = {
+    ("bindings/go/refusal.go", "errors"): errors,
+    ("bindings/go/json.go", "errnos"): errnos,
+    ("bindings/go/cases_test.go", "names"): names,
+    ("bindings/go/values.go", "operations"): operations, ("bindings/go/values.go", "kinds"): kinds, ("bindings/go/refusal.go", "refusals"): refusals, ("bindings/go/dump.go", "faults"): faults}

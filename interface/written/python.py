@@ -1,5 +1,6 @@
 """The package for Python."""
 
+from arguments import arguments_of
 from names import capitals, strings, wrapped
 
 FAULTS = "bindings/python/pidtab/faults.py"
@@ -58,7 +59,27 @@ def operations(tables):
     return [f"{', '.join(names[:10])} = range(10)", f"{', '.join(names[10:])} = range(10, {len(names)})"]
 
 
+def endings(tables, argument):
+    """What an argument may be in a line, by the number of its choice."""
+    choices = [it for it in tables["kinds"] if it.of == argument.kind]
+    if choices:
+        return [f" {it.word} {{number}}" if argument.kind == "which" and "number" in it.tells else f" {it.word}" for it in choices]
+    return {"new": ["", " new"], "on": [" off", " on"], "most": [" max", " {number}"]}.get(argument.kind, [f" {{{argument.field}}}"])
+
+
+def lines_of_calls(tables):
+    """The line of each call, by its operation and its choice."""
+    lines = ["LINES: dict[int, tuple[str, ...]] = {"]
+    for row in tables["calls"]:
+        forms = [row.call]
+        for it in arguments_of(row):
+            forms = [form + ending for form in forms for ending in endings(tables, it)]
+        lines.append(f"    raw.{capitals(row.call)}: ({', '.join(f'{chr(34)}{form}{chr(34)}' for form in forms)}{',' if len(forms) == 1 else ''}),")
+    return [*lines, "}"]
+
+
 PARTS = {
+    ("bindings/python/pidtab/calls.py", "lines"): lines_of_calls,
     (RAW, "operations"): operations,
     ("bindings/python/pidtab/bounds.py", "bounds"): lambda tables: bounds_of(tables, "packages"),
     (RAW, "bounds"): lambda tables: bounds_of(tables, "interface"),

@@ -100,7 +100,35 @@ def operations(tables):
     return numbers("operations", "The operations.", [(capitals(it.call), "u32", it.number) for it in tables["calls"]])
 
 
+def errnos(tables):
+    """The names of the errors of refusals."""
+    used = {row.error for row in tables["refusals"]}
+    arms = [f'        {it.value} => "{it.name}",' for it in tables["errnos"] if it.name in used]
+    return [
+        "/// The name of an errno that a refusal may have.", "pub(crate) fn errno_name(errno: i32) -> &'static str {", "    match errno {", *arms,
+        '        _ => unreachable!("no refusal has the errno {errno}"),', "    }", "}",
+    ]  # fmt: skip
+
+
+# The statuses that a function of an open table may have, and those of a line.
+OF_TABLES = ("NO_MEMORY", "BUSY", "OUT_OF_RANGE", "SPENT", "NOT_KEPT", "AGAIN", "DIFFERS")
+OF_LINES = {"NO_MEMORY": "NoMemory", "BUSY": "Busy", "EMPTY_LINE": "Empty", "BAD_LINE": "Bad", "SPENT": "Spent"}
+
+
+def errors(tables):
+    """The error of each status."""
+    return [f"            raw::{it.name} => Error::{camel(it.name)}," for it in tables["statuses"] if it.name in OF_TABLES]
+
+
+def errors_of_lines(tables):
+    """The same of a line."""
+    return [f"            raw::{it.name} => LineError::{OF_LINES[it.name]}," for it in tables["statuses"] if it.name in OF_LINES]
+
+
 PARTS = {
+    (FAULT, "errors"): errors,
+    (FAULT, "errors of lines"): errors_of_lines,
+    ("bindings/rust/src/json.rs", "errnos"): errnos,
     (RAW, "operations"): operations,
     (RAW, "kinds"): kinds,
     (RAW, "bounds"): bounds,

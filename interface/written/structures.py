@@ -53,7 +53,7 @@ def python_functions(tables):
     since = {name: it.since for it in tables["functions"] for name in words_of(it.functions)}
     found = [it for it in tables["headers"].functions if not it.is_inline and it.name not in OTHERS and not it.name.startswith("record_") and it.name != "version"]
     tables_of, shared_of, saved_of = [[it for it in found if it.header.endswith(f"/{name}.h")] for name in ("pidtab", "pidtab_shared", "pidtab_saved")]
-    first = [it for it in tables_of if since[it.name] == "0.1.0"]
+    first = [it for it in tables_of if since.get(it.name) == "0.1.0"]
     groups = (
         ("FUNCTIONS", "The functions on a table that each library of the interface has.", first, True),
         ("LATER_FUNCTIONS", "Those that an earlier library may lack.", [it for it in tables_of if it not in first], False),

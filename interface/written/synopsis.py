@@ -5,9 +5,15 @@ import textwrap
 
 from names import wrapped
 from tables import words_of
+from written.c_calls import prototype
 
 # The pages, each with its header, how its functions begin, and what is a table there.
-PAGES = {"man/pidtab.3": ("pidtab.h", ""), "man/pidtab_record.3": ("pidtab.h", "record_"), "man/pidtab_shared.3": ("pidtab_shared.h", "shared_")}
+PAGES = {
+    "man/pidtab.3": ("pidtab.h", ""), "man/pidtab_record.3": ("pidtab.h", "record_"), "man/pidtab_shared.3": ("pidtab_shared.h", "shared_"),
+    "man/pidtab_saved.3": ("pidtab_saved.h", "saved_"),
+}  # fmt: skip
+# The functions of a page that tell words of numbers. They are inline.
+WORDS = {"man/pidtab.3": ("word", "text", "fault_text"), "man/pidtab_saved.3": ("saved_text",)}
 
 
 def functions_of(tables, path):
@@ -17,17 +23,10 @@ def functions_of(tables, path):
     return [it for it in found if prefix or not it.name.startswith("record_")]
 
 
-def inline(tables):
-    """The functions of the header that are inline: the calls, and the words of numbers."""
-    calls = [it.call for it in tables["calls"]]
-    found = {it.name: it for it in tables["headers"].functions if it.is_inline}
-    return [found[name] for name in calls], [found[name] for name in ("word", "text", "fault_text")]
-
-
 def names(tables, path):
     """The head of a page, from which a page for each function is made."""
-    calls, words = inline(tables) if path == "man/pidtab.3" else ([], [])
-    found = [it.name for it in (*functions_of(tables, path), *calls, *words)]
+    calls = [it.call for it in tables["calls"]] if path == "man/pidtab.3" else []
+    found = [*[it.name for it in functions_of(tables, path)], *calls, *WORDS.get(path, ())]
     return [f".Nm pidtab_{name} ," for name in found[:-1]] + [f".Nm pidtab_{found[-1]}"]
 
 
@@ -43,16 +42,15 @@ def declared(function):
 
 def synopsis(tables, path):
     """What each function of a page answers and takes."""
-    _, words = inline(tables) if path == "man/pidtab.3" else ([], [])
-    return [line for it in (*functions_of(tables, path), *words) for line in declared(it)]
+    others = [tables["headers"].function(name) for name in WORDS.get(path, ())]
+    return [line for it in (*functions_of(tables, path), *others) for line in declared(it)]
 
 
 def prototypes(tables):
     """The calls as functions."""
     lines = [".Bd -literal"]
-    for it in inline(tables)[0]:
-        said = f"int64_t pidtab_{it.name}({', '.join(str(argument) for argument in it.arguments)});"
-        lines += wrapped(said, "    ", 72, "")
+    for row in tables["calls"]:
+        lines += wrapped(f"{prototype(row)};", "    ", 72, "")
     return [*lines, ".Ed"]
 
 
@@ -91,6 +89,18 @@ def statuses(tables, function):
     return [*lines, ".El"]
 
 
+def errors(tables, path):
+    """All statuses of a page, each with its error. A record has those of a table too."""
+    held = "record" if path == "man/pidtab_record.3" else "table"
+    lines = [".Bl -tag -width Ds"]
+    for it in tables["statuses"]:
+        if it.of in ("table", held):
+            text = (it.sentence if it.when == "-" else it.when).replace("the table", f"the {held}").replace("open table", f"open {held}")
+            told = re.sub(r"\b(size|pid_max)\b,?", lambda found: f"{{{found[1]}}}{found[0][len(found[1]):]}", text)
+            lines += [f".It Dv PIDTAB_{it.name}", *(["0."] if it.error == "-" else [f".Er {it.error} :", *said(f"{told}.")])]
+    return [*lines, ".El"]
+
+
 def part(function, argument):
     """A part that is made for its page, its function or its struct."""
     return lambda tables: function(tables, argument)
@@ -101,6 +111,8 @@ def parts_of(tables):
     parts = {("man/pidtab.3", "prototypes"): prototypes}
     parts |= {("man/pidtab.3", f"struct {name}"): part(struct, f"pidtab_{name}") for name in ("call", "reply", "task")}
     parts |= {("man/pidtab_record.3", "struct entry"): part(struct, "pidtab_entry")}
+    parts |= {("man/pidtab_saved.3", "struct saved_head"): part(struct, "pidtab_saved_head")}
+    parts |= {(path, "statuses"): part(errors, path) for path in ("man/pidtab.3", "man/pidtab_record.3")}
     for path in PAGES:
         parts |= {(path, "names"): part(names, path), (path, "synopsis"): part(synopsis, path)}
         for it in functions_of(tables, path) if PAGES[path][1] else ():

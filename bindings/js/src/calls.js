@@ -28,6 +28,13 @@ function select({ pid, own = false, group }) {
   return group === undefined ? [WHICH.ANY, 0] : [WHICH.GROUP, checkNumber("group", group)];
 }
 
+/** The number of what a next looks for. */
+function choiceOf(use) {
+  const choice = USES.indexOf(use);
+  if (choice < 0) throw new RangeError(`a use is "task", "group" or "session", not ${shorten(String(use))}`);
+  return choice;
+}
+
 /** What may be asked of a table and changes nothing. On a table each is a call, which uses a stamp; those of its `ask` are none. */
 export class Queries {
   /** Makes the call that was written: what it is answered, in its form. */
@@ -54,12 +61,21 @@ export class Queries {
     return this._made(instance, form);
   }
 
+  // Written by tools/interface: queries.
   getpid(caller) {
     return this._make(aNumber, OPERATION.GETPID, caller);
   }
 
+  nspid(caller, pid) {
+    return this._make(theNumbers, OPERATION.NSPID, caller, checkNumber("pid", pid));
+  }
+
   getppid(caller) {
     return this._make(aNumber, OPERATION.GETPPID, caller);
+  }
+
+  count(control = 0n) {
+    return this._makeOf(aNumber, OPERATION.COUNT, control);
   }
 
   getpgid(caller, pid = 0) {
@@ -70,19 +86,10 @@ export class Queries {
     return this._make(aNumber, OPERATION.GETSID, caller, checkNumber("pid", pid));
   }
 
-  nspid(caller, pid) {
-    return this._make(theNumbers, OPERATION.NSPID, caller, checkNumber("pid", pid));
-  }
-
   next(caller, use = "task", start = 0) {
-    const choice = USES.indexOf(use);
-    if (choice < 0) throw new RangeError(`a use is "task", "group" or "session", not ${shorten(String(use))}`);
-    return this._make(theNext, OPERATION.NEXT, caller, checkNumber("start", start), choice);
+    return this._make(theNext, OPERATION.NEXT, caller, checkNumber("start", start), choiceOf(use));
   }
-
-  count(control = 0n) {
-    return this._makeOf(aNumber, OPERATION.COUNT, control);
-  }
+  // The end of queries.
 }
 
 /** The queries of a table as what is no call: they use no stamp, and are not recorded. */
@@ -157,14 +164,6 @@ export class Calls extends Queries {
     return child;
   }
 
-  exec(caller) {
-    this._make(nothing, OPERATION.EXEC, caller);
-  }
-
-  exit(caller, status = 0) {
-    this._make(nothing, OPERATION.EXIT, caller, checkRange("status", status, 0, 255));
-  }
-
   wait(caller, which) {
     // As this is what most waits mean, it takes no object apart.
     if (which === undefined) return this._make(anEndedChild, OPERATION.WAIT, caller);
@@ -172,21 +171,22 @@ export class Calls extends Queries {
     return this._make(anEndedChild, OPERATION.WAIT, caller, number, choice);
   }
 
+  // Written by tools/interface: calls.
+  exec(caller) {
+    return this._make(nothing, OPERATION.EXEC, caller);
+  }
+
+  exit(caller, status = 0) {
+    return this._make(nothing, OPERATION.EXIT, caller, checkRange("status", status, 0, 255));
+  }
+
   setpgid(caller, pid = 0, group = 0) {
     this._open().writeGroups(checkSigned("pid", pid), checkSigned("group", group));
-    this._make(nothing, OPERATION.SETPGID, caller);
+    return this._make(nothing, OPERATION.SETPGID, caller);
   }
 
   setsid(caller) {
     return this._make(aNumber, OPERATION.SETSID, caller);
-  }
-
-  join(caller, pid) {
-    this._make(nothing, OPERATION.JOIN, caller, checkNumber("pid", pid));
-  }
-
-  subreaper(caller, on = true) {
-    this._make(nothing, OPERATION.SUBREAPER, caller, 0, on ? 1 : 0);
   }
 
   mk(parent = 0n) {
@@ -194,16 +194,25 @@ export class Calls extends Queries {
   }
 
   rm(control) {
-    this._makeOf(nothing, OPERATION.RM, control);
+    return this._makeOf(nothing, OPERATION.RM, control);
   }
 
   limit(control, most = null) {
-    this._makeOf(nothing, OPERATION.LIMIT, control, 0, most === null ? 0 : checkNumber("most", most), most === null ? 0 : 1);
+    return this._makeOf(nothing, OPERATION.LIMIT, control, 0, most === null ? 0 : checkNumber("most", most), most === null ? 0 : 1);
   }
 
   move(task, control) {
-    this._makeOf(nothing, OPERATION.MOVE, control, checkNumber("task", task));
+    return this._makeOf(nothing, OPERATION.MOVE, control, checkNumber("task", task));
   }
+
+  join(caller, pid) {
+    return this._make(nothing, OPERATION.JOIN, caller, checkNumber("pid", pid));
+  }
+
+  subreaper(caller, on = true) {
+    return this._make(nothing, OPERATION.SUBREAPER, caller, 0, on ? 1 : 0);
+  }
+  // The end of calls.
 
   list() {
     return readListing(this.listText());

@@ -8,16 +8,6 @@ import { toJson } from "../src/json.js";
 import { pidtab, skip } from "./package.js";
 import { read } from "../../../page/tests/stored.js";
 
-/** The answer of a call, or its refusal. */
-function replyTo(call) {
-  try {
-    return call();
-  } catch (refusal) {
-    assert.ok(refusal instanceof pidtab.Refusal, String(refusal));
-    return refusal;
-  }
-}
-
 /** The labels of all tasks that have one, by their root numbers. */
 const labelsOf = (table) => Object.fromEntries(table.list().tasks.filter(({ label }) => label).map(({ root, label }) => [root, label]));
 
@@ -29,29 +19,9 @@ test("what is none", () => {
   assert.throws(() => toJson(() => 1), { name: "TypeError", message: "a table tells no function" });
 });
 
-test("replies", { skip }, () => {
+test("a task", { skip }, () => {
   const { Table, toJson } = pidtab;
-  const calls = [
-    (it) => it.fork(1, { newSpace: true }),
-    (it) => it.fork(2),
-    (it) => it.nspid(1, 3),
-    (it) => it.getpid(3),
-    (it) => it.mk(),
-    (it) => it.limit(5n, 0),
-    (it) => it.move(3, 5n),
-    (it) => it.fork(3),
-    (it) => it.count(5n),
-    (it) => it.next(1, "task", 9),
-    (it) => it.getpid(9),
-    (it) => it.wait(1),
-    (it) => it.join(1, 2),
-    (it) => it.fork(1),
-    (it) => it.exit(2, 7),
-    (it) => it.wait(1, { pid: 2 }),
-    (it) => it.wait(1, { pid: 4 }),
-  ];
   const table = new Table();
-  assert.equal(calls.map((call) => `${toJson(replyTo(() => call(table)))}\n`).join(""), read("bindings/replies.json"));
   const task =
     '{"numbers":[1],"parent":0,"group":1,"session":1,"space":0,"control":0,"state":"live","status":null,"executed":false,"subreaper":false}';
   assert.equal(toJson(table.ask.stat(1)), task);

@@ -33,27 +33,6 @@ test("calls are entries, refused ones too", { skip }, () => {
   assert.throws(() => record.seat(), { name: "SeatsTaken", message: "each of the 2 workers has its seat" });
 });
 
-test("each kind of an answer stands in its entry", { skip }, () => {
-  const record = new Record({ workers: 1, pidMax: 301 });
-  const lines = "fork 1|fork 1 new|nspid 1 3|wait 1 any|setpgid 1 2 2|exit 2 7|wait 1 pid 2|wait 1 own|wait 1 group 9|mk 0|limit 10 1|move 3 10|fork 3";
-  const more = "limit 10 max|limit 10 4194305|count 10|exit 3 0|wait 1 any|next 1 task 2|next 1 session 1|join 1 1|subreaper 1 on|subreaper 1 off|rm 10|getsid 1 0";
-  const seat = record.seat();
-  const asked = [...lines.split("|"), ...more.split("|")];
-  const answers = seat.answers(asked);
-  const table = new Table({ pidMax: 301 });
-  assert.deepEqual(answers, table.answers(asked));
-  assert.deepEqual([...record.entries()].map(({ line, answer }) => [line, answer]), asked.map((line, at) => [line, answers[at]]));
-  assert.equal(record.listText(), table.listText());
-});
-
-test("queries that are no calls are not recorded", { skip }, () => {
-  const { record, seats } = recorded();
-  assert.equal(record.ask.count(), 3);
-  assert.equal(seats[0].ask.getpid(3), 2);
-  assert.deepEqual(record.ask.stat(1, 3).numbers, [3, 2]);
-  assert.equal(record.counts().recorded, 3n);
-});
-
 test("a line that is none, and one without a call, are not recorded", { skip }, () => {
   const record = new Record();
   const seat = record.seat();
@@ -105,16 +84,6 @@ test("the text of a table makes it again", { skip }, () => {
   }
 });
 
-test("a namespace without a free number is loaded", { skip }, () => {
-  const table = new Table({ pidMax: 301 });
-  for (let root = 2; root < 301; root += 1) assert.deepEqual(table.fork(1), { child: root, root });
-  const text = table.dump();
-  const again = Table.load(text);
-  assert.equal(again.dump(), text);
-  const lines = ["fork 1", "exit 300 0", "wait 1 any", "fork 1"];
-  assert.deepEqual(again.answers(lines), table.answers(lines));
-});
-
 test("a text that is that of no table", { skip }, () => {
   const text = new Table().dump();
   const wrong = text.replace("group 1@0", "group 2@0");
@@ -134,16 +103,6 @@ test("a record goes on where a text ends", { skip }, () => {
   assert.deepEqual(Record.load(text, { workers: 3 }).counts(), { firstKept: 0n, recorded: 0n });
   assert.throws(() => Record.load(text, { recorded: [4n] }), RangeError);
   assert.throws(() => Record.load(text, { recorded: Array(17).fill(0) }), RangeError);
-});
-
-test("a record's first stamp, and its last", { skip }, () => {
-  const record = new Record({ workers: 1, firstStamp: 2n ** 64n - 2n });
-  const seat = record.seat();
-  assert.equal(seat.mk(), 2n ** 64n - 2n);
-  assert.throws(() => seat.mk(), { name: "Spent", code: "EOVERFLOW" });
-  assert.deepEqual(seat.answers(["getpid 1"]), ["spent"]);
-  assert.throws(() => new Record({ firstStamp: 0 }), RangeError);
-  for (const workers of [0, 17]) assert.throws(() => new Record({ workers }), RangeError);
 });
 
 test("a closed record, and a closed seat", { skip }, () => {

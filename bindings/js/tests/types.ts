@@ -1,6 +1,6 @@
 // What a user of the types writes, and what the compiler has to refuse. Nothing here is run.
 
-import { BadText, Entry, Forked, Listing, Queries, Reaped, Record, Refusal, Stat, Table, toJson } from "../pidtab.js";
+import { BadText, Entry, Forked, Lines, Listing, Queries, Reaped, Record, Refusal, Stat, Table, toJson } from "../pidtab.js";
 
 const table = new Table({ pidMax: 400 });
 const child: Forked = table.fork(1, { newSpace: true });
@@ -15,6 +15,8 @@ table.label(child.root, "nginx");
 table.label(child.root, null);
 const label: string | undefined = listing.tasks[0].label;
 const json: string[] = [toJson(listing), toJson(stat), toJson(child), toJson(reaped), toJson(group), toJson(numbers), toJson(table.rm(group))];
+
+const line: string = new Lines().fork(1, { newSpace: true });
 
 function count(queries: Queries): number {
   return queries.count();
@@ -38,7 +40,7 @@ try {
   if (fault instanceof BadText) console.log(fault.line, fault.why);
 }
 
-console.log(reaped?.status, numbers, listing, stat, ordinal, label, json);
+console.log(line, reaped?.status, numbers, listing, stat, ordinal, label, json);
 
 // @ts-expect-error: a number of a process is no text
 table.getpid("1");
@@ -54,5 +56,7 @@ record.fork(1);
 table.label(1, 5);
 // @ts-expect-error: a table tells no functions
 toJson(count);
+// @ts-expect-error: it has no table, and so no list
+new Lines().list();
 // @ts-expect-error: nobody sets it
 seat.ordinal = 1n;

@@ -53,9 +53,28 @@ void EXPORTED(give)(uint32_t address)
 	heap_free(pointer(address));
 }
 
+/* Each number of 64 bits that a function takes or tells is one of the numbers, in their order, and an ordinal the first: where one is given, the
+ * worker of its entry stands in its place. A room for the answer that is short is refused. */
+
+/* Written by tools/interface: functions. */
 uint32_t EXPORTED(open)(uint32_t pid_max)
 {
 	return pidtab_open(&held.table, pid_max);
+}
+
+uint32_t EXPORTED(line)(uint32_t length, uint32_t room)
+{
+	return pidtab_line(&held.table, at.line, length, at.answer, room < ANSWER_ROOM ? room : ANSWER_ROOM, &at.size);
+}
+
+uint32_t EXPORTED(list)(uint32_t bytes, uint32_t room)
+{
+	return pidtab_list(&held.table, pointer(bytes), room, &at.size);
+}
+
+uint32_t EXPORTED(dump)(uint32_t bytes, uint32_t room)
+{
+	return pidtab_dump(&held.table, pointer(bytes), room, &at.size);
 }
 
 uint32_t EXPORTED(load)(uint32_t text, uint32_t length)
@@ -68,12 +87,6 @@ uint32_t EXPORTED(call)(void)
 	return pidtab_call(&held.table, &at.call, &at.reply);
 }
 
-/* A room for the answer that is short is refused. */
-uint32_t EXPORTED(line)(uint32_t length, uint32_t room)
-{
-	return pidtab_line(&held.table, at.line, length, at.answer, room < ANSWER_ROOM ? room : ANSWER_ROOM, &at.size);
-}
-
 uint32_t EXPORTED(ask)(void)
 {
 	return pidtab_ask(&held.table, &at.call, &at.reply);
@@ -84,49 +97,29 @@ uint32_t EXPORTED(stat)(uint32_t caller, uint32_t number)
 	return pidtab_stat(&held.table, caller, number, &at.task);
 }
 
-uint32_t EXPORTED(list)(uint32_t room, uint32_t size)
-{
-	return pidtab_list(&held.table, pointer(room), size, &at.size);
-}
-
-uint32_t EXPORTED(dump)(uint32_t room, uint32_t size)
-{
-	return pidtab_dump(&held.table, pointer(room), size, &at.size);
-}
-
-/* The line of the call, which then stands in the place of lines. */
 uint32_t EXPORTED(call_line)(void)
 {
 	return pidtab_call_line(&at.call, at.line, LINE_ROOM, &at.size);
 }
 
-/* The first stamp is the first of the numbers. */
 uint32_t EXPORTED(record_open)(uint32_t pid_max, uint32_t workers)
 {
 	return pidtab_record_open(&held.record, pid_max, at.numbers[0], workers);
 }
 
-/* The numbers are how many calls of each worker were recorded before. */
-uint32_t EXPORTED(record_load)(uint32_t text, uint32_t length, uint32_t workers)
-{
-	return pidtab_record_load(&held.record, pointer(text), length, at.numbers, workers, &at.fault);
-}
-
-/* The ordinal is the first of the numbers afterwards. */
 uint32_t EXPORTED(record_call)(uint32_t worker)
 {
-	return pidtab_record_call(&held.record, worker, &at.call, &at.reply, at.numbers);
+	return pidtab_record_call(&held.record, worker, &at.call, &at.reply, &at.numbers[0]);
 }
 
-/* At most as many entries are kept as the second of the numbers says. */
 uint32_t EXPORTED(record_call_keeping)(uint32_t worker)
 {
-	return pidtab_record_call_keeping(&held.record, worker, &at.call, at.numbers[1], &at.reply, at.numbers);
+	return pidtab_record_call_keeping(&held.record, worker, &at.call, at.numbers[1], &at.reply, &at.numbers[0]);
 }
 
 uint32_t EXPORTED(record_line)(uint32_t worker, uint32_t length, uint32_t room)
 {
-	return pidtab_record_line(&held.record, worker, at.line, length, at.answer, room < ANSWER_ROOM ? room : ANSWER_ROOM, &at.size, at.numbers);
+	return pidtab_record_line(&held.record, worker, at.line, length, at.answer, room < ANSWER_ROOM ? room : ANSWER_ROOM, &at.size, &at.numbers[0]);
 }
 
 uint32_t EXPORTED(record_ask)(void)
@@ -146,16 +139,14 @@ uint32_t EXPORTED(record_counts)(void)
 
 uint32_t EXPORTED(record_worker)(uint32_t worker)
 {
-	return pidtab_record_worker(&held.record, worker, at.numbers);
+	return pidtab_record_worker(&held.record, worker, &at.numbers[0]);
 }
 
-/* The entry with the ordinal that is the first of the numbers, which is its worker afterwards. */
 uint32_t EXPORTED(record_entry)(void)
 {
-	return pidtab_record_entry(&held.record, at.numbers[0], at.numbers, &at.call, &at.reply);
+	return pidtab_record_entry(&held.record, at.numbers[0], &at.numbers[0], &at.call, &at.reply);
 }
 
-/* At most as many entries are kept as the first of the numbers says. */
 uint32_t EXPORTED(record_keep)(void)
 {
 	return pidtab_record_keep(&held.record, at.numbers[0]);
@@ -166,23 +157,28 @@ uint32_t EXPORTED(record_checkpoint)(void)
 	return pidtab_record_checkpoint(&held.record);
 }
 
-/* Where as many calls were recorded as the first of the numbers says. */
 uint32_t EXPORTED(record_checkpoint_at)(void)
 {
 	return pidtab_record_checkpoint_at(&held.record, at.numbers[0]);
 }
 
-uint32_t EXPORTED(record_list)(uint32_t room, uint32_t size)
+uint32_t EXPORTED(record_list)(uint32_t bytes, uint32_t room)
 {
-	return pidtab_record_list(&held.record, pointer(room), size, &at.size);
+	return pidtab_record_list(&held.record, pointer(bytes), room, &at.size);
 }
 
-uint32_t EXPORTED(record_opening)(uint32_t room, uint32_t size)
+uint32_t EXPORTED(record_opening)(uint32_t bytes, uint32_t room)
 {
-	return pidtab_record_opening(&held.record, pointer(room), size, &at.size);
+	return pidtab_record_opening(&held.record, pointer(bytes), room, &at.size);
 }
 
-uint32_t EXPORTED(record_dump)(uint32_t room, uint32_t size)
+uint32_t EXPORTED(record_dump)(uint32_t bytes, uint32_t room)
 {
-	return pidtab_record_dump(&held.record, pointer(room), size, &at.size);
+	return pidtab_record_dump(&held.record, pointer(bytes), room, &at.size);
 }
+
+uint32_t EXPORTED(record_load)(uint32_t text, uint32_t length, uint32_t workers)
+{
+	return pidtab_record_load(&held.record, pointer(text), length, at.numbers, workers, &at.fault);
+}
+/* The end of functions. */

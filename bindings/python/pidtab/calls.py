@@ -3,7 +3,7 @@
 from abc import ABC, abstractmethod
 from collections.abc import Iterable, Sequence
 from operator import index
-from typing import Literal, NamedTuple, SupportsIndex, TypeVar, get_args
+from typing import Literal, NamedTuple, TypeVar, get_args
 
 from pidtab import raw
 from pidtab.answers import A_CHILD, A_CONTROL, A_NUMBER, AN_ENDED_CHILD, NOTHING, THE_NEXT, THE_NUMBERS, Form, Forked, Reaped
@@ -20,6 +20,7 @@ KINDS: tuple[Kind, ...] = get_args(Kind)
 T = TypeVar("T")
 
 # The line of each call by its operation and its choice. Its numbers have the names of the fields of `struct pidtab_call`.
+# Written by tools/interface: lines.
 LINES: dict[int, tuple[str, ...]] = {
     raw.FORK: ("fork {caller}", "fork {caller} new"),
     raw.GETPID: ("getpid {caller}",),
@@ -37,10 +38,11 @@ LINES: dict[int, tuple[str, ...]] = {
     raw.COUNT: ("count {id}",),
     raw.GETPGID: ("getpgid {caller} {number}",),
     raw.GETSID: ("getsid {caller} {number}",),
-    raw.NEXT: tuple(f"next {{caller}} {kind} {{number}}" for kind in KINDS),
+    raw.NEXT: ("next {caller} task {number}", "next {caller} group {number}", "next {caller} session {number}"),
     raw.JOIN: ("join {caller} {number}",),
     raw.SUBREAPER: ("subreaper {caller} off", "subreaper {caller} on"),
 }
+# The end of lines.
 
 
 class Call(NamedTuple):
@@ -80,6 +82,13 @@ def select(pid: int | None, own: bool, group: int | None) -> tuple[int, int]:
     return (raw.OWN_GROUP, 0) if group is None else (raw.GROUP, group)
 
 
+def choice_of(caller: int, kind: str, start: int) -> int:
+    """The number of what a next looks for."""
+    if kind not in KINDS:
+        raise ValueError(f"bad line: next {caller} {shorten(str(kind))} {start}")
+    return KINDS.index(kind)
+
+
 class Queries(ABC):
     """What may be asked of a table and changes nothing. On a table each is a call, which is counted; those of its `ask` are none.
 
@@ -90,35 +99,38 @@ class Queries(ABC):
     def _make(self, call: Call, form: Form[T]) -> T:
         """Makes a call, and reads what it is answered."""
 
+    # Written by tools/interface: queries.
     def getpid(self, caller: int) -> int:
-        """getpid(2): the caller's number in its namespace. no-caller."""
+        """getpid(2): the caller's number in its own namespace. no-caller."""
         return self._make(Call(raw.GETPID, index(caller)), A_NUMBER)
 
-    def getppid(self, caller: int) -> int:
-        """getppid(2): its parent's number, 0 for one that it cannot see. no-caller."""
-        return self._make(Call(raw.GETPPID, index(caller)), A_NUMBER)
-
-    def getpgid(self, caller: int, pid: int = 0) -> int:
-        """getpgid(2): the group of the task, where 0 is the caller; 0 where it cannot be seen. no-caller, no-task."""
-        return self._make(Call(raw.GETPGID, index(caller), number=index(pid)), A_NUMBER)
-
-    def getsid(self, caller: int, pid: int = 0) -> int:
-        """getsid(2): the session of the task, where 0 is the caller; 0 where it cannot be seen. no-caller, no-task."""
-        return self._make(Call(raw.GETSID, index(caller), number=index(pid)), A_NUMBER)
-
     def nspid(self, caller: int, pid: int) -> tuple[int, ...]:
-        """NSpid of proc(5): the task's numbers from the caller's namespace inwards, 1 to 33 of them. no-caller, no-task."""
-        return self._make(Call(raw.NSPID, index(caller), number=index(pid)), THE_NUMBERS)
+        """NSpid of proc(5): the numbers of the task `pid` from the caller's namespace inwards, outermost first: 1 to 33 of them.
 
-    def next(self, caller: int, kind: Kind = "task", start: int = 0) -> int | None:
-        """The least number from the start on that is in use as that, or None. no-caller."""
-        if kind not in KINDS:
-            raise ValueError(f"bad line: next {caller} {shorten(str(kind))} {start}")
-        return self._make(Call(raw.NEXT, index(caller), number=index(start), choice=KINDS.index(kind)), THE_NEXT)
+        no-caller, no-task.
+        """
+        return self._make(Call(raw.NSPID, index(caller), 0, index(pid)), THE_NUMBERS)
+
+    def getppid(self, caller: int) -> int:
+        """getppid(2): the number of the caller's parent, 0 for one that it cannot see. no-caller."""
+        return self._make(Call(raw.GETPPID, index(caller)), A_NUMBER)
 
     def count(self, control: int = 0) -> int:
         """How many tasks the control group and those below it have. no-control."""
-        return self._make(Call(raw.COUNT, id=index(control)), A_NUMBER)
+        return self._make(Call(raw.COUNT, 0, index(control)), A_NUMBER)
+
+    def getpgid(self, caller: int, pid: int = 0) -> int:
+        """getpgid(2): the process group of the task `pid`, where 0 is the caller; 0 where it cannot be seen. no-caller, no-task."""
+        return self._make(Call(raw.GETPGID, index(caller), 0, index(pid)), A_NUMBER)
+
+    def getsid(self, caller: int, pid: int = 0) -> int:
+        """getsid(2): the session of the task `pid`, where 0 is the caller; 0 where it cannot be seen. no-caller, no-task."""
+        return self._make(Call(raw.GETSID, index(caller), 0, index(pid)), A_NUMBER)
+
+    def next(self, caller: int, kind: Kind = "task", start: int = 0) -> int | None:
+        """The least number from `start` on that is in use as that kind in the caller's namespace. no-caller."""
+        return self._make(Call(raw.NEXT, index(caller), 0, index(start), choice_of(caller, kind, start)), THE_NEXT)
+    # The end of queries.
 
 
 class Listed(ABC):
@@ -174,6 +186,17 @@ class Calls(Queries, Listed, Owner):
             raise TypeError(f"answers takes many lines, each a str, not one {type(texts).__name__}")
         return self._answers([as_line(text) for text in texts])
 
+    def wait(
+        self, caller: int, pid: int | None = None, *, own: bool = False, group: int | None = None
+    ) -> Reaped | None:
+        """waitpid(2) with WNOHANG: takes an ended child away, any, one by its number, or one of the caller's own or of another group.
+
+        None where children match and none of them has ended. no-caller, no-child.
+        """
+        choice, number = select(pid, own, group)
+        return self._make(Call(raw.WAIT, index(caller), 0, index(number), choice), AN_ENDED_CHILD)
+
+    # Written by tools/interface: calls.
     def fork(self, caller: int, new: bool = False) -> Forked:
         """fork(2), or clone(2) with CLONE_NEWPID: a child in the namespace for the caller's children, or in a new one.
 
@@ -186,51 +209,41 @@ class Calls(Queries, Listed, Owner):
         self._make(Call(raw.EXEC, index(caller)), NOTHING)
 
     def exit(self, caller: int, status: int = 0) -> None:
-        """_exit(2) with a status of 0 to 255: the caller ends, and its namespace falls if it is the init there. no-caller, root-init."""
+        """_exit(2): the caller ends, and its namespace falls if it is the init there; `status` is 0 to 255. no-caller, root-init."""
         self._make(Call(raw.EXIT, index(caller), 0, index(status)), NOTHING)
 
-    def wait(
-        self, caller: int, pid: int | None = None, *, own: bool = False, group: int | None = None
-    ) -> Reaped | None:
-        """waitpid(2) with WNOHANG: takes an ended child away, any, one by its number, or one of the caller's own or of another group.
-
-        None where children match and none of them has ended. no-caller, no-child.
-        """
-        choice, number = select(pid, own, group)
-        return self._make(Call(raw.WAIT, index(caller), 0, index(number), choice), AN_ENDED_CHILD)
-
     def setpgid(self, caller: int, pid: int = 0, group: int = 0) -> None:
-        """setpgid(2): the task goes into the group; 0 is the caller, and the task.
+        """setpgid(2): the task `pid` goes into the group `group`; 0 is the caller, and the task.
 
         no-caller, bad-group, no-task, other-session, executed, is-leader, no-group.
         """
-        self._make(Call(raw.SETPGID, index(caller), pid=index(pid), pgid=index(group)), NOTHING)
+        self._make(Call(raw.SETPGID, index(caller), 0, 0, 0, index(pid), index(group)), NOTHING)
 
     def setsid(self, caller: int) -> int:
-        """setsid(2): the caller leads a new session and a new group; the answer is its number. no-caller, is-leader."""
+        """setsid(2): the caller leads a new session and a new group; its number. no-caller, is-leader."""
         return self._make(Call(raw.SETSID, index(caller)), A_NUMBER)
 
-    def join(self, caller: int, pid: int) -> None:
-        """setns(2) with CLONE_NEWPID: the caller's later children go into the namespace of the task. no-caller, no-task."""
-        self._make(Call(raw.JOIN, index(caller), number=index(pid)), NOTHING)
-
-    def subreaper(self, caller: int, on: bool = True) -> None:
-        """PR_SET_CHILD_SUBREAPER of prctl(2): the caller takes orphans of its namespace, or no more. no-caller."""
-        self._make(Call(raw.SUBREAPER, index(caller), choice=bool(on)), NOTHING)
-
     def mk(self, parent: int = 0) -> int:
-        """The id of a new control group below the one with the id. no-control, control-depth."""
-        return self._make(Call(raw.MK, id=index(parent)), A_CONTROL)
+        """A new control group below the one with the id `parent`, of which 0 is the root: its id. no-control, control-depth."""
+        return self._make(Call(raw.MK, 0, index(parent)), A_CONTROL)
 
     def rm(self, control: int) -> None:
         """Removes a control group without live tasks and children. no-control, root-control, control-busy."""
-        self._make(Call(raw.RM, id=index(control)), NOTHING)
+        self._make(Call(raw.RM, 0, index(control)), NOTHING)
 
     def limit(self, control: int, most: int | None = None) -> None:
-        """How many tasks a control group may have, 0 to 4194304; None is no limit. no-control, root-control, bad-limit."""
-        number = 0 if most is None else most
-        self._make(Call(raw.LIMIT, id=index(control), number=index(number), choice=most is not None), NOTHING)
+        """How many tasks the control group may have, 0 to 4194304, or none for no limit. no-control, root-control, bad-limit."""
+        self._make(Call(raw.LIMIT, 0, index(control), 0 if most is None else index(most), most is not None), NOTHING)
 
     def move(self, task: int, control: int) -> None:
         """The task, by its root number, goes into the control group. no-task, no-control."""
-        self._make(Call(raw.MOVE, index(task), id=index(control)), NOTHING)
+        self._make(Call(raw.MOVE, index(task), index(control)), NOTHING)
+
+    def join(self, caller: int, pid: int) -> None:
+        """setns(2) with CLONE_NEWPID: the caller's later children go into the namespace of the task `pid`. no-caller, no-task."""
+        self._make(Call(raw.JOIN, index(caller), 0, index(pid)), NOTHING)
+
+    def subreaper(self, caller: int, on: bool = True) -> None:
+        """PR_SET_CHILD_SUBREAPER of prctl(2): the caller takes orphans of its namespace, or no more. no-caller."""
+        self._make(Call(raw.SUBREAPER, index(caller), 0, 0, bool(on)), NOTHING)
+    # The end of calls.

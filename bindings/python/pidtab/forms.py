@@ -69,8 +69,10 @@ def form_of(line: str) -> Form:
 
 
 # Calls that change nothing, and those that tell nothing.
-QUERIES = frozenset({"getpid", "getppid", "getpgid", "getsid", "nspid", "next", "count"})
-TELLS_NOTHING = frozenset({"exec", "exit", "setpgid", "join", "subreaper", "rm", "limit", "move"})
+# Written by tools/interface: words.
+QUERIES = frozenset({"getpid", "nspid", "getppid", "count", "getpgid", "getsid", "next"})
+TELLS_NOTHING = frozenset({"exec", "exit", "setpgid", "rm", "limit", "move", "join", "subreaper"})
+# The end of words.
 
 
 def select_forms(names: Iterable[str]) -> list[Form]:

@@ -10,6 +10,7 @@ from pidtab.answers import Forked, Form, Stat, tell_stat
 from pidtab.bounds import check_range
 from pidtab.calls import Call, Calls, Queries
 from pidtab.faults import LibraryFault, TableClosed, bad_text, read_fault, refusal_of, say_why
+from pidtab.forms import QUERIES
 from pidtab.labels import Labelled
 from pidtab.raw import (
     BAD_LINE,
@@ -156,7 +157,7 @@ class Asked(Protocol):
 class Ask(Queries):
     """Queries that are no calls, as the `ask` of a table: they are neither counted nor recorded, and shift no later id.
 
-    It has the seven queries and `stat`, and no other call. As long as somebody has it, the table is not dropped.
+    It has the queries and `stat`, and no other call. As long as somebody has it, the table is not dropped.
     """
 
     def __init__(self, table: Asked) -> None:
@@ -180,7 +181,7 @@ class Ask(Queries):
         def __getattr__(self, name: str) -> NoReturn:
             if name.startswith("_") or not hasattr(Calls, name):
                 raise AttributeError(f"pidtab.Ask has no {name}")
-            raise AttributeError(f"{name} is no query: `ask` has getpid, getppid, getpgid, getsid, nspid, next and count")
+            raise AttributeError(f"{name} is no query: `ask` has {', '.join(sorted(QUERIES))}")
 
 
 class Askable(Protocol):

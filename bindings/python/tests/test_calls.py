@@ -1,4 +1,4 @@
-"""Each call by either way, as docs/SCRIPT.md and the worked examples have it."""
+"""What either way has besides what interface/cases says of each call: what is left out, lines, lists, and the worked examples."""
 
 import copy
 import pickle
@@ -6,59 +6,16 @@ import threading
 import unittest
 from collections.abc import Callable
 
-from pidtab import Calls, Control, Forked, Reaped, Space, TableClosed, read_list
+from pidtab import Calls, Control, Reaped, Space, TableClosed, read_list
 from tests.pages import EXAMPLES, StoredScript, blocks, named_examples, quoted, read_page, rows, script_lines, section, stored_scripts
 from tests.ways import ByLibrary, ByProgram, Cases, ask
 
-GREATEST_PROCESS = 2**32 - 1
-GREATEST_ID = 2**64 - 1
-
-
-def give_child(table: Calls) -> Forked:
-    """Forks a child of the root init, which is task 2."""
-    return table.fork(1)
-
 
 class CallCases(Cases):
-    """Each method, on a table of its own."""
+    """What a method takes where an argument is left out, and what it does not take."""
 
     def setUp(self) -> None:
         self.table = self.open()
-
-    def test_fork(self) -> None:
-        self.assertEqual(self.table.fork(1, new=True), Forked(child=2, root=2))
-        self.assertEqual(self.table.fork(2), Forked(child=2, root=3))
-        self.assertEqual(self.table.fork(1), Forked(child=4, root=4))
-
-    def test_exec(self) -> None:
-        give_child(self.table)
-        self.table.exec(2)
-        self.assertEqual([task.executed for task in self.table.list().tasks], [False, True])
-
-    def test_exit_and_wait(self) -> None:
-        give_child(self.table)
-        self.assertIsNone(self.table.wait(1))
-        self.table.exit(2, 255)
-        self.assertEqual(self.table.wait(1), Reaped(child=2, status=255))
-
-    def test_wait_for_one(self) -> None:
-        for _ in range(2):
-            self.table.fork(1)
-        self.table.exit(2, 7)
-        self.table.exit(3)
-        self.assertEqual(self.table.wait(1, pid=3), Reaped(child=3, status=0))
-        self.assertEqual(self.table.wait(1, 2), Reaped(child=2, status=7))
-
-    def test_wait_for_groups(self) -> None:
-        for _ in range(3):
-            self.table.fork(1)
-        self.table.setpgid(1, 2)
-        for task in (2, 3, 4):
-            self.table.exit(task, task)
-        # The least that has ended is 2, so none of these is what a wait for any would reap.
-        self.assertEqual(self.table.wait(1, own=True), Reaped(child=3, status=3))
-        self.assertEqual(self.table.wait(1, group=1), Reaped(child=4, status=4))
-        self.assertEqual(self.table.wait(1, group=2), Reaped(child=2, status=2))
 
     def test_wait_for_one_thing_only(self) -> None:
         with self.assertRaises(ValueError):
@@ -67,44 +24,6 @@ class CallCases(Cases):
             self.table.wait(1, pid=0, group=0)
         # The id is the number of the call, so none was made before.
         self.assertEqual(self.table.mk(), 1)
-
-    def test_a_killed_child(self) -> None:
-        # The third task is forked from outside into the namespace of the second, which falls.
-        self.table.fork(1, new=True)
-        self.table.join(1, 2)
-        self.assertEqual(self.table.fork(1), Forked(child=3, root=3))
-        self.table.exit(2, 1)
-        self.assertEqual(self.table.wait(1, pid=3), Reaped(child=3, status=None))
-        self.assertTrue(Reaped(child=3, status=None).killed)
-        self.assertFalse(Reaped(child=3, status=0).killed)
-
-    def test_setpgid(self) -> None:
-        give_child(self.table)
-        self.assertEqual(self.table.getpgid(2), 1)
-        self.table.setpgid(2)
-        self.assertEqual(self.table.getpgid(1, 2), 2)
-        self.table.setpgid(1, 2, 1)
-        self.assertEqual(self.table.getpgid(1, 2), 1)
-
-    def test_setsid_and_getsid(self) -> None:
-        self.table.fork(1, new=True)
-        self.assertEqual(self.table.getsid(2), 0)
-        self.assertEqual(self.table.getsid(1, 2), 1)
-        self.assertEqual(self.table.setsid(2), 1)
-        self.assertEqual(self.table.getsid(1, 2), 2)
-        self.assertEqual(self.table.getpgid(1, 2), 2)
-
-    def test_getpid_and_getppid(self) -> None:
-        self.table.fork(1, new=True)
-        self.table.fork(2)
-        self.assertEqual([self.table.getpid(caller) for caller in (1, 2, 3)], [1, 1, 2])
-        self.assertEqual([self.table.getppid(caller) for caller in (1, 2, 3)], [0, 0, 1])
-
-    def test_nspid(self) -> None:
-        self.table.fork(1, new=True)
-        self.table.fork(2)
-        self.assertEqual(self.table.nspid(1, 3), (3, 2))
-        self.assertEqual(self.table.nspid(2, 2), (2,))
 
     def test_next(self) -> None:
         for _ in range(2):
@@ -117,62 +36,18 @@ class CallCases(Cases):
         self.assertEqual(self.table.next(1, "session", 2), 3)
         self.assertIsNone(self.table.next(1, "session", 4))
 
-    def test_join(self) -> None:
-        self.table.fork(1, new=True)
-        self.table.join(1, 2)
-        self.assertEqual(self.table.list().tasks[0].children, 1)
+    def test_what_is_left_out(self) -> None:
         self.table.fork(1)
-        self.assertEqual(self.table.nspid(1, 3), (3, 2))
-
-    def test_subreaper(self) -> None:
-        self.table.fork(1)
-        self.table.subreaper(2)
-        self.table.fork(2)
-        self.table.fork(3)
-        self.table.exit(3)
-        self.assertEqual(self.table.getppid(4), 2)
-        self.assertTrue(self.table.list().tasks[1].subreaper)
-        self.table.subreaper(2, on=False)
-        self.assertFalse(self.table.list().tasks[1].subreaper)
-
-    def test_control_groups(self) -> None:
-        self.assertEqual(self.table.mk(), 1)
-        self.assertEqual(self.table.mk(1), 2)
-        self.table.limit(1, 4194304)
-        self.table.move(1, 2)
-        self.assertEqual([self.table.count(group) for group in (0, 1, 2)], [1, 1, 1])
-        self.assertEqual(self.table.list().controls[1], Control(id=1, parent=0, limit=4194304, count=1))
-        self.table.limit(1)
-        self.table.move(1, 0)
-        self.table.rm(2)
-        self.assertEqual(self.table.count(), 1)
-        self.assertEqual(self.table.list().controls[1:], (Control(id=1, parent=0, limit=None, count=0),))
+        self.table.setpgid(2)
+        self.assertEqual((self.table.getpgid(2), self.table.getsid(2), self.table.mk(), self.table.count()), (2, 1, 5, 2))
+        self.table.limit(5)
+        self.table.exit(2)
+        self.assertEqual(self.table.wait(1), Reaped(child=2, status=0))
+        self.assertTrue(Reaped(child=3, status=None).killed)
 
 
 class NumberCases(Cases):
-    """What is a number of each kind, by the bounds of docs/SCRIPT.md, and what is none."""
-
-    def test_the_least_and_the_greatest_are_calls(self) -> None:
-        table = self.open()
-        refused = {
-            f"getpid {GREATEST_PROCESS}": "ESRCH no-caller",
-            f"fork {GREATEST_PROCESS} new": "ESRCH no-caller",
-            "exec 0": "ESRCH no-caller",
-            f"exit {GREATEST_PROCESS} 255": "ESRCH no-caller",
-            f"nspid 1 {GREATEST_PROCESS}": "ESRCH no-task",
-            f"wait 1 pid {GREATEST_PROCESS}": "ECHILD no-child",
-            f"wait 1 group {GREATEST_PROCESS}": "ECHILD no-child",
-            f"next 1 task {GREATEST_PROCESS}": "end",
-            f"setpgid 1 {-(2**31)} {-(2**31)}": "EINVAL bad-group",
-            f"setpgid 1 {2**31 - 1} {2**31 - 1}": "ESRCH no-task",
-            f"move {GREATEST_PROCESS} {GREATEST_ID}": "ESRCH no-task",
-            f"count {GREATEST_ID}": "ENOENT no-control",
-            f"rm {GREATEST_ID}": "ENOENT no-control",
-            f"limit {GREATEST_ID} {GREATEST_PROCESS}": "ENOENT no-control",
-            f"limit 0 {GREATEST_PROCESS}": "EINVAL root-control",
-        }
-        for line, answer in refused.items():
-            self.assertEqual((ask(table, line), table.answers([line])), (answer, (answer,)), line)
+    """Numbers out of range, by the methods."""
 
     def test_what_is_out_of_range_is_a_bad_line(self) -> None:
         table = self.open()
@@ -228,13 +103,6 @@ class LineCases(Cases):
         # 3,004 calls before this one: a bad line is none, and a refused one is.
         self.assertEqual(self.table.mk(), 3005)
 
-    def test_the_longest_answer(self) -> None:
-        for caller in range(1, 33):
-            self.table.fork(caller, new=True)
-        numbers = tuple(range(33, 0, -1))
-        self.assertEqual(self.table.nspid(1, 33), numbers)
-        self.assertEqual(self.table.line("nspid 1 33"), " ".join(map(str, numbers)))
-
     def test_no_lines(self) -> None:
         self.assertEqual(self.table.answers([]), ())
 
@@ -253,11 +121,6 @@ class ListCases(Cases):
         self.assertTrue(all(task.live and task.group == 1 and task.session == 1 for task in listing.tasks))
         self.assertEqual(listing.spaces, (Space(0, None, 4, False), Space(1, 0, 3, False)))
         self.assertEqual(listing.controls, (Control(0, None, None, 3),))
-
-    def test_ids_count_refused_calls_and_no_bad_lines(self) -> None:
-        table = self.open()
-        self.assertEqual(table.answers(["getpid 9", "FORK", "mk 0"]), ("ESRCH no-caller", "bad line", "control 2"))
-        self.assertEqual([control.id for control in table.list().controls], [0, 2])
 
     def test_a_list_of_many_tasks(self) -> None:
         table = self.open()
@@ -292,19 +155,6 @@ class TableCases(Cases):
         for pid_max in (-1, 0, 300, 4194305, 2**32 + 301):
             with self.subTest(pid_max), self.assertRaisesRegex(ValueError, f"^pid_max is 301 to 4194304, not {pid_max}$"):
                 self.open(pid_max)
-
-    def test_a_full_table(self) -> None:
-        table = self.open(301)
-        for root in range(2, 301):
-            self.assertEqual(table.fork(1), Forked(child=root, root=root))
-        table.exit(5)
-        self.assertEqual(table.wait(1), Reaped(child=5, status=0))
-        with self.assertRaisesRegex(BlockingIOError, "fork 1: no-number 0"):
-            table.fork(1)
-        table.exit(300)
-        self.assertEqual(table.wait(1), Reaped(child=300, status=0))
-        self.assertEqual(table.fork(1), Forked(child=300, root=300))
-        self.assertEqual([task.root for task in table.list().tasks], [*range(1, 5), *range(6, 301)])
 
     def test_a_table_that_was_closed(self) -> None:
         with self.open() as table:

@@ -6,7 +6,6 @@ import subprocess
 import sys
 import tempfile
 import unittest
-from collections.abc import Callable
 from pathlib import Path
 from typing import Any
 
@@ -58,24 +57,6 @@ def validator(schema: Any = None) -> Any:
     schema = schema or read_schema()
     jsonschema.Draft202012Validator.check_schema(schema)
     return jsonschema.Draft202012Validator(schema)
-
-
-# The calls whose replies are the lines of bindings/replies.json.
-REPLIED: list[Callable[[Table], Any]] = [
-    lambda it: it.fork(1, new=True), lambda it: it.fork(2), lambda it: it.nspid(1, 3), lambda it: it.getpid(3), lambda it: it.mk(),
-    lambda it: it.limit(5, 0), lambda it: it.move(3, 5), lambda it: it.fork(3), lambda it: it.count(5), lambda it: it.next(1, start=9),
-    lambda it: it.getpid(9), lambda it: it.wait(1), lambda it: it.join(1, 2), lambda it: it.fork(1), lambda it: it.exit(2, 7),
-    lambda it: it.wait(1, pid=2), lambda it: it.wait(1, pid=4),
-]  # fmt: skip
-
-
-def read_reply(table: Table, call: Callable[[Table], Any]) -> Any:
-    """What a call tells, as JSON has it."""
-    try:
-        told = call(table)
-    except Refusal as refusal:
-        told = refusal
-    return json.loads(json.dumps(told.to_object() if hasattr(told, "to_object") else told))
 
 
 def launch(text: str, *words: str) -> "subprocess.CompletedProcess[str]":
@@ -200,19 +181,17 @@ class Replies(unittest.TestCase):
                 self.assertFalse(check.is_valid(bad), bad)
 
     def test_what_all_languages_write(self) -> None:
-        # The tests of the others make the calls, and compare what they write.
+        # The cases make the calls, and compare what each writes.
         schema = read_schema()
         schema["anyOf"] = [{"$ref": "#/$defs/reply"}]
         check = validator(schema)
-        replies = [json.loads(line) for line in read_page("bindings/replies.json").splitlines()]
+        steps = [line for line in read_page("interface/cases/replies.cases").splitlines() if line.startswith("json ")]
+        replies = [json.loads(step.partition(" -> ")[2]) for step in steps]
         for reply in replies:
             check.validate(reply)
         self.assertEqual({type(reply) for reply in replies}, {dict, list, int, type(None)})
         for bad in ("ok", [], -1, [0, "1"], True, {"child": 2}):
             self.assertFalse(check.is_valid(bad), bad)
-        need_library()
-        with Table() as table:
-            self.assertEqual([read_reply(table, call) for call in REPLIED], replies)
 
     def test_the_words_of_the_schema(self) -> None:
         said = [quoted(row[0])[0].split(" ") for row in rows(section(read_page("docs/SCRIPT.md"), "## Refusals"))]

@@ -52,12 +52,6 @@ STATUSES = {"DONE", "NOT_KEPT", "CLOSED", "AGAIN", "NO_MEMORY", "BUSY", "OUT_OF_
 INNER = {"pidtab_record_close": "pidtab_close", "pidtab_record_list": "pidtab_list", "pidtab_record_opening": "pidtab_list"}
 
 
-def synopsis(page: str) -> list[tuple[str, str, str]]:
-    """The functions of a manual page's synopsis: what each answers, its name and what it takes."""
-    found = re.findall(r'^\.Ft "?(.*?)"?\n\.F[no] (\w+)(.*\n(?:\.Fa .*\n)*)', page, re.MULTILINE)
-    return [(kind, name, ", ".join(re.findall(r'"([^"]*)"', taken)) or "void") for kind, name, taken in found]
-
-
 def statuses_in(header: str) -> list[tuple[str, str, str]]:
     """The statuses of a header: the name, the number, and the errno that the comment begins with."""
     enums = re.findall(r"^enum pidtab_\w*status \{(.*?)^\};", read_page(f"bindings/c/{header}"), re.MULTILINE | re.DOTALL)
@@ -223,40 +217,6 @@ class Manuals(unittest.TestCase):
 
 class LibraryManuals(unittest.TestCase):
     """The manual pages of the library's functions, by the headers."""
-
-    def test_the_structs(self) -> None:
-        call, reply, task, *_ = displays((MANUAL / "pidtab.3").read_text())
-        entry, *_ = displays((MANUAL / "pidtab_record.3").read_text())
-        settings, *_ = displays((MANUAL / "pidtab_saved.3").read_text())
-        headers = re.sub(r" */\*.*?\*/", "", read_page("bindings/c/pidtab.h") + read_page("bindings/c/pidtab_saved.h"), flags=re.DOTALL)
-        for struct in (call, reply, task, entry, settings):
-            self.assertIn(struct, headers)
-
-    def test_each_call_as_a_function(self) -> None:
-        # The compiler sees whether they are those of the header.
-        _, _, _, functions, *_ = displays((MANUAL / "pidtab.3").read_text())
-        names = re.findall(r"pidtab_\w+(?=\()", functions)
-        header = read_page("bindings/c/pidtab.h")
-        self.assertEqual(names, [it for it in re.findall(r"^static inline int64_t (pidtab_\w+)", header, re.MULTILINE) if it in names])
-        self.assertEqual(len(names), 19)
-        self.compile(functions)
-
-    def compile(self, declarations: str) -> None:
-        """Compiles declarations behind the headers: another type of the same name is a fault."""
-        with tempfile.TemporaryDirectory() as folder:
-            (Path(folder) / "functions.c").write_text('#include "pidtab_saved.h"\n' + declarations)
-            run([need_tool("cc"), *STRICT, f"-I{REPOSITORY / 'bindings' / 'c'}", "-c", "functions.c"], Path(folder))
-
-    def test_each_synopsis(self) -> None:
-        for page in LIBRARY_PAGES:
-            text = (MANUAL / page).read_text()
-            declared = {name: f"{kind} {name}({taken});\n" for kind, name, taken in synopsis(text)}
-            with self.subTest(page):
-                named = re.findall(r"^\.Nm (pidtab_\w+)", text, re.MULTILINE)
-                self.assertEqual([it for it in named if it in declared], list(declared))
-                # The others are those of the display.
-                self.assertEqual(len(named) - len(declared), 19 if page == "pidtab.3" else 0)
-                self.compile("".join(declared.values()))
 
     def test_each_status(self) -> None:
         # BUSY is said once for all.

@@ -18,7 +18,7 @@ from types import SimpleNamespace
 from typing import Any
 from unittest import mock
 
-from pidtab import Ask, Calls, Counts, Entry, LibraryFault, NotKept, Queries, Seat, SeatsTaken, Shared, Stat, Table, TableClosed, raw
+from pidtab import Ask, Calls, Counts, Entry, LibraryFault, NotKept, Queries, Seat, SeatsTaken, Shared, Table, TableClosed, raw
 from pidtab.forms import say_answer
 from pidtab.library import load_library, load_shared
 from pidtab.shared import BLOCK
@@ -26,7 +26,7 @@ from tests.alarms import Awaiting, alarms
 from tests.pages import StoredScript
 from tests.test_arguments import NO_INTEGERS, IntegerCases, LongCases, TypeCases
 from tests.test_calls import CallCases, LineCases, ListCases, NumberCases, PageCases, TableCases
-from tests.test_ends import OTHERS, ForkCases, in_child, say
+from tests.test_ends import OTHERS, ForkCases, in_child
 from tests.test_refusals import RefusalCases
 from tests.ways import BySeat, ask, need_library, need_shared
 
@@ -256,18 +256,6 @@ class Histories(unittest.TestCase):
         self.addCleanup(self.shared.close)
         self.one, self.other = self.shared.seat(), self.shared.seat()
 
-    def test_each_entry(self) -> None:
-        self.assertEqual((self.one.ordinal, self.other.ordinal), (None, None))
-        self.one.fork(1, new=True)
-        self.assertEqual(self.other.line("fork 2"), "child 2 root 3")
-        with self.assertRaises(ProcessLookupError):
-            self.one.getpid(9)
-        wanted = [Entry(0, 0, "fork 1 new", "child 2 root 2"), Entry(1, 1, "fork 2", "child 2 root 3"), Entry(2, 0, "getpid 9", "ESRCH no-caller")]
-        self.assertEqual(list(self.shared.entries()), wanted)
-        self.assertEqual([self.shared.entry(place) for place in range(3)], wanted)
-        self.assertEqual((self.one.ordinal, self.other.ordinal), (2, 1))
-        self.assertEqual((self.shared.worker(0), self.shared.worker(1), self.shared.counts()), (2, 1, Counts(0, 3)))
-
     def test_what_makes_no_call_is_not_recorded(self) -> None:
         faults: list[Callable[[], object]] = [
             lambda: self.one.line("FORK 1"), lambda: self.one.line(""), lambda: self.one.exit(1, 256), lambda: self.one.fork(2**32),
@@ -327,18 +315,6 @@ class Histories(unittest.TestCase):
             self.assertEqual(list(self.shared.entries()), [])
         self.assertEqual(asked.call_count, 3)
 
-    def test_checkpoints(self) -> None:
-        self.one.answers(["fork 1"] * 3)
-        self.assertEqual([self.shared.checkpoint_at(seen) for seen in (2, 4, 0, 2**64 - 1)], [False] * 4)
-        self.assertEqual(self.shared.counts(), Counts(0, 3))
-        self.assertIs(self.shared.checkpoint_at(3), True)
-        self.assertEqual((self.shared.counts(), list(self.shared.entries())), (Counts(3, 3), []))
-        self.assertEqual(self.other.mk(), 4)
-        self.assertEqual((self.other.ordinal, list(self.shared.entries(3))), (3, [Entry(3, 1, "mk 0", "control 4")]))
-        self.shared.checkpoint()
-        self.assertEqual((self.shared.counts(), self.shared.worker(0), self.shared.worker(1)), (Counts(4, 4), 3, 1))
-        self.assertEqual(len(self.shared.list().tasks), 4)
-
     def test_what_is_not_kept(self) -> None:
         self.one.answers(["getpid 1"] * 3)
         self.assertTrue(self.shared.checkpoint_at(3))
@@ -349,26 +325,6 @@ class Histories(unittest.TestCase):
                     find(ordinal)
         with self.assertRaises(LookupError):
             self.shared.entry(3)
-
-    def test_a_table_that_cuts_itself(self) -> None:
-        with Shared(1, keep=10) as shared:
-            seat = shared.seat()
-            seat.answers(["fork 1"] * 25)
-            self.assertEqual((shared.keep, shared.counts(), len(list(shared.entries())), seat.ordinal), (10, Counts(15, 25), 10, 24))
-            with self.assertRaises(NotKept):
-                shared.entry(14)
-
-    def test_the_first_stamp(self) -> None:
-        with Shared(1, first_stamp=1000) as shared:
-            self.assertEqual((shared.first_stamp, shared.seat().mk(), shared.counts()), (1000, 1000, Counts(0, 1)))
-        with Shared(1, first_stamp=2**64 - 2) as shared:
-            seat = shared.seat()
-            self.assertEqual(seat.mk(), 2**64 - 2)
-            with self.assertRaisesRegex(OverflowError, "^getpid 1: spent$"):
-                seat.getpid(1)
-            self.assertEqual((seat.answers(["getpid 1"]), shared.ask.getpid(1)), (("spent",), 1))
-            self.assertEqual((seat.ordinal, shared.counts()), (0, Counts(0, 1)))
-
 
 class Asking(unittest.TestCase):
     """Queries that are no calls."""
@@ -388,14 +344,6 @@ class Asking(unittest.TestCase):
         """What answers calls, and what answers queries of the same table."""
         return [(self.table, self.table.ask), (self.seat, self.shared.ask), (self.seat, self.seat.ask)]
 
-    def test_they_are_answered_as_calls(self) -> None:
-        for table, _ in self.ways()[:2]:
-            table.fork(1, new=True)
-        for table, queries in self.ways():
-            for line in [*QUERIES, "getpid 9", "nspid 1 9", "count 9"]:
-                with self.subTest(line):
-                    self.assertEqual(ask(queries, line), ask(table, line))  # type: ignore[arg-type]
-
     def test_they_are_no_calls(self) -> None:
         for table, queries in self.ways():
             before = table.mk()
@@ -409,39 +357,13 @@ class Asking(unittest.TestCase):
         for _, queries in self.ways():
             for name in NO_QUERIES:
                 self.assertFalse(hasattr(queries, name))
-                with self.assertRaisesRegex(AttributeError, f"^{name} is no query: `ask` has getpid, .* next and count$"):
+                with self.assertRaisesRegex(AttributeError, f"^{name} is no query: `ask` has count, getpgid, .*, next, nspid$"):
                     getattr(queries, name)
             with self.assertRaisesRegex(AttributeError, "^pidtab.Ask has no frok$"):
                 queries.frok  # type: ignore[attr-defined]
         public = {name for name in dir(Calls) if not name.startswith("_")} - {"pid_max"}
         self.assertEqual(public - set(NO_QUERIES), {name for name in dir(Queries) if not name.startswith("_")})
         self.assertEqual(self.shared.counts(), Counts(0, 0))
-
-    def test_one_read_of_a_task(self) -> None:
-        for table, queries in self.ways()[:2]:
-            table.answers(["mk 0", "fork 1 new", "fork 2", "fork 3", "move 3 1", "setsid 3", "subreaper 3 on", "exec 3", "fork 3", "exit 5 7", "exit 4 0"])
-            # By proc(5), getpgid(2) and the list: the task is 3 in the root namespace and 2 in that of its init.
-            self.assertEqual(queries.stat(1, 3), Stat((3, 2), 2, 3, 3, 2, 1, True, None, True, True))
-            self.assertEqual(queries.stat(3), Stat((2,), 1, 2, 2, 2, 1, True, None, True, True))
-            ended = queries.stat(1, 5)
-            self.assertEqual((ended.numbers, ended.parent, ended.live, ended.status, ended.killed), ((5, 4), 3, False, 7, False))
-            self.assertEqual(queries.stat(1), Stat((1,), 0, 1, 1, 0, 0, True, None, False, False))
-            before = table.mk()
-            table.exit(2)
-            killed = queries.stat(1, 2)
-            self.assertEqual((killed.live, killed.status, killed.killed), (False, 0, False))
-            self.check_killed(table, queries)
-            for caller, pid, why in ((9, 1, "no-caller"), (1, 9, "no-task")):
-                with self.assertRaisesRegex(ProcessLookupError, rf"^\[Errno 3\] stat {caller} {pid}: {why}$"):
-                    queries.stat(caller, pid)
-            # It is no call: the id is the number of the call.
-            self.assertEqual(table.mk(), before + 6)
-
-    def check_killed(self, table: Calls, queries: Ask) -> None:
-        """A task is killed by the exit of its namespace's init, and a zombie where its parent is outside: pid_namespaces(7)."""
-        table.answers(["fork 1 new", "join 1 6", "fork 1", "exit 6 3"])
-        killed = queries.stat(1, 7)
-        self.assertEqual((killed.numbers, killed.parent, killed.live, killed.status, killed.killed), ((7, 2), 1, False, None, True))
 
     def test_the_numbers_of_a_read(self) -> None:
         for _, queries in self.ways():

@@ -110,16 +110,9 @@ LABELS = """\
 6 web
 """
 
+# Others are in interface/cases.
 BAD_LISTS = [
-    ("hello\n", "line 1"),
-    ("control 0 parent - limit max count 1\n\n", "line 2"),
-    ("task 1 space 0 parent 0 group 1 session 1 control 0 alive\n", "line 1"),
-    ("task 1 space 0 parent 0 group 1 session 1 control 0 live subreaper executed\n", "line 1"),
-    ("task 1, space 0 parent 0 group 1 session 1 control 0 live\n", "line 1"),
-    ("space 0 parent - cursor\n", "line 1"),
     ("space 0 parent - cursor 2 \n", "line 1"),
-    ("space 0 parent - cursor 2\r\n", "line 1"),
-    ("control 0 parent - limit - count 1\n", "line 1"),
     ("space 0 parent - cursor 2\ncontrol 0 parent - limit max count 1", "line 2: cut off"),
     ("space 3 parent 2 cursor 2\n", "parent is missing"),
     ("space 2 parent 2 cursor 2\n", "parent is missing"),

@@ -35,44 +35,46 @@ pub enum Kind {
 #[non_exhaustive]
 #[allow(missing_docs)] // A field has its words at its call.
 pub enum Call {
-    /// [`Calls::fork`]: the child goes into a new namespace, or not.
+    // Written by tools/interface: values.
+    /// [`Calls::fork`].
     Fork { caller: u32, new_space: bool },
     /// [`Calls::getpid`]; a query.
     Getpid { caller: u32 },
-    /// [`Calls::nspid`] of the task with the number; a query.
+    /// [`Calls::nspid`]; a query.
     Nspid { caller: u32, number: u32 },
     /// [`Calls::exec`].
     Exec { caller: u32 },
-    /// [`Calls::exit`] with the status.
+    /// [`Calls::exit`].
     Exit { caller: u32, status: u8 },
-    /// [`Calls::wait`] for those children.
+    /// [`Calls::wait`].
     Wait { caller: u32, which: Which },
     /// [`Calls::getppid`]; a query.
     Getppid { caller: u32 },
-    /// [`Calls::setpgid`]: 0 is the caller, and the task; a negative group is refused.
+    /// [`Calls::setpgid`].
     Setpgid { caller: u32, pid: i32, pgid: i32 },
     /// [`Calls::setsid`].
     Setsid { caller: u32 },
-    /// [`Calls::mk`] below the parent.
+    /// [`Calls::mk`].
     Mk { parent: u64 },
     /// [`Calls::rm`].
     Rm { id: u64 },
-    /// [`Calls::limit`]: 0 to 4194304, or none for no limit.
+    /// [`Calls::limit`].
     Limit { id: u64, limit: Option<u32> },
-    /// [`Calls::move_task`]: the task goes into the control group.
+    /// [`Calls::move_task`].
     Move { task: u32, id: u64 },
     /// [`Calls::count`]; a query.
     Count { id: u64 },
-    /// [`Calls::getpgid`] of the task, where 0 is the caller; a query.
+    /// [`Calls::getpgid`]; a query.
     Getpgid { caller: u32, pid: u32 },
-    /// [`Calls::getsid`] of the task, where 0 is the caller; a query.
+    /// [`Calls::getsid`]; a query.
     Getsid { caller: u32, pid: u32 },
-    /// [`Calls::next`]: the least number from there on; a query.
+    /// [`Calls::next`]; a query.
     Next { caller: u32, kind: Kind, from: u32 },
-    /// [`Calls::join`]: into the namespace of the task with the number.
+    /// [`Calls::join`].
     Join { caller: u32, number: u32 },
-    /// [`Calls::subreaper`]: from now on, or no more.
+    /// [`Calls::subreaper`].
     Subreaper { caller: u32, on: bool },
+    // The end of values.
 }
 
 impl Call {
@@ -131,22 +133,6 @@ impl Reply {
             other => unreachable!("the library replies {other:?}"),
         }
     }
-
-    /// Of a call that tells nothing.
-    fn done(self) -> Result<(), Error> {
-        match self {
-            Reply::Done => Ok(()),
-            other => other.refused(),
-        }
-    }
-
-    /// Of a call that tells a number.
-    fn number(self) -> Result<u32, Error> {
-        match self {
-            Reply::Number(number) => Ok(number),
-            other => other.refused(),
-        }
-    }
 }
 
 pub(crate) mod sealed {
@@ -169,6 +155,7 @@ pub trait Calls: sealed::Sealed {
     /// `NoMemory`, `Spent`, `Busy`.
     fn call(&mut self, call: Call) -> Result<Reply, Error>;
 
+    // Written by tools/interface: methods.
     /// `fork(2)`, or `clone(2)` with `CLONE_NEWPID`: a child in the namespace for the caller's children, or in a new one.
     ///
     /// # Errors
@@ -180,15 +167,18 @@ pub trait Calls: sealed::Sealed {
         }
     }
 
-    /// The caller's number in its own namespace.
+    /// `getpid(2)`: the caller's number in its own namespace.
     ///
     /// # Errors
     /// `Refused` as `NoCaller`.
     fn getpid(&mut self, caller: u32) -> Result<u32, Error> {
-        self.call(Call::Getpid { caller })?.number()
+        match self.call(Call::Getpid { caller })? {
+            Reply::Number(number) => Ok(number),
+            other => other.refused(),
+        }
     }
 
-    /// The numbers of the task `number` from the caller's namespace inwards, outermost first: 1 to 33 of them.
+    /// NSpid of `proc(5)`: the numbers of the task `number` from the caller's namespace inwards, outermost first: 1 to 33 of them.
     ///
     /// # Errors
     /// `Refused` as `NoCaller`, `NoTask`.
@@ -204,15 +194,21 @@ pub trait Calls: sealed::Sealed {
     /// # Errors
     /// `Refused` as `NoCaller`.
     fn exec(&mut self, caller: u32) -> Result<(), Error> {
-        self.call(Call::Exec { caller })?.done()
+        match self.call(Call::Exec { caller })? {
+            Reply::Done => Ok(()),
+            other => other.refused(),
+        }
     }
 
-    /// `_exit(2)`: the caller ends, and its namespace falls if it is the init there.
+    /// `_exit(2)`: the caller ends, and its namespace falls if it is the init there; `status` is 0 to 255.
     ///
     /// # Errors
     /// `Refused` as `NoCaller`, `RootInit`.
     fn exit(&mut self, caller: u32, status: u8) -> Result<(), Error> {
-        self.call(Call::Exit { caller, status })?.done()
+        match self.call(Call::Exit { caller, status })? {
+            Reply::Done => Ok(()),
+            other => other.refused(),
+        }
     }
 
     /// `waitpid(2)` with `WNOHANG`: takes an ended child away; none where children match and none of them has ended.
@@ -227,12 +223,15 @@ pub trait Calls: sealed::Sealed {
         }
     }
 
-    /// The number of the caller's parent, 0 for one that it cannot see.
+    /// `getppid(2)`: the number of the caller's parent, 0 for one that it cannot see.
     ///
     /// # Errors
     /// `Refused` as `NoCaller`.
     fn getppid(&mut self, caller: u32) -> Result<u32, Error> {
-        self.call(Call::Getppid { caller })?.number()
+        match self.call(Call::Getppid { caller })? {
+            Reply::Number(number) => Ok(number),
+            other => other.refused(),
+        }
     }
 
     /// `setpgid(2)`: the task `pid` goes into the group `pgid`; 0 is the caller, and the task.
@@ -240,7 +239,10 @@ pub trait Calls: sealed::Sealed {
     /// # Errors
     /// `Refused` as `NoCaller`, `BadGroup`, `NoTask`, `OtherSession`, `Executed`, `IsLeader`, `NoGroup`.
     fn setpgid(&mut self, caller: u32, pid: i32, pgid: i32) -> Result<(), Error> {
-        self.call(Call::Setpgid { caller, pid, pgid })?.done()
+        match self.call(Call::Setpgid { caller, pid, pgid })? {
+            Reply::Done => Ok(()),
+            other => other.refused(),
+        }
     }
 
     /// `setsid(2)`: the caller leads a new session and a new group; its number.
@@ -248,7 +250,10 @@ pub trait Calls: sealed::Sealed {
     /// # Errors
     /// `Refused` as `NoCaller`, `IsLeader`.
     fn setsid(&mut self, caller: u32) -> Result<u32, Error> {
-        self.call(Call::Setsid { caller })?.number()
+        match self.call(Call::Setsid { caller })? {
+            Reply::Number(number) => Ok(number),
+            other => other.refused(),
+        }
     }
 
     /// A new control group below the one with the id `parent`, of which 0 is the root: its id.
@@ -267,7 +272,10 @@ pub trait Calls: sealed::Sealed {
     /// # Errors
     /// `Refused` as `NoControl`, `RootControl`, `ControlBusy`.
     fn rm(&mut self, id: u64) -> Result<(), Error> {
-        self.call(Call::Rm { id })?.done()
+        match self.call(Call::Rm { id })? {
+            Reply::Done => Ok(()),
+            other => other.refused(),
+        }
     }
 
     /// How many tasks the control group may have, 0 to 4194304, or none for no limit.
@@ -275,15 +283,21 @@ pub trait Calls: sealed::Sealed {
     /// # Errors
     /// `Refused` as `NoControl`, `RootControl`, `BadLimit`.
     fn limit(&mut self, id: u64, limit: Option<u32>) -> Result<(), Error> {
-        self.call(Call::Limit { id, limit })?.done()
+        match self.call(Call::Limit { id, limit })? {
+            Reply::Done => Ok(()),
+            other => other.refused(),
+        }
     }
 
-    /// The call `move`: the task, by its root number, goes into the control group.
+    /// The task, by its root number, goes into the control group.
     ///
     /// # Errors
     /// `Refused` as `NoTask`, `NoControl`.
     fn move_task(&mut self, task: u32, id: u64) -> Result<(), Error> {
-        self.call(Call::Move { task, id })?.done()
+        match self.call(Call::Move { task, id })? {
+            Reply::Done => Ok(()),
+            other => other.refused(),
+        }
     }
 
     /// How many tasks the control group and those below it have.
@@ -297,20 +311,26 @@ pub trait Calls: sealed::Sealed {
         }
     }
 
-    /// The process group of the task `pid`, where 0 is the caller; 0 where it cannot be seen.
+    /// `getpgid(2)`: the process group of the task `pid`, where 0 is the caller; 0 where it cannot be seen.
     ///
     /// # Errors
     /// `Refused` as `NoCaller`, `NoTask`.
     fn getpgid(&mut self, caller: u32, pid: u32) -> Result<u32, Error> {
-        self.call(Call::Getpgid { caller, pid })?.number()
+        match self.call(Call::Getpgid { caller, pid })? {
+            Reply::Number(number) => Ok(number),
+            other => other.refused(),
+        }
     }
 
-    /// The session of the task `pid`, where 0 is the caller; 0 where it cannot be seen.
+    /// `getsid(2)`: the session of the task `pid`, where 0 is the caller; 0 where it cannot be seen.
     ///
     /// # Errors
     /// `Refused` as `NoCaller`, `NoTask`.
     fn getsid(&mut self, caller: u32, pid: u32) -> Result<u32, Error> {
-        self.call(Call::Getsid { caller, pid })?.number()
+        match self.call(Call::Getsid { caller, pid })? {
+            Reply::Number(number) => Ok(number),
+            other => other.refused(),
+        }
     }
 
     /// The least number from `from` on that is in use as that kind in the caller's namespace.
@@ -325,19 +345,26 @@ pub trait Calls: sealed::Sealed {
         }
     }
 
-    /// `setns(2)`: the caller's later children go into the namespace of the task `number`.
+    /// `setns(2)` with `CLONE_NEWPID`: the caller's later children go into the namespace of the task `number`.
     ///
     /// # Errors
     /// `Refused` as `NoCaller`, `NoTask`.
     fn join(&mut self, caller: u32, number: u32) -> Result<(), Error> {
-        self.call(Call::Join { caller, number })?.done()
+        match self.call(Call::Join { caller, number })? {
+            Reply::Done => Ok(()),
+            other => other.refused(),
+        }
     }
 
-    /// `PR_SET_CHILD_SUBREAPER`: the caller takes orphans of its namespace, or no more.
+    /// `PR_SET_CHILD_SUBREAPER` of `prctl(2)`: the caller takes orphans of its namespace, or no more.
     ///
     /// # Errors
     /// `Refused` as `NoCaller`.
     fn subreaper(&mut self, caller: u32, on: bool) -> Result<(), Error> {
-        self.call(Call::Subreaper { caller, on })?.done()
+        match self.call(Call::Subreaper { caller, on })? {
+            Reply::Done => Ok(()),
+            other => other.refused(),
+        }
     }
+    // The end of methods.
 }

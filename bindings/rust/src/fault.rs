@@ -110,7 +110,7 @@ impl Refusal {
 // The end of refusals.
 
 impl Refusal {
-    /// Its number, 1 to 19, which stays the same from release to release.
+    /// Its number, which stays the same from release to release.
     pub fn number(self) -> u32 {
         self.row().0
     }
@@ -191,13 +191,15 @@ impl Error {
     /// What a status says other than that it was done. No other status comes from a table that is open.
     pub(crate) fn of(status: u32) -> Error {
         match status {
+            // Written by tools/interface: errors.
             raw::NO_MEMORY => Error::NoMemory,
-            raw::SPENT => Error::Spent,
-            raw::OUT_OF_RANGE => Error::OutOfRange,
             raw::BUSY => Error::Busy,
+            raw::OUT_OF_RANGE => Error::OutOfRange,
+            raw::SPENT => Error::Spent,
             raw::NOT_KEPT => Error::NotKept,
             raw::AGAIN => Error::Again,
             raw::DIFFERS => Error::Differs,
+            // The end of errors.
             _ => unreachable!("the library answers the status {status}"),
         }
     }
@@ -300,11 +302,13 @@ impl LineError {
     /// What a status says other than that it was done.
     pub(crate) fn of(status: u32) -> LineError {
         match status {
+            // Written by tools/interface: errors of lines.
+            raw::NO_MEMORY => LineError::NoMemory,
+            raw::BUSY => LineError::Busy,
             raw::EMPTY_LINE => LineError::Empty,
             raw::BAD_LINE => LineError::Bad,
-            raw::NO_MEMORY => LineError::NoMemory,
             raw::SPENT => LineError::Spent,
-            raw::BUSY => LineError::Busy,
+            // The end of errors of lines.
             _ => unreachable!("the library answers the status {status}"),
         }
     }
@@ -483,27 +487,11 @@ impl From<TextError> for io::Error {
 mod tests {
     use super::*;
 
+    /// Each other status comes about in `cases.rs`.
     #[test]
-    fn each_refusal_has_its_number() {
-        for number in 1..=19 {
-            assert_eq!(Refusal::of(number, 7).number(), number);
-        }
-        assert_eq!(Refusal::of(5, 7).to_string(), "pids-limit 7");
-    }
-
-    #[test]
-    fn each_status_has_its_error() {
+    fn want_of_memory() {
         assert_eq!(Error::of(12), Error::NoMemory);
-        assert_eq!(Error::of(75), Error::Spent);
-        assert_eq!(Error::of(22), Error::OutOfRange);
-        assert_eq!(Error::of(2), Error::NotKept);
-        assert_eq!(Error::of(11), Error::Again);
-        assert_eq!(Error::of(74), Error::Differs);
-        assert_eq!(Error::unless_done(0), Ok(()));
-        assert_eq!(LineError::of(61), LineError::Empty);
-        assert_eq!(LineError::of(71), LineError::Bad);
         assert_eq!(LineError::of(12), LineError::NoMemory);
-        assert_eq!(LineError::of(75), LineError::Spent);
     }
 
     /// The kind that the kernel's error has, and the error within.

@@ -32,22 +32,24 @@ pub(crate) fn state(ended: Option<Ended>) -> (&'static str, Option<u8>) {
     }
 }
 
+// Written by tools/interface: errnos.
 /// The name of an errno that a refusal may have.
-fn errno_name(errno: i32) -> &'static str {
+pub(crate) fn errno_name(errno: i32) -> &'static str {
     match errno {
-        1 => "EPERM",
-        2 => "ENOENT",
         3 => "ESRCH",
         10 => "ECHILD",
         11 => "EAGAIN",
-        12 => "ENOMEM",
+        1 => "EPERM",
         13 => "EACCES",
-        16 => "EBUSY",
-        22 => "EINVAL",
+        2 => "ENOENT",
+        12 => "ENOMEM",
         28 => "ENOSPC",
+        22 => "EINVAL",
+        16 => "EBUSY",
         _ => unreachable!("no refusal has the errno {errno}"),
     }
 }
+// The end of errnos.
 
 fn refusal_object(errno: i32, refusal: Refusal) -> String {
     let id = match refusal {

@@ -24,6 +24,8 @@
 
 mod blocks;
 mod calls;
+#[cfg(test)]
+mod cases;
 mod fault;
 mod json;
 mod labels;
@@ -135,9 +137,12 @@ pub struct Reaped {
 /// use pidtab::Call::*;
 /// fn all(it: pidtab::Call) {
 ///     match it {
-///         Fork { .. } | Getpid { .. } | Nspid { .. } | Exec { .. } | Exit { .. } | Wait { .. } | Getppid { .. } | Setpgid { .. } => {}
-///         Setsid { .. } | Mk { .. } | Rm { .. } | Limit { .. } | Move { .. } | Count { .. } | Getpgid { .. } | Getsid { .. } => {}
-///         Next { .. } | Join { .. } | Subreaper { .. } => {}
+// Written by tools/interface: calls.
+///         Fork { .. } | Getpid { .. } | Nspid { .. } | Exec { .. } | Exit { .. } | Wait { .. } | Getppid { .. } | Setpgid { .. } | Setsid
+///         { .. } | Mk { .. } | Rm { .. } | Limit { .. } | Move { .. } | Count { .. } | Getpgid { .. } | Getsid { .. } | Next { .. } | Join
+///         { .. } | Subreaper { .. }
+///         => {}
+// The end of calls.
 ///     }
 /// }
 /// ```
@@ -242,7 +247,7 @@ impl Table {
 
     /// Answers a query as its call would be answered, refusals too. It is no call: nothing changes, and it is not counted. It takes no memory.
     ///
-    /// A query is a `Getpid`, `Getppid`, `Getpgid`, `Getsid`, `Nspid`, `Next` or `Count`.
+    /// [`Call`] says which are queries.
     ///
     /// # Errors
     /// `OutOfRange` for each other call, `Busy`.

@@ -438,25 +438,15 @@ pub(crate) struct Table {
 unsafe impl Send for Table {}
 
 impl Table {
+    // Written by tools/interface: methods of a table.
     pub(crate) fn open(pid_max: u32) -> Result<Table, u32> {
         compare_versions();
         let mut held = Held::none();
-        // SAFETY: the pointer is to a struct of zeroes that is this call's alone.
+        // SAFETY: the first pointer is to a struct of zeroes that is this call's alone; each other is that of a reference or of a slice.
         let status = unsafe { pidtab_open(&mut *held, pid_max) };
         done(status, Table { held })
     }
 
-    /// A table as the text says; where it is that of no table, the fault says why.
-    pub(crate) fn load(text: &[u8], fault: &mut Fault) -> Result<Table, u32> {
-        compare_versions();
-        let mut held = Held::none();
-        let (bytes, length) = (text.as_ptr().cast(), text.len());
-        // SAFETY: the pointer is to a struct of zeroes that is this call's alone; the text is a slice with this length.
-        let status = unsafe { pidtab_load(&mut *held, bytes, length, fault) };
-        done(status, Table { held })
-    }
-
-    // Written by tools/interface: methods of a table.
     pub(crate) fn line(&mut self, line: &[u8], answer: &mut [u8], size: &mut usize) -> u32 {
         // SAFETY: it is open and lent to this call alone; each pointer is that of a reference or of a slice with that length.
         unsafe {
@@ -493,6 +483,14 @@ impl Table {
                 size,
             )
         }
+    }
+
+    pub(crate) fn load(text: &[u8], fault: &mut Fault) -> Result<Table, u32> {
+        compare_versions();
+        let mut held = Held::none();
+        // SAFETY: the first pointer is to a struct of zeroes that is this call's alone; each other is that of a reference or of a slice.
+        let status = unsafe { pidtab_load(&mut *held, text.as_ptr().cast(), text.len(), fault) };
+        done(status, Table { held })
     }
 
     pub(crate) fn call(&mut self, call: &Call, reply: &mut Reply) -> u32 {
@@ -542,26 +540,15 @@ pub(crate) struct Record {
 unsafe impl Send for Record {}
 
 impl Record {
+    // Written by tools/interface: methods of a record.
     pub(crate) fn open(pid_max: u32, first_stamp: u64, workers: u32) -> Result<Record, u32> {
         compare_versions();
         let mut held = Held::none();
-        // SAFETY: the pointer is to a struct of zeroes that is this call's alone.
+        // SAFETY: the first pointer is to a struct of zeroes that is this call's alone; each other is that of a reference or of a slice.
         let status = unsafe { pidtab_record_open(&mut *held, pid_max, first_stamp, workers) };
         done(status, Record { held })
     }
 
-    /// A record that goes on as the text says, with so many calls of each worker before; where it is that of no table, the fault says why.
-    pub(crate) fn load(text: &[u8], counts: &[u64], fault: &mut Fault) -> Result<Record, u32> {
-        compare_versions();
-        let mut held = Held::none();
-        let (bytes, length) = (text.as_ptr().cast(), text.len());
-        let (at, workers) = (counts.as_ptr(), counts.len());
-        // SAFETY: the pointer is to a struct of zeroes that is this call's alone; the text and the counts are slices with these lengths.
-        let status = unsafe { pidtab_record_load(&mut *held, bytes, length, at, workers, fault) };
-        done(status, Record { held })
-    }
-
-    // Written by tools/interface: methods of a record.
     pub(crate) fn call(
         &mut self,
         worker: u32,
@@ -694,6 +681,23 @@ impl Record {
                 size,
             )
         }
+    }
+
+    pub(crate) fn load(text: &[u8], counts: &[u64], fault: &mut Fault) -> Result<Record, u32> {
+        compare_versions();
+        let mut held = Held::none();
+        // SAFETY: the first pointer is to a struct of zeroes that is this call's alone; each other is that of a reference or of a slice.
+        let status = unsafe {
+            pidtab_record_load(
+                &mut *held,
+                text.as_ptr().cast(),
+                text.len(),
+                counts.as_ptr(),
+                counts.len(),
+                fault,
+            )
+        };
+        done(status, Record { held })
     }
     // The end of methods of a record.
 

@@ -184,14 +184,6 @@ impl Shared {
         Ok(Shared::of(Record::of(raw, keep), head, true))
     }
 
-    /// As [`Record::dump`]: all that there is to know of the present table, as text.
-    ///
-    /// # Errors
-    /// `NoMemory`, `Busy`.
-    pub fn dump(&self) -> Result<String, Error> {
-        self.lock().dump()
-    }
-
     /// A table with the root init alone, whose numbers are below `pid_max`, for 1 to 16 workers. Its first call has the stamp 1, and its
     /// history is never cut unasked; [`Shared::options`] has other ways.
     ///
@@ -322,25 +314,16 @@ impl Shared {
         self.recorded.notify_all();
     }
 
-    /// As [`Record::ask`]: answers a query, which is no call.
+    // Written by tools/interface: forwards.
+    /// As [`Record::ask`].
     ///
     /// # Errors
-    /// `OutOfRange` for a call that is no query, `Busy`.
+    /// `OutOfRange` for each other call, `Busy`.
     pub fn ask(&self, query: Call) -> Result<Reply, Error> {
         self.lock_for_call().ask(query)
     }
 
-    /// As [`Record::stat`]: reads a task, which is no call.
-    ///
-    /// ```
-    /// use pidtab::{Calls, Shared};
-    ///
-    /// let shared = Shared::open(32768, 1)?;
-    /// shared.seat()?.fork(1, true)?;
-    /// let task = shared.stat(1, 2)?;
-    /// assert_eq!((task.numbers(), task.parent(), task.ended()), (&[2, 1][..], 1, None));
-    /// # Ok::<(), pidtab::Error>(())
-    /// ```
+    /// As [`Record::stat`].
     ///
     /// # Errors
     /// `Refused` as `NoCaller`, `NoTask`; `Busy`.
@@ -348,7 +331,7 @@ impl Shared {
         self.lock_for_call().stat(caller, number)
     }
 
-    /// As [`Record::counts`]: how far the history goes.
+    /// As [`Record::counts`].
     ///
     /// # Errors
     /// `Busy`.
@@ -356,15 +339,15 @@ impl Shared {
         self.lock().counts()
     }
 
-    /// As [`Record::worker`]: how many calls of the worker were recorded.
+    /// As [`Record::worker`].
     ///
     /// # Errors
-    /// `OutOfRange` where there are not so many workers, `Busy`.
+    /// `OutOfRange` where there are not so many workers: they are numbered from 0 on. `Busy`.
     pub fn worker(&self, worker: u32) -> Result<u64, Error> {
         self.lock().worker(worker)
     }
 
-    /// As [`Record::entry`]: the kept entry with the ordinal.
+    /// As [`Record::entry`].
     ///
     /// # Errors
     /// `NotKept` where it was cut away or is not reached yet, `Busy`.
@@ -372,7 +355,7 @@ impl Shared {
         self.lock().entry(ordinal)
     }
 
-    /// As [`Record::entries`]: at most so many of the kept entries from the ordinal on.
+    /// As [`Record::entries`].
     ///
     /// # Errors
     /// `NotKept` where `from` is neither a kept entry nor the next call; `NoMemory`, `Busy`.
@@ -380,23 +363,23 @@ impl Shared {
         self.lock().entries(from, most)
     }
 
-    /// As [`Record::checkpoint`]: cuts the history.
+    /// As [`Record::checkpoint`].
     ///
     /// # Errors
-    /// `NoMemory`, `Busy`.
+    /// `NoMemory`, and nothing has changed; `Busy`.
     pub fn checkpoint(&self) -> Result<(), Error> {
         self.lock().checkpoint()
     }
 
-    /// As [`Record::checkpoint_at`]: cuts the history where exactly so many calls were recorded.
+    /// As [`Record::checkpoint_at`].
     ///
     /// # Errors
-    /// `Again` where it is another number; `NoMemory`, `Busy`.
+    /// `Again` where it is another number; `NoMemory`, `Busy`. Nothing has changed then.
     pub fn checkpoint_at(&self, seen: u64) -> Result<(), Error> {
         self.lock().checkpoint_at(seen)
     }
 
-    /// As [`Record::list`]: the list of the present state.
+    /// As [`Record::list`].
     ///
     /// # Errors
     /// `NoMemory`, `Busy`.
@@ -404,7 +387,15 @@ impl Shared {
         self.lock().list()
     }
 
-    /// As [`Record::listing`]: the same list, read.
+    /// As [`Record::dump`].
+    ///
+    /// # Errors
+    /// `NoMemory`, `Busy`.
+    pub fn dump(&self) -> Result<String, Error> {
+        self.lock().dump()
+    }
+
+    /// As [`Record::listing`].
     ///
     /// # Errors
     /// `NoMemory`, `Busy`.
@@ -412,7 +403,7 @@ impl Shared {
         self.lock().listing()
     }
 
-    /// As [`Record::opening`]: the list of the state that the kept history begins in.
+    /// As [`Record::opening`].
     ///
     /// # Errors
     /// `NoMemory`, `Busy`.
@@ -420,13 +411,15 @@ impl Shared {
         self.lock().opening()
     }
 
-    /// As [`Record::replay`]: makes the calls of saved entries, and compares their replies.
+    /// As [`Record::replay`].
     ///
     /// # Errors
-    /// Where it stops: `Differs`, `OutOfRange`, `NoMemory`, `Spent`, `Busy`.
+    /// It stops at the first entry that has another reply, `Differs`, or cannot be made: `OutOfRange` for a worker that is not there;
+    /// `NoMemory`, `Spent`, `Busy`. What was made before stays made.
     pub fn replay(&self, saved: &[Entry]) -> Result<(), ReplayError> {
         self.lock().replay(saved)
     }
+    // The end of forwards.
 }
 
 impl fmt::Debug for Shared {
@@ -485,7 +478,7 @@ impl Record {
 
     /// Answers a query as its call would be answered, refusals too. It is no call: nothing changes, and it is not recorded. It takes no memory.
     ///
-    /// A query is a `Getpid`, `Getppid`, `Getpgid`, `Getsid`, `Nspid`, `Next` or `Count`.
+    /// [`Call`] says which are queries.
     ///
     /// # Errors
     /// `OutOfRange` for each other call, `Busy`.
@@ -497,6 +490,16 @@ impl Record {
 
     /// Reads the task with the number in the caller's namespace, where 0 is the caller, and a zombie too. It is no call, and is not recorded.
     /// It takes no memory, and costs what a `getpgid` costs.
+    ///
+    /// ```
+    /// use pidtab::{Calls, Shared};
+    ///
+    /// let shared = Shared::open(32768, 1)?;
+    /// shared.seat()?.fork(1, true)?;
+    /// let task = shared.stat(1, 2)?;
+    /// assert_eq!((task.numbers(), task.parent(), task.ended()), (&[2, 1][..], 1, None));
+    /// # Ok::<(), pidtab::Error>(())
+    /// ```
     ///
     /// # Errors
     /// `Refused` as `NoCaller`, `NoTask`; `Busy`.
@@ -668,7 +671,9 @@ impl Record {
     /// Makes a call of the worker: its reply and its ordinal.
     fn call(&mut self, worker: u32, call: Call) -> Result<(Reply, u64), Error> {
         let (mut reply, mut ordinal) = (raw::Reply::BLANK, 0);
-        let status = self.raw.call(worker, &call.numbers(), &mut reply, &mut ordinal);
+        let status = self
+            .raw
+            .call(worker, &call.numbers(), &mut reply, &mut ordinal);
         Error::unless_done(status)?;
         self.after_call();
         let reply = Reply::of(&reply);

@@ -1,52 +1,5 @@
-//! Replies as JSON, as all languages write them, and tasks.
-use pidtab::{Call, Calls, Ended, Error, Kind, Reaped, Refusal, Table, Which};
-use std::fs;
-use std::path::Path;
-
-/// The calls whose replies are the lines of `bindings/replies.json`.
-fn replied() -> [Call; 17] {
-    let wait = |which| Call::Wait { caller: 1, which };
-    let fork = |caller, new_space| Call::Fork { caller, new_space };
-    let (number, id) = (3, 5);
-    [
-        fork(1, true),
-        fork(2, false),
-        Call::Nspid { caller: 1, number },
-        Call::Getpid { caller: 3 },
-        Call::Mk { parent: 0 },
-        Call::Limit { id, limit: Some(0) },
-        Call::Move { task: 3, id },
-        fork(3, false),
-        Call::Count { id },
-        Call::Next {
-            caller: 1,
-            kind: Kind::Task,
-            from: 9,
-        },
-        Call::Getpid { caller: 9 },
-        wait(Which::Any),
-        Call::Join {
-            caller: 1,
-            number: 2,
-        },
-        fork(1, false),
-        Call::Exit {
-            caller: 2,
-            status: 7,
-        },
-        wait(Which::Pid(2)),
-        wait(Which::Pid(4)),
-    ]
-}
-
-#[test]
-fn replies() {
-    let file = Path::new(env!("CARGO_MANIFEST_DIR")).join("../replies.json");
-    let wanted = fs::read_to_string(file).expect("the replies");
-    let mut table = Table::open(32768).expect("a table");
-    let told = replied().map(|call| table.call(call).expect("a reply").to_json() + "\n");
-    assert_eq!(told.concat(), wanted);
-}
+//! What methods answer as JSON, and tasks. Replies are in interface/cases.
+use pidtab::{Calls, Ended, Error, Reaped, Refusal, Table};
 
 #[test]
 fn answers() {

@@ -55,47 +55,6 @@ fn labels() {
     assert_eq!(json.matches("label").count(), 2);
 }
 
-#[test]
-fn each_field() {
-    let listing = read(WIDE);
-    let (first, wide) = (&listing.tasks[0], &listing.tasks[3]);
-    assert_eq!(
-        (first.ended, first.executed, first.subreaper),
-        (None, false, true)
-    );
-    assert_eq!(
-        (wide.children, wide.subreaper, wide.executed),
-        (Some(4), true, true)
-    );
-    let (ended, killed) = (&listing.tasks[1], &listing.tasks[2]);
-    assert_eq!(
-        (ended.numbers.as_slice(), ended.root()),
-        ([2, 1].as_slice(), 2)
-    );
-    assert_eq!((ended.space, ended.parent, ended.control), (4, 1, 7));
-    assert_eq!((ended.group, ended.session, ended.children), (1, 1, None));
-    assert_eq!(
-        (ended.ended, killed.ended),
-        (Some(Ended::Exited(255)), Some(Ended::Killed))
-    );
-    let space = &listing.spaces[1];
-    assert_eq!(
-        (space.id, space.parent, space.cursor, space.fallen),
-        (4, Some(0), 3, true)
-    );
-    assert_eq!(
-        (listing.spaces[0].parent, listing.spaces[0].fallen),
-        (None, false)
-    );
-    let limits: Vec<_> = listing.controls.iter().map(|it| it.limit).collect();
-    assert_eq!(limits, [None, Some(0), Some(4194304)]);
-    let control = &listing.controls[2];
-    assert_eq!(
-        (control.id, control.parent, control.count),
-        (u64::MAX, Some(7), 1)
-    );
-}
-
 /// The number, or the word for none.
 fn or<T: Display>(number: Option<T>, none: &str) -> String {
     number.map_or_else(|| none.to_owned(), |it| it.to_string())
@@ -197,51 +156,18 @@ fn the_list_of_a_table() {
     );
 }
 
+/// Each other text that is none is in interface/cases.
 #[test]
 fn what_is_no_list() {
-    let task = "task 1 space 0 parent 0 group 1 session 1 control 0";
-    let none = "not a line of `pidtab list`";
-    let texts = [
-        (String::new(), "line 1: no list".to_owned()),
-        ("hello\n".to_owned(), format!("line 1: {none}")),
+    for (text, said) in [
+        ("", "line 1: no list"),
+        ("hello\n", "line 1: not a line of `pidtab list`"),
         (
-            "control 0 parent - limit max count 1\n\n".to_owned(),
-            format!("line 2: {none}"),
+            "space 0 parent - cursor 2\nspace 1",
+            "line 2: cut off, without a newline",
         ),
-        (format!("{task} alive\n"), format!("line 1: {none}")),
-        (
-            format!("{task} live subreaper executed\n"),
-            format!("line 1: {none}"),
-        ),
-        (format!("{task} exit 256\n"), format!("line 1: {none}")),
-        (format!("{task} live \n"), format!("line 1: {none}")),
-        (
-            "task 1, space 0 parent 0 group 1 session 1 control 0 live\n".to_owned(),
-            format!("line 1: {none}"),
-        ),
-        (
-            "space 0 parent - cursor\n".to_owned(),
-            format!("line 1: {none}"),
-        ),
-        (
-            "space 0 parent - cursor 2\r\n".to_owned(),
-            format!("line 1: {none}"),
-        ),
-        (
-            "space +1 parent - cursor 2\n".to_owned(),
-            format!("line 1: {none}"),
-        ),
-        (
-            "control 0 parent - limit - count 1\n".to_owned(),
-            format!("line 1: {none}"),
-        ),
-        (
-            "space 0 parent - cursor 2\nspace 1".to_owned(),
-            "line 2: cut off, without a newline".to_owned(),
-        ),
-    ];
-    for (text, said) in texts {
-        let fault = text.parse::<Listing>().expect_err(&text);
-        assert_eq!(fault.to_string(), said, "{text}");
+    ] {
+        let fault = text.parse::<Listing>().expect_err(text);
+        assert_eq!(fault.to_string(), said);
     }
 }

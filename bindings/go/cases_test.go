@@ -1,0 +1,476 @@
+package pidtab
+
+import (
+	"fmt"
+	"os"
+	"path/filepath"
+	"reflect"
+	"strconv"
+	"strings"
+	"testing"
+)
+
+// A caseWorld is what a case has open: tables whose calls are made by lines, by values and by methods, if the case is not of a history alone; and
+// one with a history, whose seats are all taken.
+type caseWorld struct {
+	*testing.T
+	tables  []*Table
+	shared  *Shared
+	seats   []*Seat
+	at      int
+	told    Reply // the latest
+	isWhole bool
+}
+
+func (it *caseWorld) check(err error) {
+	it.Helper()
+	if err != nil {
+		it.Fatal(err)
+	}
+}
+
+func (it *caseWorld) same(found, wanted any) {
+	it.Helper()
+	if !reflect.DeepEqual(found, wanted) {
+		it.Fatalf("%v, and not %v", found, wanted)
+	}
+}
+
+// begin takes all seats, and there is no other.
+func (it *caseWorld) begin(shared *Shared, tables []*Table) {
+	it.shared, it.tables, it.seats, it.at = shared, tables, nil, 0
+	it.Cleanup(shared.Close)
+	for i := uint32(0); i < shared.Settings().Workers; i++ {
+		it.seats = append(it.seats, seatOf(it.T, shared))
+		it.same(it.seats[i].Worker(), i)
+	}
+	_, err := shared.Seat()
+	it.same(err, ErrOutOfRange)
+}
+
+func (it *caseWorld) open(settings Settings) error {
+	shared, err := OpenShared(settings)
+	isAlone := settings.Workers == 1 && settings.FirstStamp == 1 && settings.Keep == 0
+	var tables []*Table
+	for i := 0; i < 3 && isAlone; i++ {
+		table, fault := Open(settings.PidMax)
+		it.same(fault, err)
+		tables = append(tables, table)
+	}
+	if err != nil {
+		return err
+	}
+	it.begin(shared, tables)
+	it.isWhole = settings.FirstStamp == 1
+	return nil
+}
+
+func (it *caseWorld) load(text string, counts []uint64, keep uint64) error {
+	shared, err := SharedFromDump(text, counts, keep)
+	var tables []*Table
+	for i := 0; i < 3 && len(counts) == 1 && counts[0]+keep == 0; i++ {
+		table, fault := FromDump(text)
+		it.same(fault, err)
+		tables = append(tables, table)
+	}
+	if err != nil {
+		return err
+	}
+	it.begin(shared, tables)
+	it.isWhole = false
+	return nil
+}
+
+// reload goes on with what is made of the texts.
+func (it *caseWorld) reload() {
+	text, err := it.shared.Dump()
+	it.check(err)
+	var counts []uint64
+	for i := range it.seats {
+		count, err := it.shared.Worker(uint32(i))
+		it.check(err)
+		counts = append(counts, count)
+	}
+	tables, at := it.tables, it.at
+	for i, table := range tables {
+		again, err := table.Dump()
+		it.same(told{again, err}, told{text, nil})
+		tables[i] = fromDump(it.T, again)
+	}
+	it.check(it.load(text, counts, it.shared.Settings().Keep))
+	it.tables, it.at = tables, at
+	it.same(of(it.shared.Dump()), told{text, nil})
+}
+
+// call is the answer to the line, which is the same by each way.
+func (it *caseWorld) call(line string) string {
+	seat := it.seats[it.at]
+	answer, err := seat.Line(line)
+	if len(it.tables) > 0 {
+		it.same(of(it.tables[0].Line(line)), told{answer, err})
+	}
+	if err != nil {
+		return status(err)
+	}
+	ordinal, _ := seat.Ordinal()
+	entry, err := it.shared.Entry(ordinal)
+	it.check(err)
+	it.told = entry.Reply
+	it.same(of(entry.Call.Line()), told{line, nil})
+	it.same([]any{entry.Worker, sayReply(entry.Reply)}, []any{uint32(it.at), answer})
+	asked := told{Reply{}, ErrOutOfRange}
+	for _, query := range queryWords {
+		if strings.HasPrefix(line, query+" ") {
+			asked = told{entry.Reply, nil}
+		}
+	}
+	it.same(of(it.shared.Ask(entry.Call)), asked)
+	if len(it.tables) > 0 {
+		it.same(of(it.tables[1].Ask(entry.Call)), asked)
+		it.same(of(it.tables[1].Call(entry.Call)), told{entry.Reply, nil})
+		found := byItsMethod(it.tables[2].calls, entry.Call)
+		it.same(found.err, entry.Reply.Err())
+		if found.err == nil {
+			it.same(found.answer, answerOf(entry.Reply))
+		}
+	}
+	return answer
+}
+
+// Written by tools/interface: calls.
+
+// byItsMethod is what the method of the call tells.
+func byItsMethod(it calls, call Call) told {
+	switch call.Operation {
+	case OpFork:
+		return of(it.Fork(call.Caller, call.Choice == 1))
+	case OpGetpid:
+		return of(it.Getpid(call.Caller))
+	case OpNspid:
+		return of(it.Nspid(call.Caller, call.Number))
+	case OpExec:
+		return only(it.Exec(call.Caller))
+	case OpExit:
+		return only(it.Exit(call.Caller, uint8(call.Number)))
+	case OpWait:
+		return of(it.Wait(call.Caller, []Which{Any(), Pid(call.Number), OwnGroup(), Group(call.Number)}[call.Choice]))
+	case OpGetppid:
+		return of(it.Getppid(call.Caller))
+	case OpSetpgid:
+		return only(it.Setpgid(call.Caller, call.Pid, call.Pgid))
+	case OpSetsid:
+		return of(it.Setsid(call.Caller))
+	case OpMk:
+		return of(it.Mk(call.ID))
+	case OpRm:
+		return only(it.Rm(call.ID))
+	case OpLimit:
+		if call.Choice == 0 {
+			return only(it.LimitMax(call.ID))
+		}
+		return only(it.Limit(call.ID, call.Number))
+	case OpMove:
+		return only(it.Move(call.Caller, call.ID))
+	case OpCount:
+		return of(it.Count(call.ID))
+	case OpGetpgid:
+		return of(it.Getpgid(call.Caller, call.Number))
+	case OpGetsid:
+		return of(it.Getsid(call.Caller, call.Number))
+	case OpNext:
+		return of(it.Next(call.Caller, Kind(call.Choice), call.Number))
+	case OpJoin:
+		return only(it.Join(call.Caller, call.Number))
+	case OpSubreaper:
+		return only(it.Subreaper(call.Caller, call.Choice == 1))
+	}
+	return told{}
+}
+
+// The end of calls.
+
+// answerOf is what a method tells whose call has the reply.
+func answerOf(reply Reply) any {
+	switch reply.Kind {
+	case ReplyForked:
+		return Child{uint32(reply.First), uint32(reply.Second)}
+	case ReplyNumber, ReplyEnd:
+		return uint32(reply.First)
+	case ReplyLevels:
+		return reply.Levels[:reply.Count]
+	case ReplyReaped:
+		return reapedOf(reply.First, reply.Second)
+	case ReplyNoneYet:
+		return (*Reaped)(nil)
+	case ReplyCounted, ReplyControl:
+		return reply.First
+	}
+	return nil
+}
+
+// status is the name that interface/statuses.tbl has for an error, or the answer that a refusal is.
+func status(err error) string {
+	if refusal, isRefusal := err.(Refusal); isRefusal {
+		return errnoNames[refusal.Errno] + " " + refusal.Why
+	}
+	return statusNames[err]
+}
+
+// Written by tools/interface: names.
+
+// The names of statuses, in the tables of the interface.
+var statusNames = map[error]string{
+	nil:           "DONE",
+	ErrClosed:     "CLOSED",
+	ErrNoMemory:   "NO_MEMORY",
+	ErrBusy:       "BUSY",
+	ErrOutOfRange: "OUT_OF_RANGE",
+	ErrEmptyLine:  "EMPTY_LINE",
+	ErrBadLine:    "BAD_LINE",
+	ErrSpent:      "SPENT",
+	ErrNotKept:    "NOT_KEPT",
+	ErrAgain:      "AGAIN",
+	ErrDiffers:    "DIFFERS",
+}
+
+var queryWords = []string{"getpid", "nspid", "getppid", "count", "getpgid", "getsid", "next"}
+
+// The end of names.
+
+func joined(numbers []uint32, between string) string {
+	return strings.ReplaceAll(strings.Trim(fmt.Sprint(numbers), "[]"), " ", between)
+}
+
+// sayEnd is how a task ended.
+func sayEnd(status uint8, killed bool) string {
+	if killed {
+		return "killed"
+	}
+	return fmt.Sprintf("exit %d", status)
+}
+
+// sayReply is the answer that a reply is, by docs/SCRIPT.md.
+func sayReply(reply Reply) string {
+	switch reply.Kind {
+	case ReplyForked:
+		return fmt.Sprintf("child %d root %d", reply.First, reply.Second)
+	case ReplyOK:
+		return "ok"
+	case ReplyLevels:
+		return joined(reply.Levels[:reply.Count], " ")
+	case ReplyReaped:
+		return fmt.Sprintf("reaped %d %s", reply.First, sayEnd(uint8(reply.Second), reply.Second == 256))
+	case ReplyNoneYet:
+		return "none"
+	case ReplyControl:
+		return fmt.Sprintf("control %d", reply.First)
+	case ReplyEnd:
+		return "end"
+	case ReplyRefused:
+		return status(reply.Err())
+	}
+	return fmt.Sprint(reply.First)
+}
+
+// stat is a task that is read at once.
+func (it *caseWorld) stat(caller, pid uint32) string {
+	found, err := it.shared.Stat(caller, pid)
+	for _, table := range it.tables {
+		it.same(of(table.Stat(caller, pid)), told{found, err})
+	}
+	if err != nil {
+		return status(err)
+	}
+	end := "live"
+	if !found.Live {
+		end = sayEnd(found.Status, found.Killed)
+	}
+	if found.Executed {
+		end += " executed"
+	}
+	if found.Subreaper {
+		end += " subreaper"
+	}
+	return fmt.Sprintf("%s space %d parent %d group %d session %d control %d %s", joined(found.Numbers, ","), found.Space, found.Parent, found.Group,
+		found.Session, found.Control, end)
+}
+
+// read is what a step of a history tells.
+func (it *caseWorld) read(word string, numbers []uint64) (found string, err error) {
+	switch word {
+	case "counts":
+		counts, err := it.shared.Counts()
+		return fmt.Sprint(counts.FirstKept, " ", counts.Recorded), err
+	case "worker":
+		calls, err := it.shared.Worker(uint32(numbers[0]))
+		return fmt.Sprint(calls), err
+	case "entry":
+		entry, err := it.shared.Entry(numbers[0])
+		line, _ := entry.Call.Line()
+		return fmt.Sprintf("%d %s: %s", entry.Worker, line, sayReply(entry.Reply)), err
+	case "read":
+		entries, err := it.shared.Entries(numbers[0], int(numbers[1]))
+		return fmt.Sprint(len(entries)), err
+	case "checkpoint":
+		return "DONE", it.shared.Checkpoint()
+	}
+	return "DONE", it.shared.CheckpointAt(numbers[0])
+}
+
+// sameText compares the text of the name with the one below the step.
+func (it *caseWorld) sameText(word, text string) {
+	texts := map[string]func() (string, error){"list": it.shared.List, "dump": it.shared.Dump, "opening": it.shared.Opening}
+	it.same(of(texts[word]()), told{text, nil})
+	for _, table := range it.tables {
+		if texts := map[string]func() (string, error){"list": table.List, "dump": table.Dump}; texts[word] != nil {
+			it.same(of(texts[word]()), told{text, nil})
+		}
+	}
+}
+
+// replay makes the history on a second table: the same replies, counts and list; or it stops at an entry with another reply, or of a worker that is
+// none.
+func (it *caseWorld) replay(change string, place uint64) {
+	saved, err := it.shared.Entries(0, 1<<20)
+	it.check(err)
+	settings := it.shared.Settings()
+	again := openShared(it.T, Settings{PidMax: settings.PidMax, Workers: settings.Workers, FirstStamp: 1})
+	recorded := uint64(len(saved))
+	switch change {
+	case "differs":
+		saved[place].Reply.Second += 7
+		it.same(again.Replay(saved), ReplayError{int(place), ErrDiffers})
+		recorded = place + 1
+	case "stranger":
+		saved[place].Worker = settings.Workers
+		it.same(again.Replay(saved), ReplayError{int(place), ErrOutOfRange})
+		recorded = place
+	default:
+		it.same(again.Replay(saved), nil)
+		list, err := it.shared.List()
+		it.same(of(again.List()), told{list, err})
+	}
+	it.same(of(again.Counts()), told{Counts{0, recorded}, nil})
+}
+
+// damage is a text of which no table is made with a byte changed, or with its end cut off.
+func (it *caseWorld) damage(text string) {
+	for place := range text {
+		bytes := []byte(text)
+		bytes[place] ^= 1
+		for _, wrong := range []string{text[:place], string(bytes)} {
+			if _, err := FromDump(wrong); err == nil {
+				it.Fatal(place)
+			}
+		}
+	}
+}
+
+// lineOf is the line of the call that the numbers say.
+func lineOf(numbers []string) (string, error) {
+	number := func(at int) int64 { found, _ := strconv.ParseInt(numbers[at], 10, 64); return found }
+	id, _ := strconv.ParseUint(numbers[2], 10, 64)
+	call := Call{Operation(number(0)), uint32(number(1)), id, uint32(number(3)), uint32(number(4)), int32(number(5)), int32(number(6))}
+	return call.Line()
+}
+
+// end is the end of a case.
+func (it *caseWorld) end() {
+	if it.isWhole {
+		if counts, err := it.shared.Counts(); err == nil && counts.FirstKept == 0 {
+			it.replay("", 0)
+		}
+	}
+	it.isWhole = false
+}
+
+// step is what a step tells.
+func (it *caseWorld) step(step, text string) (found string, err error) {
+	words := strings.Split(step, " ")
+	var numbers []uint64
+	for _, word := range words[1:] {
+		if number, err := strconv.ParseUint(word, 10, 64); err == nil {
+			numbers = append(numbers, number)
+		}
+	}
+	switch words[0] {
+	case "case":
+		it.end()
+	case "open":
+		it.end()
+		if numbers[2] == 0 {
+			// In Go this is no fault: a first stamp that is not given is 1.
+			return "OUT_OF_RANGE", nil
+		}
+		return "", it.open(Settings{uint32(numbers[0]), uint32(numbers[1]), numbers[2], numbers[3]})
+	case "load":
+		return "", it.load(text, numbers, 0)
+	case "reload":
+		it.reload()
+	case "seat":
+		it.at = int(numbers[0])
+	case "each":
+		for number := numbers[0]; number <= numbers[1]; number++ {
+			line := strings.ReplaceAll(strings.Join(words[3:], " "), "#", fmt.Sprint(number))
+			if answer := it.call(line); strings.HasPrefix(answer, "E") {
+				it.Fatal(line, answer)
+			}
+		}
+	case "json":
+		it.call(strings.Join(words[1:], " "))
+		return asJSON(it.T, it.told), nil
+	case "stat":
+		return it.stat(uint32(numbers[0]), uint32(numbers[1])), nil
+	case "list", "dump", "opening":
+		it.sameText(words[0], text)
+	case "differs", "stranger":
+		it.replay(words[0], numbers[0])
+	case "damage":
+		it.damage(text)
+	case "numbers":
+		return lineOf(words[1:])
+	case "parse":
+		_, fault := ReadList(text)
+		return fmt.Sprint("line ", fault.(BadList).Line), nil
+	case "counts", "worker", "entry", "read", "checkpoint", "checkpoint_at":
+		return it.read(words[0], numbers)
+	default:
+		return it.call(strings.NewReplacer(`\r`, "\r", `\0`, "\x00").Replace(step)), nil
+	}
+	return "", nil
+}
+
+func TestCases(t *testing.T) {
+	files, err := filepath.Glob("../../interface/cases/*.cases")
+	if err != nil || len(files) < 6 {
+		t.Fatal(files, err)
+	}
+	for _, file := range files {
+		bytes, err := os.ReadFile(file)
+		if err != nil {
+			t.Fatal(err)
+		}
+		world := &caseWorld{T: t}
+		lines := strings.Split(strings.ReplaceAll(string(bytes), "\n\t", "\x01"), "\n")
+		for _, line := range lines {
+			if line == "" || line[0] == '#' {
+				continue
+			}
+			line, text, hasText := strings.Cut(line, "\x01")
+			step, wanted, _ := strings.Cut(line, " -> ")
+			if hasText {
+				text = strings.NewReplacer("\x01", "\n", `\r`, "\r").Replace(text) + "\n"
+			}
+			found, err := world.step(step, text)
+			if fault, isText := err.(TextError); isText {
+				found = fmt.Sprintf("line %d: %s", fault.Line, fault.Why)
+			} else if err != nil {
+				found = status(err)
+			}
+			if found != wanted {
+				t.Fatalf("%s: %s: %s", file, line, found)
+			}
+		}
+		world.end()
+	}
+}

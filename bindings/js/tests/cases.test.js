@@ -1,0 +1,243 @@
+// The cases of interface/cases, whose README says what each step is: by lines and by methods, on tables and on one with a history.
+
+import assert from "node:assert/strict";
+import { readdirSync, readFileSync } from "node:fs";
+import { test } from "node:test";
+
+import { pidtab, skip } from "./package.js";
+
+const { BadText, Lines, PidtabError, Record, Refusal, Table, readListing, toJson } = pidtab;
+const FOLDER = new URL("../../../interface/cases/", import.meta.url);
+// Written by tools/interface: queries.
+const QUERIES = ["getpid", "nspid", "getppid", "count", "getpgid", "getsid", "next"];
+// The end of queries.
+
+/** The name that interface/statuses.tbl has for a fault, or the answer that a refusal is. */
+function sayFault(fault) {
+  if (fault instanceof Refusal) return [fault.code, fault.word, fault.id].filter((it) => it !== null).join(" ");
+  if (fault instanceof BadText) return `line ${fault.line}: ${fault.why}`;
+  if (fault instanceof RangeError) return fault.message === "an empty line has no answer" ? "EMPTY_LINE" : "OUT_OF_RANGE";
+  const names = { BadLine: "BAD_LINE", Spent: "SPENT", NotKept: "NOT_KEPT" };
+  if (!(fault instanceof PidtabError) || !(fault.name in names)) throw fault;
+  return names[fault.name];
+}
+
+/** What a call tells, or why there is nothing to tell. */
+function told(call) {
+  try {
+    return call();
+  } catch (fault) {
+    return sayFault(fault);
+  }
+}
+
+const sayEnd = ({ killed, status }) => (killed ? "killed" : `exit ${status}`);
+
+/** What the method of the line tells, or the refusal. */
+function byItsMethod(table, line) {
+  const [name, first, word, number] = line.split(" ");
+  const caller = Number(first);
+  const methods = {
+    fork: () => table.fork(caller, { newSpace: word === "new" }),
+    wait: () => table.wait(caller, { any: {}, own: { own: true }, pid: { pid: Number(number) }, group: { group: Number(number) } }[word]),
+    next: () => table.next(caller, word, Number(number)),
+    setpgid: () => table.setpgid(caller, Number(word), Number(number)),
+    subreaper: () => table.subreaper(caller, word === "on"),
+    limit: () => table.limit(BigInt(first), word === "max" ? null : Number(word)),
+    move: () => table.move(caller, BigInt(word)),
+    mk: () => table.mk(BigInt(first)),
+    rm: () => table.rm(BigInt(first)),
+    count: () => table.count(BigInt(first)),
+  };
+  try {
+    return methods[name] ? methods[name]() : table[name](caller, ...(word === undefined ? [] : [Number(word)]));
+  } catch (fault) {
+    if (fault instanceof Refusal) return fault;
+    throw fault;
+  }
+}
+
+/** What a method tells as the answer to its line. */
+function say(told, name) {
+  if (told instanceof Refusal) return sayFault(told);
+  if (told === null || told === undefined) return { wait: "none", next: "end" }[name] ?? "ok";
+  if (Array.isArray(told)) return told.join(" ");
+  if (typeof told !== "object") return name === "mk" ? `control ${told}` : String(told);
+  return "root" in told ? `child ${told.child} root ${told.root}` : `reaped ${told.child} ${sayEnd(told)}`;
+}
+
+function sayTask(it) {
+  const marks = (it.executed ? " executed" : "") + (it.subreaper ? " subreaper" : "");
+  const family = `space ${it.space} parent ${it.parent} group ${it.group} session ${it.session} control ${it.control}`;
+  return `${it.numbers.join(",")} ${family} ${it.live ? "live" : sayEnd(it)}${marks}`;
+}
+
+/** What a case has open. */
+class World {
+  tables = [];
+  record = null;
+
+  begin(record, tables) {
+    Object.assign(this, { record, tables, at: 0 });
+    this.seats = Array.from({ length: record.workers }, () => record.seat());
+    assert.throws(() => record.seat(), { name: "SeatsTaken" });
+  }
+
+  open([pidMax, workers, firstStamp]) {
+    const isAlone = workers === 1n && firstStamp === 1n;
+    const tables = () => (isAlone ? [0, 1].map(() => new Table({ pidMax: Number(pidMax) })) : []);
+    const record = told(() => new Record({ pidMax: Number(pidMax), workers: Number(workers), firstStamp }));
+    if (typeof record === "string") {
+      if (isAlone) assert.equal(told(tables), record);
+      return record;
+    }
+    this.begin(record, tables());
+    this.isWhole = firstStamp === 1n;
+    return "";
+  }
+
+  load(text, counts) {
+    const isAlone = counts.length === 1 && counts[0] === 0n;
+    const tables = () => (isAlone ? [Table.load(text), Table.load(text)] : []);
+    const record = told(() => Record.load(text, { recorded: counts }));
+    if (typeof record === "string") {
+      if (isAlone) assert.equal(told(tables), record);
+      return record;
+    }
+    this.begin(record, tables());
+    this.isWhole = false;
+    return "";
+  }
+
+  reload() {
+    const text = this.record.dump();
+    const { at, tables } = this;
+    for (const table of tables) assert.equal(table.dump(), text);
+    assert.equal(this.load(text, this.seats.map(({ worker }) => this.record.worker(worker))), "");
+    assert.equal(this.record.dump(), text);
+    Object.assign(this, { at, tables: tables.map(() => Table.load(text)) });
+  }
+
+  /** The answer, which is the same by each way. */
+  call(line) {
+    const [seat, [byLine, byMethod]] = [this.seats[this.at], this.tables];
+    const answer = told(() => seat.line(line));
+    if (byLine) assert.equal(told(() => byLine.line(line)), answer);
+    if (/^[A-Z_]+$/.test(answer)) return answer;
+    assert.deepEqual(this.record.entry(seat.ordinal), { ordinal: seat.ordinal, worker: this.at, line, answer });
+    const [name] = line.split(" ");
+    const asked = [this.record.ask, seat.ask, ...(byMethod ? [byMethod.ask] : [])];
+    for (const queries of asked) QUERIES.includes(name) ? assert.equal(say(byItsMethod(queries, line), name), answer) : assert.equal(queries[name], undefined);
+    if (byMethod) assert.equal(say((this.told = byItsMethod(byMethod, line)), name), answer, line);
+    return answer;
+  }
+
+  stat(caller, pid) {
+    const [task, ...others] = [this.record, ...this.tables].map(({ ask }) => told(() => sayTask(ask.stat(Number(caller), Number(pid)))));
+    for (const other of others) assert.equal(other, task);
+    return task;
+  }
+
+  /** The history on a second record: the same replies, counts and list; or it stops at an entry with another answer, or of a worker that is none. */
+  replay(change, place) {
+    const entries = [...this.record.entries()];
+    const { pidMax, workers } = this.record;
+    const again = new Record({ pidMax, workers });
+    if (change === "differs") entries[place].answer += "7";
+    if (change === "stranger") entries[place].worker = workers;
+    const stopped = told(() => String(again.replay(entries)));
+    assert.equal(stopped, { differs: "DIFFERS", stranger: "OUT_OF_RANGE" }[change] ?? String(entries.length));
+    const recorded = { differs: place + 1, stranger: place }[change] ?? entries.length;
+    assert.equal(again.counts().recorded, BigInt(recorded));
+    if (!change) assert.equal(again.listText(), this.record.listText());
+  }
+
+  end() {
+    if (this.isWhole && this.record.counts().firstKept === 0n) this.replay();
+    this.isWhole = false;
+  }
+
+  /** What a step of a history tells. */
+  read(word, [first, most]) {
+    const { record } = this;
+    const steps = {
+      counts: () => Object.values(record.counts()).join(" "),
+      worker: () => String(record.worker(Number(first))),
+      entry: () => (({ worker, line, answer }) => `${worker} ${line}: ${answer}`)(record.entry(first)),
+      read: () => String(Math.min([...record.entries(first)].length, Number(most))),
+      checkpoint: () => record.checkpoint() ?? "DONE",
+      checkpoint_at: () => (record.checkpointAt(first) ? "DONE" : "AGAIN"),
+    };
+    return told(steps[word]);
+  }
+
+  /** What a step tells. */
+  make(step, text) {
+    const [word, ...words] = step.split(" ");
+    const numbers = words.filter((it) => /^\d+$/.test(it)).map(BigInt);
+    if (word === "case" || word === "open") this.end();
+    if (word === "open") return this.open(numbers);
+    if (word === "load") return this.load(text, numbers);
+    if (["counts", "worker", "entry", "read", "checkpoint", "checkpoint_at"].includes(word)) return this.read(word, numbers);
+    if (word === "stat") return this.stat(...numbers);
+    if (word === "json") return this.call(words.join(" ")) && toJson(this.told);
+    if (word === "parse") return lineOfFault(text);
+    const steps = {
+      case: () => {},
+      reload: () => this.reload(),
+      seat: () => (this.at = Number(numbers[0])),
+      each: () => {
+        for (let number = numbers[0]; number <= numbers[1]; number++) assert.doesNotMatch(this.call(words.slice(2).join(" ").replaceAll("#", number)), /^[A-Z]/);
+      },
+      list: () => [this.record, ...this.tables].forEach((it) => assert.equal(it.listText(), text)),
+      dump: () => [this.record, ...this.tables].forEach((it) => assert.equal(it.dump(), text)),
+      differs: () => this.replay(word, Number(numbers[0])),
+      stranger: () => this.replay(word, Number(numbers[0])),
+      damage: () => damage(text),
+    };
+    if (!(word in steps)) return this.call(step);
+    steps[word]();
+    return "";
+  }
+}
+
+/** No table is made of the text with a byte changed, or with its end cut off. */
+function damage(text) {
+  for (let place = 0; place < text.length; place++) {
+    const changed = text.slice(0, place) + String.fromCharCode(text.charCodeAt(place) ^ 1) + text.slice(place + 1);
+    for (const wrong of [text.slice(0, place), changed]) assert.throws(() => Table.load(wrong), { name: "BadText" });
+  }
+}
+
+/** Where a text is no list. */
+function lineOfFault(text) {
+  try {
+    return `a list of ${readListing(text).tasks.length} tasks`;
+  } catch ({ message }) {
+    return message.split(":")[0];
+  }
+}
+
+/** This package has no list of an opening, and no call as numbers. */
+const isLeftOut = (step) => step.startsWith("opening") || (step.startsWith("numbers") && step.endsWith("OUT_OF_RANGE"));
+
+/** It has no bound of a history. */
+const isOfOthers = (step) => /^open \d+ \d+ \d+ [1-9]/.test(step) && !step.includes(" -> ");
+
+for (const name of readdirSync(FOLDER).filter((it) => it.endsWith(".cases"))) {
+  test(`the cases of ${name}`, { skip }, () => {
+    const cases = readFileSync(new URL(name, FOLDER), "utf8").replaceAll("\n\t", "\u0001").split(/\n(?=case )/).slice(1);
+    for (const lines of cases.map((it) => it.split("\n").filter((line) => line !== "" && !line.startsWith("#")))) {
+      const world = new World();
+      for (const line of lines.filter((it) => !isLeftOut(it))) {
+        const [said, ...below] = line.split("\u0001");
+        const [step, wanted = ""] = said.split(" -> ");
+        const text = below.map((it) => `${it}\n`).join("").replaceAll("\\r", "\r");
+        if (isOfOthers(said)) break;
+        const made = step.startsWith("numbers") ? byItsMethod(new Lines(), wanted) : world.make(step.replaceAll("\\r", "\r").replaceAll("\\0", "\0"), text);
+        assert.equal(made, wanted, line);
+      }
+      world.end();
+    }
+  });
+}
