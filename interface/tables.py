@@ -15,6 +15,7 @@ KINDS = {
     "arguments": r"[a-z_]+(=[a-z]+/[a-z]+\??)?(, [a-z_]+=[a-z]+/[a-z]+\??)*",
     "sentence": r"[^\s.].*[^\s.]",
     "sentence or -": r"[^\s.].*[^\s.]|-",
+    "lines": r"[a-z]+( [a-z]+)*(, [a-z]+( [a-z]+)*)*",
     "sentences": r"[A-Z].*\.",
     "words": r"[a-z]+( [a-z]+)*",
     "owner": r"table|record|saved",
@@ -48,6 +49,7 @@ COLUMNS = {
         "functions": "functions", "since": "release", "python": "method or -", "rust": "method or -", "go": "method or -",
         "javascript": "method or -", "statuses": "statuses or -", "sentence": "sentence",
     },
+    "lines": {"calls": "lines", "asks": "sentence", "answer": "sentence"},
     "results": {"status": "capitals", "functions": "functions or -", "sentence": "sentences"},
     "calls": {
         "number": "number", "call": "word", "model": "name", "query": "yes or no", "memory": "yes or no", "makes": "made", "arguments": "arguments",
@@ -59,7 +61,7 @@ COLUMNS = {
 UNIQUE = {
     "errnos": ("name", "value"), "refusals": ("number", "word"), "calls": ("number", "call", "model"), "statuses": ("name", "error", "sentence"),
     "faults": ("number", "name", "rust", "words"), "kinds": ("name",), "bounds": ("name", "sentence"),
-    "functions": ("functions", "sentence"), "results": ("sentence",),
+    "functions": ("functions", "sentence"), "lines": ("calls", "asks"), "results": ("sentence",),
 }  # fmt: skip
 FIRST = {"refusals": 1, "calls": 0, "faults": 1, "kinds": 0}
 

@@ -5,12 +5,14 @@ import { nearestOf } from "./nearest.js";
 const LONGEST_LINE = 200;
 const END_OF_LINE = "the end of the line";
 
+// Written by tools/interface: forms.
 const FORMS = [
   "fork C|fork C new|exec C|exit C S|wait C any|wait C pid P|wait C own|wait C group P",
-  "setpgid C G G|setsid C|getpid C|getppid C|getpgid C P|getsid C P|nspid C P",
-  "next C task P|next C group P|next C session P|join C P|subreaper C on|subreaper C off",
-  "mk I|rm I|limit I N|limit I max|move T I|count I",
+  "setpgid C G G|setsid C|getpid C|getppid C|getpgid C P|getsid C P|nspid C P|next C task P",
+  "next C group P|next C session P|join C P|subreaper C on|subreaper C off|mk I|rm I",
+  "limit I N|limit I max|move T I|count I",
 ].flatMap((forms) => forms.split("|"));
+// The end of forms.
 
 const COMMANDS = [...new Set(FORMS.map((form) => form.split(" ")[0]))];
 

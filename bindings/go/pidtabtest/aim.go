@@ -9,12 +9,15 @@ import (
 )
 
 // forms are the calls of docs/SCRIPT.md. C is a caller and T a task, P and G are process numbers, I is the id of a control group, S a status, N a limit.
+// Written by tools/interface: forms.
 var forms = []string{
 	"fork C", "fork C new", "exec C", "exit C S", "wait C any", "wait C pid P", "wait C own", "wait C group P",
 	"setpgid C G G", "setsid C", "getpid C", "getppid C", "getpgid C P", "getsid C P", "nspid C P",
 	"next C task P", "next C group P", "next C session P", "join C P", "subreaper C on", "subreaper C off",
 	"mk I", "rm I", "limit I N", "limit I max", "move T I", "count I",
 }
+
+// The end of forms.
 
 const kinds = "CTPGISN"
 

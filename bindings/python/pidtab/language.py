@@ -7,14 +7,15 @@ from dataclasses import dataclass
 LONGEST_LINE = 200
 END_OF_LINE = "the end of the line"
 
+# Written by tools/interface: forms.
 FORMS = (
-    "fork C", "fork C new", "exec C", "exit C S",
-    "wait C any", "wait C pid P", "wait C own", "wait C group P",
-    "setpgid C G G", "setsid C", "getpid C", "getppid C", "getpgid C P", "getsid C P", "nspid C P",
-    "next C task P", "next C group P", "next C session P",
-    "join C P", "subreaper C on", "subreaper C off",
-    "mk I", "rm I", "limit I N", "limit I max", "move T I", "count I",
+    "fork C", "fork C new", "exec C", "exit C S", "wait C any", "wait C pid P", "wait C own",
+    "wait C group P", "setpgid C G G", "setsid C", "getpid C", "getppid C", "getpgid C P",
+    "getsid C P", "nspid C P", "next C task P", "next C group P", "next C session P", "join C P",
+    "subreaper C on", "subreaper C off", "mk I", "rm I", "limit I N", "limit I max", "move T I",
+    "count I",
 )  # fmt: skip
+# The end of forms.
 
 COMMANDS = tuple(dict.fromkeys(form.split(" ")[0] for form in FORMS))
 

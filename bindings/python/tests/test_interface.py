@@ -89,7 +89,6 @@ DIFFERENCES = [
     ("bindings/go/stat.go", "func (shared *Shared) Stat(", "func (shared *Shared) Read(", "the package for go has no Shared.Stat"),
     ("bindings/go/table.go", "func (table *Table) List()", "func (table *Table) Lists()", "the package for go has no Table.List"),
     ("bindings/go/values.go", "func (call Call) Line(", "func (call Call) Text(", "the package for go has no Call.Line"),
-    ("docs/SCRIPT.md", "| `count I` |", "| `tally I` |", "interface/cases has no numbers of `tally I`"),
     ("docs/list.schema.json", '"is-leader", "no-group"', '"no-group", "is-leader"', "the words of refusals is"),
     ("docs/list.schema.json", '"EPERM", "EACCES"', '"EPERM", "EBADF"', "the errors of refusals is"),
 ]  # fmt: skip
@@ -217,10 +216,19 @@ class Interface(unittest.TestCase):
         text, _ = self.plant(path, "task 3@0 parent 1@0 group 1@0 session 1@0 control 0 children 0 live\n\ttask 2@0", "task 3@0 parent 1@0\n\ttask 2@0")
         self.assertEqual(self.say(), (1, f"tools/interface: {path}: a digest is not that of its text: run tools/interface write\n"))
         self.restore(path, text)
-        for old, wanted in (("count 1 -> ENOENT no-control", "no step is refused as ENOENT no-control"), ("impossible line", "no text has the fault `impossible line`")):
+        for old, wanted in (("count 1 -> ENOENT no-control", "no step is refused as ENOENT no-control"), ("impossible line", "no text has the fault `impossible line`"),
+                            (" -> exec ", "no step has the numbers of `exec C`")):  # fmt: skip
             for file in sorted((self.top / "interface" / "cases").glob("*.cases")):
                 file.write_text(file.read_text(encoding="utf-8").replace(old.rpartition(" -> ")[2], "other"), encoding="utf-8")
             self.assertIn(f"tools/interface: interface/cases: {wanted}\n", self.say()[1])
+
+    def test_each_call_has_its_lines_once(self):
+        path = "interface/lines.tbl"
+        for old, new, form, count in (("exec      ", "exec, join", "join C P", 2), ("limit, limit max", "limit           ", "limit I max", 0)):
+            text, _ = self.plant(path, old, new)
+            said = self.say()[1]
+            self.restore(path, text)
+            self.assertIn(f"tools/interface: {path}: {form!r} stands there {count} times, not once\n", said)
 
     def test_since_when(self):
         rows = TOOL.read_tables(self.top / "interface")["functions"]

@@ -15,6 +15,7 @@ use crate::{LineError, Listing, Table, Task};
 use std::fmt;
 
 /// The calls of docs/SCRIPT.md. C is a caller and T a task, P and G are process numbers, I is the id of a control group, S a status, N a limit.
+// Written by tools/interface: forms.
 const FORMS: [&str; 27] = [
     "fork C",
     "fork C new",
@@ -44,6 +45,7 @@ const FORMS: [&str; 27] = [
     "move T I",
     "count I",
 ];
+// The end of forms.
 const KINDS: [&str; 7] = ["C", "T", "P", "G", "I", "S", "N"];
 
 /// A call takes so many bytes: one for its form, and three for the numbers that it may have.
