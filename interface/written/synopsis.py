@@ -82,7 +82,8 @@ def statuses(tables, function):
     """The statuses of a function, in the order in which they are looked for. A shared table waits where a record is busy."""
     row = next(it for it in tables["functions"] if function in words_of(it.functions))
     owner, _, name = function.partition("_")
-    found = [it for it in words_of(row.statuses) if not (owner == "shared" and it == "BUSY")]
+    waits = owner == "shared" and f"record_{name}" in words_of(row.functions)
+    found = [it for it in words_of(row.statuses) if not (waits and it == "BUSY")]
     lines = [".Bl -tag -width PIDTAB_OUT_OF_RANGE -compact"]
     for status in found:
         lines += [f".It Dv PIDTAB_{status}", *said(sentence_of(tables, status, name))]

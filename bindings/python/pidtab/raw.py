@@ -283,6 +283,7 @@ SHARED_FUNCTIONS: dict[str, Function] = {
     "pidtab_shared_checkpoint": (U32, [SHARED]),
     "pidtab_shared_checkpoint_at": (U32, [SHARED, U64]),
     "pidtab_shared_list": (U32, [SHARED, BYTES, SIZE_T, SIZE]),
+    "pidtab_shared_follow": (U32, [SHARED, TABLE, NUMBER_64]),
 }
 
 # Those of these that an earlier library may lack.
