@@ -3,23 +3,17 @@
 
 ghost use Rattle.std.specs.Prelude.{◌≡◌};
 
-use anyhow::Result;
 use locked_table::Record;
 use pid_script::answer::answer_text;
 use pid_types::call::Call;
 use pid_types::config::Config;
-use std::io;
-use std::io::Write;
+use std::alloc::Global;
 use std::marker::Brand;
 use std::sync::ledger::{Blank, Ledger};
+use std::test::Fail;
 
-/// Makes the calls, on a table whose type is picked here.
-pub fn run(rt: &HostRuntime) -> Result<()> {
-    play::<Brand, HostRuntime>(rt, Blank::new(1))
-}
-
-/// The calls, on a table of their own, with one worker.
-fn play<L: Ledger, R: Print + AllocGlobal>(rt: &R, blank: Blank) -> Result<()>
+/// The calls, on a table of their own, with one worker, and the answers.
+fn play<L: Ledger>(alloc: Global, blank: Blank) -> Result<Vec<u8>, Fail>
     requires name { blank.name ≡ L.name }
     requires parts { (blank.parts ≡ L.parts) × (L.parts ≡ 1) }
 {
@@ -39,15 +33,25 @@ fn play<L: Ledger, R: Print + AllocGlobal>(rt: &R, blank: Blank) -> Result<()>
         Call::GetPid { caller: 9 },
     ];
     let config = Config::default_values();
-    let (mut record, mut seats) = Record::<L, 1>::new(rt.alloc(), blank, &config)?;
+    let (mut record, mut seats) = Record::<L, 1>::new(alloc, blank, &config)?;
     let Some(mut seat) = seats.pop() else {
         unreachable!()
     };
-    let mut out = io::writer(rt);
+    let mut text = Vec::new(alloc);
     for call in calls {
         let answer = record.act(&mut seat, call);
-        out.write_all(answer_text(&answer).as_slice())?;
-        out.write_all(b"\n")?;
+        text.extend_from_slice(answer_text(&answer).as_slice())?;
+        text.push(b'\n')?;
     }
+    Ok(text)
+}
+
+const ANSWERS: &str = "child 2 root 2\nchild 2 root 3\n3 2\nESRCH no-caller\n";
+
+/// Makes the calls, on a table whose type is picked here.
+#[test]
+fn makes_four_calls(rt: HostRuntime) -> Result<(), Fail> {
+    let text = play::<Brand>(rt.alloc(), Blank::new(1))?;
+    assert_eq!(rt; text.as_slice(), ANSWERS.as_bytes());
     Ok(())
 }
