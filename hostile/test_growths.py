@@ -19,10 +19,10 @@ COUNTS = (1, 2, ALL)
 
 # What is to be refused at some growth or other, by the first word of its step; `getpid` grows the history alone. A checkpoint is refused at
 # none: the opening moves on by the kept calls, and a call that finds no memory there waits.
-TAKE_MEMORY = set("new open opening fork mk reserve snapshot list dump job run limited state work workers".split())
+TAKE_MEMORY = set("new open opening fork mk reserve snapshot list dump job run state work workers".split())
 
-# The layers make a call once more on the spot, so it takes two refusals to have one filled from the start.
-LAYERS = set("numbers controls groups tree array ids".split())
+# It makes a call once more on the spot, so it takes two refusals to have the array filled from the start.
+TWICE = {"array"}
 
 SCRIPT = "fork 1;fork 1 new;mk 0;limit 3 2;move 2 3;fork 2;fork 2;fork 3;exit 2 0;wait 1 any;count 3;nspid 1 3;getpid 9"
 
@@ -156,11 +156,11 @@ class Growths(unittest.TestCase):
             kinds.update(it.kind() for it in refused)
             starts += any(it.lines[0] == "- cannot start a thread" for it in refused)
         self.assertGreater(growth, 200)
-        # The layers make a call once more on the spot, so a single refusal shows nothing of them.
-        self.assertLessEqual(TAKE_MEMORY | (LAYERS if count > 1 else set()), kinds)
+        # A single refusal shows nothing of a call that is made once more on the spot.
+        self.assertLessEqual(TAKE_MEMORY | (TWICE if count > 1 else set()), kinds)
         self.assertNotIn("checkpoint", kinds)
         # A call that makes nothing needs memory for its entry.
-        self.assertTrue(kinds - TAKE_MEMORY - LAYERS)
+        self.assertTrue(kinds - TAKE_MEMORY - TWICE)
         self.assertGreater(starts, 0)
 
     def test_each_growth_of_a_step_in_turn(self):

@@ -11,7 +11,7 @@ use pid_types::call::Call;
 use pid_types::config::Config;
 use pid_types::device::{FromReader, ToWriter};
 use pid_workers::{
-    OpenGate, RunFault, SeatDesk, Tally, Work, run, run_limited, run_state, run_workers, work,
+    OpenGate, RunFault, SeatDesk, Tally, Work, run, run_state, run_workers, work,
 };
 use script_session::job::{JobFault, read_job};
 use std::alloc::{AllocError, Global};
@@ -24,9 +24,6 @@ use table_lines::list::list_table;
 
 /// The most bytes that a run of these steps answers.
 const MOST_ANSWERS: usize = 4096;
-
-/// The most reads of a limited run.
-const FEW_READS: u32 = 2;
 
 /// Makes a step until there is memory for all of it, and tells what it answers.
 pub fn play<R: Print + Threads + Wait + Clock + Sync + AllocGlobal>(
@@ -55,7 +52,6 @@ fn play_once<R: Print + Threads + Wait + Clock + Sync + AllocGlobal>(
         AloneKind::Open => open::<Brand, R>(rt, Blank::new(1), heading, config),
         AloneKind::Job => read(rt, heading, script.as_bytes()),
         AloneKind::Run => answer_all(rt, heading, config, script.as_bytes()),
-        AloneKind::Limited => answer_few(rt, heading, config, script.as_bytes()),
         AloneKind::State => {
             answer_and_list::<Brand, R>(rt, Blank::new(1), heading, config, script.as_bytes())
         }
@@ -140,29 +136,6 @@ fn answer_all<R: Print + AllocGlobal>(
     tell(rt, &[heading])?;
     let blank = Blank::new(1);
     let outcome = run::<Brand, _, _>(rt.alloc(), blank, &mut source, &mut sink, config);
-    tell_answers(rt, text.as_slice(), outcome)
-}
-
-/// Runs a script with few reads.
-fn answer_few<R: Print + AllocGlobal>(
-    rt: &R,
-    heading: &[u8],
-    config: &Config,
-    script: &[u8],
-) -> Result<bool> {
-    let mut source = FromReader::new(script);
-    let mut text = Vec::with_capacity(rt.alloc(), MOST_ANSWERS)?;
-    let mut sink = ToWriter::new(&mut text);
-    tell(rt, &[heading])?;
-    let blank = Blank::new(1);
-    let outcome = run_limited::<Brand, _, _>(
-        rt.alloc(),
-        blank,
-        &mut source,
-        &mut sink,
-        config,
-        FEW_READS,
-    );
     tell_answers(rt, text.as_slice(), outcome)
 }
 

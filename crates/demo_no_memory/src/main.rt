@@ -9,8 +9,6 @@
 
 mod alone;
 mod arrays;
-mod layers;
-mod parts;
 mod script;
 mod seated;
 mod step;

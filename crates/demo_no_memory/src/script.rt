@@ -3,7 +3,7 @@
 ghost use Rattle.std.specs.Prelude.{◌≡◌};
 
 use crate::alone::play as play_alone;
-use crate::layers::play as play_layer;
+use crate::arrays::play as play_array;
 use crate::seated::{Seated, open};
 use crate::step::{Step, parse_step};
 use crate::tell::MOST_TRIES;
@@ -86,7 +86,7 @@ fn play_steps<L: Ledger, R: Print + Threads + Wait + Clock + Sync + AllocGlobal>
     Ok(true)
 }
 
-/// Plays one step, on the table or on one of its own.
+/// Plays one step, on the table, on one of its own or on an array.
 fn play_step<L: Ledger, R: Print + Threads + Wait + Clock + Sync + AllocGlobal>(
     rt: &R,
     seated: &mut Seated<L>,
@@ -97,6 +97,6 @@ fn play_step<L: Ledger, R: Print + Threads + Wait + Clock + Sync + AllocGlobal>(
     match &told.step {
         Step::Seated(step) => seated.play(rt, heading, step),
         Step::Alone(step) => play_alone(rt, heading, config, step),
-        Step::Layer(layer) => play_layer(rt, heading, *layer),
+        Step::Array => play_array(rt, heading),
     }
 }
