@@ -1,5 +1,6 @@
-//! Steps on an array by index, which is filled at indexes that no number of a script reaches. A call that finds no memory
-//! is made again on the spot, once what can be read of the array was compared.
+//! Steps on an array by index, which is filled at indexes that no number of a script reaches.
+//!
+//! A call that finds no memory is made again on the spot, once what can be read of the array was compared.
 
 use crate::tell::{MOST_TRIES, tell};
 use anyhow::{Result, bail, ensure};

@@ -1,6 +1,6 @@
 //! Worked lists, ranks and ids.
 
-ghost use Rattle.std.specs.Prelude.{◌≡◌, ◌<◌, ℕ, [], ◌∷◌, length, Some, IfOk};
+ghost use Rattle.std.specs.Prelude.{◌≡◌, ◌<◌, ℕ, [], ◌∷◌, length, Some, None, IfOk};
 
 use id_slab::RisingIds;
 use member_lists::MemberLists;
@@ -24,24 +24,61 @@ fn three(rt: &impl Abort, lists: &MemberLists, owner: u32) -> [u32; 3] {
     found
 }
 
-/// Three keys come to owner 1, one moves on and one goes.
-#[test]
-fn moves_members(rt: HostRuntime) -> Result<(), Fail> {
-    let mut lists = MemberLists::new(rt.alloc());
+/// Three keys without an owner.
+fn three_keys(alloc: Global) -> Result<MemberLists, Fail>
+    ensures { IfOk result (λ lists. lists ≡ None ∷ None ∷ None ∷ []) }
+{
+    let mut lists = MemberLists::new(alloc);
     lists.grow(1)?;
     lists.grow(2)?;
-    assert_eq!(rt; lists.keys(), 3);
-    assert_eq!(rt; lists.first(1), None);
+    Ok(lists)
+}
+
+/// All three come to owner 1.
+fn add_three(lists: &mut MemberLists)
+    requires { lists.old ≡ None ∷ None ∷ None ∷ [] }
+    ensures { lists.new ≡ Some 1 ∷ Some 1 ∷ Some 1 ∷ [] }
+{
     lists.add(0, 1);
     lists.add(1, 1);
     lists.add(2, 1);
-    assert_eq!(rt; three(&rt, &lists, 1), [0, 1, 2]);
+}
+
+fn expect_first(rt: &impl Abort, lists: &MemberLists, owner: u32, first: Option<u32>) {
+    assert!(rt; (owner as usize) < lists.keys());
+    assert_eq!(rt; lists.first(owner), first);
+}
+
+fn expect_owner(rt: &impl Abort, lists: &MemberLists, key: u32, owner: Option<u32>) {
+    assert!(rt; (key as usize) < lists.keys());
+    assert_eq!(rt; lists.owner(key), owner);
+}
+
+fn expect_three(rt: &impl Abort, lists: &MemberLists, told: [u32; 3]) {
+    assert_eq!(rt; three(rt, lists, 1), told);
+}
+
+/// One key moves on to owner 2 and one goes.
+fn move_and_remove(rt: &impl Abort, lists: &mut MemberLists)
+    requires { lists.old ≡ Some 1 ∷ Some 1 ∷ Some 1 ∷ [] }
+{
     lists.move_to(1, 2);
-    assert_eq!(rt; lists.owner(1), Some(2));
-    assert_eq!(rt; lists.first(2), Some(1));
+    expect_owner(rt, lists, 1, Some(2));
+    expect_first(rt, lists, 2, Some(1));
     lists.remove(0);
-    assert_eq!(rt; lists.owner(0), None);
-    assert_eq!(rt; three(&rt, &lists, 1), [2, 9, 9]);
+    expect_owner(rt, lists, 0, None);
+    expect_three(rt, lists, [2, 9, 9]);
+}
+
+/// Three keys come to owner 1, one moves on and one goes.
+#[test]
+fn moves_members(rt: HostRuntime) -> Result<(), Fail> {
+    let mut lists = three_keys(rt.alloc())?;
+    assert_eq!(rt; lists.keys(), 3);
+    expect_first(&rt, &lists, 1, None);
+    add_three(&mut lists);
+    expect_three(&rt, &lists, [0, 1, 2]);
+    move_and_remove(&rt, &mut lists);
     Ok(())
 }
 

@@ -21,9 +21,8 @@ fn expect_keys(rt: &impl Abort, tree: &TaskTree, keys: usize) {
 fn expect_free(rt: &impl Abort, tree: &TaskTree, key: u32) {
     assert_eq!(rt; tree.task(key), None);
     assert!(rt; (key as usize) < tree.keys());
-    assert_eq!(rt; tree.parent(key), None);
-    assert_eq!(rt; tree.rank(key), None);
-    assert_eq!(rt; tree.first_child(key), None);
+    let place = (tree.parent(key), tree.rank(key), tree.first_child(key));
+    assert_eq!(rt; place, (None, None, None));
 }
 
 /// Each key has no task at first.

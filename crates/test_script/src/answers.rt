@@ -80,6 +80,10 @@ fn writes_each_refusal(rt: HostRuntime) {
     }
 }
 
+fn expect_numbers(rt: &impl Abort, refusal: Refusal, numbers: (u8, u32)) {
+    assert_eq!(rt; (refusal.number(), refusal.errno()), numbers);
+}
+
 /// The numbers and the errnos of refusals: `errno-base.h` of the kernel has the values.
 #[test]
 fn numbers_each_refusal(rt: HostRuntime) {
@@ -105,8 +109,7 @@ fn numbers_each_refusal(rt: HostRuntime) {
         (Refusal::ControlDepth, 19, 11),
     ];
     for (refusal, number, errno) in refusals {
-        assert_eq!(rt; refusal.number(), number);
-        assert_eq!(rt; refusal.errno(), errno);
+        expect_numbers(&rt, refusal, (number, errno));
     }
 }
 

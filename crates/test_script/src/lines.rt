@@ -6,7 +6,7 @@ use pid_types::call::{Call, Kind, Which};
 use std::process::Abort;
 
 fn expect_line(rt: &impl Abort, text: &[u8], line: Line) {
-    assert_eq!(rt; parse_line(text), line, "{text:?}");
+    assert_eq!(rt; parse_line(text), line);
 }
 
 /// The line says the call, and is the call's line.

@@ -36,7 +36,7 @@ fn left_by(alloc: Global, config: &Config, script: &str) -> Result<Left, AllocEr
 }
 
 /// What the script leaves of a table with the usual settings.
-fn left(rt: &(impl AllocGlobal + Abort), script: &str) -> Left {
+fn leave(rt: &(impl AllocGlobal + Abort), script: &str) -> Left {
     left_by(rt.alloc(), &Config::default_values(), script).expect(rt, "no memory")
 }
 
@@ -50,7 +50,7 @@ fn list_of(rt: &(impl AllocGlobal + Abort), left: &Left) -> Vec<u8> {
 
 /// The script leaves a table with the text, which is read.
 fn expect_text(rt: &(impl AllocGlobal + Abort), script: &str, text: &str) {
-    assert_eq!(rt; text_of(rt, &left(rt, script)).as_slice(), text.as_bytes());
+    assert_eq!(rt; text_of(rt, &leave(rt, script)).as_slice(), text.as_bytes());
     assert!(rt; read_text(rt.alloc(), text.as_bytes()).is_ok());
 }
 
@@ -232,8 +232,8 @@ fn expect_two_texts(rt: &(impl AllocGlobal + Abort), one: &Left, other: &Left) {
 /// Two tables with one list.
 #[test]
 fn tells_tables_with_one_list_apart(rt: HostRuntime) {
-    let one = left(&rt, FIRST);
-    let other = left(&rt, SECOND);
+    let one = leave(&rt, FIRST);
+    let other = leave(&rt, SECOND);
     expect_one_list(&rt, &one, &other);
     expect_two_texts(&rt, &one, &other);
 }
