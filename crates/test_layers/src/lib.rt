@@ -1,14 +1,44 @@
-//! Tests of the layers below a table of tasks, over their public calls alone, of what no call on a table shows: arrays
-//! by index, numbers drawn in turn, lists, queues and ids by owner, and a tree without tasks.
+//! Tests of the crates below the record, over their public calls alone, of what no command shows: arrays by index,
+//! numbers drawn in turn, lists, queues and ids by owner, the script language, the text of a table, and tables that are
+//! loaded from texts.
 //!
-//! They have a crate of their own, since a crate with tests is proved twice. What a call shows is in `stored/`.
+//! They have a crate of their own, since a crate with tests is proved twice. It is one, since a check of tests links
+//! all that they use. What a command shows is in `stored/`.
 #![tactic(auto)]
 
 #[cfg(test)]
+mod answers;
+#[cfg(test)]
 mod arrays;
+#[cfg(test)]
+mod dialogues;
+#[cfg(test)]
+mod faults;
+#[cfg(test)]
+mod full;
 #[cfg(test)]
 mod ids;
 #[cfg(test)]
+mod jobs;
+#[cfg(test)]
+mod lines;
+#[cfg(test)]
+mod lists;
+#[cfg(test)]
+mod many;
+#[cfg(test)]
 mod members;
+#[cfg(test)]
+mod parts;
+#[cfg(test)]
+mod reads;
+#[cfg(test)]
+mod running;
+#[cfg(test)]
+mod scripts;
+#[cfg(test)]
+mod seeds;
+#[cfg(test)]
+mod texts;
 #[cfg(test)]
 mod tree;
