@@ -1,6 +1,6 @@
 //! Tests of the crates below the record, over their public calls alone, of what no command shows: arrays by index,
-//! numbers drawn in turn, lists, queues and ids by owner, the script language, the text of a table, and tables that are
-//! loaded from texts.
+//! numbers drawn in turn, lists, queues and ids by owner, the script language, the text of a table, tables that are
+//! loaded from texts, and that the fast table and the plain one agree.
 //!
 //! They have a crate of their own, since a crate with tests is proved twice. It is one, since a check of tests links
 //! all that they use. What a command shows is in `stored/`.
@@ -30,6 +30,14 @@ mod many;
 mod members;
 #[cfg(test)]
 mod parts;
+#[cfg(test)]
+mod plain_openings;
+#[cfg(test)]
+mod plain_pair;
+#[cfg(test)]
+mod plain_runs;
+#[cfg(test)]
+mod plain_tally;
 #[cfg(test)]
 mod reads;
 #[cfg(test)]

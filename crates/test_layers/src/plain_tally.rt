@@ -6,11 +6,11 @@ use pid_types::reply::{Refusal, Reply};
 /// How many refusals there are.
 const REFUSALS: usize = 19;
 
-/// How many generated calls there are.
-const CALLS: u64 = 50_000;
+/// How many generated calls two runs have.
+const CALLS: u64 = 10_000;
 
 /// More calls than this are to change the table.
-const FEW_CHANGES: u64 = 20_000;
+const FEW_CHANGES: u64 = 4_000;
 
 /// The calls that were made, those of them that changed the table, and the refusals that were met.
 #[derive(Drop)]
@@ -45,20 +45,30 @@ impl Tally {
 
     /// A refusal was met.
     pub fn meet(&mut self, refusal: Refusal) {
-        // Refusals are numbered from 1.
-        let place = usize::from(refusal.number()).saturating_sub(1);
+        let place = place_of(refusal);
         if place < REFUSALS {
             self.met[place] = true;
         }
     }
 
-    /// The error is that there were fewer calls or changes than wanted, or that a refusal was never met.
-    pub fn check(&self) -> Result<()> {
-        for (place, met) in self.met.iter().enumerate() {
-            ensure!(*met, "refusal {} was never met", place.saturating_add(1));
+    /// Whether a refusal was met, with any number.
+    fn has_met(&self, refusal: Refusal) -> bool {
+        let place = place_of(refusal);
+        place < REFUSALS && self.met[place]
+    }
+
+    /// The error is that there were fewer calls or changes than wanted, or that one of these refusals was never met.
+    pub fn check(&self, wanted: &[Refusal]) -> Result<()> {
+        for refusal in wanted {
+            ensure!(self.has_met(*refusal), "{refusal:?} was never met");
         }
         ensure!(self.calls == CALLS, "{} calls", self.calls);
         ensure!(self.changes > FEW_CHANGES, "only {} changes", self.changes);
         Ok(())
     }
+}
+
+/// The place of a refusal. They are numbered from 1.
+fn place_of(refusal: Refusal) -> usize {
+    usize::from(refusal.number()).saturating_sub(1)
 }

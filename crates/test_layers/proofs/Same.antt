@@ -4,7 +4,7 @@ use Rattle.std.specs.Prelude.{map}
 use Rattle.pid_types.specs.declared.plain.Plain.{Plain}
 use Rattle.pid_types.specs.State.{State}
 use Rattle.pid_types.specs.Shown.{Shows, with_count}
-use Rattle.plain_compare.specs.Two.{IsSame}
+use Rattle.test_layers.specs.Two.{IsSame}
 
 -- a snapshot that shows the same as one of the state shows the state
 pub shown_by_both : (s : State) (a b : Plain) → IsSame a b → Shows s a → Shows s b

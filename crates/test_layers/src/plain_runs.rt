@@ -1,14 +1,20 @@
-//! The generated runs.
+//! Generated calls on two tables, the fast one and the plain one: each reply, the snapshots now and then, and the
+//! tables that are left are compared.
+//!
+//! The calls, 50,000 in five tests, are always the same. A difference is told with the run's seed, the call's place in
+//! it and both replies. It is a fault too if a refusal that the runs are about was never met, or hardly anything
+//! changed. Together they meet each refusal.
 
-use crate::openings::{ask_below_deepest, build_controls, build_spaces};
-use crate::pair::Pair;
-use crate::tally::Tally;
+use crate::plain_openings::{ask_below_deepest, build_controls, build_spaces};
+use crate::plain_pair::Pair;
+use crate::plain_tally::Tally;
 use anyhow::{Result, bail};
 use pid_types::config::Config;
 use pid_types::reply::Refusal;
 use random_calls::draft::Theme;
 use random_calls::generator::{Aims, Generator};
 use std::alloc::Global;
+use std::process::Abort;
 
 /// How many calls a run has.
 const CALLS: u32 = 5000;
@@ -36,36 +42,96 @@ struct Setting {
     aims: Aims,
 }
 
-/// Makes all runs.
-pub fn run_all(alloc: Global) -> Result<Tally> {
-    let mut tally = Tally::new();
-    for (seed, theme, pid_max, most_tasks) in [
-        (1, Theme::Mixed, 32_768, 120),
-        (2, Theme::Falls, 32_768, 150),
-        (3, Theme::Falls, 4_194_304, 300),
-        (4, Theme::Numbers, 301, 100),
-        (5, Theme::Numbers, 310, 60),
-        (6, Theme::Controls, 32_768, 100),
-        (7, Theme::Groups, 330, 60),
-        (8, Theme::Groups, 32_768, 120),
-    ] {
-        let aims = Aims {
+/// A run that begins with the root init alone.
+fn from_root(seed: u64, theme: Theme, pid_max: u32, most_tasks: usize) -> Setting {
+    Setting {
+        seed,
+        pid_max,
+        opening: Opening::Root,
+        aims: Aims {
             theme,
             most_tasks,
             kept_tasks: 0,
             kept_controls: 0,
-        };
-        let setting = Setting {
-            seed,
-            pid_max,
-            opening: Opening::Root,
-            aims,
-        };
-        run(alloc, &setting, &mut tally)?;
+        },
     }
-    run(alloc, &deep_spaces(), &mut tally)?;
-    run(alloc, &deep_controls(), &mut tally)?;
-    Ok(tally)
+}
+
+/// Makes both runs, which are to meet these refusals.
+fn run_two(alloc: Global, settings: &[Setting; 2], wanted: &[Refusal]) -> Result<()> {
+    let mut tally = Tally::new();
+    for setting in settings {
+        run(alloc, setting, &mut tally)?;
+    }
+    tally.check(wanted)
+}
+
+fn expect_same(rt: &(impl AllocGlobal + Abort), settings: &[Setting; 2], wanted: &[Refusal]) {
+    if let Err(fault) = run_two(rt.alloc(), settings, wanted) {
+        assert!(rt; false, "{fault}");
+    }
+}
+
+#[test]
+fn tables_agree_on_all_calls(rt: HostRuntime) {
+    let settings = [
+        from_root(1, Theme::Mixed, 32_768, 120),
+        from_root(2, Theme::Falls, 32_768, 150),
+    ];
+    let wanted = [
+        Refusal::NoCaller,
+        Refusal::NoTask,
+        Refusal::NoChild,
+        Refusal::SpaceFallen,
+        Refusal::Elsewhere,
+        Refusal::RootInit,
+    ];
+    expect_same(&rt, &settings, &wanted);
+}
+
+#[test]
+fn tables_agree_on_numbers(rt: HostRuntime) {
+    let settings = [
+        from_root(4, Theme::Numbers, 301, 100),
+        from_root(5, Theme::Numbers, 310, 60),
+    ];
+    expect_same(&rt, &settings, &[Refusal::NoNumber(0)]);
+}
+
+#[test]
+fn tables_agree_on_groups(rt: HostRuntime) {
+    let settings = [
+        from_root(7, Theme::Groups, 330, 60),
+        from_root(8, Theme::Groups, 32_768, 120),
+    ];
+    let wanted = [
+        Refusal::BadGroup,
+        Refusal::OtherSession,
+        Refusal::IsLeader,
+        Refusal::NoGroup,
+        Refusal::Executed,
+    ];
+    expect_same(&rt, &settings, &wanted);
+}
+
+#[test]
+fn tables_agree_on_controls(rt: HostRuntime) {
+    let settings = [from_root(6, Theme::Controls, 32_768, 100), deep_controls()];
+    let wanted = [
+        Refusal::PidsLimit(0),
+        Refusal::NoControl,
+        Refusal::ControlBusy,
+        Refusal::RootControl,
+        Refusal::BadLimit,
+        Refusal::ControlDepth,
+    ];
+    expect_same(&rt, &settings, &wanted);
+}
+
+#[test]
+fn tables_agree_on_levels(rt: HostRuntime) {
+    let settings = [from_root(3, Theme::Falls, 4_194_304, 300), deep_spaces()];
+    expect_same(&rt, &settings, &[Refusal::TooDeep]);
 }
 
 /// Namespaces at the deepest level, of which the last ones fall and are made again.

@@ -1,5 +1,5 @@
 use Rattle.std.proofs.Common.{rules}
-use Rattle.plain_compare.proofs.pair.Pair.make.Goals as goal
+use Rattle.test_layers.proofs.plain_pair.Pair.make.Goals as goal
 
 pub invariant_of-self-then-ne : goal.invariant_of-self-then-ne
 invariant_of-self-then-ne c = search rules

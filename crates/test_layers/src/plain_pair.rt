@@ -1,7 +1,7 @@
 //! The fast table and the plain one, which are told the same calls: each reply and each snapshot is compared.
 
 ghost use Rattle.std.specs.Prelude.{◌≡◌, ◌+◌, ◌↔◌, OnOk, IfOk, IsTrue, Err};
-ghost use Rattle.plain_compare.specs.Two.{IsSame};
+ghost use Rattle.test_layers.specs.Two.{IsSame};
 ghost use Rattle.pid_types.specs.declared.reply.Reply.{Reply};
 ghost use Rattle.pid_types.specs.Shown.{Shows};
 ghost use Rattle.pid_types.specs.State.{root_state};
@@ -37,7 +37,7 @@ pub enum Fault {
 
 impl From<AllocError> for Fault {
     ghost use Rattle.std.specs.Prelude.{◌≡◌};
-    ghost use Rattle.plain_compare.specs.declared.pair.Fault.TheVariants.{NoMemory};
+    ghost use Rattle.test_layers.specs.declared.plain_pair.Fault.TheVariants.{NoMemory};
 
     ghost from_gives = { λ _ fault. fault ≡ NoMemory };
 
@@ -56,7 +56,7 @@ pub struct Pair {
 
 impl Model for Pair {
     ghost use Rattle.pid_types.specs.Sound.{IsSound, IsBelow};
-    ghost use Rattle.plain_compare.specs.Two.{Two};
+    ghost use Rattle.test_layers.specs.Two.{Two};
 
     ghost Value = { Two };
 

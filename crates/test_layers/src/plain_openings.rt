@@ -1,7 +1,7 @@
 //! What the generated runs begin with: calls whose replies are known beforehand, from the rules of docs/MODEL.md
 //! and not from a table.
 
-use crate::pair::Pair;
+use crate::plain_pair::Pair;
 use anyhow::{Result, ensure};
 use pid_types::call::Call;
 use pid_types::reply::{Refusal, Reply};
