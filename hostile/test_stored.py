@@ -8,8 +8,12 @@ command's output, its line on standard error, if any, and a line `status K`, if 
 
 import os
 import pathlib
+import re
 import resource
+import subprocess
 import tempfile
+import threading
+import time
 import unittest
 
 from hostile import TOP, builds_of, run
@@ -207,6 +211,47 @@ class Words(Stored):
             self.write_job(name, 0)
         for program, words in self.each(cases):
             self.assert_ran(self.ran(program, words), *USAGE)
+
+
+class LongRuns(Stored):
+    """A long run takes the memory of its table, and not of its length."""
+
+    # With an entry of 184 bytes for each call they would take 359,375 KiB.
+    CALLS = 2_000_000
+    MOST_KIB = 65_536
+
+    def test_long_run_takes_little_memory(self):
+        for program in self.programs:
+            with tempfile.TemporaryFile() as answers:
+                with subprocess.Popen([str(program), "run"], env={}, stdin=subprocess.PIPE, stdout=answers) as started:
+                    sender = threading.Thread(target=self.send, args=(started.stdin,))
+                    sender.start()
+                    self.wait_for(answers, started)
+                    sender.join()
+                    self.assertLessEqual(self.peak_kib(started.pid), self.MOST_KIB)
+                    started.stdin.close()
+                self.assertEqual(started.returncode, 0)
+                answers.seek(0)
+                self.assertEqual(answers.read(), b"1\n" * self.CALLS)
+
+    def send(self, pipe):
+        for _ in range(self.CALLS // 1000):
+            pipe.write(b"getpid 1\n" * 1000)
+        pipe.flush()
+
+    def wait_for(self, answers, started):
+        """Waits until all is answered, for a minute at most."""
+        for _ in range(600):
+            if os.fstat(answers.fileno()).st_size >= 2 * self.CALLS:
+                return
+            time.sleep(0.1)
+        started.kill()
+        self.fail("no answers")
+
+    @staticmethod
+    def peak_kib(number):
+        """`VmHWM` of `proc_pid_status(5)`."""
+        return int(re.search(r"^VmHWM:\s*(\d+) kB$", pathlib.Path(f"/proc/{number}/status").read_text(), re.MULTILINE)[1])
 
 
 class Devices(Stored):

@@ -12,8 +12,6 @@ mod commands;
 #[cfg(test)]
 mod first;
 #[cfg(test)]
-mod long_runs;
-#[cfg(test)]
 mod records;
 #[cfg(test)]
 mod resumed;
