@@ -144,9 +144,9 @@ fn expect_dialogue(
 ) {
     let mut console = typing(pieces);
     let outcome = run_dialogue(&mut Starved, &mut console, turns);
-    assert_eq!(rt; outcome, told);
-    assert_eq!(rt; console.shown.as_slice(), shown);
-    assert_eq!(rt; console.shown_at.as_slice(), shown_at);
+    assert!(rt; outcome == told);
+    assert!(rt; console.shown.as_slice() == shown);
+    assert!(rt; console.shown_at.as_slice() == shown_at);
 }
 
 #[test]

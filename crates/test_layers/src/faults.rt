@@ -34,7 +34,7 @@ fn fault_of(rt: &(impl AllocGlobal + Abort), said: &[u8]) -> Option<RestoreFault
 
 /// What a text says has the fault, or none.
 fn expect_fault(rt: &(impl AllocGlobal + Abort), said: &[u8], fault: Option<RestoreFault>) {
-    assert_eq!(rt; fault_of(rt, said), fault);
+    assert!(rt; fault_of(rt, said) == fault);
 }
 
 /// What a text says of the root init and the task of the line, where no other text is needed.
@@ -261,7 +261,7 @@ fn tells_what_is_no_text(rt: HostRuntime) {
     let mut text = end.expect(&rt, "no memory");
     change(&mut text);
     let fault = fault_in(&rt, text.as_slice());
-    assert_eq!(rt; fault, Some(RestoreFault::WrongDigest(2)));
+    assert!(rt; fault == Some(RestoreFault::WrongDigest(2)));
 }
 
 /// Whether the text is refused where the byte at the place is another one, with its digest.

@@ -18,36 +18,36 @@ fn draw(ids: &mut CyclicIds) -> Option<u32> {
 // What the ids answer, of which the tests know nothing more.
 
 fn expect_draw(rt: &impl Abort, ids: &mut CyclicIds, drawn: Option<u32>) {
-    assert_eq!(rt; draw(ids), drawn);
+    assert!(rt; draw(ids) == drawn);
 }
 
 /// Releases a number that was drawn, whose entry is itself.
 fn expect_release(rt: &impl Abort, ids: &mut CyclicIds, n: u32) {
-    assert_eq!(rt; ids.release(n), Some(n));
+    assert!(rt; ids.release(n) == Some(n));
 }
 
 fn expect_entry(rt: &impl Abort, ids: &CyclicIds, n: u32, entry: u32) {
-    assert_eq!(rt; ids.find(n).copied(), Some(entry));
+    assert!(rt; ids.find(n).copied() == Some(entry));
 }
 
 fn expect_marked(rt: &impl Abort, ids: &CyclicIds, mark: usize, next: Option<u32>)
     requires { mark < 3 }
 {
-    assert_eq!(rt; ids.next_marked(0, mark), next);
+    assert!(rt; ids.next_marked(0, mark) == next);
 }
 
 fn expect_next(rt: &impl Abort, ids: &CyclicIds, from: u32, next: Option<u32>) {
-    assert_eq!(rt; ids.next(from), next);
+    assert!(rt; ids.next(from) == next);
 }
 
 fn expect_cursor(rt: &impl Abort, ids: &CyclicIds, cursor: u32) {
-    assert_eq!(rt; ids.cursor(), cursor);
+    assert!(rt; ids.cursor() == cursor);
 }
 
 fn expect_has_mark(rt: &impl Abort, ids: &CyclicIds, n: u32, mark: usize, has: bool)
     requires { mark < 3 }
 {
-    assert_eq!(rt; ids.has_mark(n, mark), has);
+    assert!(rt; ids.has_mark(n, mark) == has);
 }
 
 /// Gives the planned number with marks, again where there was no memory.
@@ -63,7 +63,7 @@ fn give_marked(ids: &mut CyclicIds, entry: u32, marks: [bool; 3]) {
 fn expect_set(rt: &impl Abort, ids: &mut CyclicIds, n: u32, mark: usize, is_set: bool)
     requires { mark < 3 }
 {
-    assert_eq!(rt; ids.set_mark(n, mark), is_set);
+    assert!(rt; ids.set_mark(n, mark) == is_set);
 }
 
 fn expect_cleared(rt: &impl Abort, ids: &mut CyclicIds, n: u32, mark: usize)
@@ -73,7 +73,7 @@ fn expect_cleared(rt: &impl Abort, ids: &mut CyclicIds, n: u32, mark: usize)
 }
 
 fn expect_empty(rt: &impl Abort, ids: &CyclicIds, is_empty: bool) {
-    assert_eq!(rt; ids.is_empty(), is_empty);
+    assert!(rt; ids.is_empty() == is_empty);
 }
 
 /// No number is in use, then one, then none again.

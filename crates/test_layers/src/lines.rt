@@ -6,13 +6,13 @@ use pid_types::call::{Call, Kind, Which};
 use std::process::Abort;
 
 fn expect_line(rt: &impl Abort, text: &[u8], line: Line) {
-    assert_eq!(rt; parse_line(text), line);
+    assert!(rt; parse_line(text) == line);
 }
 
 /// The line says the call, and is the call's line.
 fn expect_call(rt: &impl Abort, line: &[u8], call: Call) {
     expect_line(rt, line, Line::Call(call));
-    assert_eq!(rt; line_text(&call).as_slice(), line);
+    assert!(rt; line_text(&call).as_slice() == line);
 }
 
 fn fork(caller: u32, new_space: bool) -> Call {
@@ -114,7 +114,7 @@ fn reads_queries_and_control_calls(rt: HostRuntime) {
 fn writes_the_longest_line(rt: HostRuntime) {
     let call = set_pgid(4_294_967_295, -2_147_483_648, -2_147_483_648);
     let line = b"setpgid 4294967295 -2147483648 -2147483648";
-    assert_eq!(rt; line.len(), LONGEST_CALL);
+    assert!(rt; line.len() == LONGEST_CALL);
     expect_call(&rt, line, call);
 }
 

@@ -71,7 +71,7 @@ space 0 parent - cursor 4
 space 1 parent 0 cursor 3
 control 0 parent - limit max count 3
 ";
-    assert_eq!(rt; text.as_slice(), lines);
+    assert!(rt; text.as_slice() == lines);
     Ok(())
 }
 
@@ -113,6 +113,6 @@ task 5 space 0 parent 2 group 1 session 1 control 0 killed
 space 2 parent 0 cursor 2 fallen
 control 13 parent 1 limit 2 count 18446744073709551615
 ";
-    assert_eq!(rt; text.as_slice(), lines);
+    assert!(rt; text.as_slice() == lines);
     Ok(())
 }

@@ -19,7 +19,7 @@ fn three(rt: &impl Abort, lists: &MemberLists, owner: u32) -> [u32; 3] {
             *place = key;
         }
     }
-    assert_eq!(rt; members.next(), None);
+    assert!(rt; members.next() == None);
     found.sort_unstable();
     found
 }
@@ -46,16 +46,16 @@ fn add_three(lists: &mut MemberLists)
 
 fn expect_first(rt: &impl Abort, lists: &MemberLists, owner: u32, first: Option<u32>) {
     assert!(rt; (owner as usize) < lists.keys());
-    assert_eq!(rt; lists.first(owner), first);
+    assert!(rt; lists.first(owner) == first);
 }
 
 fn expect_owner(rt: &impl Abort, lists: &MemberLists, key: u32, owner: Option<u32>) {
     assert!(rt; (key as usize) < lists.keys());
-    assert_eq!(rt; lists.owner(key), owner);
+    assert!(rt; lists.owner(key) == owner);
 }
 
 fn expect_three(rt: &impl Abort, lists: &MemberLists, told: [u32; 3]) {
-    assert_eq!(rt; three(rt, lists, 1), told);
+    assert!(rt; three(rt, lists, 1) == told);
 }
 
 /// One key moves on to owner 2 and one goes.
@@ -74,7 +74,7 @@ fn move_and_remove(rt: &impl Abort, lists: &mut MemberLists)
 #[test]
 fn moves_members(rt: HostRuntime) -> Result<(), Fail> {
     let mut lists = three_keys(rt.alloc())?;
-    assert_eq!(rt; lists.keys(), 3);
+    assert!(rt; lists.keys() == 3);
     expect_first(&rt, &lists, 1, None);
     add_three(&mut lists);
     expect_three(&rt, &lists, [0, 1, 2]);
@@ -98,15 +98,15 @@ fn three_members(alloc: Global) -> Result<MemberQueues, Fail>
 fn expect_least(rt: &impl Abort, members: &MemberQueues, least: Option<u32>)
     requires { 2 < length members.now }
 {
-    assert_eq!(rt; members.least(2), least);
+    assert!(rt; members.least(2) == least);
 }
 
 /// The least of an owner, whatever the order in which they came.
 #[test]
 fn answers_least(rt: HostRuntime) -> Result<(), Fail> {
     let mut members = three_members(rt.alloc())?;
-    assert_eq!(rt; members.keys(), 3);
-    assert_eq!(rt; members.rank(1), Some(40));
+    assert!(rt; members.keys() == 3);
+    assert!(rt; members.rank(1) == Some(40));
     expect_least(&rt, &members, Some(1));
     members.remove(1);
     expect_least(&rt, &members, Some(0));
@@ -114,21 +114,21 @@ fn answers_least(rt: HostRuntime) -> Result<(), Fail> {
     expect_least(&rt, &members, Some(0));
     members.remove(0);
     expect_least(&rt, &members, None);
-    assert_eq!(rt; members.rank(0), None);
+    assert!(rt; members.rank(0) == None);
     Ok(())
 }
 
 fn expect_key(rt: &impl Abort, ids: &RisingIds, id: u64, key: Option<u32>) {
-    assert_eq!(rt; ids.find(id), key);
+    assert!(rt; ids.find(id) == key);
 }
 
 /// The ids with their keys are these three, in this order.
 fn expect_all(rt: &impl Abort, ids: &RisingIds, told: &[(u64, u32); 3]) {
     let mut all = ids.iter();
     for entry in told {
-        assert_eq!(rt; all.next(), Some(*entry));
+        assert!(rt; all.next() == Some(*entry));
     }
-    assert_eq!(rt; all.next(), None);
+    assert!(rt; all.next() == None);
 }
 
 /// Three ids, of which one goes and another comes.
@@ -140,8 +140,8 @@ fn change_ids(rt: &impl Abort, ids: &mut RisingIds) -> Result<(), Fail>
     ids.push(9, 6)?;
     expect_key(rt, ids, 5, Some(8));
     expect_key(rt, ids, 4, None);
-    assert_eq!(rt; ids.remove(9), Some(6));
-    assert_eq!(rt; ids.remove(9), None);
+    assert!(rt; ids.remove(9) == Some(6));
+    assert!(rt; ids.remove(9) == None);
     ids.push(6, 6)?;
     expect_all(rt, ids, &[(3, 7), (5, 8), (6, 6)]);
     Ok(())

@@ -14,12 +14,12 @@ fn joins_parts_and_forgets_long_lines(rt: HostRuntime) {
         caller: 1,
         new_space: false,
     };
-    assert_eq!(rt; part.finish(b"rk 1"), Line::Call(fork));
+    assert!(rt; part.finish(b"rk 1") == Line::Call(fork));
     assert!(rt; part.is_empty());
     part.push(&[b'a'; 200]);
     part.push(b"a");
     part.push(b"fork 1");
-    assert_eq!(rt; part.finish(b""), Line::Bad);
-    assert_eq!(rt; part.finish(b"fork 1"), Line::Call(fork));
-    assert_eq!(rt; part.finish(b""), Line::Empty);
+    assert!(rt; part.finish(b"") == Line::Bad);
+    assert!(rt; part.finish(b"fork 1") == Line::Call(fork));
+    assert!(rt; part.finish(b"") == Line::Empty);
 }

@@ -21,7 +21,7 @@ fn first_text(rt: &(impl AllocGlobal + Abort)) -> Vec<u8> {
 
 /// The text has the fault, or none.
 fn expect_fault(rt: &(impl AllocGlobal + Abort), text: &[u8], fault: Option<LoadFault>) {
-    assert_eq!(rt; read_text(rt.alloc(), text).err(), fault);
+    assert!(rt; read_text(rt.alloc(), text).err() == fault);
 }
 
 /// The settings of the first line, and how many tasks, namespaces and control groups there are.
@@ -32,9 +32,9 @@ fn expect_sizes(
     sizes: [usize; 3],
 ) {
     let saved = read_text(rt.alloc(), text).expect(rt, "a fault");
-    assert_eq!(rt; (saved.pid_max, saved.stamp), settings);
+    assert!(rt; (saved.pid_max, saved.stamp) == settings);
     let found = [saved.rows.len(), saved.spaces.len(), saved.controls.len()];
-    assert_eq!(rt; found, sizes);
+    assert!(rt; found == sizes);
 }
 
 #[test]

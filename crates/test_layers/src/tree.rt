@@ -14,15 +14,15 @@ fn seven(alloc: Global) -> Result<TaskTree, AllocError> {
 }
 
 fn expect_keys(rt: &impl Abort, tree: &TaskTree, keys: usize) {
-    assert_eq!(rt; tree.keys(), keys);
+    assert!(rt; tree.keys() == keys);
 }
 
 /// The key has neither a task nor a place nor a child.
 fn expect_free(rt: &impl Abort, tree: &TaskTree, key: u32) {
-    assert_eq!(rt; tree.task(key), None);
+    assert!(rt; tree.task(key) == None);
     assert!(rt; (key as usize) < tree.keys());
     let place = (tree.parent(key), tree.rank(key), tree.first_child(key));
-    assert_eq!(rt; place, (None, None, None));
+    assert!(rt; place == (None, None, None));
 }
 
 /// Each key has no task at first.

@@ -52,6 +52,6 @@ const ANSWERS: &str = "child 2 root 2\nchild 2 root 3\n3 2\nESRCH no-caller\n";
 #[test]
 fn makes_four_calls(rt: HostRuntime) -> Result<(), Fail> {
     let text = play::<Brand>(rt.alloc(), Blank::new(1))?;
-    assert_eq!(rt; text.as_slice(), ANSWERS.as_bytes());
+    assert!(rt; text.as_slice() == ANSWERS.as_bytes());
     Ok(())
 }
