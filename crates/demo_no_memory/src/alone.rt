@@ -10,9 +10,7 @@ use pid_script::answer::answer_text;
 use pid_types::call::Call;
 use pid_types::config::Config;
 use pid_types::device::{FromReader, ToWriter};
-use pid_workers::{
-    OpenGate, RunFault, SeatDesk, Tally, Work, run, run_state, run_workers, work,
-};
+use pid_workers::{OpenGate, RunFault, SeatDesk, Tally, Work, run, run_state, run_workers, work};
 use script_session::job::{JobFault, read_job};
 use std::alloc::{AllocError, Global};
 use std::marker::Brand;
