@@ -3,13 +3,11 @@
 use anyhow::{Result, bail};
 use pid_script::line::{Line, parse_line};
 use pid_types::call::Call;
-use std::alloc::Global;
 
-/// A step on the script's table, on a table of its own, or on an array.
+/// A step on the script's table, or on an array.
 #[derive(Drop)]
 pub enum Step {
     Seated(SeatedStep),
-    Alone(AloneStep),
     /// `array`: an array by index is filled.
     Array,
 }
@@ -35,38 +33,9 @@ pub enum SeatedStep {
     Dump,
 }
 
-/// A step on a table of its own. Scripts have `;` in the place of a newline.
-#[derive(Drop)]
-pub struct AloneStep {
-    pub kind: AloneKind,
-    /// What stands behind the word, with newlines.
-    pub script: String,
-}
-
-/// What a step on a table of its own does.
-#[derive(Clone, Copy)]
-pub enum AloneKind {
-    /// `open`: a table behind its lock.
-    Open,
-    /// `job SCRIPT`: the calls of a job.
-    Job,
-    /// `run SCRIPT`.
-    Run,
-    /// `state SCRIPT`: a run that hands back its record.
-    State,
-    /// `work SCRIPT`: one worker's job, at a desk.
-    Work,
-    /// `workers SCRIPT|SCRIPT`: two workers.
-    Workers,
-}
-
 /// The step of a line.
-pub fn parse_step(alloc: Global, line: &str) -> Result<Step> {
+pub fn parse_step(line: &str) -> Result<Step> {
     let (word, rest) = line.split_once(' ').unwrap_or((line, ""));
-    if let Some(kind) = parse_alone(word) {
-        let script = rest.replace(alloc, ";", "\n")?;
-        return Ok(Step::Alone(AloneStep { kind, script }));
-    }
     if word == "array" {
         return Ok(Step::Array);
     }
@@ -87,18 +56,5 @@ fn parse_seated(line: &str, word: &str, rest: &str) -> Result<SeatedStep> {
             Line::Call(call) => SeatedStep::Call(call),
             _ => bail!("no step: {line}"),
         },
-    })
-}
-
-/// The step on a table of its own, if the word names one.
-fn parse_alone(word: &str) -> Option<AloneKind> {
-    Some(match word {
-        "open" => AloneKind::Open,
-        "job" => AloneKind::Job,
-        "run" => AloneKind::Run,
-        "state" => AloneKind::State,
-        "work" => AloneKind::Work,
-        "workers" => AloneKind::Workers,
-        _ => return None,
     })
 }
