@@ -283,6 +283,7 @@ DUMP_TEST = test_dump guard
 DUMP_RECORD_TEST = test_dump_record shared guard guard_record
 THREADS_TEST = test_threads guard guard_record
 SHARED_TEST = test_shared shared guard guard_record heap
+FOLLOW_TEST = test_follow shared guard guard_record heap
 SAVED_TEST = test_saved saved guard_record heap
 SAVED_FILE_TEST = test_saved_file saved shared guard_record
 SAVED_THREADS_TEST = test_saved_threads saved saved_file shared guard_record heap
@@ -303,6 +304,7 @@ bindings-c:
 		$(CC) $(THREADED) -o $(OUT)/test_threads $(THREADS_TEST:%=bindings/c/%.c) $(OUT)/held_heap.o $(OUT)/proved.a && $(RUN) $(OUT)/test_threads && \
 		for sanitizer in '$(CHECKED)' '$(THREADED)'; do \
 			$(CC) $$sanitizer -o $(OUT)/test_shared $(SHARED_TEST:%=bindings/c/%.c) $(OUT)/proved.a && $(RUN) $(OUT)/test_shared && \
+			$(CC) $$sanitizer -o $(OUT)/test_follow $(FOLLOW_TEST:%=bindings/c/%.c) $(OUT)/proved.a && $(RUN) $(OUT)/test_follow && \
 			$(CC) $$sanitizer -o $(OUT)/test_saved_threads $(SAVED_THREADS_TEST:%=bindings/c/%.c) $(OUT)/proved.a && $(RUN) $(OUT)/test_saved_threads && \
 			$(CC) $$sanitizer -o $(OUT)/test_saver $(SAVER_TEST:%=bindings/c/%.c) $(OUT)/proved.a && $(RUN) $(OUT)/test_saver || exit 1; done && \
 		$(CC) $(CHECKED) -o $(OUT)/test_saved $(SAVED_TEST:%=bindings/c/%.c) $(OUT)/proved.a && $(RUN) $(OUT)/test_saved && \

@@ -73,6 +73,17 @@ uint32_t pidtab_shared_checkpoint_at(struct pidtab_shared *shared, uint64_t seen
 uint32_t pidtab_shared_list(struct pidtab_shared *shared, void *bytes, size_t room, size_t *size);
 uint32_t pidtab_shared_dump(struct pidtab_shared *shared, void *bytes, size_t room, size_t *size);
 
+/* A dump for which no call waits: a table of pidtab.h follows the record, and pidtab_dump of it is made without the lock. The replica begins
+ * as the record does, by pidtab_open, or by pidtab_load of what pidtab_shared_dump wrote. Nobody else makes a call on it. `next` is the
+ * ordinal of the call that it lacks first: 0 at first, or what was recorded at that dump. This makes the calls from there on that are
+ * recorded when it begins, with the lock for each 64 that are copied and without it while they are made. So the replica's text is that of
+ * the state in front of the call `next`.
+ *
+ * DONE where the replica has them all. NOT_KEPT where a call that it lacks was cut away, or `next` was not reached yet: it begins anew.
+ * DIFFERS where a reply is not the recorded one: it was no replica of this record, and is none now. Else the status of a call that was
+ * not made on it, and `next` says which: CLOSED, OUT_OF_RANGE, SPENT, NO_MEMORY, BUSY. It costs the calls once more. */
+uint32_t pidtab_shared_follow(struct pidtab_shared *shared, struct pidtab *replica, uint64_t *next);
+
 #ifdef __cplusplus
 }
 #endif

@@ -2,7 +2,7 @@
 use Rattle.std.specs.Prelude.{◌≡◌, ◌<◌, ◌≤◌, ◌⊎◌, ℕ, length, Option, Some, None, option_map}
 use Rattle.pid_types.specs.declared.call.Call.{Call}
 use Rattle.pid_types.specs.Settings.{HasGoodPidMax}
-use Rattle.kept_table.specs.Calls.{after_call, begun, cut_at, IsWithoutFirst}
+use Rattle.kept_table.specs.Calls.{after_call, begun, cut_at, to_cut, IsWithoutFirst}
 use Rattle.kept_table.specs.Chronicle.{Chronicle, total, recorded}
 
 -- there is a value, and this is true of it
@@ -38,9 +38,9 @@ pub record IsRecorded (c : Chronicle) (worker : ℕ) (call : Call) (ordinal : �
   pub left : without_room new ≡ Some (after_call c worker call)
   pub place : ordinal ≡ total c
 
--- the same, and then first entries were cut away: at most so many are kept, or fewer than before
+-- the same, and then first entries were cut away, where more than so many are kept: two at most, or all
 pub record IsRecordedKeeping (keep : ℕ) (c : Chronicle) (worker : ℕ) (call : Call) (ordinal : ℕ) (d : Chronicle) : Type 0 where
-  pub cut : (n : ℕ) × IsWithoutFirst n (after_call c worker call) d
+  pub cut : IsWithoutFirst (to_cut (after_call c worker call) keep) (after_call c worker call) d
   pub bound : IsBounded keep c d
   pub place : ordinal ≡ total c
 

@@ -1,5 +1,5 @@
 -- What C is told of a text that no table is loaded from, and what a record is that goes on from one.
-use Rattle.std.specs.Prelude.{◌≡◌, ◌<◌, ◌≤◌, ℕ, List, length, sum}
+use Rattle.std.specs.Prelude.{◌≡◌, ◌<◌, ◌≤◌, ℕ, List, length, sum, true}
 use Rattle.pid_types.specs.State.{State}
 use Rattle.table_text.specs.Texts.{text_of}
 use Rattle.table_text.specs.Ranges.{IsWord}
@@ -43,8 +43,8 @@ abbrev pub TellsTooManyCalls : List ℕ → List ℕ → Type 0
 TellsTooManyCalls text counts =
     (stamp : ℕ) × (state : State) × IsWord stamp × IsHeldState state × (text ≡ text_of stamp state) × (stamp ≤ sum counts)
 
--- the record goes on as the text says, behind so many calls of each worker
+-- the record goes on as the text says, behind so many calls of each worker; its opening is a second table, which moves on by calls
 pub record IsResumed (text counts : List ℕ) (c : Chronicle) : Type 0 where
   pub says : text ≡ text_of (next_stamp c) c.present
-  pub left : c ≡ resumed c.present (next_stamp c) counts c.room
+  pub left : c ≡ record (resumed c.present (next_stamp c) counts c.room) { by_steps = true }
   pub before : sum counts < next_stamp c

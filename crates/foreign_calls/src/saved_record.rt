@@ -1,5 +1,5 @@
 //! A record as a text: the text of its present state is made, and a record goes on from such a text.
-ghost use Rattle.std.specs.Prelude.{◌≡◌, ◌≢◌, ◌<◌, ◌≤◌, ◌↔◌, ◌⊎◌, IsSome, None, IfOk, sum};
+ghost use Rattle.std.specs.Prelude.{◌≡◌, ◌≢◌, ◌<◌, ◌≤◌, ◌↔◌, ◌⊎◌, IsSome, None, IfOk, sum, true};
 ghost use Rattle.pid_types.specs.Sound.{IsBelow};
 ghost use Rattle.table_load.specs.Texts.{IsTextOfNoTable};
 ghost use Rattle.table_text.specs.Reading.{saved_state, IsNoText};
@@ -48,7 +48,8 @@ fn boxed_resume(
     requires below { IsBelow loaded.stamp loaded.table }
     requires before { sum counts.now < loaded.stamp }
     requires same { loaded.table ≡ saved_state saved.now }
-    ensures { IfOk result (λ held. held.value ≡ resumed loaded.table loaded.stamp counts.now held.value.room) }
+    ensures { IfOk result (λ held. held.value
+        ≡ record (resumed loaded.table loaded.stamp counts.now held.value.room) { by_steps = true }) }
 {
     let Loaded { table, stamp } = loaded;
     let mut held = Kept::resume(alloc, table, stamp, counts)?;

@@ -52,15 +52,15 @@ pub by_worker_push : (w : ℕ) (entries : List Entry) (e : Entry) → by_worker 
 by_worker_push w entries e = sum_by_push (λ (x : Entry). cond (x.worker == w) 1 0) entries e
 
 -- a new record
-pub counted-new : RootStateIsSound → (workers : ℕ) (config : Settings) (opening present : State) (cut calls : List ℕ) (entries : List Entry) (room : ℕ) → HasGoodPidMax config.pid_max → 0 < config.first_stamp → config.first_stamp < 2 ^ 64 → opening ≡ root_state config.pid_max → present ≡ root_state config.pid_max → entries ≡ []
+pub counted-new : RootStateIsSound → (workers : ℕ) (config : Settings) (opening present : State) (cut calls : List ℕ) (entries : List Entry) (room : ℕ) (steps : Bool) → HasGoodPidMax config.pid_max → 0 < config.first_stamp → config.first_stamp < 2 ^ 64 → opening ≡ root_state config.pid_max → present ≡ root_state config.pid_max → entries ≡ []
     → cut ≡ replicate workers 0 → calls ≡ replicate workers 0
-    → IsKeptCounted calls (record { config = config; is_resumed = false; opening = opening; first_kept = 0; cut = cut; entries = entries; present = present; booked = sum calls; room = room })
-counted-new law workers config opening present cut calls entries room good some fits from is none cuts all =
+    → IsKeptCounted calls (record { config = config; is_resumed = false; opening = opening; first_kept = 0; cut = cut; entries = entries; present = present; booked = sum calls; room = room; by_steps = steps })
+counted-new law workers config opening present cut calls entries room steps good some fits from is none cuts all =
     let zero_cut : sum cut ≡ 0 = ap sum cuts ∙ sum_of_noughts workers in
     let zero_all : sum calls ≡ 0 = ap sum all ∙ sum_of_noughts workers in
     let same : calls ≡ cut = all ∙ sym cuts in
     record {
-      kept = kept-new law (length cut) config opening present cut entries (sum calls) room good some fits from is none refl zero_cut zero_all;
+      kept = kept-new law (length cut) config opening present cut entries (sum calls) room steps good some fits from is none refl zero_cut zero_all;
       len = ap length same;
       each = λ w lt.
           let none_of : by_worker w entries ≡ 0 = ap (by_worker w) none in
@@ -74,7 +74,7 @@ pub resumed-is : (config : Settings) (state : State) (stamp first : ℕ) (counts
 resumed-is config state stamp first counts cut calls past bound starts at cuts all none empty = rw (bound, starts, at, cuts, all, none, empty) refl
 
 pub whole-resumed : (config : Settings) (state : State) (stamp first : ℕ) (counts cut calls : List ℕ) (past : Past) → IsSound state → IsBelow stamp state → sum counts < stamp → stamp < 2 ^ 64 → config.pid_max ≡ state.pid_max → config.first_stamp ≡ stamp - first → first ≡ sum counts → cut ≡ counts → calls ≡ counts
-    → past ≡ record { opening = None; entries = []; stamp = stamp; lag = 0; room = past.room }
+    → past ≡ record { opening = None; is_fixed = false; entries = []; stamp = stamp; lag = 0; room = past.room }
     → IsKeptWhole past calls (told config true past first cut state calls)
 whole-resumed config state stamp first counts cut calls past sound below fewer fits bound starts at cuts all bare =
     subst (λ c. IsKeptWhole past calls c) (sym (resumed-is config state stamp first counts cut calls past bound starts at cuts all (ap (λ (p : Past). p.opening) bare) (ap (λ (p : Past). p.entries) bare))) (record {

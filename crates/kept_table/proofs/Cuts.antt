@@ -1,9 +1,10 @@
 -- Kept entries that are cut away.
-use Rattle.std.proofs.Common.{◌≡◌, ◌≢◌, ℕ, ◌+◌, ◌^◌, ◌<◌, List, [], ◌∷◌, ◌++◌, length, length-append, Option, Some, None, sum, cond, Bool, refl, sym, ap, ◌∙◌, subst, arith}
+use Rattle.std.proofs.Common.{◌≡◌, ◌≢◌, ℕ, ◌+◌, ◌^◌, ◌<◌, List, [], ◌∷◌, ◌++◌, length, length-append, Option, Some, None, sum, cond, Bool, true, false, not, inl, inr, refl, sym, ap, ◌∙◌, subst, arith}
 use Rattle.std.proofs.lemmas.List.{append-nil, append_assoc}
 use Rattle.std.proofs.lemmas.List.Elements.{All-head}
 use Rattle.std.proofs.lemmas.List.Sums.{sum_by-cons}
-use Rattle.std.specs.Prelude.{All, slice_index, ◌==◌}
+use Rattle.std.specs.Prelude.{All, slice_index, ◌==◌, ◌⊎◌}
+use Rattle.std.proofs.lemmas.Bool.{ne_eqb}
 use Rattle.pid_types.specs.declared.call.Call.{Call}
 use Rattle.pid_types.specs.declared.entry.Entry.{Entry}
 use Rattle.pid_types.specs.Outcome.{Outcome}
@@ -15,13 +16,25 @@ use Rattle.model_laws.specs.StepLaws.{BoundStays, RunsKeepSoundness}
 use Rattle.kept_table.specs.Calls.{after_call, counted, entry_of, outcome, IsWithoutFirst}
 use Rattle.kept_table.specs.Chronicle.{Chronicle, IsKept, by_worker, first_kept_stamp, next_stamp}
 use Rattle.kept_table.specs.Past.{IsCutOnce, Past}
-use Rattle.kept_table.specs.Whole.{IsKeptCounted, IsKeptWhole, one_of, opening_of, room_of, told}
+use Rattle.kept_table.specs.Whole.{IsKeptCounted, IsKeptWhole, is_fresh, moves_or, one_of, opening_of, room_of, told}
 use Rattle.kept_table.proofs.Along.{state_after-append}
 use Rattle.kept_table.proofs.Counts.{counted-cut, counted-push, recorded-cut}
 use Rattle.kept_table.proofs.Invariant.{kept-once}
 
 by_worker_first : (w : ℕ) (e : Entry) (entries : List Entry) → by_worker w (e ∷ entries) ≡ one_of e.worker w + by_worker w entries
 by_worker_first w e entries = sum_by-cons (λ (x : Entry). cond (x.worker == w) 1 0) e entries
+
+-- the room for entries is of no account, nor whether the opening moves on by calls
+freed : (calls : List ℕ) (c : Chronicle) (room : ℕ) (steps : Bool) → IsKeptCounted calls c → IsKeptCounted calls (record c { room = room; by_steps = steps })
+freed calls c room steps k = record {
+  kept = record {
+    replayed = record { run = k.kept.replayed.run; starts = k.kept.replayed.starts };
+    counted = record { booked = k.kept.counted.booked; places = k.kept.counted.places; cut = k.kept.counted.cut; known = k.kept.counted.known; fits = k.kept.counted.fits };
+    opened = record { sound = k.kept.opened.sound; below = k.kept.opened.below; bound = k.kept.opened.bound };
+  };
+  len = k.len;
+  each = k.each;
+}
 
 -- the first entry is counted as cut away
 counted-once : RunsKeepSoundness → BoundStays → (calls cut : List ℕ) (c : Chronicle) (e : Entry) (entries : List Entry) (room : ℕ) → IsKeptCounted calls c → c.entries ≡ e ∷ entries
@@ -56,8 +69,9 @@ whole-once law stays past next worker config resumed first cut cut' calls presen
     let c : Chronicle = told config resumed past first cut present calls in
     let counts : (w : ℕ) → slice_index cut' w ≡ slice_index cut w + one_of once.first.worker w = λ w. each w ∙ ap (λ n. slice_index cut w + one_of n w) once.by in
     subst (λ (p : Past). IsKeptWhole p calls (told config resumed p (first + 1) cut' present calls)) (sym once.left) (record {
-      counted = subst (λ (o : State). IsKeptCounted calls (record c { opening = o; first_kept = first + 1; cut = cut'; entries = next.entries; room = next.room })) (sym (moved past next worker config resumed first cut calls present k once))
-          (counted-once law stays calls cut' c once.first next.entries next.room k.counted once.were counts more len);
+      counted = freed calls (record c { opening = (step once.opening past.stamp once.first.call).state; first_kept = first + 1; cut = cut'; entries = next.entries }) next.room (not past.is_fixed)
+          (subst (λ (o : State). IsKeptCounted calls (record c { opening = o; first_kept = first + 1; cut = cut'; entries = next.entries; room = c.room })) (sym (moved past next worker config resumed first cut calls present k once))
+          (counted-once law stays calls cut' c once.first next.entries c.room k.counted once.were counts more len));
       bare = λ none. absurd (cc);
       at = omega (arith, k.at);
     })
@@ -68,9 +82,17 @@ chronicle-with d c o o' f f' is a b =
     is ∙ (ap (λ (s : State). record c { opening = s; first_kept = f; cut = d.cut; entries = d.entries; room = d.room }) a
     ∙ ap (λ (n : ℕ). record c { opening = o'; first_kept = n; cut = d.cut; entries = d.entries; room = d.room }) b)
 
+-- what is held goes on to move on by calls, or not
+moves_as : (past next : Past) (worker : ℕ) (otherwise otherwise' : Bool) → (once : IsCutOnce worker past next) → moves_or next.opening next.is_fixed otherwise' ≡ moves_or past.opening past.is_fixed otherwise
+moves_as past next worker otherwise otherwise' once =
+    ap (λ (p : Past). moves_or p.opening p.is_fixed otherwise') once.left ∙ sym (ap (λ (o : Option State). moves_or o past.is_fixed otherwise) once.was)
+
 opened-with : (past next : Past) (config : Settings) (resumed : Bool) (first : ℕ) (cut cut' calls : List ℕ) (present o : State) → next.opening ≡ Some o
+    → moves_or next.opening next.is_fixed (is_fresh resumed (first + 1)) ≡ moves_or past.opening past.is_fixed (is_fresh resumed first)
     → told config resumed next (first + 1) cut' present calls ≡ record (told config resumed past first cut present calls) { opening = o; first_kept = first + 1; cut = cut'; entries = next.entries; room = room_of next.opening next.room }
-opened-with past next config resumed first cut cut' calls present o is = ap (λ x. record (told config resumed past first cut present calls) { opening = opening_of x present; first_kept = first + 1; cut = cut'; entries = next.entries; room = room_of next.opening next.room }) is
+opened-with past next config resumed first cut cut' calls present o is moves =
+    ap (λ b. record (told config resumed next (first + 1) cut' present calls) { by_steps = b }) moves
+    ∙ ap (λ x. record (told config resumed past first cut present calls) { opening = opening_of x present; first_kept = first + 1; cut = cut'; entries = next.entries; room = room_of next.opening next.room }) is
 
 pub without-first : (past next : Past) (worker : ℕ) (config : Settings) (resumed : Bool) (first : ℕ) (cut cut' calls : List ℕ) (present : State) → IsKeptWhole past calls (told config resumed past first cut present calls) → IsCutOnce worker past next
     → ((w : ℕ) → slice_index cut' w ≡ slice_index cut w + one_of worker w) → length cut' ≡ length cut
@@ -79,7 +101,8 @@ without-first past next worker config resumed first cut cut' calls present k onc
   gone = once.first ∷ [];
   many = refl;
   were = once.were;
-  left = opened-with past next config resumed first cut cut' calls present _ (ap (λ (p : Past). p.opening) once.left ∙ ap (λ (s : State). Some s) (moved past next worker config resumed first cut calls present k once));
+  left = opened-with past next config resumed first cut cut' calls present _ (ap (λ (p : Past). p.opening) once.left ∙ ap (λ (s : State). Some s) (moved past next worker config resumed first cut calls present k once))
+      (moves_as past next worker _ _ once);
   workers = len;
   counts = λ w lt. omega (arith, each w, ap (λ n. one_of n w) once.by, ap (by_worker w) once.were, by_worker_first w once.first next.entries);
 }
@@ -119,42 +142,32 @@ pub without-room : (n room : ℕ) (c d : Chronicle) → IsWithoutFirst n c d →
 without-room n room c d w = record { gone = w.gone; many = w.many; were = w.were; left = w.left; workers = w.workers; counts = w.counts }
 
 -- all are cut away: the present state is the opening
-pub whole-all : RunsKeepSoundness → BoundStays → (past next : Past) (config : Settings) (resumed : Bool) (first first' stamp lag room : ℕ) (cut cut' calls : List ℕ) (present : State) → IsKeptWhole past calls (told config resumed past first cut present calls)
-    → next ≡ record { opening = Some present; entries = []; stamp = stamp; lag = lag; room = room } → first' ≡ first + length past.entries → stamp ≡ past.stamp + length past.entries → cut' ≡ calls
+pub whole-all : RunsKeepSoundness → BoundStays → (past next : Past) (config : Settings) (resumed fixed : Bool) (first first' stamp lag room : ℕ) (cut cut' calls : List ℕ) (present : State) → IsKeptWhole past calls (told config resumed past first cut present calls)
+    → next ≡ record { opening = Some present; is_fixed = fixed; entries = []; stamp = stamp; lag = lag; room = room } → first' ≡ first + length past.entries → stamp ≡ past.stamp + length past.entries → cut' ≡ calls
     → IsKeptWhole next calls (told config resumed next first' cut' present calls)
-whole-all law stays past next config resumed first first' stamp lag room cut cut' calls present k left firsts stamps same =
+whole-all law stays past next config resumed fixed first first' stamp lag room cut cut' calls present k left firsts stamps same =
     subst (λ (p : Past). IsKeptWhole p calls (told config resumed p first' cut' present calls)) (sym left) (record {
-      counted = counted-cut law stays calls cut' (told config resumed past first cut present calls) present [] first' room k.counted refl refl refl firsts same;
+      counted = freed calls (record (told config resumed past first cut present calls) { opening = present; first_kept = first'; cut = cut'; entries = [] }) room (not fixed)
+          (counted-cut law stays calls cut' (told config resumed past first cut present calls) present [] first' _ k.counted refl refl refl firsts same);
       bare = λ none. absurd (cc);
       at = omega (arith, stamps, k.at, firsts);
     })
 
 -- the same where no state is held then
 pub whole-bare : RunsKeepSoundness → BoundStays → (past next : Past) (config : Settings) (resumed : Bool) (first first' stamp lag room : ℕ) (cut cut' calls : List ℕ) (present : State) → IsKeptWhole past calls (told config resumed past first cut present calls)
-    → next ≡ record { opening = None; entries = []; stamp = stamp; lag = lag; room = room } → first' ≡ first + length past.entries → stamp ≡ config.first_stamp + first' → cut' ≡ calls
+    → next ≡ record { opening = None; is_fixed = false; entries = []; stamp = stamp; lag = lag; room = room } → first' ≡ first + length past.entries → stamp ≡ config.first_stamp + first' → cut' ≡ calls
     → IsKeptWhole next calls (told config resumed next first' cut' present calls)
 whole-bare law stays past next config resumed first first' stamp lag room cut cut' calls present k left firsts stamps same =
     subst (λ (p : Past). IsKeptWhole p calls (told config resumed p first' cut' present calls)) (sym left) (record {
-      counted = counted-cut law stays calls cut' (told config resumed past first cut present calls) present [] first' 0 k.counted refl refl refl firsts same;
+      counted = freed calls (record (told config resumed past first cut present calls) { opening = present; first_kept = first'; cut = cut'; entries = [] }) 0 (is_fresh resumed first')
+          (counted-cut law stays calls cut' (told config resumed past first cut present calls) present [] first' _ k.counted refl refl refl firsts same);
       bare = λ _. refl;
       at = stamps;
     })
 
--- the room for entries is of no account
-counted-room : (calls : List ℕ) (c : Chronicle) (room : ℕ) → IsKeptCounted calls c → IsKeptCounted calls (record c { room = room })
-counted-room calls c room k = record {
-  kept = record {
-    replayed = record { run = k.kept.replayed.run; starts = k.kept.replayed.starts };
-    counted = record { booked = k.kept.counted.booked; places = k.kept.counted.places; cut = k.kept.counted.cut; known = k.kept.counted.known; fits = k.kept.counted.fits };
-    opened = record { sound = k.kept.opened.sound; below = k.kept.opened.below; bound = k.kept.opened.bound };
-  };
-  len = k.len;
-  each = k.each;
-}
-
 -- one recorded call more, which is cut away at once with all that was kept
 pub whole-cut : RunsKeepSoundness → BoundStays → (past next : Past) (config : Settings) (resumed : Bool) (first first' stamp lag room : ℕ) (cut cut' calls calls' : List ℕ) (old present : State) (e : Entry) → IsKeptWhole past calls (told config resumed past first cut old calls)
-    → next ≡ record { opening = None; entries = []; stamp = stamp; lag = lag; room = room } → e.worker < length cut → (next_stamp (told config resumed past first cut old calls) + 1) < 2 ^ 64
+    → next ≡ record { opening = None; is_fixed = false; entries = []; stamp = stamp; lag = lag; room = room } → e.worker < length cut → (next_stamp (told config resumed past first cut old calls) + 1) < 2 ^ 64
     → (let o : Outcome = record { state = present; reply = e.reply } in o) ≡ step old (next_stamp (told config resumed past first cut old calls)) e.call
     → ((w : ℕ) → slice_index calls' w ≡ slice_index calls w + one_of e.worker w) → sum calls' ≡ sum calls + 1 → length calls' ≡ length calls
     → first' ≡ first + length past.entries + 1 → stamp ≡ config.first_stamp + first' → cut' ≡ calls'
@@ -164,23 +177,29 @@ whole-cut law stays past next config resumed first first' stamp lag room cut cut
     let more : length (c.entries ++ e ∷ []) ≡ length c.entries + 1 = length-append c.entries (e ∷ []) in
     let pushed : IsKeptCounted calls' (record c { entries = c.entries ++ e ∷ []; present = present; booked = sum calls' }) = counted-push calls calls' c e (c.entries ++ e ∷ []) present c.room k.counted refl refl known fits is each all len in
     subst (λ (p : Past). IsKeptWhole p calls' (told config resumed p first' cut' present calls')) (sym left) (record {
-      counted = counted-cut law stays calls' cut' (record c { entries = c.entries ++ e ∷ []; present = present; booked = sum calls' }) present [] first' 0 pushed refl refl refl (omega (arith, firsts, more)) same;
+      counted = freed calls' (record c { opening = present; first_kept = first'; cut = cut'; entries = []; present = present; booked = sum calls' }) 0 (is_fresh resumed first')
+          (counted-cut law stays calls' cut' (record c { entries = c.entries ++ e ∷ []; present = present; booked = sum calls' }) present [] first' _ pushed refl refl refl (omega (arith, firsts, more)) same);
       bare = λ _. refl;
       at = stamps;
     })
 
+-- behind a call that was cut away the opening is no more the root init's state
+pub not_fresh : (resumed : Bool) (first : ℕ) → 0 < first → is_fresh resumed first ≡ false
+not_fresh true first some = refl
+not_fresh false first some = ne_eqb first 0 (λ e. absurd (omega (arith, e, some)))
+
 -- and so all kept entries are gone
 pub without-all : (past next : Past) (config : Settings) (resumed : Bool) (first first' : ℕ) (cut cut' calls : List ℕ) (present : State) → IsKeptWhole past calls (told config resumed past first cut present calls)
-    → next.opening ≡ None → next.entries ≡ [] → first' ≡ first + length past.entries → cut' ≡ calls
+    → next.opening ≡ None → next.entries ≡ [] → first' ≡ first + length past.entries → cut' ≡ calls → 0 < first' → (told config resumed past first cut present calls).by_steps ≡ false
     → IsWithoutFirst (length past.entries) (told config resumed past first cut present calls) (told config resumed next first' cut' present calls)
-without-all past next config resumed first first' cut cut' calls present k bare none firsts same =
+without-all past next config resumed first first' cut cut' calls present k bare none firsts same some fixed =
     let c : Chronicle = told config resumed past first cut present calls in
     record {
       gone = past.entries;
       many = refl;
       were = sym (append-nil past.entries) ∙ ap (λ (es : List Entry). past.entries ++ es) (sym none);
       left = chronicle-with (told config resumed next first' cut' present calls) c _ _ _ _
-          refl
+          (ap (λ b. record (told config resumed next first' cut' present calls) { by_steps = b }) (ap (λ o. moves_or o next.is_fixed (is_fresh resumed first')) bare ∙ (not_fresh resumed first' some ∙ sym fixed)))
           (ap (λ o. opening_of o present) bare ∙ k.counted.kept.replayed.run.ends)
           firsts;
       workers = ap length same ∙ k.counted.len;
@@ -205,31 +224,28 @@ without-after n old made d worker call is entries present w =
     ∙ ap (λ (s : State). counted old (old.entries ++ entry_of old worker call ∷ []) s 0) present) in
     subst (λ (c : Chronicle). IsWithoutFirst n c d) same (without-room n 0 made d w)
 
-given : (past next : Past) (config : Settings) (resumed : Bool) (first : ℕ) (cut calls : List ℕ) (present table : State) → IsKeptWhole past calls (told config resumed past first cut present calls) → (held : Option State) → past.opening ≡ held
-    → table ≡ opening_of held present → (past.opening ≢ None → next ≡ past) → (past.opening ≡ None → next ≡ record past { opening = Some table })
+-- a table of the opening is held
+pub whole-given : (past next : Past) (config : Settings) (resumed : Bool) (first : ℕ) (cut calls : List ℕ) (present table : State) → IsKeptWhole past calls (told config resumed past first cut present calls)
+    → table ≡ opening_of past.opening present → next ≡ record past { opening = Some table; is_fixed = false }
     → IsKeptWhole next calls (told config resumed next first cut present calls)
-    × (told config resumed next first cut present calls ≡ record (told config resumed past first cut present calls) { room = room_of next.opening next.room })
-given past next config resumed first cut calls present table k (Some state) is same some none =
-    let left : next ≡ past = some (λ e. absurd (cc)) in (
-      subst (λ (p : Past). IsKeptWhole p calls (told config resumed p first cut present calls)) (sym left) k,
-      ap (λ (p : Past). record (told config resumed p first cut present calls) { room = room_of next.opening next.room }) left,
-    )
-given past next config resumed first cut calls present table k None is same some none =
-    let left : next ≡ record past { opening = Some table } = none is in
-    let stays : table ≡ opening_of past.opening present = same ∙ sym (ap (λ o. opening_of o present) is) in
-    let opened : (room : ℕ) → record (told config resumed past first cut present calls) { opening = table; room = room } ≡ record (told config resumed past first cut present calls) { room = room } =
-    λ room. ap (λ (s : State). record (told config resumed past first cut present calls) { opening = s; room = room }) stays in (
+    × (told config resumed next first cut present calls ≡ record (told config resumed past first cut present calls) { room = room_of next.opening next.room; by_steps = true })
+whole-given past next config resumed first cut calls present table k stays left =
+    let opened : (room : ℕ) → record (told config resumed past first cut present calls) { opening = table; room = room; by_steps = true } ≡ record (told config resumed past first cut present calls) { room = room; by_steps = true } =
+    λ room. ap (λ (s : State). record (told config resumed past first cut present calls) { opening = s; room = room; by_steps = true }) stays in (
       subst (λ (p : Past). IsKeptWhole p calls (told config resumed p first cut present calls)) (sym left) (record {
-        counted = subst (λ (c : Chronicle). IsKeptCounted calls c) (sym (opened past.room)) (counted-room calls (told config resumed past first cut present calls) past.room k.counted);
+        counted = subst (λ (c : Chronicle). IsKeptCounted calls c) (sym (opened past.room)) (freed calls (told config resumed past first cut present calls) past.room true k.counted);
         bare = λ e. absurd (cc);
         at = k.at;
       }),
       ap (λ (p : Past). record (told config resumed p first cut present calls) { room = room_of next.opening next.room }) left ∙ opened (room_of next.opening next.room),
     )
 
--- a table of the opening is held where none was
-pub whole-given : (past next : Past) (config : Settings) (resumed : Bool) (first : ℕ) (cut calls : List ℕ) (present table : State) → IsKeptWhole past calls (told config resumed past first cut present calls)
-    → table ≡ opening_of past.opening present → (past.opening ≢ None → next ≡ past) → (past.opening ≡ None → next ≡ record past { opening = Some table })
-    → IsKeptWhole next calls (told config resumed next first cut present calls)
-    × (told config resumed next first cut present calls ≡ record (told config resumed past first cut present calls) { room = room_of next.opening next.room })
-whole-given past next config resumed first cut calls present table k same some none = given past next config resumed first cut calls present table k past.opening refl same some none
+-- nothing is held, or what is to be given
+pub none_or_same : (held : Option State) (present table : State) → table ≡ opening_of held present → (held ≡ None) ⊎ (held ≡ Some table)
+none_or_same None present table is = inl refl
+none_or_same (Some state) present table is = inr (ap (λ s. Some s) (sym is))
+
+-- what is held moves on by calls unless it is fixed
+pub moves_held : (held : Option State) (fixed otherwise : Bool) → held ≢ None → moves_or held fixed otherwise ≡ not fixed
+moves_held None fixed otherwise some = absurd (some refl)
+moves_held (Some state) fixed otherwise some = refl

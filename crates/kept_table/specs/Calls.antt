@@ -1,5 +1,5 @@
 -- What a record is at first, and what a call makes of it.
-use Rattle.std.specs.Prelude.{◌≡◌, ℕ, ◌+◌, ◌-◌, ◌<◌, ◌++◌, [], ◌∷◌, List, length, replicate, sum, true, false}
+use Rattle.std.specs.Prelude.{◌≡◌, ℕ, ◌+◌, ◌-◌, ◌<◌, ◌++◌, [], ◌∷◌, List, length, replicate, sum, true, false, min, nat_lt, if◌then◌else◌}
 use Rattle.pid_types.specs.declared.call.Call.{Call}
 use Rattle.pid_types.specs.declared.entry.Entry.{Entry}
 use Rattle.pid_types.specs.Outcome.{Outcome}
@@ -7,7 +7,7 @@ use Rattle.pid_types.specs.Replay.{state_after, calls_of}
 use Rattle.pid_types.specs.Settings.{Settings}
 use Rattle.pid_types.specs.State.{State, root_state}
 use Rattle.pid_types.specs.Step.{step}
-use Rattle.kept_table.specs.Chronicle.{Chronicle, first_kept_stamp, next_stamp, recorded}
+use Rattle.kept_table.specs.Chronicle.{Chronicle, first_kept_stamp, next_stamp, recorded, total}
 
 -- a record that was asked nothing: the root state, and no call of any worker
 abbrev pub begun : Settings → ℕ → ℕ → Chronicle
@@ -21,6 +21,7 @@ begun config workers room = record {
   present = root_state config.pid_max;
   booked = 0;
   room = room;
+  by_steps = true;
 }
 
 -- a record that goes on from a saved state: the next call has the stamp, and so many calls of each worker were recorded before
@@ -35,6 +36,7 @@ resumed state stamp counts room = record {
   present = state;
   booked = sum counts;
   room = room;
+  by_steps = false;
 }
 
 -- the model's step for the next call
@@ -56,6 +58,18 @@ after_call c worker call = counted c (c.entries ++ entry_of c worker call ∷ []
 -- the record with the history cut away, so many calls being counted before it
 abbrev pub cut_at : Chronicle → ℕ → List ℕ → ℕ → Chronicle
 cut_at c first cut room = record c { opening = c.present; first_kept = first; cut = cut; entries = []; room = room }
+
+-- the record with a call more counted, which is cut away at once with all that is kept
+abbrev pub made_and_cut : Chronicle → State → List ℕ → ℕ → Chronicle
+made_and_cut c present cut room = record (cut_at (counted c [] present 0) (total c + 1) cut room) { by_steps = false }
+
+-- how many of the first entries go where at most so many are to be kept: two at most, or all where the opening does not move on by calls
+abbrev pub to_cut : Chronicle → ℕ → ℕ
+to_cut c keep = if c.by_steps then min 2 (length c.entries - keep) else (if nat_lt keep (length c.entries) then length c.entries else 0)
+
+-- the same of the first step of two
+abbrev pub to_cut_once : Chronicle → ℕ → ℕ
+to_cut_once c keep = if nat_lt keep (length c.entries) then (if c.by_steps then 1 else length c.entries) else 0
 
 -- the record without its first n kept entries, whose calls lead to the new opening
 pub record IsWithoutFirst (n : ℕ) (c d : Chronicle) : Type 0 where

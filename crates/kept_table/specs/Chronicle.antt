@@ -20,6 +20,8 @@ pub record Chronicle : Type 0 where
   pub present : State
   pub booked : ℕ
   pub room : ℕ
+  -- whether the opening moves on by calls, so that first entries are cut away: where it does not, all are cut at once
+  pub by_steps : Bool
 
 -- how many calls were recorded
 abbrev pub total : Chronicle → ℕ

@@ -7,10 +7,11 @@ use Rattle.pid_types.specs.State.{State}
 use Rattle.pid_types.specs.Step.{step}
 use Rattle.kept_table.specs.Opening.{Held}
 
--- the state that the kept entries begin in, or none where that is the present one; these entries; the stamp of the first of them; how many
--- entries that were cut away wait for their calls; and for how many more there is room
+-- the state that the kept entries begin in, or none where that is the present one, and whether no call can be made on what holds it; these
+-- entries; the stamp of the first of them; how many entries that were cut away wait for their calls; and for how many more there is room
 pub record Past : Type 0 where
   pub opening : Option State
+  pub is_fixed : Bool
   pub entries : List Entry
   pub stamp : ℕ
   pub lag : ℕ
@@ -21,10 +22,16 @@ abbrev pub caught_up : Option Held → ℕ → List Entry → Option State
 caught_up None stamp waiting = None
 caught_up (Some held) stamp waiting = Some (state_after held.state stamp (calls_of waiting))
 
+-- whether no call can be made on what is held
+abbrev pub held_fixed : Option Held → Bool
+held_fixed None = false
+held_fixed (Some held) = held.is_fixed
+
 -- the past by what is held of it: the first entries of the ring wait, and the first of all has the stamp
 abbrev pub past_of : Option Held → List Entry → ℕ → ℕ → ℕ → Past
 past_of held ring lag stamp room = record {
   opening = caught_up held stamp (take lag ring);
+  is_fixed = held_fixed held;
   entries = drop lag ring;
   stamp = stamp + lag;
   lag = lag;
@@ -51,15 +58,10 @@ pub record GoesOn (held : Held) (stamp : ℕ) : Type 0 where
   pub sound : IsSound held.state
   pub below : IsBelow stamp held.state
 
--- whether no call can be made on it
-abbrev pub is_fixed : Option Held → Bool
-is_fixed None = false
-is_fixed (Some held) = held.is_fixed
-
 -- what the type keeps
 pub record IsPast (held : Option Held) (ring : List Entry) (lag stamp : ℕ) : Type 0 where
   pub within : lag ≤ length ring
   pub bare : held ≡ None → ring ≡ []
   pub goes_on : IfSome held (λ h. GoesOn h stamp)
   -- no call is made on a snapshot, so none waits for it
-  pub fixed : is_fixed held ≡ true → lag ≡ 0
+  pub fixed : held_fixed held ≡ true → lag ≡ 0

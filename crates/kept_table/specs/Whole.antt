@@ -1,5 +1,5 @@
 -- What a record keeps, and how contracts see it.
-use Rattle.std.specs.Prelude.{◌≡◌, ◌<◌, ℕ, Bool, List, length, sum, slice_index, if◌then◌else◌, ◌==◌, Option, None, Some, []}
+use Rattle.std.specs.Prelude.{◌≡◌, ◌<◌, ℕ, Bool, true, false, not, List, length, sum, slice_index, if◌then◌else◌, ◌==◌, Option, None, Some, []}
 use Rattle.pid_types.specs.Settings.{Settings}
 use Rattle.pid_types.specs.State.{State}
 use Rattle.kept_table.specs.Chronicle.{Chronicle, IsKept, first_kept_stamp, recorded}
@@ -19,6 +19,16 @@ abbrev pub room_of : Option State → ℕ → ℕ
 room_of None room = 0
 room_of (Some held) room = room
 
+-- whether the root init's state is the opening until something is cut away: nothing was, and the record goes on from no saved table
+abbrev pub is_fresh : Bool → ℕ → Bool
+is_fresh true first_kept = false
+is_fresh false first_kept = first_kept == 0
+
+-- whether what is held moves on by calls, or what is to be held where nothing is
+abbrev pub moves_or : Option State → Bool → Bool → Bool
+moves_or None is_fixed otherwise = otherwise
+moves_or (Some held) is_fixed otherwise = not is_fixed
+
 -- the record, by what is kept of it: its past, and a count of calls for each worker
 abbrev pub told : Settings → Bool → Past → ℕ → List ℕ → State → List ℕ → Chronicle
 told config is_resumed past first_kept cut present calls = record {
@@ -31,6 +41,7 @@ told config is_resumed past first_kept cut present calls = record {
   present = present;
   booked = sum calls;
   room = room_of past.opening past.room;
+  by_steps = moves_or past.opening past.is_fixed (is_fresh is_resumed first_kept);
 }
 
 -- what is kept, and for each worker the count of its calls

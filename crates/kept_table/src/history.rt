@@ -5,7 +5,7 @@
 //! is made on what is held, and it is dropped. Contracts see the state that the calls which wait will lead to. So
 //! nothing is seen of the second step, which may find no memory.
 ghost use Rattle.std.specs.Prelude.{◌≡◌, ◌≢◌, ◌+◌, ◌-◌, ◌<◌, ◌≤◌, ◌^◌, ◌↔◌, ℕ, IsTrue, IsSome, IfOk, IfSome};
-ghost use Rattle.std.specs.Prelude.{OnOk, OnErr};
+ghost use Rattle.std.specs.Prelude.{OnOk, OnErr, ◌⊎◌, true, false, not};
 ghost use Rattle.std.specs.Prelude.{[], ◌∷◌, ◌++◌, length, slice_get, Some, None, vec_len};
 ghost use Rattle.std.specs.VecDeque.{deque_len, deque_capacity};
 ghost use Rattle.std.specs.Option.{option_copied, option_map};
@@ -15,8 +15,8 @@ ghost use Rattle.pid_types.specs.Shown.{Shows};
 ghost use Rattle.pid_types.specs.Sound.{IsBelow};
 ghost use Rattle.pid_types.specs.State.{State, root_state};
 ghost use Rattle.pid_types.specs.Step.{step, may_grow};
-ghost use Rattle.kept_table.specs.Past.{is_fixed, IsCutOnce};
-ghost use Rattle.kept_table.specs.Whole.{opening_of};
+ghost use Rattle.kept_table.specs.Past.{held_fixed, IsCutOnce};
+ghost use Rattle.kept_table.specs.Whole.{opening_of, moves_or};
 
 use crate::opening::Opening;
 use model_laws::soundness::soundness_is_kept;
@@ -60,7 +60,14 @@ impl Model for History {
 impl History {
     /// No entry, and the present state as the opening. The next call has the stamp.
     pub(crate) fn new(alloc: Global, stamp: u64) -> History
-        ensures { result ≡ record { opening = None; entries = []; stamp = stamp; lag = 0; room = result.room } }
+        ensures { result ≡ record {
+          opening = None;
+          is_fixed = false;
+          entries = [];
+          stamp = stamp;
+          lag = 0;
+          room = result.room;
+        } }
     {
         History {
             held: None,
@@ -138,8 +145,11 @@ impl History {
     ) -> Result<(), AllocError>
         requires below { self.old.opening ≡ None → IsBelow self.old.stamp table.now }
         requires root { IsTrue is_root → self.old.opening ≡ None → table.now ≡ root_state config.now.pid_max }
-        ensures ok { OnOk result
-            (self.new ≡ record self.old { opening = Some (opening_of self.old.opening table.now) }) }
+        ensures ok { OnOk result (self.new ≡ record self.old {
+          opening = Some (opening_of self.old.opening table.now);
+          is_fixed = self.new.is_fixed;
+        }) }
+        ensures moves { OnOk result (not self.new.is_fixed ≡ moves_or self.old.opening self.old.is_fixed is_root) }
         ensures err { OnErr result (self.new ≡ self.old) }
         ensures none { OnErr result (self.old.opening ≡ None) }
     {
@@ -155,7 +165,7 @@ impl History {
         requires bare { self.old.opening ≡ None }
         requires below { IsBelow self.old.stamp table.now }
         requires root { IsTrue is_root → table.now ≡ root_state config.now.pid_max }
-        ensures ok { OnOk result (self.new ≡ record self.old { opening = Some table.now }) }
+        ensures ok { OnOk result (self.new ≡ record self.old { opening = Some table.now; is_fixed = not is_root }) }
         ensures err { OnErr result (self.new ≡ self.old) }
     {
         table.laws();
@@ -164,22 +174,22 @@ impl History {
         Ok(())
     }
 
-    /// Holds a table whose state is the opening, where nothing is held yet.
+    /// Holds a table whose state is the opening, unless what is held moves on by calls already.
     pub(crate) fn give(&mut self, table: PidTable)
         requires below { self.old.opening ≡ None → IsBelow self.old.stamp table }
-        ensures some { self.old.opening ≢ None → self.new ≡ self.old }
-        ensures none { self.old.opening ≡ None → self.new ≡ record self.old { opening = Some table } }
+        requires same { self.old.opening ≡ None ⊎ self.old.opening ≡ Some table }
+        ensures { self.new ≡ record self.old { opening = Some table; is_fixed = false } }
     {
-        if self.is_bare() {
+        if self.is_bare() || is_fixed(&self.held) {
             self.hold_table(table);
         }
     }
 
-    /// Holds a table whose state is the opening.
+    /// Holds a table whose state is the opening, in place of a snapshot or of nothing.
     fn hold_table(&mut self, table: PidTable)
-        requires bare { self.old.opening ≡ None }
-        requires below { IsBelow self.old.stamp table }
-        ensures { self.new ≡ record self.old { opening = Some table } }
+        requires below { self.old.opening ≡ None → IsBelow self.old.stamp table }
+        requires same { self.old.opening ≡ None ⊎ (self.old.is_fixed ≡ true) × (self.old.opening ≡ Some table) }
+        ensures { self.new ≡ record self.old { opening = Some table; is_fixed = false } }
     {
         table.laws();
         self.held = Some(Opening::table(table));
@@ -236,6 +246,7 @@ impl History {
         ensures cut { IfSome result (λ worker. IsCutOnce worker self.old self.new) }
         ensures room { self.old.room ≤ self.new.room }
         ensures none { result ≡ None → self.new ≡ self.old }
+        ensures some { (result ≡ None) ↔ ((self.old.is_fixed ≡ true) ⊎ (self.old.entries ≡ [])) }
     {
         if is_fixed(&self.held) {
             return None;
@@ -256,6 +267,7 @@ impl History {
         requires fits { self.old.stamp + length self.old.entries < 2 ^ 64 }
         ensures ok { OnOk result (self.new ≡ record {
           opening = Some table.now;
+          is_fixed = self.old.is_fixed;
           entries = [];
           stamp = self.old.stamp + length self.old.entries;
           lag = self.new.lag;
@@ -276,7 +288,14 @@ impl History {
     /// Forgets what is held, and all entries: the opening is the present state, whose next call has the stamp.
     #[inline(always)]
     pub(crate) fn forget(&mut self, stamp: u64)
-        ensures { self.new ≡ record { opening = None; entries = []; stamp = stamp; lag = 0; room = self.new.room } }
+        ensures { self.new ≡ record {
+          opening = None;
+          is_fixed = false;
+          entries = [];
+          stamp = stamp;
+          lag = 0;
+          room = self.new.room;
+        } }
     {
         empty(&mut self.held, &mut self.ring, &mut self.lag);
         self.stamp = stamp;
@@ -326,6 +345,7 @@ impl History {
         requires fits { self.old.stamp + length self.old.entries < 2 ^ 64 }
         ensures ok { OnOk result (self.new ≡ record {
           opening = Some table.now;
+          is_fixed = true;
           entries = [];
           stamp = self.old.stamp + length self.old.entries;
           lag = 0;
@@ -346,7 +366,7 @@ impl History {
 /// Whether a state is held on which no call can be made.
 #[inline(always)]
 fn is_fixed(held: &Option<Opening>) -> bool
-    ensures { result ≡ is_fixed held.now }
+    ensures { result ≡ held_fixed held.now }
 {
     match held {
         Some(held) => held.is_fixed(),
@@ -357,7 +377,7 @@ fn is_fixed(held: &Option<Opening>) -> bool
 /// The table's state, which may be the root init's, to be held. The error is want of memory.
 fn opening_at(table: &PidTable, config: &Config, is_root: bool) -> Result<Opening, AllocError>
     requires { IsTrue is_root → table.now ≡ root_state config.now.pid_max }
-    ensures { IfOk result (λ opening. opening.state ≡ table.now) }
+    ensures { IfOk result (λ opening. opening ≡ record { state = table.now; is_fixed = not is_root }) }
 {
     if is_root {
         return Ok(Opening::root(*config));

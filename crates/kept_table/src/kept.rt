@@ -4,7 +4,7 @@ ghost use Rattle.std.specs.Prelude.{◌≡◌, ℕ, ◌+◌, ◌-◌, ◌^◌, �
 ghost use Rattle.std.specs.Prelude.{sum, slice_index, slice_get, replicate, IfOk, OnOk, OnErr, IsOk, IfSome, Some};
 ghost use Rattle.std.specs.Prelude.{None, Err, vec_len, vec_capacity};
 ghost use Rattle.std.specs.Option.{option_copied, option_map};
-ghost use Rattle.std.specs.Prelude.{◌≢◌, ◌⊎◌, false};
+ghost use Rattle.std.specs.Prelude.{◌≢◌, ◌⊎◌, true, false};
 ghost use Rattle.pid_types.specs.declared.plain.Control.{Control};
 ghost use Rattle.pid_types.specs.Membership.{IsIn};
 ghost use Rattle.pid_types.specs.declared.entry.Entry.{Entry};
@@ -13,12 +13,12 @@ ghost use Rattle.pid_types.specs.Sound.{IsBelow};
 ghost use Rattle.pid_types.specs.Step.{step, may_grow};
 ghost use Rattle.translate.specs.Stat.{stat_at, glimpse_in, IsSeen};
 ghost use Rattle.kept_table.specs.Calls.{begun, resumed, outcome, entry_of, after_call, counted, cut_at};
-ghost use Rattle.kept_table.specs.Calls.{IsWithoutFirst};
+ghost use Rattle.kept_table.specs.Calls.{IsWithoutFirst, made_and_cut, to_cut, to_cut_once};
 ghost use Rattle.kept_table.specs.Chronicle.{Chronicle, total, next_stamp, recorded, recorded_by_all, kept_entry};
 ghost use Rattle.kept_table.specs.Chronicle.{last_reply, by_worker};
 ghost use Rattle.kept_table.specs.Promise.{IsSubtreeCount, KeepsPromise};
 ghost use Rattle.kept_table.specs.Queries.{is_query};
-ghost use Rattle.kept_table.specs.Whole.{one_of};
+ghost use Rattle.kept_table.specs.Whole.{one_of, is_fresh};
 
 use crate::history::History;
 use model_laws::laws::{forks_keep_limits, no_reuse, numbers_are_apart};
@@ -328,9 +328,17 @@ impl Kept {
         if n == 0 {
             return Ok(());
         }
-        let is_root = !self.is_resumed && self.first_kept == 0;
+        let is_root = self.is_fresh();
         self.history.begin(&self.table, &self.config, is_root)?;
         self.history.reserve(n)
+    }
+
+    /// Whether the root init's state is the opening until something is cut away.
+    #[inline(always)]
+    fn is_fresh(&self) -> bool
+        ensures { result ≡ is_fresh self.now.is_resumed self.now.first_kept }
+    {
+        !self.is_resumed && self.first_kept == 0
     }
 
     /// Makes the present state the opening, and empties the history. Stamps and ordinals go on, and the room for
@@ -400,8 +408,7 @@ impl Kept {
         ensures step { OnOk result (self.new.present ≡ (outcome self.old call).state) }
         ensures reply { OnOk result (reply.new ≡ (outcome self.old call).reply) }
         ensures cut { OnOk result
-            (self.new ≡ cut_at (counted self.old [] self.new.present 0)
-            (total self.old + 1) self.new.cut self.new.room) }
+            (self.new ≡ made_and_cut self.old self.new.present self.new.cut self.new.room) }
         ensures recorded { OnOk result
             ((w : ℕ) → w < length self.old.cut → recorded self.new w ≡ recorded self.old w + one_of worker w) }
         ensures workers { length self.new.cut ≡ length self.old.cut }
@@ -439,6 +446,7 @@ impl Kept {
         ensures cut { IsTrue result → IsWithoutFirst 1 self.old self.new }
         ensures room { self.old.room ≤ self.new.room }
         ensures none { result ≡ false → self.new ≡ self.old }
+        ensures steps { IsTrue result ↔ (self.old.by_steps ≡ true) × (self.old.entries ≢ []) }
     {
         soundness_is_kept();
         bound_stays();
@@ -463,7 +471,8 @@ impl Kept {
         requires { worker < length self.old.cut }
         ensures step { OnOk result (self.new.present ≡ (outcome self.old call).state) }
         ensures reply { OnOk result (reply.new ≡ (outcome self.old call).reply) }
-        ensures cut { OnOk result ((n : ℕ) × IsWithoutFirst n (after_call self.old worker call) self.new) }
+        ensures cut { OnOk result
+            (IsWithoutFirst (to_cut (after_call self.old worker call) keep) (after_call self.old worker call) self.new) }
         ensures bound { OnOk result
             ((length self.new.entries ≤ keep) ⊎ (length self.new.entries < length self.old.entries)) }
 
@@ -487,7 +496,7 @@ impl Kept {
     /// nothing.
     pub fn give_opening(&mut self, opening: PidTable)
         requires { opening ≡ self.old.opening }
-        ensures { self.new ≡ record self.old { room = self.new.room } }
+        ensures { self.new ≡ record self.old { room = self.new.room; by_steps = true } }
     {
         self.history.give(opening);
     }
@@ -495,7 +504,7 @@ impl Kept {
     /// Cuts first kept entries away where more than so many are kept: two at most, so that no caller waits long. Where
     /// none can be cut alone ([`Kept::cut_first`]), it cuts all, and the next call pays for a copy of the table.
     pub fn keep_at_most(&mut self, keep: u64)
-        ensures cut { (n : ℕ) × IsWithoutFirst n self.old self.new }
+        ensures cut { IsWithoutFirst (to_cut self.old keep) self.old self.new }
         ensures bound { (length self.new.entries ≤ keep) ⊎ (length self.new.entries + 2 ≤ length self.old.entries) }
     {
         self.cut_to(keep);
@@ -504,7 +513,7 @@ impl Kept {
 
     /// Cuts the first kept entry away where more than so many are kept, or all.
     fn cut_to(&mut self, keep: u64)
-        ensures cut { (n : ℕ) × IsWithoutFirst n self.old self.new }
+        ensures cut { IsWithoutFirst (to_cut_once self.old keep) self.old self.new }
         ensures bound { (length self.new.entries ≤ keep) ⊎ (length self.new.entries + 1 ≤ length self.old.entries) }
     {
         if self.history.len() as u64 <= keep {
@@ -517,6 +526,8 @@ impl Kept {
 
     /// Makes the present state the opening, and forgets the history and the room for it. It takes no memory.
     fn cut_at_once(&mut self)
+        requires some { self.old.entries ≢ [] }
+        requires fixed { self.old.by_steps ≡ false }
         ensures cut { IsWithoutFirst (length self.old.entries) self.old self.new }
         ensures entries { self.new.entries ≡ [] }
     {

@@ -13,7 +13,7 @@ ghost use Rattle.pid_types.specs.Shown.{Shows};
 ghost use Rattle.pid_types.specs.Sound.{IsBelow};
 ghost use Rattle.pid_types.specs.Step.{may_grow};
 ghost use Rattle.kept_table.specs.Calls.{begun, resumed, outcome, entry_of, after_call, counted, cut_at};
-ghost use Rattle.kept_table.specs.Calls.{IsWithoutFirst};
+ghost use Rattle.kept_table.specs.Calls.{IsWithoutFirst, made_and_cut, to_cut};
 ghost use Rattle.kept_table.specs.Chronicle.{Chronicle, total, next_stamp, recorded, recorded_by_all, kept_entry};
 ghost use Rattle.kept_table.specs.Chronicle.{last_reply};
 ghost use Rattle.kept_table.specs.Promise.{IsSubtreeCount, KeepsPromise};
@@ -324,7 +324,8 @@ impl<L: Ledger, const N: usize> Record<L, N> {
     ) -> Result<(), CallFault>
         ensures step { OnOk result (self.new.present ≡ (outcome self.old call).state) }
         ensures reply { OnOk result (reply.new ≡ (outcome self.old call).reply) }
-        ensures cut { OnOk result ((n : ℕ) × IsWithoutFirst n (after_call self.old seat.old.worker call) self.new) }
+        ensures cut { OnOk result (IsWithoutFirst (to_cut (after_call self.old seat.old.worker call) keep)
+            (after_call self.old seat.old.worker call) self.new) }
         ensures bound { OnOk result
             ((length self.new.entries ≤ keep) ⊎ (length self.new.entries < length self.old.entries)) }
         ensures seat { OnOk result (seat.new ≡ record seat.old { calls = seat.old.calls + 1 }) }
@@ -346,7 +347,7 @@ impl<L: Ledger, const N: usize> Record<L, N> {
     /// without a copy of the table: [`Kept::give_opening`].
     pub fn give_opening(&mut self, opening: PidTable)
         requires { opening ≡ self.old.opening }
-        ensures { self.new ≡ record self.old { room = self.new.room } }
+        ensures { self.new ≡ record self.old { room = self.new.room; by_steps = true } }
     {
         self.kept.give_opening(opening);
     }
@@ -364,8 +365,7 @@ impl<L: Ledger, const N: usize> Record<L, N> {
         ensures step { OnOk result (self.new.present ≡ (outcome self.old call).state) }
         ensures reply { OnOk result (reply.new ≡ (outcome self.old call).reply) }
         ensures cut { OnOk result
-            (self.new ≡ cut_at (counted self.old [] self.new.present 0)
-            (total self.old + 1) self.new.cut self.new.room) }
+            (self.new ≡ made_and_cut self.old self.new.present self.new.cut self.new.room) }
         ensures recorded { OnOk result
             ((w : ℕ) → w < N → recorded self.new w ≡ recorded self.old w + one_of seat.old.worker w) }
         ensures seat { OnOk result (seat.new ≡ record seat.old { calls = seat.old.calls + 1 }) }

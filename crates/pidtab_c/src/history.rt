@@ -1,6 +1,6 @@
 //! The history of a record, for C: how many calls were recorded, the kept entries, and cutting them away.
 ghost use Rattle.std.specs.Prelude.{◌≡◌, ◌≢◌, ◌+◌, ◌<◌, ◌≤◌, ◌↔◌, ◌⊎◌, ℕ, None, IfSome, length, take, drop};
-ghost use Rattle.kept_table.specs.Calls.{IsWithoutFirst};
+ghost use Rattle.kept_table.specs.Calls.{to_cut, IsWithoutFirst};
 ghost use Rattle.kept_table.specs.Chronicle.{total, recorded, recorded_by_all, kept_entry};
 ghost use Rattle.kept_table.specs.Promise.{KeepsPromise};
 ghost use Rattle.foreign_calls.specs.Entries.{IsEntry};
@@ -159,7 +159,7 @@ pub extern "C" fn pidtab_record_checkpoint_at(
 #[unsafe(no_mangle)]
 pub extern "C" fn pidtab_record_keep(alloc: Global, table: &mut PidtabRecord, keep: u64) -> u32
     ensures done { result ≡ DONE → Has table.old.handle.held (λ c. Has table.new.handle.held (λ d.
-        (n : ℕ) × IsWithoutFirst n c d)) }
+        IsWithoutFirst (to_cut c keep) c d)) }
     ensures bound { result ≡ DONE → Has table.old.handle.held (λ c. Has table.new.handle.held (λ d.
         (length d.entries ≤ keep) ⊎ (length d.entries + 2 ≤ length c.entries))) }
     ensures not_done { result ≢ DONE → table.new.handle.held ≡ table.old.handle.held }

@@ -5,7 +5,7 @@ use Rattle.kept_table.proofs.kept.Kept.new.Goals as goal
 -- the root state is the opening as it is
 pub invariant_of-kept : goal.invariant_of-kept
 invariant_of-kept c = record {
-  counted = counted-new c.root_state_is_sound.ensures c.args.workers _ _ _ _ _ _ _
+  counted = counted-new c.root_state_is_sound.ensures c.args.workers _ _ _ _ _ _ _ _
       (search rules)
       (search rules)
       (search rules)
