@@ -87,7 +87,7 @@ gate:
 	@$(MAKE) -s hostile
 
 # It proves and builds nothing: `make test` builds both programs; `make build` builds the one, and `rt run < stdin` in crates/demo_no_memory the other.
-hostile: ## refuses the built programs memory at each growth in turn, and has their devices fail (a minute)
+hostile: ## refuses the built programs memory at each growth in turn, has their devices fail, and plays `stored/` (a minute)
 	@for it in pidtab demo_no_memory; do test -x crates/$$it/out/$$it || { echo "no program crates/$$it/out/$$it: make test builds it" >&2; exit 1; }; done
 	@$(MAKE) -s -C hostile check
 
