@@ -87,7 +87,7 @@ gate:
 	@$(MAKE) -s hostile
 
 # It proves and builds nothing: `make test` builds both programs; `make build` builds the one, and `rt run < stdin` in crates/demo_no_memory the other.
-hostile: ## refuses the built programs memory at each growth in turn, and has their devices fail (a minute)
+hostile: ## refuses the built programs memory at each growth in turn, has their devices fail, and plays `stored/` (a minute)
 	@for it in pidtab demo_no_memory; do test -x crates/$$it/out/$$it || { echo "no program crates/$$it/out/$$it: make test builds it" >&2; exit 1; }; done
 	@$(MAKE) -s -C hostile check
 
@@ -221,7 +221,7 @@ $(OUT)/proved.a: $(LIBRARY) bindings/c/renamed.syms
 	$(OBJCOPY) --redefine-syms=bindings/c/renamed.syms $(LIBRARY) $@
 
 # One object, of whose symbols only pidtab_.. are seen.
-AROUND = heap guard guard_record shared saved saved_file
+AROUND = heap guard guard_record shared saved_file
 $(OUT)/pidtab.o: $(OUT)/proved.a $(AROUND:%=bindings/c/%.c) $(HEADERS:%=bindings/c/%)
 	for it in $(AROUND); do $(CC) -std=c11 -O2 -Wall -Wextra -Werror -fPIC -pthread -c -o $(OUT)/$$it.o bindings/c/$$it.c || exit 1; done
 	$(LD) -r -o $@ --whole-archive $(OUT)/proved.a --no-whole-archive $(AROUND:%=$(OUT)/%.o)
@@ -285,10 +285,10 @@ DUMP_RECORD_TEST = test_dump_record shared guard guard_record
 THREADS_TEST = test_threads guard guard_record
 SHARED_TEST = test_shared shared guard guard_record heap
 FOLLOW_TEST = test_follow shared guard guard_record heap
-SAVED_TEST = test_saved saved guard_record heap
-SAVED_FILE_TEST = test_saved_file saved shared guard guard_record
-SAVED_THREADS_TEST = test_saved_threads saved saved_file shared guard guard_record heap
-SAVER_TEST = test_saver saved saved_file shared guard guard_record heap
+SAVED_TEST = test_saved guard_record heap
+SAVED_FILE_TEST = test_saved_file shared guard guard_record
+SAVED_THREADS_TEST = test_saved_threads saved_file shared guard guard_record heap
+SAVER_TEST = test_saver saved_file shared guard guard_record heap
 DEVICES = -Dread=test_read -Dwrite=test_write
 # What is the same for each machine.
 SAME_EVERYWHERE = bindings/c/test_names && tools/guard --check && bindings/c/test_guard

@@ -19,10 +19,10 @@ COUNTS = (1, 2, ALL)
 
 # What is to be refused at some growth or other, by the first word of its step; `getpid` grows the history alone. A checkpoint is refused at
 # none: the opening moves on by the kept calls, and a call that finds no memory there waits.
-TAKE_MEMORY = set("new open opening fork mk reserve snapshot list dump job run limited state work workers".split())
+TAKE_MEMORY = set("new opening fork mk reserve snapshot list dump".split())
 
-# The layers make a call once more on the spot, so it takes two refusals to have one filled from the start.
-LAYERS = set("numbers controls groups tree array ids".split())
+# It makes a call once more on the spot, so it takes two refusals to have the array filled from the start.
+TWICE = {"array"}
 
 SCRIPT = "fork 1;fork 1 new;mk 0;limit 3 2;move 2 3;fork 2;fork 2;fork 3;exit 2 0;wait 1 any;count 3;nspid 1 3;getpid 9"
 
@@ -104,35 +104,8 @@ class Growths(unittest.TestCase):
         return refused
 
     def assert_goes_on(self, tried):
-        """A refused try says so, and nothing else; a run or a job went on without the calls that found no memory."""
-        first, rest = tried.lines[0], tried.lines[1:]
-        calls = tried.heading[2:].partition(" ")[2].split(";")
-        if first == "- answers":
-            self.assert_runs_on(calls, rest)
-        elif first == "- work":
-            self.assert_works_on(tried.heading[2:].partition(" ")[2].split("|"), rest)
-        else:
-            self.assertEqual(rest, [])
-            self.assertIn(first, ["- no memory", "- cannot start a thread"][: 2 if tried.kind() == "workers" else 1])
-
-    def assert_runs_on(self, calls, lines):
-        answers = lines[: len(calls)]
-        made = [call for call, answer in zip(calls, answers) if answer != "no memory"]
-        self.assertLess(len(made), len(calls))
-        self.assertEqual([it for it in answers if it != "no memory"], self.plain.run(made))
-        if lines[len(calls) :]:
-            self.assertEqual(lines[len(calls) :], self.plain.list(made))
-
-    def assert_works_on(self, jobs, lines):
-        for worker, job in enumerate(jobs):
-            calls = job.split(";")
-            self.assertEqual(lines.pop(0), f"worker {worker}")
-            end = next(at for at, line in enumerate(lines) if line.startswith("refused "))
-            answers, refused = lines[:end], int(lines[end].split(" ")[1])
-            del lines[: end + 1]
-            self.assertEqual(len(answers) + refused, len(calls))
-            self.assertTrue(any(self.plain.run(some) == answers for some in self.plain.without(calls, refused)))
-        self.assertEqual(lines, [])
+        """A refused try says so, and nothing else."""
+        self.assertEqual(tried.lines, ["- no memory"])
 
     def test_undisturbed(self):
         for program in builds_of("demo_no_memory"):
@@ -146,7 +119,7 @@ class Growths(unittest.TestCase):
                 self.refuse_each(program, count)
 
     def refuse_each(self, program, count):
-        kinds, starts = set(), 0
+        kinds = set()
         for growth in itertools.count(1):
             ran = self.play(program, REFUSE_AT=growth, REFUSE_COUNT=count)
             refused = self.assert_undisturbed_but_for_refusals(ran)
@@ -154,14 +127,12 @@ class Growths(unittest.TestCase):
                 break
             self.assertLessEqual(len(refused), 1, f"growth {growth}")
             kinds.update(it.kind() for it in refused)
-            starts += any(it.lines[0] == "- cannot start a thread" for it in refused)
         self.assertGreater(growth, 200)
-        # The layers make a call once more on the spot, so a single refusal shows nothing of them.
-        self.assertLessEqual(TAKE_MEMORY | (LAYERS if count > 1 else set()), kinds)
+        # A single refusal shows nothing of a call that is made once more on the spot.
+        self.assertLessEqual(TAKE_MEMORY | (TWICE if count > 1 else set()), kinds)
         self.assertNotIn("checkpoint", kinds)
         # A call that makes nothing needs memory for its entry.
-        self.assertTrue(kinds - TAKE_MEMORY - LAYERS)
-        self.assertGreater(starts, 0)
+        self.assertTrue(kinds - TAKE_MEMORY - TWICE)
 
     def test_each_growth_of_a_step_in_turn(self):
         for program in builds_of("demo_no_memory"):
@@ -180,7 +151,7 @@ class Growths(unittest.TestCase):
 
 
 class Commands(unittest.TestCase):
-    """The same of the program: `run` line by line, `list` and `work`."""
+    """The same of runs, jobs and workers, by the program: `run` line by line, `list` and `work`."""
 
     def setUp(self):
         self.report = Report()

@@ -4,7 +4,8 @@
  * it again, and each reply is compared with the saved one. Then the file and the record go on. docs/SAVED.md has the form of the
  * bytes: a head of 48 bytes, and 48 bytes for each call but a few. It is the same on every machine, and has no time and no address.
  *
- * saved.c is tested and not proved. It allocates nothing; only the record does, as its calls are made.
+ * The functions of bytes in memory are proved, as those of pidtab.h are (crates/pidtab_c/src/saved_bytes.rt). Those of files are in
+ * saved_file.c, which is tested and not proved. Neither allocates; only the record does, as its calls are made.
  *
  * Nobody checks that a caller keeps these rules, nor those of pidtab.h, which hold too:
  *
@@ -73,7 +74,10 @@ struct pidtab_saved_head {
 };
 
 /* Bytes in memory. `sum` is the running checksum: the head's functions begin it, and each entry's goes on with it. No function
- * changes anything unless it is PIDTAB_DONE, but `size`. */
+ * changes anything unless it is PIDTAB_DONE, but `size`. What is written is read back. An operation, a kind, an error or a refusal that
+ * this library does not know is a number all the same, and whoever makes the call refuses it.
+ *
+ * A reader of a piece does not see what is behind it. That zeroes at the end of a file are a torn end is known to the loads alone. */
 
 /* The CRC-64/XZ of bytes behind those whose CRC is `sum`, which is 0 for none. */
 uint64_t pidtab_saved_sum(uint64_t sum, const void *bytes, size_t length);

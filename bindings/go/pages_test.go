@@ -61,8 +61,8 @@ func played(t *testing.T, script string) string {
 }
 
 func TestTheStoredScripts(t *testing.T) {
-	scripts := strings.Split(read(t, "crates/demo_scripts/stdin"), "# ")[1:]
-	answers := strings.Split(read(t, "crates/demo_scripts/stdout"), "# ")[1:]
+	scripts := strings.Split(read(t, "stored/scripts"), "# ")[1:]
+	answers := strings.Split(read(t, "stored/answers"), "# ")[1:]
 	if len(scripts) < 30 || len(scripts) != len(answers) {
 		t.Fatal(len(scripts), len(answers))
 	}

@@ -186,6 +186,46 @@ func (shared *Shared) Entries(from uint64, most int) ([]Entry, error) {
 	return entries, nil
 }
 
+// Follow has a table that began as this one did make the calls from the ordinal on that are recorded by now, and answers the ordinal behind them.
+// So Dump of it is the text of the state there, and no goroutine waits for it. The replica is opened with the same PIDMax, and next is 0, where
+// the first stamp is 1; or it is made of a text of Dump, and next is what was recorded then. Nobody else makes a call on it.
+//
+// The lock is held for each 64 entries that are copied, and not while their calls are made. It costs the calls once more. ErrNotKept where a
+// call that it lacks was cut away, or next is not reached yet: it begins anew. ErrDiffers where a reply is not the recorded one: it is no replica.
+// ErrNoMemory and ErrSpent where the call of the answered ordinal was not made.
+func (shared *Shared) Follow(replica *Table, next uint64) (uint64, error) {
+	counts, err := shared.Counts()
+	if err == nil && next > counts.Recorded {
+		err = ErrNotKept
+	}
+	for err == nil && next < counts.Recorded {
+		most := batch
+		if left := counts.Recorded - next; left < batch {
+			most = int(left)
+		}
+		var entries []Entry
+		if entries, err = shared.Entries(next, most); err == nil {
+			next, err = followPage(replica, entries, next)
+		}
+	}
+	return next, err
+}
+
+// followPage makes the calls of entries on a replica.
+func followPage(replica *Table, entries []Entry, next uint64) (uint64, error) {
+	for _, entry := range entries {
+		reply, err := replica.Call(entry.Call)
+		if err != nil {
+			return next, err
+		}
+		next++
+		if reply != entry.Reply {
+			return next, ErrDiffers
+		}
+	}
+	return next, nil
+}
+
 // Checkpoint cuts the history: the present state is the opening from now on, and ordinals go on. It costs a copy of the whole table.
 // ErrNoMemory, and nothing has changed.
 func (shared *Shared) Checkpoint() error {

@@ -222,6 +222,31 @@ func TestCutsOfItsOwn(t *testing.T) {
 	want(t, "list", of(again.List()), list, err)
 }
 
+// A replica's text is that of the state at its ordinal; none that lacks a call that was cut away, or has another, follows on.
+func TestATableThatFollows(t *testing.T) {
+	shared := openShared(t, Settings{PidMax: 32768, Workers: 1, Keep: 80})
+	seat, replica := seatOf(t, shared), open(t, 32768)
+	forked(t, seat, 70)
+	next, err := shared.Follow(replica, 0)
+	want(t, "follow", of(next, err), uint64(70), nil)
+	text, err := shared.Dump()
+	want(t, "dump", of(replica.Dump()), text, err)
+	if _, err := seat.Fork(1, true); err != nil {
+		t.Fatal(err)
+	}
+	want(t, "dump of before", of(replica.Dump()), text, nil)
+	want(t, "follow", of(shared.Follow(replica, next)), uint64(71), nil)
+	text, err = shared.Dump()
+	want(t, "dump", of(replica.Dump()), text, err)
+	if _, err := replica.Fork(1, false); err != nil {
+		t.Fatal(err)
+	}
+	forked(t, seat, 20)
+	want(t, "another call", of(shared.Follow(replica, 71)), uint64(72), ErrDiffers)
+	want(t, "cut away", of(shared.Follow(open(t, 32768), 0)), uint64(0), ErrNotKept)
+	want(t, "not reached", of(shared.Follow(replica, 92)), uint64(92), ErrNotKept)
+}
+
 func TestWhatAReplayThatStopsSays(t *testing.T) {
 	shared := openShared(t, Settings{PidMax: 32768, Workers: 2})
 	stopped := shared.Replay([]Entry{{Call: Call{Operation: 99}}})

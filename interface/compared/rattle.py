@@ -20,8 +20,12 @@ FAULT_WORDS = "crates/table_load/src/fault.rt"
 FORM_WORDS = "crates/table_text/src/fault.rt"
 OF_REFUSALS = (CODE, REPLY, CALL, MODEL, LAWS, ANSWER, NUMBERS)
 OF_FAULTS = (STATUSES, FAULT_CODE, FAULT_MODEL, FAULT_WORDS, FORM_WORDS)
-OF_BOUNDS = [f"crates/{path}.rt" for path in ("foreign_calls/src/record", "pid_script/src/call", "pid_types/src/config", "pid_types/src/plain", "pidtab_c/src/lib")]
+OF_BOUNDS = [f"crates/{path}.rt" for path in ("foreign_calls/src/record", "pid_script/src/call", "pid_types/src/config", "pid_types/src/plain", "pidtab_c/src/lib",
+                                              "saved_form/src/block", "saved_form/src/layout")]  # fmt: skip
 PATHS = (*OF_REFUSALS, *OF_FAULTS, *OF_BOUNDS)
+
+# The statuses of a saved history that the functions of its bytes answer. The others are those of its file, which is C's.
+OF_BYTES = ("NOT_SAVED", "TORN", "WRONG_BYTE", "OTHER_VERSION")
 
 # A refusal in a pattern, with or without its id; and in the definitions.
 REFUSAL = r"Refusal::(\w+)(?:\(_\))?"
@@ -104,7 +108,7 @@ def compare_faults(tables, top):
     """All that the crates have of statuses and of faults of a text."""
     statuses, code, model, words, form = sources = [Source(top, path) for path in OF_FAULTS]
     values = {it.name: it.value for it in tables["errnos"]}
-    rows = [it for it in tables["statuses"] if it.of != "saved"]
+    rows = [it for it in tables["statuses"] if it.of != "saved" or it.name in OF_BYTES]
     statuses.same_matches("the status", r"^pub const (\w+): u32 = (\d+);", [(it.name, str(values.get(it.error, 0))) for it in rows])
     statuses.same_matches("the status", r"^/// `(E\w+)`:.*\npub const (\w+):", [(it.error, it.name) for it in rows if it.error != "-"])
     faults = [it for it in tables["faults"] if it.of != "none"]

@@ -2,13 +2,12 @@
 use std::env;
 
 const MACHINES: [&str; 3] = ["x86_64", "aarch64", "riscv64"];
-const FILES: [&str; 7] = [
+const FILES: [&str; 6] = [
     "pidtab.S",
     "heap.c",
     "guard.c",
     "guard_record.c",
     "shared.c",
-    "saved.c",
     "saved_file.c",
 ];
 

@@ -4,7 +4,7 @@ import shutil
 
 from release.files import settle, write_tarball, write_text
 
-AROUND = ("heap", "guard", "guard_record", "shared", "saved", "saved_file")
+AROUND = ("heap", "guard", "guard_record", "shared", "saved_file")
 HEADERS = ("pidtab.h", "pidtab_shared.h", "pidtab_saved.h")
 # Beside the assembler, where it is built; it takes the place of all other sources.
 ONE_FILE = "pidtab.c"

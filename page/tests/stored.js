@@ -1,4 +1,4 @@
-// What the repository has in writing: the examples, and the scripts of the stored run.
+// What the repository has in writing: the examples, and the stored scripts.
 
 import { readdirSync, readFileSync } from "node:fs";
 import { fileURLToPath } from "node:url";
@@ -28,10 +28,10 @@ function parts(name) {
   });
 }
 
-/** The scripts of the stored run that the gate plays; a list is null where none is stored. */
+/** The stored scripts that the gate plays; a list is null where none is stored. */
 export function storedScripts() {
-  const told = parts("crates/demo_scripts/stdout");
-  return parts("crates/demo_scripts/stdin").map(({ head, words, lines }, at) => {
+  const told = parts("stored/answers");
+  return parts("stored/scripts").map(({ head, words, lines }, at) => {
     if (told[at].head !== head) throw new Error(`no answers to ${head}`);
     const asked = lines.filter((line) => line !== "").length;
     const list = told[at].lines.slice(asked).map((line) => `${line}\n`).join("");

@@ -17,7 +17,7 @@ function sayFault(fault) {
   if (fault instanceof Refusal) return [fault.code, fault.word, fault.id].filter((it) => it !== null).join(" ");
   if (fault instanceof BadText) return `line ${fault.line}: ${fault.why}`;
   if (fault instanceof RangeError) return fault.message === "an empty line has no answer" ? "EMPTY_LINE" : "OUT_OF_RANGE";
-  const names = { BadLine: "BAD_LINE", Spent: "SPENT", NotKept: "NOT_KEPT" };
+  const names = { BadLine: "BAD_LINE", Spent: "SPENT", NotKept: "NOT_KEPT", Differs: "DIFFERS" };
   if (!(fault instanceof PidtabError) || !(fault.name in names)) throw fault;
   return names[fault.name];
 }

@@ -283,13 +283,13 @@ SHARED_FUNCTIONS: dict[str, Function] = {
     "pidtab_shared_checkpoint": (U32, [SHARED]),
     "pidtab_shared_checkpoint_at": (U32, [SHARED, U64]),
     "pidtab_shared_list": (U32, [SHARED, BYTES, SIZE_T, SIZE]),
-    "pidtab_shared_follow": (U32, [SHARED, TABLE, NUMBER_64]),
 }
 
 # Those of these that an earlier library may lack.
 LATER_SHARED_FUNCTIONS: dict[str, Function] = {
     "pidtab_shared_load": (U32, [SHARED, ctypes.c_char_p, SIZE_T, NUMBER_64, SIZE_T, U64, FAULT]),
     "pidtab_shared_dump": (U32, [SHARED, BYTES, SIZE_T, SIZE]),
+    "pidtab_shared_follow": (U32, [SHARED, TABLE, NUMBER_64]),
 }
 
 # Those on the file of its saved history.

@@ -20,6 +20,7 @@ from pidtab.owner import TABLES, Owner
 from pidtab.raw import (
     AGAIN,
     DEVICE,
+    DIFFERS,
     DONE,
     ENDED,
     MOST_WORKERS,
@@ -481,6 +482,23 @@ class Shared(Labelled, Owner):
             table.close()
             raise
         return table
+
+    def follow(self, replica: Table, start: int) -> int:
+        """Has a table of one's own, which began as this one did, make the calls from the ordinal on that are recorded by now. The ordinal behind them.
+
+        So `replica.dump()` is the text of the state there, and no call waits for it. The replica is `Table(pid_max)` and the start 0, or the table of
+        a text of `dump` and what was recorded then; nobody else makes a call on it. Other threads may make calls here meanwhile.
+
+        `NotKept` is raised where a call that it lacks was cut away, or is not reached yet, and ValueError where a reply is not the recorded one: it is
+        no replica then. Behind a MemoryError it begins anew. It costs the calls once more.
+        """
+        following = ctypes.c_uint64(check_range("start", start, 0, GREATEST_NUMBER))
+        replica._check_owner()
+        status = self._status("pidtab_shared_follow", replica._table, following)
+        if status == DIFFERS:
+            raise ValueError(f"call {following.value - 1}: its reply is not the recorded one: the table is no replica of this one")
+        check(status, f"call {following.value}")
+        return following.value
 
     def _as_opened(self) -> str:
         """The text of a table with the root init alone, and the stamp that this one began with."""

@@ -5,7 +5,7 @@ from pathlib import Path
 
 REPOSITORY = Path(__file__).resolve().parents[3]
 EXAMPLES = REPOSITORY / "examples"
-STORED = REPOSITORY / "crates" / "demo_scripts"
+STORED = REPOSITORY / "stored"
 
 # Two jobs for `pidtab work`, whose answers depend on the schedule.
 JOBS = {"worker0", "worker1"}
@@ -63,7 +63,7 @@ def script_lines(path: Path) -> list[str]:
 
 
 class StoredScript:
-    """A script of the stored run: its lines, what they are answered, and the list of its table where that is shown."""
+    """A script that is stored: its lines, what they are answered, and the list of its table where that is shown."""
 
     def __init__(self, head: str, lines: list[bytes], answers: list[str]) -> None:
         self.name = head
@@ -75,9 +75,9 @@ class StoredScript:
 
 
 def stored_scripts() -> list[StoredScript]:
-    """The scripts of the stored run that the gate plays."""
-    scripts = (STORED / "stdin").read_bytes().split(b"# ")[1:]
-    answers = (STORED / "stdout").read_text(encoding="latin-1").split("# ")[1:]
+    """The stored scripts that the gate plays."""
+    scripts = (STORED / "scripts").read_bytes().split(b"# ")[1:]
+    answers = (STORED / "answers").read_text(encoding="latin-1").split("# ")[1:]
     found = []
     for script, answer in zip(scripts, answers, strict=True):
         head, *lines = script.removesuffix(b"\n").split(b"\n")

@@ -12,7 +12,7 @@ from pathlib import Path
 from textwrap import indent
 
 from pidtab import Process, find_program
-from tests.pages import REPOSITORY, STORED, displays, fenced, read_page, section
+from tests.pages import REPOSITORY, displays, fenced, read_page, section
 from tests.programs import ARCHIVE, BUILT, STRICT, need_archive, need_tool, run, run_c, run_go, run_python, run_rust, run_shell
 from tests.ways import need_hypothesis, need_library, need_program, need_shared
 
@@ -91,15 +91,16 @@ class Examples(unittest.TestCase):
                 self.assertEqual(len(fenced(read_page(page), kind)), len(here), (page, kind))
 
     def test_rattle(self) -> None:
-        # The gate proves the crate, and compares what it prints with its stored run.
+        # The gate proves the test, which compares the answers.
         text = section(read_page("bindings/rattle/README.md"), "## Example")
         (code,), (printed,) = fenced(text, "rattle"), fenced(text, "text")
-        self.assertEqual(code, (STORED / "src" / "first.rt").read_text(encoding="utf-8"))
-        told, _, _ = (STORED / "stdout").read_text(encoding="utf-8").partition("$ pidtab ")
-        self.assertEqual(printed, told)
-        proof = (STORED / "proofs" / "first" / "run" / "Invariants.antt").read_text(encoding="utf-8")
+        crate = REPOSITORY / "crates" / "test_product"
+        self.assertEqual(code, (crate / "src" / "first.rt").read_text(encoding="utf-8"))
+        told, _, _ = code.partition('const ANSWERS: &str = "')[2].partition('"')
+        self.assertEqual(printed, told.replace("\\n", "\n"))
+        proof = (crate / "proofs" / "first" / "makes_four_calls" / "Invariants.antt").read_text(encoding="utf-8")
         self.assertIn(indent("```antt\n" + proof + "```\n", "  "), text)
-        self.assertIn(f"`{next(line for line in read_page('crates.txt').splitlines() if line.startswith('demo_scripts:'))}`", text)
+        self.assertIn(f"`{next(line for line in read_page('crates.txt').splitlines() if line.startswith('test_product:'))}`", text)
 
     def test_the_shell(self) -> None:
         need_program()

@@ -5,13 +5,16 @@
 use crate::calls::sealed::Sealed;
 use crate::labels::Labels;
 use crate::{
-    raw, texts, Call, Calls, Error, LineError, Listing, ReplayError, Reply, SavedError, Stat,
+    raw, texts, Call, Calls, Error, LineError, Listing, ReplayError, Reply, SavedError, Stat, Table,
     TextError,
 };
 use std::ops::{Deref, DerefMut};
 use std::sync::atomic::{AtomicBool, AtomicU32, AtomicU64, Ordering};
 use std::sync::{Condvar, LockResult, Mutex, MutexGuard, PoisonError};
 use std::{fmt, mem};
+
+/// So many entries are copied under one lock for a table that follows.
+const FOLLOWED_AT_ONCE: u64 = 64;
 
 /// A recorded call with its reply.
 #[derive(Clone, Debug, PartialEq, Eq, Hash)]
@@ -420,6 +423,34 @@ impl Shared {
         self.lock().replay(saved)
     }
     // The end of forwards.
+
+    /// Has a table that began as this one did make the calls from `next` on that are recorded by now, and moves `next` behind them. So
+    /// [`Table::dump`] of it is the text of the state in front of the call `next`, and no call waits for it.
+    ///
+    /// The replica is opened with the same `pid_max`, and `next` is 0, where the first stamp is 1; or it is made of a text of [`Shared::dump`],
+    /// and `next` is what was recorded then. Nobody else makes a call on it. The lock is held for each 64 entries that are copied, and not
+    /// while their calls are made. It costs the calls once more.
+    ///
+    /// # Errors
+    /// `NotKept` where a call that it lacks was cut away, or `next` is not reached yet: it begins anew. `Differs` where a reply is not the
+    /// recorded one: it is no replica. `NoMemory`, `Spent` and `Busy` where the call `next` was not made.
+    pub fn follow(&self, replica: &mut Table, next: &mut u64) -> Result<(), Error> {
+        let end = self.counts()?.recorded;
+        if *next > end {
+            return Err(Error::NotKept);
+        }
+        while *next < end {
+            let most = (end - *next).min(FOLLOWED_AT_ONCE) as usize;
+            for entry in self.entries(*next, most)? {
+                let reply = replica.call(entry.call)?;
+                *next += 1;
+                if reply != entry.reply {
+                    return Err(Error::Differs);
+                }
+            }
+        }
+        Ok(())
+    }
 }
 
 impl fmt::Debug for Shared {

@@ -35,10 +35,8 @@ fn play(scripts: &str) -> String {
 
 #[test]
 fn the_stored_scripts() {
-    let told = play(&read("crates/demo_scripts/stdin"));
-    let stored = read("crates/demo_scripts/stdout");
-    let (_, wanted) = stored.split_once("\n# ").expect("scripts");
-    let wanted = format!("# {wanted}");
+    let told = play(&read("stored/scripts"));
+    let wanted = read("stored/answers");
     for (line, wanted) in told.lines().zip(wanted.lines()) {
         assert_eq!(line, wanted);
     }

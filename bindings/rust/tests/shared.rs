@@ -160,6 +160,34 @@ fn a_bound_behind_a_replay() {
     assert_eq!((counts(&again), again.list()), ((21, 26), shared.list()));
 }
 
+/// A replica's text is that of the state at its ordinal; none that lacks a call that was cut away, or has another, follows on.
+#[test]
+fn a_table_that_follows() {
+    let shared = Shared::options(32768, 1).keep(80).open().expect("a table");
+    let mut seat = shared.seat().expect("a seat");
+    let mut replica = Table::open(32768).expect("a table");
+    let mut next = 0;
+    for _ in 0..70 {
+        assert!(seat.fork(1, false).is_ok());
+    }
+    assert_eq!((shared.follow(&mut replica, &mut next), next), (Ok(()), 70));
+    let before = shared.dump().expect("a text");
+    assert_eq!(replica.dump(), Ok(before.clone()));
+    assert!(seat.fork(1, true).is_ok());
+    assert_eq!(replica.dump(), Ok(before));
+    assert_eq!((shared.follow(&mut replica, &mut next), next), (Ok(()), 71));
+    assert_eq!(replica.dump(), shared.dump());
+    assert!(replica.fork(1, false).is_ok());
+    for _ in 0..20 {
+        assert!(seat.fork(1, false).is_ok());
+    }
+    let differs = Err(Error::Differs);
+    assert_eq!((shared.follow(&mut replica, &mut next), next), (differs, 72));
+    for mut lacking in [0, 92] {
+        assert_eq!(shared.follow(&mut replica, &mut lacking), Err(Error::NotKept));
+    }
+}
+
 /// The entry of the next fork of process 1, where all before were such forks.
 fn next_fork(shared: &Shared) -> [Entry; 1] {
     let number = counts(shared).1 as u32 + 2;

@@ -1,10 +1,15 @@
-//! An array by index and numbers drawn in a cycle, each filled alone.
+//! Steps on an array by index, which is filled at indexes that no number of a script reaches.
+//!
+//! A call that finds no memory is made again on the spot, once what can be read of the array was compared.
 
-use crate::layers::{Picture, sum_of};
+use crate::tell::{MOST_TRIES, tell};
 use anyhow::{Result, bail, ensure};
-use cyclic_ids::CyclicIds;
+use arrayvec::ArrayVec;
 use index_array::{IndexArray, IndexFault};
-use std::alloc::{AllocError, Global};
+use std::alloc::Global;
+
+/// What reading calls show of an array.
+type Picture = ArrayVec<u64, 64>;
 
 /// How far apart two indexes of one leaf of an array are at most, and one more.
 const LEAF: u32 = 64;
@@ -12,11 +17,30 @@ const LEAF: u32 = 64;
 /// Where an array is filled: each needs a level more than the one before it, and the last one needs none.
 const PLACES: [u32; 5] = [3, 130, 5_000, 300_000, 16_000_000];
 
-/// The bound of the numbers that are drawn.
-const PID_MAX: u32 = 302;
+/// Fills an array until there is memory for all of it, and tells a sum over what is in it.
+pub fn play<R: Print + AllocGlobal>(rt: &R, heading: &[u8]) -> Result<()> {
+    for _ in 0..MOST_TRIES {
+        tell(rt, &[heading])?;
+        match fill(rt.alloc())? {
+            Some(sum) => {
+                tell(rt, &[b"= "])?;
+                println!(rt; "{sum}")?;
+                return Ok(());
+            }
+            None => tell(rt, &[b"- no memory\n"])?,
+        }
+    }
+    bail!("no memory after {MOST_TRIES} tries")
+}
 
-/// How many numbers are drawn: more than a leaf has.
-const NUMBERS: u32 = 70;
+/// A sum that tells in which order the numbers stand.
+fn sum_of(seen: &Picture) -> u64 {
+    let mut sum = 0u64;
+    for n in seen.iter() {
+        sum = sum.wrapping_mul(31).wrapping_add(*n);
+    }
+    sum
+}
 
 /// What can be read of an array: each index in use, with its value and its marks.
 fn see_array(array: &IndexArray) -> Picture {
@@ -62,8 +86,8 @@ fn store(array: &mut IndexArray, i: u32) -> Result<bool> {
     Ok(array.store(i, i, marks).is_ok())
 }
 
-/// At each place room for an index, and a value in the next leaf.
-pub fn fill_array(alloc: Global) -> Result<Option<u64>> {
+/// At each place room for an index, and a value in the next leaf. It answers a sum; none where there was no memory.
+fn fill(alloc: Global) -> Result<Option<u64>> {
     let mut array = IndexArray::new(alloc);
     for i in PLACES {
         if !prepare(&mut array, i)? || !store(&mut array, i.saturating_add(LEAF))? {
@@ -71,48 +95,4 @@ pub fn fill_array(alloc: Global) -> Result<Option<u64>> {
         }
     }
     Ok(Some(sum_of(&see_array(&array))))
-}
-
-/// What can be read of numbers: the cursor, and each number in use with its value.
-fn see_ids(ids: &CyclicIds) -> Picture {
-    let mut seen = Picture::new();
-    let _ = seen.try_push(u64::from(ids.cursor()));
-    for n in 0..PID_MAX {
-        if let Some(value) = ids.find(n) {
-            let _ = seen.try_push(u64::from(n));
-            let _ = seen.try_push(u64::from(*value));
-        }
-    }
-    seen
-}
-
-/// Draws a number, and once more where there was no memory.
-fn draw(ids: &mut CyclicIds) -> Result<bool> {
-    let Some(n) = ids.plan() else {
-        bail!("no number");
-    };
-    let before = see_ids(ids);
-    if let Ok(()) = ids.prepare(n) {
-        ids.commit(n, n);
-        return Ok(true);
-    }
-    ensure!(see_ids(ids) == before, "something has changed");
-    match ids.prepare(n) {
-        Ok(()) => {
-            ids.commit(n, n);
-            Ok(true)
-        }
-        Err(AllocError) => Ok(false),
-    }
-}
-
-/// Seventy numbers, drawn one by one.
-pub fn fill_ids(alloc: Global) -> Result<Option<u64>> {
-    let mut ids = CyclicIds::new(alloc, PID_MAX);
-    for _ in 0..NUMBERS {
-        if !draw(&mut ids)? {
-            return Ok(None);
-        }
-    }
-    Ok(Some(sum_of(&see_ids(&ids))))
 }

@@ -2,8 +2,7 @@
 
 ghost use Rattle.std.specs.Prelude.{◌≡◌};
 
-use crate::alone::play as play_alone;
-use crate::layers::play as play_layer;
+use crate::arrays::play as play_array;
 use crate::seated::{Seated, open};
 use crate::step::{Step, parse_step};
 use crate::tell::MOST_TRIES;
@@ -11,10 +10,7 @@ use anyhow::{Result, bail};
 use pid_types::config::Config;
 use std::alloc::Global;
 use std::marker::Brand;
-use std::sync::Wait;
 use std::sync::ledger::{Blank, Ledger};
-use std::thread::Threads;
-use std::time::Clock;
 
 /// A step, and the line that tells of it.
 #[derive(Drop)]
@@ -24,11 +20,7 @@ struct Told {
 }
 
 /// Opens a table, as often as that takes, and plays the steps of the lines on it.
-pub fn play_script<R: Print + Threads + Wait + Clock + Sync + AllocGlobal>(
-    rt: &R,
-    config: &Config,
-    lines: &str,
-) -> Result<()> {
+pub fn play_script<R: Print + AllocGlobal>(rt: &R, config: &Config, lines: &str) -> Result<()> {
     let steps = parse_steps(rt.alloc(), lines)?;
     for _ in 0..MOST_TRIES {
         if play_once(rt, config, steps.as_slice())? {
@@ -55,20 +47,16 @@ fn parse_told(alloc: Global, line: &str) -> Result<Told> {
     };
     Ok(Told {
         heading: format!(in alloc; "{sign}{words}\n")?,
-        step: parse_step(alloc, words)?,
+        step: parse_step(words)?,
     })
 }
 
 /// Opens a table and plays the steps on it. It answers false where there was no memory for a table.
-fn play_once<R: Print + Threads + Wait + Clock + Sync + AllocGlobal>(
-    rt: &R,
-    config: &Config,
-    steps: &[Told],
-) -> Result<bool> {
+fn play_once<R: Print + AllocGlobal>(rt: &R, config: &Config, steps: &[Told]) -> Result<bool> {
     play_steps::<Brand, R>(rt, Blank::new(1), config, steps)
 }
 
-fn play_steps<L: Ledger, R: Print + Threads + Wait + Clock + Sync + AllocGlobal>(
+fn play_steps<L: Ledger, R: Print + AllocGlobal>(
     rt: &R,
     blank: Blank,
     config: &Config,
@@ -81,22 +69,20 @@ fn play_steps<L: Ledger, R: Print + Threads + Wait + Clock + Sync + AllocGlobal>
         return Ok(false);
     };
     for told in steps {
-        play_step(rt, &mut seated, config, told)?;
+        play_step(rt, &mut seated, told)?;
     }
     Ok(true)
 }
 
-/// Plays one step, on the table or on one of its own.
-fn play_step<L: Ledger, R: Print + Threads + Wait + Clock + Sync + AllocGlobal>(
+/// Plays one step, on the table or on an array.
+fn play_step<L: Ledger, R: Print + AllocGlobal>(
     rt: &R,
     seated: &mut Seated<L>,
-    config: &Config,
     told: &Told,
 ) -> Result<()> {
     let heading = told.heading.as_bytes();
     match &told.step {
         Step::Seated(step) => seated.play(rt, heading, step),
-        Step::Alone(step) => play_alone(rt, heading, config, step),
-        Step::Layer(layer) => play_layer(rt, heading, *layer),
+        Step::Array => play_array(rt, heading),
     }
 }

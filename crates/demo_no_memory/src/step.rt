@@ -3,26 +3,13 @@
 use anyhow::{Result, bail};
 use pid_script::line::{Line, parse_line};
 use pid_types::call::Call;
-use std::alloc::Global;
 
-/// A step on the script's table, on a table of its own, or on a layer of one.
+/// A step on the script's table, or on an array.
 #[derive(Drop)]
 pub enum Step {
     Seated(SeatedStep),
-    Alone(AloneStep),
-    /// `numbers`, `controls`, `groups`, `tree`, `array`, `ids`: a layer is filled.
-    Layer(Layer),
-}
-
-/// A layer of a table.
-#[derive(Clone, Copy)]
-pub enum Layer {
-    Numbers,
-    Controls,
-    Groups,
-    Tree,
+    /// `array`: an array by index is filled.
     Array,
-    Ids,
 }
 
 /// A step on the script's table.
@@ -46,42 +33,11 @@ pub enum SeatedStep {
     Dump,
 }
 
-/// A step on a table of its own. Scripts have `;` in the place of a newline.
-#[derive(Drop)]
-pub struct AloneStep {
-    pub kind: AloneKind,
-    /// What stands behind the word, with newlines.
-    pub script: String,
-}
-
-/// What a step on a table of its own does.
-#[derive(Clone, Copy)]
-pub enum AloneKind {
-    /// `open`: a table behind its lock.
-    Open,
-    /// `job SCRIPT`: the calls of a job.
-    Job,
-    /// `run SCRIPT`.
-    Run,
-    /// `limited SCRIPT`: a run of at most two reads.
-    Limited,
-    /// `state SCRIPT`: a run that hands back its record.
-    State,
-    /// `work SCRIPT`: one worker's job, at a desk.
-    Work,
-    /// `workers SCRIPT|SCRIPT`: two workers.
-    Workers,
-}
-
 /// The step of a line.
-pub fn parse_step(alloc: Global, line: &str) -> Result<Step> {
+pub fn parse_step(line: &str) -> Result<Step> {
     let (word, rest) = line.split_once(' ').unwrap_or((line, ""));
-    if let Some(kind) = parse_alone(word) {
-        let script = rest.replace(alloc, ";", "\n")?;
-        return Ok(Step::Alone(AloneStep { kind, script }));
-    }
-    if let Some(layer) = parse_layer(word) {
-        return Ok(Step::Layer(layer));
+    if word == "array" {
+        return Ok(Step::Array);
     }
     Ok(Step::Seated(parse_seated(line, word, rest)?))
 }
@@ -100,32 +56,5 @@ fn parse_seated(line: &str, word: &str, rest: &str) -> Result<SeatedStep> {
             Line::Call(call) => SeatedStep::Call(call),
             _ => bail!("no step: {line}"),
         },
-    })
-}
-
-/// The layer that the word names, if it names one.
-fn parse_layer(word: &str) -> Option<Layer> {
-    Some(match word {
-        "numbers" => Layer::Numbers,
-        "controls" => Layer::Controls,
-        "groups" => Layer::Groups,
-        "tree" => Layer::Tree,
-        "array" => Layer::Array,
-        "ids" => Layer::Ids,
-        _ => return None,
-    })
-}
-
-/// The step on a table of its own, if the word names one.
-fn parse_alone(word: &str) -> Option<AloneKind> {
-    Some(match word {
-        "open" => AloneKind::Open,
-        "job" => AloneKind::Job,
-        "run" => AloneKind::Run,
-        "limited" => AloneKind::Limited,
-        "state" => AloneKind::State,
-        "work" => AloneKind::Work,
-        "workers" => AloneKind::Workers,
-        _ => return None,
     })
 }

@@ -2,7 +2,7 @@
 use Rattle.std.proofs.Common.{ℕ, ◌+◌, ◌<◌, List, [], ◌∷◌, ◌++◌, length, take, get_or, refl, sym, subst}
 use Rattle.std.proofs.lemmas.List.{take_more}
 use Rattle.kept_table.specs.Chronicle.{Chronicle}
-use Rattle.foreign_calls.specs.declared.read.EntryNumbers.{EntryNumbers}
+use Rattle.saved_form.specs.declared.numbers.EntryNumbers.{EntryNumbers}
 use Rattle.foreign_calls.specs.Replays.{IsSameAgain, Replays}
 
 pub replays_more : (c : Chronicle) (before : List EntryNumbers) (m d : Chronicle) (saved : EntryNumbers)

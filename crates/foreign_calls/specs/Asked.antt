@@ -2,7 +2,7 @@
 use Rattle.std.specs.Prelude.{Option, Some, None, if◌then◌else◌}
 use Rattle.pid_types.specs.declared.call.Call.{Call}
 use Rattle.kept_table.specs.Queries.{is_query}
-use Rattle.foreign_calls.specs.declared.numbers.CallNumbers.{CallNumbers}
+use Rattle.saved_form.specs.declared.numbers.CallNumbers.{CallNumbers}
 use Rattle.foreign_calls.specs.Numbers.{call_of}
 
 -- the call, if it is a query

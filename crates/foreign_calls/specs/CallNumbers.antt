@@ -8,7 +8,7 @@ use Rattle.pid_types.specs.declared.call.Which.{Which}
 use Rattle.pid_types.specs.declared.call.Which.TheVariants.{Any, Pid, OwnGroup, Group}
 use Rattle.pid_types.specs.declared.call.Kind.{Kind}
 use Rattle.pid_types.specs.declared.call.Kind.TheVariants as kind
-use Rattle.foreign_calls.specs.declared.numbers.CallNumbers.{CallNumbers}
+use Rattle.saved_form.specs.declared.numbers.CallNumbers.{CallNumbers}
 
 -- a call of the operation that takes nothing
 abbrev pub call_blank : ℕ → ℕ → CallNumbers

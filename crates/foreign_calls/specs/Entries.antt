@@ -2,9 +2,9 @@
 use Rattle.std.specs.Prelude.{◌≡◌, ◌≤◌, ℕ, Option, Some, None}
 use Rattle.pid_types.specs.declared.entry.Entry.{Entry}
 use Rattle.kept_table.specs.Chronicle.{Chronicle, total, kept_entry}
-use Rattle.foreign_calls.specs.declared.numbers.CallNumbers.{CallNumbers}
-use Rattle.foreign_calls.specs.declared.numbers.ReplyNumbers.{ReplyNumbers}
-use Rattle.foreign_calls.specs.declared.read.EntryNumbers.{EntryNumbers}
+use Rattle.saved_form.specs.declared.numbers.CallNumbers.{CallNumbers}
+use Rattle.saved_form.specs.declared.numbers.ReplyNumbers.{ReplyNumbers}
+use Rattle.saved_form.specs.declared.numbers.EntryNumbers.{EntryNumbers}
 use Rattle.foreign_calls.specs.CallNumbers.{call_numbers}
 use Rattle.foreign_calls.specs.Numbers.{call_of, numbers_of}
 

@@ -9,3 +9,4 @@ pub mod Asked
 pub mod Replays
 pub mod Tasks
 pub mod Saved
+pub mod SavedBytes

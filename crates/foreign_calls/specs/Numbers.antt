@@ -12,8 +12,8 @@ use Rattle.pid_types.specs.declared.reply.Refusal.TheVariants.{NoNumber, PidsLim
 use Rattle.pid_types.specs.declared.reply.Reply.{Reply}
 use Rattle.pid_types.specs.declared.reply.Reply.TheVariants.{Forked, Done, Number, Levels, Reaped, NoneYet, Counted, Control, End, Refused}
 use Rattle.pid_types.specs.Refusals.{errno_entry, refusal_entry}
-use Rattle.foreign_calls.specs.declared.numbers.CallNumbers.{CallNumbers}
-use Rattle.foreign_calls.specs.declared.numbers.ReplyNumbers.{ReplyNumbers}
+use Rattle.saved_form.specs.declared.numbers.CallNumbers.{CallNumbers}
+use Rattle.saved_form.specs.declared.numbers.ReplyNumbers.{ReplyNumbers}
 
 -- off or on
 abbrev pub switch_of : ℕ → Option Bool

@@ -3,8 +3,8 @@ use Rattle.std.specs.Prelude.{◌≡◌, ◌≢◌, ◌<◌, ◌≤◌, ◌⊎�
 use Rattle.pid_types.specs.declared.call.Call.{Call}
 use Rattle.kept_table.specs.Calls.{after_call, outcome}
 use Rattle.kept_table.specs.Chronicle.{Chronicle}
-use Rattle.foreign_calls.specs.declared.numbers.ReplyNumbers.{ReplyNumbers}
-use Rattle.foreign_calls.specs.declared.read.EntryNumbers.{EntryNumbers}
+use Rattle.saved_form.specs.declared.numbers.ReplyNumbers.{ReplyNumbers}
+use Rattle.saved_form.specs.declared.numbers.EntryNumbers.{EntryNumbers}
 use Rattle.foreign_calls.specs.Numbers.{call_of, numbers_of}
 use Rattle.foreign_calls.specs.Records.{Has, roomless}
 

@@ -15,6 +15,7 @@ pub mod record;
 pub mod record_calls;
 pub mod record_handle;
 pub mod replay;
+pub mod saved_bytes;
 pub mod saved_record;
 pub mod saved_table;
 pub mod stamped;

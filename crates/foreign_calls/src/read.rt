@@ -4,18 +4,9 @@ ghost use Rattle.kept_table.specs.Chronicle.{total};
 ghost use Rattle.foreign_calls.specs.Entries.{TellsEntry};
 
 use crate::call_numbers::tell_call;
-use crate::numbers::{CallNumbers, ReplyNumbers, tell_reply};
+use crate::numbers::tell_reply;
 use kept_table::Kept;
-
-/// A kept entry: whose call it was, the call and its reply. What the call does not take, and what the reply does not
-/// tell, is 0.
-#[repr(C)]
-#[derive(Clone, Copy)]
-pub struct EntryNumbers {
-    pub worker: u64,
-    pub call: CallNumbers,
-    pub reply: ReplyNumbers,
-}
+pub use saved_form::numbers::EntryNumbers;
 
 /// The kept entry with the ordinal, as numbers.
 fn entry_at(held: &Kept, ordinal: u64) -> EntryNumbers

@@ -10,6 +10,9 @@ pub const DONE: u32 = 0;
 /// `ENOENT`: no entry with the ordinal is kept.
 pub const NOT_KEPT: u32 = 2;
 
+/// `ENOEXEC`: the bytes are no saved history.
+pub const NOT_SAVED: u32 = 8;
+
 /// `EBADF`: there is no open table.
 pub const CLOSED: u32 = 9;
 
@@ -28,6 +31,9 @@ pub const OUT_OF_RANGE: u32 = 22;
 /// `ERANGE`: the room is too short.
 pub const NO_ROOM: u32 = 34;
 
+/// `ENOMSG`: the bytes end within the head or an entry.
+pub const TORN: u32 = 42;
+
 /// `ENODATA`: the line is empty.
 pub const EMPTY_LINE: u32 = 61;
 
@@ -39,6 +45,12 @@ pub const DIFFERS: u32 = 74;
 
 /// `EOVERFLOW`: the stamps are used up.
 pub const SPENT: u32 = 75;
+
+/// `EILSEQ`: a byte is not the one that was written.
+pub const WRONG_BYTE: u32 = 84;
+
+/// `EPROTONOSUPPORT`: the saved history is of another version.
+pub const OTHER_VERSION: u32 = 93;
 
 /// `EUCLEAN`: the text is that of no table.
 pub const BAD_TEXT: u32 = 117;

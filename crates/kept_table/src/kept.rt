@@ -471,8 +471,8 @@ impl Kept {
         requires { worker < length self.old.cut }
         ensures step { OnOk result (self.new.present ≡ (outcome self.old call).state) }
         ensures reply { OnOk result (reply.new ≡ (outcome self.old call).reply) }
-        ensures cut { OnOk result
-            (IsWithoutFirst (to_cut (after_call self.old worker call) keep) (after_call self.old worker call) self.new) }
+        ensures cut { OnOk result (IsWithoutFirst (to_cut (after_call self.old worker call) keep)
+            (after_call self.old worker call) self.new) }
         ensures bound { OnOk result
             ((length self.new.entries ≤ keep) ⊎ (length self.new.entries < length self.old.entries)) }
 

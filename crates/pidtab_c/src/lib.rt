@@ -31,6 +31,7 @@ mod read;
 mod record;
 mod record_calls;
 mod replay;
+mod saved_bytes;
 mod saved_record;
 mod saved_table;
 mod task;

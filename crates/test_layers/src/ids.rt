@@ -5,52 +5,49 @@ ghost use Rattle.std.specs.Prelude.{◌<◌};
 use cyclic_ids::{CyclicIds, GROUP_MARK, SESSION_MARK, TASK_MARK};
 use std::process::Abort;
 
-/// Draws a number, and tries again where there was no memory; then the next number has to stay.
-fn draw(rt: &impl Abort, ids: &mut CyclicIds) -> Option<u32> {
+/// Draws a number, again where there was no memory.
+fn draw(ids: &mut CyclicIds) -> Option<u32> {
     let n = ids.plan()?;
-    if ids.prepare(n).is_err() {
-        assert_eq!(rt; ids.plan(), Some(n));
-        if ids.prepare(n).is_err() {
-            return None;
-        }
+    if ids.prepare(n).is_ok() || ids.prepare(n).is_ok() {
+        ids.commit(n, n);
+        return Some(n);
     }
-    ids.commit(n, n);
-    Some(n)
+    None
 }
 
 // What the ids answer, of which the tests know nothing more.
 
 fn expect_draw(rt: &impl Abort, ids: &mut CyclicIds, drawn: Option<u32>) {
-    assert_eq!(rt; draw(rt, ids), drawn);
+    assert!(rt; draw(ids) == drawn);
 }
 
 /// Releases a number that was drawn, whose entry is itself.
 fn expect_release(rt: &impl Abort, ids: &mut CyclicIds, n: u32) {
-    assert_eq!(rt; ids.release(n), Some(n));
+    assert!(rt; ids.release(n) == Some(n));
 }
 
 fn expect_entry(rt: &impl Abort, ids: &CyclicIds, n: u32, entry: u32) {
-    assert_eq!(rt; ids.find(n).copied(), Some(entry));
+    assert!(rt; ids.find(n).copied() == Some(entry));
 }
 
 fn expect_marked(rt: &impl Abort, ids: &CyclicIds, mark: usize, next: Option<u32>)
     requires { mark < 3 }
 {
-    assert_eq!(rt; ids.next_marked(0, mark), next);
+    assert!(rt; ids.next_marked(0, mark) == next);
 }
 
 fn expect_next(rt: &impl Abort, ids: &CyclicIds, from: u32, next: Option<u32>) {
-    assert_eq!(rt; ids.next(from), next);
+    assert!(rt; ids.next(from) == next);
 }
 
 fn expect_cursor(rt: &impl Abort, ids: &CyclicIds, cursor: u32) {
-    assert_eq!(rt; ids.cursor(), cursor);
+    assert!(rt; ids.cursor() == cursor);
 }
 
-fn has_mark(ids: &CyclicIds, n: u32, mark: usize) -> bool
+fn expect_has_mark(rt: &impl Abort, ids: &CyclicIds, n: u32, mark: usize, has: bool)
     requires { mark < 3 }
 {
-    ids.has_mark(n, mark)
+    assert!(rt; ids.has_mark(n, mark) == has);
 }
 
 /// Gives the planned number with marks, again where there was no memory.
@@ -62,20 +59,21 @@ fn give_marked(ids: &mut CyclicIds, entry: u32, marks: [bool; 3]) {
     }
 }
 
-fn set_mark(ids: &mut CyclicIds, n: u32, mark: usize) -> bool
+/// Sets a mark, where there is an entry to have it.
+fn expect_set(rt: &impl Abort, ids: &mut CyclicIds, n: u32, mark: usize, is_set: bool)
     requires { mark < 3 }
 {
-    ids.set_mark(n, mark)
+    assert!(rt; ids.set_mark(n, mark) == is_set);
 }
 
-fn clear_mark(ids: &mut CyclicIds, n: u32, mark: usize) -> bool
+fn expect_cleared(rt: &impl Abort, ids: &mut CyclicIds, n: u32, mark: usize)
     requires { mark < 3 }
 {
-    ids.clear_mark(n, mark)
+    assert!(rt; ids.clear_mark(n, mark));
 }
 
 fn expect_empty(rt: &impl Abort, ids: &CyclicIds, is_empty: bool) {
-    assert_eq!(rt; ids.is_empty(), is_empty);
+    assert!(rt; ids.is_empty() == is_empty);
 }
 
 /// No number is in use, then one, then none again.
@@ -130,8 +128,8 @@ fn gives_with_marks(rt: HostRuntime) {
     give_marked(&mut ids, 9, [true, false, true]);
     expect_entry(&rt, &ids, 1, 9);
     expect_marked(&rt, &ids, TASK_MARK, Some(1));
-    assert!(rt; !has_mark(&ids, 1, GROUP_MARK));
-    assert!(rt; has_mark(&ids, 1, SESSION_MARK));
+    expect_has_mark(&rt, &ids, 1, GROUP_MARK, false);
+    expect_has_mark(&rt, &ids, 1, SESSION_MARK, true);
     expect_cursor(&rt, &ids, 2);
 }
 
@@ -142,11 +140,11 @@ fn marks_numbers(rt: HostRuntime) {
     expect_draw(&rt, &mut ids, Some(1));
     expect_draw(&rt, &mut ids, Some(2));
     expect_marked(&rt, &ids, TASK_MARK, None);
-    assert!(rt; set_mark(&mut ids, 2, GROUP_MARK));
-    assert!(rt; !set_mark(&mut ids, 3, GROUP_MARK));
+    expect_set(&rt, &mut ids, 2, GROUP_MARK, true);
+    expect_set(&rt, &mut ids, 3, GROUP_MARK, false);
     expect_marked(&rt, &ids, GROUP_MARK, Some(2));
-    assert!(rt; !has_mark(&ids, 2, SESSION_MARK));
-    assert!(rt; clear_mark(&mut ids, 2, GROUP_MARK));
+    expect_has_mark(&rt, &ids, 2, SESSION_MARK, false);
+    expect_cleared(&rt, &mut ids, 2, GROUP_MARK);
     expect_marked(&rt, &ids, GROUP_MARK, None);
 }
 
@@ -157,8 +155,8 @@ fn draws_across_blocks(rt: HostRuntime) {
     for n in 1..=130 {
         expect_draw(&rt, &mut ids, Some(n));
     }
-    assert!(rt; set_mark(&mut ids, 70, TASK_MARK));
-    assert!(rt; set_mark(&mut ids, 129, TASK_MARK));
+    expect_set(&rt, &mut ids, 70, TASK_MARK, true);
+    expect_set(&rt, &mut ids, 129, TASK_MARK, true);
     expect_marked(&rt, &ids, TASK_MARK, Some(70));
     expect_release(&rt, &mut ids, 70);
     expect_marked(&rt, &ids, TASK_MARK, Some(129));

@@ -1,21 +1,52 @@
-//! Tests of the layers below a table of tasks, over their public calls alone: arrays by index, numbers drawn in
-//! turn and on nested levels, lists, queues and ids by owner, the tree of tasks, process groups and sessions, and
-//! control groups.
+//! Tests of the crates below the record, over their public calls alone, of what no command shows: arrays by index,
+//! numbers drawn in turn, lists, queues and ids by owner, the script language, the text of a table, tables that are
+//! loaded from texts, and that the fast table and the plain one agree.
 //!
-//! They have a crate of their own, since a crate with tests is proved twice.
+//! They have a crate of their own, since a crate with tests is proved twice. It is one, since a check of tests links
+//! all that they use. What a command shows is in `stored/`.
 #![tactic(auto)]
 
 #[cfg(test)]
+mod answers;
+#[cfg(test)]
 mod arrays;
 #[cfg(test)]
-mod charges;
+mod dialogues;
 #[cfg(test)]
-mod groups;
+mod faults;
+#[cfg(test)]
+mod full;
 #[cfg(test)]
 mod ids;
 #[cfg(test)]
+mod jobs;
+#[cfg(test)]
+mod lines;
+#[cfg(test)]
+mod lists;
+#[cfg(test)]
+mod many;
+#[cfg(test)]
 mod members;
 #[cfg(test)]
-mod numbers;
+mod parts;
+#[cfg(test)]
+mod plain_openings;
+#[cfg(test)]
+mod plain_pair;
+#[cfg(test)]
+mod plain_runs;
+#[cfg(test)]
+mod plain_tally;
+#[cfg(test)]
+mod reads;
+#[cfg(test)]
+mod running;
+#[cfg(test)]
+mod scripts;
+#[cfg(test)]
+mod seeds;
+#[cfg(test)]
+mod texts;
 #[cfg(test)]
 mod tree;

@@ -39,7 +39,7 @@ fn call_twice<L: Ledger>(
     record: &mut Record<L, 2>,
     seats: &mut [Seat<L, 2>],
 ) -> (Receipt, Receipt) {
-    assert_eq!(rt; seats.len(), 2);
+    assert!(rt; seats.len() == 2);
     let first = receipt_for(rt, record, &mut seats[0], FORK);
     cut(rt, record);
     let second = receipt_for(rt, record, &mut seats[1], Call::GetPid { caller: 2 });
@@ -53,8 +53,8 @@ fn has_no_entry<L: Ledger>(kept: &Record<L, 2>) -> bool {
 
 /// What a record has after them.
 fn expect_cut<L: Ledger>(rt: &impl Abort, kept: &Record<L, 2>) {
-    assert_eq!(rt; counts_of(kept), [1, 2, 1]);
-    assert_eq!(rt; recorded_of_second(kept), 1);
+    assert!(rt; counts_of(kept) == [1, 2, 1]);
+    assert!(rt; recorded_of_second(kept) == 1);
     assert!(rt; has_no_entry(kept));
 }
 
@@ -65,7 +65,7 @@ fn expect_audit<L: Ledger>(
     works: &[Work; 2],
     found: Result<(), Audit>,
 ) {
-    assert_eq!(rt; audit(kept, works), found);
+    assert!(rt; audit(kept, works) == found);
 }
 
 /// The audits of both receipts, of the second alone, and of the first alone.

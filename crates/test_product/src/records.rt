@@ -44,7 +44,7 @@ fn act<L: Ledger, const N: usize>(
     want: &Receipt,
 ) {
     let receipt = record.act(seat, want.call).expect(rt, "no receipt");
-    assert_eq!(rt; receipt, *want);
+    assert!(rt; receipt == *want);
 }
 
 /// Makes each call by its worker's seat, and compares the receipts.
@@ -68,7 +68,7 @@ fn call<L: Ledger, R: Wait + Abort, const N: usize>(
     want: &Receipt,
 ) {
     let receipt = shared.call(rt, seat, want.call).expect(rt, "no receipt");
-    assert_eq!(rt; receipt, *want);
+    assert!(rt; receipt == *want);
 }
 
 /// Makes each call by its worker's seat, at the shared table, and compares the receipts.
@@ -143,9 +143,9 @@ fn has_entries<L: Ledger, const N: usize>(record: &Record<L, N>) -> [bool; 2] {
 
 /// What a record has when three calls were cut away and so many were recorded.
 fn assert_cut<L: Ledger>(rt: &impl Abort, record: &Record<L, 1>, total: u64) {
-    assert_eq!(rt; counts_of(record), [3, total, total]);
-    assert_eq!(rt; tasks_of(record), [Some(2), Some(0), None]);
-    assert_eq!(rt; has_entries(record), [false, total > 3]);
+    assert!(rt; counts_of(record) == [3, total, total]);
+    assert!(rt; tasks_of(record) == [Some(2), Some(0), None]);
+    assert!(rt; has_entries(record) == [false, total > 3]);
 }
 
 /// Cuts what was recorded away.
@@ -161,12 +161,9 @@ fn assert_opening<L: Ledger>(rt: &impl Abort, record: &Record<L, 1>, tasks: usiz
 
 /// The state has so many tasks, and control groups with these counts.
 fn assert_state(rt: &impl Abort, state: &Plain, tasks: usize, counts: &[u64]) {
-    assert_eq!(rt;
-        (state.rows.len(), state.controls.len()),
-        (tasks, counts.len())
-    );
+    assert!(rt; (state.rows.len(), state.controls.len()) == (tasks, counts.len()));
     for (control, count) in state.controls.iter().zip(counts) {
-        assert_eq!(rt; control.count, *count);
+        assert!(rt; control.count == *count);
     }
 }
 
@@ -233,20 +230,20 @@ fn checkpoints_under_the_lock(rt: HostRuntime) -> Result<(), Fail> {
 fn assert_shared<L: Ledger, R: Wait + Abort>(rt: &R, shared: &Shared<L, 2>) {
     let plain = shared.lock(rt).snapshot().expect(rt, "no memory");
     assert_state(rt, &plain, 3, &[3]);
-    assert_eq!(rt; shared.lock(rt).first_kept(), 0);
+    assert!(rt; shared.lock(rt).first_kept() == 0);
 }
 
 /// What the record has after them.
 fn assert_four<L: Ledger>(rt: &impl Abort, record: &Record<L, 2>) {
-    assert_eq!(rt; counts_of(record), [0, 4, 2]);
-    assert_eq!(rt; recorded_of_second(record), 2);
-    assert_eq!(rt; sizes_of(record), (3, 1));
+    assert!(rt; counts_of(record) == [0, 4, 2]);
+    assert!(rt; recorded_of_second(record) == 2);
+    assert!(rt; sizes_of(record) == (3, 1));
 }
 
 /// Each seat has made two calls.
 fn assert_calls<L: Ledger>(rt: &impl Abort, seats: &[Seat<L, 2>]) {
     for seat in seats {
-        assert_eq!(rt; seat.calls(), 2);
+        assert!(rt; seat.calls() == 2);
     }
 }
 
@@ -293,7 +290,7 @@ fn make<L: Ledger, const N: usize>(
 ) {
     record.make_call(seat, want.call).expect(rt, "no call");
     let reply = record.last_reply().expect(rt, "no reply");
-    assert_eq!(rt; *reply, want.reply);
+    assert!(rt; *reply == want.reply);
 }
 
 /// Makes each call by its worker's seat, and compares the replies that are lent.
@@ -353,7 +350,7 @@ fn act_in_room<L: Ledger>(
     act_all(rt, record, seats, &[want_child(0, 0, 2)]);
     reserve(rt, record);
     act_all(rt, record, seats, others);
-    assert_eq!(rt; counts_of(record), [0, 3, 3]);
+    assert!(rt; counts_of(record) == [0, 3, 3]);
 }
 
 /// Makes the calls at a new record.
@@ -418,8 +415,8 @@ fn spend<L: Ledger>(rt: &impl Abort, record: &mut Record<L, 1>, seats: &mut [Sea
     act_all(rt, record, seats, &[want_child(0, 0, 2)]);
     assert!(rt; has_no_stamp(record));
     let seat = seats.get_mut(0).expect(rt, "a seat");
-    assert_eq!(rt; fault_of(record, seat), Some(CallFault::Spent));
-    assert_eq!(rt; counts_of(record), [0, 1, 1]);
+    assert!(rt; fault_of(record, seat) == Some(CallFault::Spent));
+    assert!(rt; counts_of(record) == [0, 1, 1]);
 }
 
 fn spent_record<L: Ledger>(rt: &impl Abort, alloc: Global, blank: Blank) -> Result<(), Fail>
@@ -447,10 +444,6 @@ fn refuses_bad_settings(rt: HostRuntime) {
         (4_194_305, 1, Some(ConfigFault::BadPidMax)),
     ];
     for (pid_max, first_stamp, fault) in settings {
-        assert_eq!(rt;
-            Config::new(pid_max, first_stamp).err(),
-            fault,
-            "{pid_max}, {first_stamp}"
-        );
+        assert!(rt; Config::new(pid_max, first_stamp).err() == fault);
     }
 }

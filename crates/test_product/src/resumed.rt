@@ -45,12 +45,12 @@ fn assert_resumed<L: Ledger>(
     counts: &[u64; 2],
 ) {
     let all = counts[0].saturating_add(counts[1]);
-    assert_eq!(rt; counts_of(record), [all, all, counts[0]]);
-    assert_eq!(rt; begun_with(record), (Some(7), 32768));
-    assert_eq!(rt; sizes_of(record), (2, 1));
+    assert!(rt; counts_of(record) == [all, all, counts[0]]);
+    assert!(rt; begun_with(record) == (Some(7), 32768));
+    assert!(rt; sizes_of(record) == (2, 1));
     assert!(rt; goes_on(record));
     for (seat, count) in seats.iter().zip(counts) {
-        assert_eq!(rt; seat.calls(), *count);
+        assert!(rt; seat.calls() == *count);
     }
 }
 
@@ -113,8 +113,8 @@ fn go_on_under_lock<L: Ledger, R: Wait + Abort>(
     call_all(rt, &shared, &mut seats, &behind(6));
     assert!(rt; are_in_order(seats.as_slice()));
     let record = shared.close(seats);
-    assert_eq!(rt; counts_of(&record), [6, 9, 5]);
-    assert_eq!(rt; recorded_of_second(&record), 4);
+    assert!(rt; counts_of(&record) == [6, 9, 5]);
+    assert!(rt; recorded_of_second(&record) == 4);
     Ok(())
 }
 
@@ -133,7 +133,7 @@ fn refuses_counts_without_a_stamp(rt: HostRuntime) {
         ([u64::MAX, u64::MAX], false),
     ];
     for (count, can) in counts {
-        assert_eq!(rt; Kept::can_resume(7, &count), can);
+        assert!(rt; Kept::can_resume(7, &count) == can);
     }
     assert!(rt; !Kept::can_resume(0, &[]));
     assert!(rt; Kept::can_resume(1, &[]));

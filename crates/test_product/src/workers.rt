@@ -49,7 +49,7 @@ fn run_two<L: Ledger + Send + Sync, G: Gate + Sync, R: Threads + Wait + Clock + 
     requires parts { blank.parts ≡ L.parts }
     requires two { blank.parts ≡ 2 }
 {
-    assert_eq!(rt; jobs.len(), 2);
+    assert!(rt; jobs.len() == 2);
     let finished = run_workers::<L, G, R, 2>(rt, alloc, blank, config, jobs, gate);
     look_at(rt, alloc, finished.expect(rt, "no run"))
 }
@@ -67,7 +67,7 @@ fn run_sixteen<L: Ledger + Send + Sync, G: Gate + Sync, R: Threads + Wait + Cloc
     requires parts { blank.parts ≡ L.parts }
     requires sixteen { blank.parts ≡ 16 }
 {
-    assert_eq!(rt; jobs.len(), 16);
+    assert!(rt; jobs.len() == 16);
     let finished = run_workers::<L, G, R, 16>(rt, alloc, blank, config, jobs, gate);
     look_at(rt, alloc, finished.expect(rt, "no run"))
 }
@@ -94,7 +94,7 @@ fn is_audited<L: Ledger, const N: usize>(
     kept: &Record<L, N>,
     works: &[Work],
 ) -> bool {
-    assert_eq!(rt; works.len(), N);
+    assert!(rt; works.len() == N);
     audit(kept, works).is_ok()
 }
 
@@ -193,15 +193,15 @@ fn crossed_jobs(rt: &impl Abort, alloc: Global) -> [Vec<Call>; 2] {
 }
 
 fn assert_forked(rt: &impl Abort, work: &Work, ordinal: u64, child: u32) {
-    assert_eq!(rt; work.refused, 0);
-    assert_eq!(rt; work.receipts.len(), 2);
-    assert_eq!(rt; work.receipts[0].ordinal, ordinal);
+    assert!(rt; work.refused == 0);
+    assert!(rt; work.receipts.len() == 2);
+    assert!(rt; work.receipts[0].ordinal == ordinal);
     assert_reply(rt, &work.receipts[0], Reply::Forked { child, root: child });
     assert_reply(rt, &work.receipts[1], Reply::Number(1));
 }
 
 fn assert_reply(rt: &impl Abort, receipt: &Receipt, reply: Reply) {
-    assert_eq!(rt; receipt.reply, reply);
+    assert!(rt; receipt.reply == reply);
 }
 
 #[test]
@@ -221,17 +221,17 @@ fn assert_met(rt: &impl Abort, gave_up: &AtomicBool) {
 
 /// Asserts that worker 1 went first.
 fn assert_took_turns(rt: &impl Abort, ran: &Ran) {
-    assert_eq!(rt; ran.works.len(), 2);
+    assert!(rt; ran.works.len() == 2);
     assert_forked(rt, &ran.works[1], 0, 2);
     assert_forked(rt, &ran.works[0], 1, 3);
     assert_recorded(rt, ran, &[2, 2]);
-    assert_eq!(rt; ran.total, 4);
+    assert!(rt; ran.total == 4);
     assert!(rt; ran.audited);
 }
 
 /// Asserts how many calls of each worker were recorded.
 fn assert_recorded(rt: &impl Abort, ran: &Ran, counts: &[u64]) {
-    assert_eq!(rt; ran.recorded.as_slice(), counts);
+    assert!(rt; ran.recorded.as_slice() == counts);
 }
 
 /// Holds each first call until as many are there as there are workers.
@@ -281,7 +281,7 @@ fn forked(rt: &impl Abort, alloc: Global, works: &[Work]) -> Vec<u32> {
 /// Asserts that the numbers rise one by one from 2 on.
 fn assert_all_from_2(rt: &impl Abort, roots: &[u32]) {
     for (place, root) in roots.iter().enumerate() {
-        assert_eq!(rt; *root as usize, place + 2);
+        assert!(rt; *root as usize == place + 2);
     }
 }
 
@@ -307,7 +307,7 @@ fn count_replies(works: &[Work], reply: &Reply) -> usize {
 
 /// Asserts that so many receipts have the reply.
 fn assert_replies(rt: &impl Abort, works: &[Work], reply: &Reply, count: usize) {
-    assert_eq!(rt; count_replies(works, reply), count);
+    assert!(rt; count_replies(works, reply) == count);
 }
 
 /// Adds a job of so many forks.
@@ -341,14 +341,14 @@ fn sixteen_share_the_numbers(rt: HostRuntime) -> Result<(), Fail> {
 
 /// Asserts that each of the 299 numbers was given once, and that the other forks were refused.
 fn assert_numbers_are_given(rt: &impl Abort, alloc: Global, ran: &Ran) {
-    assert_eq!(rt; ran.total, 320);
+    assert!(rt; ran.total == 320);
     assert_recorded(rt, ran, &[20; 16]);
     let roots = forked(rt, alloc, ran.works.as_slice());
-    assert_eq!(rt; roots.len(), 299);
+    assert!(rt; roots.len() == 299);
     assert_all_from_2(rt, roots.as_slice());
     let full = Reply::Refused(Refusal::NoNumber(0));
     assert_replies(rt, ran.works.as_slice(), &full, 21);
-    assert_eq!(rt; ran.plain.rows.len(), 300);
+    assert!(rt; ran.plain.rows.len() == 300);
 }
 
 /// Holds the first call of each worker but the first until that one's third call is answered.
@@ -405,12 +405,12 @@ fn sixteen_share_a_limit(rt: HostRuntime) {
 
 /// Asserts that eight forks were made, and the other eight refused.
 fn assert_limit_is_reached(rt: &impl Abort, alloc: Global, ran: &Ran) {
-    assert_eq!(rt; ran.total, 19);
-    assert_eq!(rt; forked(rt, alloc, ran.works.as_slice()).len(), 8);
+    assert!(rt; ran.total == 19);
+    assert!(rt; forked(rt, alloc, ran.works.as_slice()).len() == 8);
     let limited = Reply::Refused(Refusal::PidsLimit(1));
     assert_replies(rt, ran.works.as_slice(), &limited, 8);
-    assert_eq!(rt; ran.plain.controls.len(), 2);
-    assert_eq!(rt; ran.plain.controls[1].count, 9);
+    assert!(rt; ran.plain.controls.len() == 2);
+    assert!(rt; ran.plain.controls[1].count == 9);
 }
 
 /// A desk that answers each call by its place, and the second one with want of memory. It keeps what
@@ -475,14 +475,14 @@ fn keeps_answers_in_order(rt: HostRuntime) -> Result<(), Fail> {
 
 /// Asserts that the first and the third call were answered, in this order.
 fn assert_in_order(rt: &impl Abort, desk: &CountingDesk, done: &Work) {
-    assert_eq!(rt; desk.calls, 3);
-    assert_eq!(rt; done.refused, 1);
+    assert!(rt; desk.calls == 3);
+    assert!(rt; done.refused == 1);
     assert_same(rt, done.receipts.as_slice(), desk.answers.as_slice());
-    assert_eq!(rt; done.receipts.len(), 2);
-    assert_eq!(rt; done.receipts[0].call, FORK);
-    assert_eq!(rt; done.receipts[1].call, Call::Exec { caller: 2 });
+    assert!(rt; done.receipts.len() == 2);
+    assert!(rt; done.receipts[0].call == FORK);
+    assert!(rt; done.receipts[1].call == Call::Exec { caller: 2 });
 }
 
 fn assert_same(rt: &impl Abort, receipts: &[Receipt], answers: &[Receipt]) {
-    assert_eq!(rt; receipts, answers);
+    assert!(rt; receipts == answers);
 }

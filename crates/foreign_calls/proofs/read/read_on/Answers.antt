@@ -1,6 +1,6 @@
 use Rattle.std.proofs.Common.{◌≡◌, ◌≢◌, ◌+◌, ◌<◌, ℕ, length, Option, inl, inr, slice_get, slice_set, sym, ◌∙◌, subst, arith}
 use Rattle.std.proofs.lemmas.Bool.{cases_eq}
-use Rattle.foreign_calls.specs.declared.read.EntryNumbers.{EntryNumbers}
+use Rattle.saved_form.specs.declared.numbers.EntryNumbers.{EntryNumbers}
 use Rattle.foreign_calls.specs.Entries.{TellsEntry}
 use Rattle.foreign_calls.proofs.EntryRoom.{written, beside}
 use Rattle.foreign_calls.proofs.read.read_on.Goals.{then-left-room, else-left-room}

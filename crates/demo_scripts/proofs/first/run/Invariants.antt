@@ -1,5 +1,0 @@
-use Rattle.demo_scripts.proofs.first.run.Given as goal
-
--- the table's one ledger is the one that the blank names
-abbrev pub ghosts-play : goal.ghosts-play
-ghosts-play a = record { name = a.blank.name; parts = a.blank.parts }

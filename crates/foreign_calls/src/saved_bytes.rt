@@ -1,0 +1,153 @@
+//! A saved history as bytes, in the room that is given for them.
+ghost use Rattle.std.specs.Prelude.{◌≡◌, ◌≢◌, ◌<◌, ◌≤◌, ◌↔◌, ◌⊎◌, ◌++◌, ℕ, [], ◌∷◌, IsTrue, length, drop};
+ghost use Rattle.saved_form.specs.Form.{head_block, head_bytes, entry_blocks, entry_bytes, entry_size, sum_behind};
+ghost use Rattle.saved_form.specs.Places.{HeadFits, HasPlaces, FitsTypes};
+ghost use Rattle.saved_form.specs.Taking.{MayBegin, IsOtherVersion, BeginsHead, BeginsEntry};
+ghost use Rattle.saved_form.specs.Taking.{IsTorn, IsWrongAt, IsTaken};
+ghost use Rattle.saved_form.specs.declared.numbers.Head.{Head};
+ghost use Rattle.saved_form.specs.declared.numbers.EntryNumbers.{EntryNumbers};
+ghost use Rattle.foreign_calls.specs.Records.{CanOpen};
+ghost use Rattle.foreign_calls.specs.SavedBytes.{CanOpenBy};
+
+use crate::record::MOST_WORKERS;
+use crate::status::{DONE, NO_ROOM, NOT_SAVED, OTHER_VERSION, OUT_OF_RANGE, TORN, WRONG_BYTE};
+use pid_types::config::Config;
+use saved_form::BLOCK;
+use saved_form::entry::{has_places, put_entry, size_of};
+use saved_form::head::{HeadFault, put_head, take_head};
+use saved_form::numbers::{EntryNumbers, Head};
+use saved_form::take::{EntryFault, take_entry};
+
+/// Whether a record can be opened with the settings.
+fn can_open(head: &Head) -> bool
+    ensures { IsTrue result ↔ CanOpenBy head.now }
+{
+    if head.workers == 0 || head.workers > MOST_WORKERS {
+        return false;
+    }
+    Config::new(head.pid_max, head.first_stamp).is_ok()
+}
+
+/// Writes the head at the front of the room. The result is the status.
+pub fn write_head(head: &Head, room: &mut [u8], size: &mut usize, sum: &mut u64) -> u32
+    ensures done { result ≡ DONE → room.new ≡ head_bytes head.now ++ drop 48 room.old }
+    ensures sum { result ≡ DONE → sum.new ≡ sum_behind 0 (head_block head.now ∷ []) }
+    ensures not_done { result ≢ DONE → (room.new ≡ room.old) × (sum.new ≡ sum.old) }
+    ensures size { result ≢ OUT_OF_RANGE → size.new ≡ 48 }
+    ensures same_size { result ≡ OUT_OF_RANGE → size.new ≡ size.old }
+    ensures out_of_range { (result ≡ OUT_OF_RANGE) ↔ (CanOpenBy head.now → ⊥) }
+    ensures no_room { (result ≡ NO_ROOM) ↔ CanOpenBy head.now × (length room.old < 48) }
+    ensures statuses { (result ≡ DONE) ⊎ ((result ≡ OUT_OF_RANGE) ⊎ (result ≡ NO_ROOM)) }
+{
+    if !can_open(head) {
+        return OUT_OF_RANGE;
+    }
+    *size = BLOCK;
+    if room.len() < BLOCK {
+        return NO_ROOM;
+    }
+    *sum = put_head(head, room);
+    DONE
+}
+
+/// Writes the entry at the front of the room, behind blocks with the checksum. The result is the status.
+pub fn write_entry(entry: &EntryNumbers, room: &mut [u8], size: &mut usize, sum: &mut u64) -> u32
+    ensures done { result ≡ DONE
+        → room.new ≡ entry_bytes sum.old entry.now ++ drop (entry_size entry.now) room.old }
+    ensures sum { result ≡ DONE → sum.new ≡ sum_behind sum.old (entry_blocks entry.now) }
+    ensures not_done { result ≢ DONE → (room.new ≡ room.old) × (sum.new ≡ sum.old) }
+    ensures size { result ≢ OUT_OF_RANGE → size.new ≡ entry_size entry.now }
+    ensures same_size { result ≡ OUT_OF_RANGE → size.new ≡ size.old }
+    ensures out_of_range { (result ≡ OUT_OF_RANGE) ↔ (HasPlaces entry.now → ⊥) }
+    ensures no_room { (result ≡ NO_ROOM) ↔ HasPlaces entry.now × (length room.old < entry_size entry.now) }
+    ensures statuses { (result ≡ DONE) ⊎ ((result ≡ OUT_OF_RANGE) ⊎ (result ≡ NO_ROOM)) }
+{
+    if !has_places(entry) {
+        return OUT_OF_RANGE;
+    }
+    *size = size_of(entry);
+    if room.len() < *size {
+        return NO_ROOM;
+    }
+    *sum = put_entry(entry, room, *sum);
+    DONE
+}
+
+/// The status of a head that is not taken.
+fn head_status(fault: HeadFault) -> u32
+    ensures not_saved { (result ≡ NOT_SAVED) ↔ (fault ≡ HeadFault.NotSaved) }
+    ensures torn { (result ≡ TORN) ↔ (fault ≡ HeadFault.Torn) }
+    ensures other_version { (result ≡ OTHER_VERSION) ↔ (fault ≡ HeadFault.OtherVersion) }
+    ensures wrong_byte { (result ≡ WRONG_BYTE) ↔ (fault ≡ HeadFault.WrongByte) }
+{
+    match fault {
+        HeadFault::NotSaved => NOT_SAVED,
+        HeadFault::Torn => TORN,
+        HeadFault::OtherVersion => OTHER_VERSION,
+        HeadFault::WrongByte => WRONG_BYTE,
+    }
+}
+
+/// Reads the head from the front of the bytes. The result is the status.
+pub fn read_head(bytes: &[u8], head: &mut Head, size: &mut usize, sum: &mut u64) -> u32
+    ensures done { result ≡ DONE → BeginsHead head.new bytes.now × CanOpenBy head.new }
+    ensures sum { result ≡ DONE → sum.new ≡ sum_behind 0 (head_block head.new ∷ []) }
+    ensures read_back { (h : Head) → HeadFits h → BeginsHead h bytes.now → CanOpenBy h
+        → (result ≡ DONE) × (head.new ≡ h) }
+    ensures not_done { result ≢ DONE → (head.new ≡ head.old) × (sum.new ≡ sum.old) }
+    ensures size { result ≢ NOT_SAVED → size.new ≡ 48 }
+    ensures same_size { result ≡ NOT_SAVED → size.new ≡ size.old }
+    ensures not_saved { (result ≡ NOT_SAVED) ↔ (MayBegin bytes.now → ⊥) }
+    ensures torn { (result ≡ TORN) ↔ MayBegin bytes.now × (length bytes.now < 48) }
+    ensures other_version { (result ≡ OTHER_VERSION) ↔ IsOtherVersion bytes.now }
+    ensures out_of_range { result ≡ OUT_OF_RANGE → (h : Head) × BeginsHead h bytes.now × (CanOpenBy h → ⊥) }
+    ensures wrong_byte { (h : Head) → HeadFits h → BeginsHead h bytes.now → result ≢ WRONG_BYTE }
+    ensures statuses { (result ≡ DONE) ⊎ ((result ≡ NOT_SAVED) ⊎ ((result ≡ TORN) ⊎ ((result ≡ OTHER_VERSION)
+        ⊎ ((result ≡ WRONG_BYTE) ⊎ (result ≡ OUT_OF_RANGE))))) }
+{
+    let taken = match take_head(bytes) {
+        Ok(taken) => taken,
+        Err(HeadFault::NotSaved) => return NOT_SAVED,
+        Err(fault) => {
+            *size = BLOCK;
+            return head_status(fault);
+        }
+    };
+    *size = BLOCK;
+    if !can_open(&taken.head) {
+        return OUT_OF_RANGE;
+    }
+    *head = taken.head;
+    *sum = taken.sum;
+    DONE
+}
+
+/// Reads an entry from the front of the bytes, behind blocks with the checksum. The result is the status.
+pub fn read_entry(bytes: &[u8], entry: &mut EntryNumbers, size: &mut usize, sum: &mut u64) -> u32
+    ensures done { result ≡ DONE
+        → IsTaken sum.old bytes.now (record { entry = entry.new; size = size.new; sum = sum.new }) }
+    ensures read_back { (e : EntryNumbers) → HasPlaces e → FitsTypes e → BeginsEntry sum.old e bytes.now
+        → (result ≡ DONE) × (entry.new ≡ e) }
+    ensures not_done { result ≢ DONE → (entry.new ≡ entry.old) × (sum.new ≡ sum.old) }
+    ensures torn { result ≡ TORN → IsTorn sum.old bytes.now size.new }
+    ensures is_torn { (wanted : ℕ) → IsTorn sum.old bytes.now wanted → (result ≡ TORN) × (size.new ≡ wanted) }
+    ensures wrong_byte { result ≡ WRONG_BYTE → IsWrongAt sum.old bytes.now size.new }
+    ensures statuses { (result ≡ DONE) ⊎ ((result ≡ TORN) ⊎ (result ≡ WRONG_BYTE)) }
+{
+    match take_entry(bytes, *sum) {
+        Ok(taken) => {
+            *entry = taken.entry;
+            *size = taken.size;
+            *sum = taken.sum;
+            DONE
+        }
+        Err(EntryFault::Torn { wanted }) => {
+            *size = wanted;
+            TORN
+        }
+        Err(EntryFault::WrongByte { place }) => {
+            *size = place;
+            WRONG_BYTE
+        }
+    }
+}

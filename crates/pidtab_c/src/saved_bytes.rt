@@ -1,0 +1,131 @@
+//! A saved history as bytes in memory, for C: the head, and the entries behind it. docs/SAVED.md has the form.
+//!
+//! `sum` is the running checksum: the head's functions begin it, and each entry's goes on with it. No function changes
+//! anything unless it is `DONE`, but `size`. None of them needs a table or memory.
+ghost use Rattle.std.specs.Prelude.{◌≡◌, ◌≢◌, ◌<◌, ◌↔◌, ◌⊎◌, ◌++◌, ℕ, List, [], ◌∷◌, length, drop};
+ghost use Rattle.saved_form.specs.Crc.{crc64};
+ghost use Rattle.saved_form.specs.Form.{head_block, head_bytes, entry_blocks, entry_bytes, entry_size, sum_behind};
+ghost use Rattle.saved_form.specs.Places.{HeadFits, HasPlaces, FitsTypes};
+ghost use Rattle.saved_form.specs.Taking.{MayBegin, IsOtherVersion, BeginsHead, BeginsEntry};
+ghost use Rattle.saved_form.specs.Taking.{IsTorn, IsWrongAt, IsTaken};
+ghost use Rattle.saved_form.specs.declared.numbers.Head.{Head};
+ghost use Rattle.saved_form.specs.declared.numbers.EntryNumbers.{EntryNumbers};
+ghost use Rattle.foreign_calls.specs.SavedBytes.{CanOpenBy};
+
+use foreign_calls::saved_bytes::{read_entry, read_head, write_entry, write_head};
+use foreign_calls::status::{
+    DONE, NO_ROOM, NOT_SAVED, OTHER_VERSION, OUT_OF_RANGE, TORN, WRONG_BYTE,
+};
+use saved_form::crc::sum_of;
+use saved_form::numbers::{EntryNumbers, Head};
+
+/// The CRC-64/XZ of bytes behind those whose CRC is `sum`, which is 0 for none.
+#[unsafe(no_mangle)]
+pub extern "C" fn pidtab_saved_sum(sum: u64, bytes: &[u8]) -> u64
+    ensures value { result ≡ crc64 sum bytes.now }
+    ensures goes_on { (more : List ℕ) → crc64 result more ≡ crc64 sum (bytes.now ++ more) }
+{
+    sum_of(sum, bytes)
+}
+
+/// Writes the head at the front of the room; `size` is its length, 48 bytes.
+///
+/// `OUT_OF_RANGE` for settings that no record is opened with; then `NO_ROOM` where the room is shorter, and then too
+/// `size` is the head's length.
+#[unsafe(no_mangle)]
+pub extern "C" fn pidtab_saved_put_head(
+    head: &Head,
+    room: &mut [u8],
+    size: &mut usize,
+    sum: &mut u64,
+) -> u32
+    ensures done { result ≡ DONE → room.new ≡ head_bytes head.now ++ drop 48 room.old }
+    ensures sum { result ≡ DONE → sum.new ≡ sum_behind 0 (head_block head.now ∷ []) }
+    ensures not_done { result ≢ DONE → (room.new ≡ room.old) × (sum.new ≡ sum.old) }
+    ensures size { result ≢ OUT_OF_RANGE → size.new ≡ 48 }
+    ensures same_size { result ≡ OUT_OF_RANGE → size.new ≡ size.old }
+    ensures out_of_range { (result ≡ OUT_OF_RANGE) ↔ (CanOpenBy head.now → ⊥) }
+    ensures no_room { (result ≡ NO_ROOM) ↔ CanOpenBy head.now × (length room.old < 48) }
+    ensures statuses { (result ≡ DONE) ⊎ ((result ≡ OUT_OF_RANGE) ⊎ (result ≡ NO_ROOM)) }
+{
+    write_head(head, room, size, sum)
+}
+
+/// Writes the entry at the front of the room; `size` is its length, at most 192 bytes. Each kept entry of a record can
+/// be written. An operation, a kind, an error or a refusal that is not known here is written as its number.
+///
+/// `OUT_OF_RANGE` where a number has no place in the form; then `NO_ROOM` where the room is shorter than the entry, and
+/// then too `size` is the entry's length.
+#[unsafe(no_mangle)]
+pub extern "C" fn pidtab_saved_put(
+    entry: &EntryNumbers,
+    room: &mut [u8],
+    size: &mut usize,
+    sum: &mut u64,
+) -> u32
+    ensures done { result ≡ DONE
+        → room.new ≡ entry_bytes sum.old entry.now ++ drop (entry_size entry.now) room.old }
+    ensures sum { result ≡ DONE → sum.new ≡ sum_behind sum.old (entry_blocks entry.now) }
+    ensures not_done { result ≢ DONE → (room.new ≡ room.old) × (sum.new ≡ sum.old) }
+    ensures size { result ≢ OUT_OF_RANGE → size.new ≡ entry_size entry.now }
+    ensures same_size { result ≡ OUT_OF_RANGE → size.new ≡ size.old }
+    ensures out_of_range { (result ≡ OUT_OF_RANGE) ↔ (HasPlaces entry.now → ⊥) }
+    ensures no_room { (result ≡ NO_ROOM) ↔ HasPlaces entry.now × (length room.old < entry_size entry.now) }
+    ensures statuses { (result ≡ DONE) ⊎ ((result ≡ OUT_OF_RANGE) ⊎ (result ≡ NO_ROOM)) }
+{
+    write_entry(entry, room, size, sum)
+}
+
+/// Reads the head from the front of the bytes; `size` is its length. Any bytes may be given.
+///
+/// `NOT_SAVED` where the first bytes are not those of a saved history; then `TORN` where there are fewer than 48; then
+/// `OTHER_VERSION`; then `WRONG_BYTE`; then `OUT_OF_RANGE` for settings that no record is opened with.
+#[unsafe(no_mangle)]
+pub extern "C" fn pidtab_saved_take_head(
+    bytes: &[u8],
+    head: &mut Head,
+    size: &mut usize,
+    sum: &mut u64,
+) -> u32
+    ensures done { result ≡ DONE → BeginsHead head.new bytes.now × CanOpenBy head.new }
+    ensures sum { result ≡ DONE → sum.new ≡ sum_behind 0 (head_block head.new ∷ []) }
+    ensures read_back { (h : Head) → HeadFits h → BeginsHead h bytes.now → CanOpenBy h
+        → (result ≡ DONE) × (head.new ≡ h) }
+    ensures not_done { result ≢ DONE → (head.new ≡ head.old) × (sum.new ≡ sum.old) }
+    ensures size { result ≢ NOT_SAVED → size.new ≡ 48 }
+    ensures same_size { result ≡ NOT_SAVED → size.new ≡ size.old }
+    ensures not_saved { (result ≡ NOT_SAVED) ↔ (MayBegin bytes.now → ⊥) }
+    ensures torn { (result ≡ TORN) ↔ MayBegin bytes.now × (length bytes.now < 48) }
+    ensures other_version { (result ≡ OTHER_VERSION) ↔ IsOtherVersion bytes.now }
+    ensures out_of_range { result ≡ OUT_OF_RANGE → (h : Head) × BeginsHead h bytes.now × (CanOpenBy h → ⊥) }
+    ensures wrong_byte { (h : Head) → HeadFits h → BeginsHead h bytes.now → result ≢ WRONG_BYTE }
+    ensures statuses { (result ≡ DONE) ⊎ ((result ≡ NOT_SAVED) ⊎ ((result ≡ TORN) ⊎ ((result ≡ OTHER_VERSION)
+        ⊎ ((result ≡ WRONG_BYTE) ⊎ (result ≡ OUT_OF_RANGE))))) }
+{
+    read_head(bytes, head, size, sum)
+}
+
+/// Reads an entry from the front of the bytes; `size` is its length. Any bytes may be given, and nothing is said of the
+/// call and the reply: they may be those of no record.
+///
+/// `TORN` where the bytes end within it: `size` is then how many it has, at least. `WRONG_BYTE`: `size` is then the
+/// place of the first block that is not as it was written.
+#[unsafe(no_mangle)]
+pub extern "C" fn pidtab_saved_take(
+    bytes: &[u8],
+    entry: &mut EntryNumbers,
+    size: &mut usize,
+    sum: &mut u64,
+) -> u32
+    ensures done { result ≡ DONE
+        → IsTaken sum.old bytes.now (record { entry = entry.new; size = size.new; sum = sum.new }) }
+    ensures read_back { (e : EntryNumbers) → HasPlaces e → FitsTypes e → BeginsEntry sum.old e bytes.now
+        → (result ≡ DONE) × (entry.new ≡ e) }
+    ensures not_done { result ≢ DONE → (entry.new ≡ entry.old) × (sum.new ≡ sum.old) }
+    ensures torn { result ≡ TORN → IsTorn sum.old bytes.now size.new }
+    ensures is_torn { (wanted : ℕ) → IsTorn sum.old bytes.now wanted → (result ≡ TORN) × (size.new ≡ wanted) }
+    ensures wrong_byte { result ≡ WRONG_BYTE → IsWrongAt sum.old bytes.now size.new }
+    ensures statuses { (result ≡ DONE) ⊎ ((result ≡ TORN) ⊎ (result ≡ WRONG_BYTE)) }
+{
+    read_entry(bytes, entry, size, sum)
+}

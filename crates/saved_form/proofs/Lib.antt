@@ -1,0 +1,17 @@
+pub mod Agree
+pub mod Blocks
+pub mod Bytes
+pub mod Division
+pub mod Eights
+pub mod Fronts
+pub mod Heads
+pub mod Laid
+pub mod Levels
+pub mod LevelsBack
+pub mod Put
+pub mod Said
+pub mod Sealed
+pub mod Right
+pub mod Tests
+pub mod Words
+pub mod Whole

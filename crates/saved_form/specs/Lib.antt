@@ -1,0 +1,5 @@
+pub mod Crc
+pub mod Form
+pub mod Places
+pub mod Taking
+pub mod Reading

@@ -1,0 +1,234 @@
+//! Generated calls on two tables, the fast one and the plain one: each reply, the snapshots now and then, and the
+//! tables that are left are compared.
+//!
+//! The calls, 50,000 in five tests, are always the same. A difference is told with the run's seed, the call's place in
+//! it and both replies. It is a fault too if a refusal that the runs are about was never met, or hardly anything
+//! changed. Together they meet each refusal.
+
+use crate::plain_openings::{ask_below_deepest, build_controls, build_spaces};
+use crate::plain_pair::Pair;
+use crate::plain_tally::Tally;
+use anyhow::{Result, bail};
+use pid_types::config::Config;
+use pid_types::reply::Refusal;
+use random_calls::draft::Theme;
+use random_calls::generator::{Aims, Generator};
+use std::alloc::Global;
+use std::process::Abort;
+
+/// How many calls a run has.
+const CALLS: u32 = 5000;
+
+/// After so many calls the snapshots are compared, and the generator is shown one.
+const BETWEEN_PICTURES: u32 = 12;
+
+/// What a run begins with.
+#[derive(Clone, Copy)]
+enum Opening {
+    /// The root init alone.
+    Root,
+    /// A chain of namespaces to the deepest level, each with its init alone.
+    Spaces,
+    /// A chain of control groups to the deepest level.
+    Controls,
+}
+
+/// A run's settings.
+#[derive(Clone, Copy)]
+struct Setting {
+    seed: u64,
+    pid_max: u32,
+    opening: Opening,
+    aims: Aims,
+}
+
+/// A run that begins with the root init alone.
+fn from_root(seed: u64, theme: Theme, pid_max: u32, most_tasks: usize) -> Setting {
+    Setting {
+        seed,
+        pid_max,
+        opening: Opening::Root,
+        aims: Aims {
+            theme,
+            most_tasks,
+            kept_tasks: 0,
+            kept_controls: 0,
+        },
+    }
+}
+
+/// Makes both runs, which are to meet these refusals.
+fn run_two(alloc: Global, settings: &[Setting; 2], wanted: &[Refusal]) -> Result<()> {
+    let mut tally = Tally::new();
+    for setting in settings {
+        run(alloc, setting, &mut tally)?;
+    }
+    tally.check(wanted)
+}
+
+fn expect_same(rt: &(impl AllocGlobal + Abort), settings: &[Setting; 2], wanted: &[Refusal]) {
+    if let Err(fault) = run_two(rt.alloc(), settings, wanted) {
+        assert!(rt; false, "{fault}");
+    }
+}
+
+#[test]
+fn tables_agree_on_all_calls(rt: HostRuntime) {
+    let settings = [
+        from_root(1, Theme::Mixed, 32_768, 120),
+        from_root(2, Theme::Falls, 32_768, 150),
+    ];
+    let wanted = [
+        Refusal::NoCaller,
+        Refusal::NoTask,
+        Refusal::NoChild,
+        Refusal::SpaceFallen,
+        Refusal::Elsewhere,
+        Refusal::RootInit,
+    ];
+    expect_same(&rt, &settings, &wanted);
+}
+
+#[test]
+fn tables_agree_on_numbers(rt: HostRuntime) {
+    let settings = [
+        from_root(4, Theme::Numbers, 301, 100),
+        from_root(5, Theme::Numbers, 310, 60),
+    ];
+    expect_same(&rt, &settings, &[Refusal::NoNumber(0)]);
+}
+
+#[test]
+fn tables_agree_on_groups(rt: HostRuntime) {
+    let settings = [
+        from_root(7, Theme::Groups, 330, 60),
+        from_root(8, Theme::Groups, 32_768, 120),
+    ];
+    let wanted = [
+        Refusal::BadGroup,
+        Refusal::OtherSession,
+        Refusal::IsLeader,
+        Refusal::NoGroup,
+        Refusal::Executed,
+    ];
+    expect_same(&rt, &settings, &wanted);
+}
+
+#[test]
+fn tables_agree_on_controls(rt: HostRuntime) {
+    let settings = [from_root(6, Theme::Controls, 32_768, 100), deep_controls()];
+    let wanted = [
+        Refusal::PidsLimit(0),
+        Refusal::NoControl,
+        Refusal::ControlBusy,
+        Refusal::RootControl,
+        Refusal::BadLimit,
+        Refusal::ControlDepth,
+    ];
+    expect_same(&rt, &settings, &wanted);
+}
+
+#[test]
+fn tables_agree_on_levels(rt: HostRuntime) {
+    let settings = [from_root(3, Theme::Falls, 4_194_304, 300), deep_spaces()];
+    expect_same(&rt, &settings, &[Refusal::TooDeep]);
+}
+
+/// Namespaces at the deepest level, of which the last ones fall and are made again.
+fn deep_spaces() -> Setting {
+    Setting {
+        seed: 9,
+        pid_max: 350,
+        opening: Opening::Spaces,
+        aims: Aims {
+            theme: Theme::Falls,
+            most_tasks: 120,
+            kept_tasks: 32,
+            kept_controls: 0,
+        },
+    }
+}
+
+/// Control groups at the deepest level.
+fn deep_controls() -> Setting {
+    Setting {
+        seed: 10,
+        pid_max: 32_768,
+        opening: Opening::Controls,
+        aims: Aims {
+            theme: Theme::Controls,
+            most_tasks: 100,
+            kept_tasks: 0,
+            kept_controls: 60,
+        },
+    }
+}
+
+/// Makes one run on tables of its own.
+fn run(alloc: Global, setting: &Setting, tally: &mut Tally) -> Result<()> {
+    let config = Config::new(setting.pid_max, 1)?;
+    let mut pair = Pair::new(alloc, &config)?;
+    act(&mut pair, setting, tally)
+}
+
+/// Makes one run on new tables.
+fn act(pair: &mut Pair, setting: &Setting, tally: &mut Tally) -> Result<()> {
+    open(pair, setting.opening, tally)?;
+    play(pair, setting, tally)
+}
+
+/// Makes what a run begins with.
+fn open(pair: &mut Pair, opening: Opening, tally: &mut Tally) -> Result<()> {
+    match opening {
+        Opening::Root => Ok(()),
+        Opening::Spaces => {
+            build_spaces(pair)?;
+            // Random callers seldom stand at the deepest level when they ask for one more.
+            ask_below_deepest(pair)?;
+            tally.meet(Refusal::TooDeep);
+            Ok(())
+        }
+        Opening::Controls => build_controls(pair),
+    }
+}
+
+/// Makes the calls of a run, and compares what they leave.
+fn play(pair: &mut Pair, setting: &Setting, tally: &mut Tally) -> Result<()> {
+    let mut generator = Generator::new(setting.seed, setting.aims, pair.snapshot()?);
+    for ordinal in 0..CALLS {
+        if ordinal % BETWEEN_PICTURES == 0 {
+            look(&mut generator, pair, setting.seed, ordinal)?;
+        }
+        make(&mut generator, pair, tally, setting.seed, ordinal)?;
+    }
+    look(&mut generator, pair, setting.seed, CALLS)
+}
+
+/// Shows the generator the table that both have. The error is that they have two.
+fn look(generator: &mut Generator, pair: &Pair, seed: u64, ordinal: u32) -> Result<()> {
+    match pair.snapshot() {
+        Ok(picture) => {
+            generator.look(picture);
+            Ok(())
+        }
+        Err(fault) => bail!("seed {seed}, before call {ordinal}: {fault}"),
+    }
+}
+
+/// Makes the next call. The error is that the tables answer otherwise than one another.
+fn make(
+    generator: &mut Generator,
+    pair: &mut Pair,
+    tally: &mut Tally,
+    seed: u64,
+    ordinal: u32,
+) -> Result<()> {
+    let call = generator.call();
+    match pair.make(call) {
+        Ok(reply) => {
+            tally.count(&reply);
+            Ok(())
+        }
+        Err(fault) => bail!("seed {seed}, call {ordinal}, {call:?}: {fault}"),
+    }
+}

@@ -1,0 +1,274 @@
+//! What texts read like.
+
+use pid_script::line::{Line, parse_line};
+use pid_script::list::list_text;
+use pid_types::config::Config;
+use pid_types::plain::Plain;
+use plain_table::table::PlainTable;
+use std::alloc::{AllocError, Global};
+use std::process::Abort;
+use std::test::Fail;
+use table_text::dump::dump_text;
+use table_text::laws::what_is_written_is_read;
+use table_text::read::{Saved, read_text};
+
+/// A table that a script left, and the stamp of its next call.
+#[derive(Drop)]
+struct Left {
+    plain: Plain,
+    stamp: u64,
+}
+
+/// Makes the calls of the script on a new table.
+fn left_by(alloc: Global, config: &Config, script: &str) -> Result<Left, AllocError> {
+    let mut table = PlainTable::new(alloc, config)?;
+    let mut stamp = config.first_stamp();
+    for line in script.lines() {
+        if let Line::Call(call) = parse_line(line.as_bytes()) {
+            table.step(stamp, call)?;
+            stamp = stamp.saturating_add(1);
+        }
+    }
+    Ok(Left {
+        plain: table.snapshot()?,
+        stamp,
+    })
+}
+
+/// What the script leaves of a table with the usual settings.
+fn leave(rt: &(impl AllocGlobal + Abort), script: &str) -> Left {
+    left_by(rt.alloc(), &Config::default_values(), script).expect(rt, "no memory")
+}
+
+fn text_of(rt: &(impl AllocGlobal + Abort), left: &Left) -> Vec<u8> {
+    dump_text(rt.alloc(), &left.plain, left.stamp).expect(rt, "no memory")
+}
+
+fn list_of(rt: &(impl AllocGlobal + Abort), left: &Left) -> Vec<u8> {
+    list_text(rt.alloc(), &left.plain).expect(rt, "no memory")
+}
+
+/// The script leaves a table with the text, which is read.
+fn expect_text(rt: &(impl AllocGlobal + Abort), script: &str, text: &str) {
+    assert!(rt; text_of(rt, &leave(rt, script)).as_slice() == text.as_bytes());
+    assert!(rt; read_text(rt.alloc(), text.as_bytes()).is_ok());
+}
+
+/// Whether what was read is what the table shows.
+fn is_as_shown(saved: &Saved, left: &Left) -> bool {
+    let plain = &left.plain;
+    let controls = saved.controls.iter().zip(plain.controls.iter());
+    saved.stamp == left.stamp
+        && saved.pid_max == plain.pid_max
+        && saved.rows == plain.rows
+        && saved.spaces == plain.spaces
+        && saved.controls.len() == plain.controls.len()
+        && controls.into_iter().all(|(a, b)| a.id == b.id
+            && a.parent == b.parent
+            && a.limit == b.limit)
+}
+
+/// Whether what the script leaves is written and read back as it is.
+fn is_read_as_written(alloc: Global, config: &Config, script: &str) -> Result<bool, AllocError> {
+    let left = left_by(alloc, config, script)?;
+    match what_is_written_is_read(alloc, &left.plain, left.stamp) {
+        Ok(saved) => Ok(is_as_shown(&saved, &left)),
+        Err(_) => Ok(false),
+    }
+}
+
+/// The state that each table begins in.
+const THE_FIRST_STATE: (&str, &str) = (
+    "",
+    "pidtab table 1 pid-max 32768 stamp 1
+task 1@0 parent - group 1@0 session 1@0 control 0 children 0 live
+space 0 parent - cursor 2
+control 0 parent - limit max
+end sha256 11fb73109d1e64dd45c8bed09ef3e19114bc4df6ab4b0fbc8668f547950fb0d8
+",
+);
+
+/// A namespace inside the root, with two tasks.
+const NESTED_NAMESPACES: (&str, &str) = (
+    "fork 1 new
+fork 2
+",
+    "pidtab table 1 pid-max 32768 stamp 3
+task 1@0 parent - group 1@0 session 1@0 control 0 children 0 live
+task 2,1@1 parent 1@0 group 1@0 session 1@0 control 0 children 1 live
+task 3,2@1 parent 2,1@1 group 1@0 session 1@0 control 0 children 1 live
+space 0 parent - cursor 4
+space 1 parent 0 cursor 3
+control 0 parent - limit max
+end sha256 528d100f87aa7bfc07c2c7d2c32e142d80b3edccc003a1cd144ea99b51976f7d
+",
+);
+
+/// A group named after a task that was reaped, in a namespace that has fallen.
+const A_GROUP_THAT_NO_TASK_BEARS: (&str, &str) = (
+    "fork 1
+fork 2 new
+setpgid 3 0 0
+setpgid 2 0 3
+exit 3 0
+wait 2 any
+",
+    "pidtab table 1 pid-max 32768 stamp 7
+task 1@0 parent - group 1@0 session 1@0 control 0 children 0 live
+task 2@0 parent 1@0 group 3,1@2 session 1@0 control 0 children 0 live
+space 0 parent - cursor 4
+space 2 parent 0 cursor 2 fallen
+control 0 parent - limit max
+end sha256 43e4b011666adfc0327747421276975e151ed4aaf6d8c75e33dcc6843cccb951
+",
+);
+
+/// A task whose children go elsewhere, one that exited, and one that was killed with its namespace.
+const HOW_TASKS_ENDED: (&str, &str) = (
+    "fork 1
+fork 2 new
+fork 3
+join 2 3
+fork 2
+exit 3 0
+",
+    "pidtab table 1 pid-max 32768 stamp 7
+task 1@0 parent - group 1@0 session 1@0 control 0 children 0 live
+task 2@0 parent 1@0 group 1@0 session 1@0 control 0 children 2 live
+task 3,1@2 parent 2@0 group 1@0 session 1@0 control 0 children 2 exit 0
+task 5,3@2 parent 2@0 group 1@0 session 1@0 control 0 children 2 killed
+space 0 parent - cursor 6
+space 2 parent 0 cursor 4 fallen
+control 0 parent - limit max
+end sha256 6486ab68ee85cf84dabec3a4079f9633721da2c3ef61a0adb2c655dd85041ca0
+",
+);
+
+/// Both marks of a task, which leads a session.
+const TASK_MARKS: (&str, &str) = (
+    "fork 1
+subreaper 2 on
+exec 2
+setsid 2
+mk 0
+",
+    "pidtab table 1 pid-max 32768 stamp 6
+task 1@0 parent - group 1@0 session 1@0 control 0 children 0 live
+task 2@0 parent 1@0 group 2@0 session 2@0 control 0 children 0 live executed subreaper
+space 0 parent - cursor 3
+control 0 parent - limit max
+control 5 parent 0 limit max
+end sha256 5a791615cfcfc0cbed97e879e87c378eb3ed077bb30f200f7464fcc5d2061b12
+",
+);
+
+/// A task in a control group with a limit.
+const LIMITS: (&str, &str) = (
+    "mk 0
+limit 1 2
+move 1 1
+",
+    "pidtab table 1 pid-max 32768 stamp 4
+task 1@0 parent - group 1@0 session 1@0 control 1 children 0 live
+space 0 parent - cursor 2
+control 0 parent - limit max
+control 1 parent 0 limit 2
+end sha256 9e62c9511c0c5f1b1e5724af846eb4e017bfc6d02d8017ea73f0cf3254f76374
+",
+);
+
+#[test]
+fn writes_each_part(rt: HostRuntime) {
+    let cases = [
+        THE_FIRST_STATE,
+        NESTED_NAMESPACES,
+        A_GROUP_THAT_NO_TASK_BEARS,
+        HOW_TASKS_ENDED,
+        TASK_MARKS,
+        LIMITS,
+    ];
+    for (script, text) in cases {
+        expect_text(&rt, script, text);
+    }
+}
+
+/// A task is in a group whose name has other numbers than in the table of the next script.
+const FIRST: &str = "fork 1 new
+fork 1
+exit 3 0
+wait 1 pid 3
+fork 2
+setsid 4
+fork 2
+exit 5 0
+wait 2 pid 3
+fork 4
+exit 4 0
+wait 2 pid 2
+";
+
+const SECOND: &str = "fork 1 new
+fork 2
+exit 3 0
+wait 2 pid 2
+fork 2
+setsid 4
+fork 1
+exit 5 0
+wait 1 pid 5
+fork 4
+exit 4 0
+wait 2 pid 3
+";
+
+fn expect_one_list(rt: &(impl AllocGlobal + Abort), one: &Left, other: &Left) {
+    assert!(rt; list_of(rt, one).as_slice() == list_of(rt, other).as_slice());
+}
+
+fn expect_two_texts(rt: &(impl AllocGlobal + Abort), one: &Left, other: &Left) {
+    assert!(rt; text_of(rt, one).as_slice() != text_of(rt, other).as_slice());
+}
+
+/// Two tables with one list.
+#[test]
+fn tells_tables_with_one_list_apart(rt: HostRuntime) {
+    let one = leave(&rt, FIRST);
+    let other = leave(&rt, SECOND);
+    expect_one_list(&rt, &one, &other);
+    expect_two_texts(&rt, &one, &other);
+}
+
+const LAW_ENDS: &str = "fork 1
+fork 2 new
+fork 3
+join 2 3
+fork 2
+setpgid 5 0 0
+exit 3 0
+fork 1
+";
+
+const LAW_MARKS: &str = "mk 0
+limit 1 4294967295
+mk 1
+fork 1
+move 2 3
+subreaper 2 on
+exec 2
+setsid 2
+exit 2 255
+";
+
+fn expect_read_as_written(rt: &(impl AllocGlobal + Abort), config: &Config, script: &str) {
+    assert!(rt; is_read_as_written(rt.alloc(), config, script) == Ok(true));
+}
+
+/// Tables with each part of the form: what the law of the crate answers is what they show.
+#[test]
+fn reads_what_the_law_says(rt: HostRuntime) -> Result<(), Fail> {
+    let usual = Config::default_values();
+    expect_read_as_written(&rt, &usual, "");
+    expect_read_as_written(&rt, &usual, LAW_ENDS);
+    expect_read_as_written(&rt, &Config::new(4_194_304, u64::MAX - 9)?, LAW_MARKS);
+    Ok(())
+}
