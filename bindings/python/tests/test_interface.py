@@ -7,7 +7,10 @@ import subprocess
 import sys
 import tempfile
 import unittest
+from contextlib import redirect_stderr
+from io import StringIO
 from pathlib import Path
+from unittest import mock
 
 from tests.pages import REPOSITORY, read_page
 from tests.test_versions import RELEASED
@@ -144,8 +147,9 @@ class Interface(unittest.TestCase):
 
     def say(self, word="--check"):
         """The status of the tool, and what it says."""
-        done = subprocess.run([sys.executable, self.top / "tools" / "interface", word], capture_output=True, text=True, check=False)
-        return done.returncode, done.stdout + done.stderr
+        told = StringIO()
+        with mock.patch.object(TOOL, "TOP", self.top), redirect_stderr(told):
+            return TOOL.main([word]), told.getvalue()
 
     def plant(self, path, old, new):
         """Changes a file in one place; gives what was there, and the line."""
@@ -160,6 +164,8 @@ class Interface(unittest.TestCase):
 
     def test_what_is_there(self):
         self.assertEqual(self.say(), (0, ""))
+        done = subprocess.run([sys.executable, self.top / "tools" / "interface", "--check"], capture_output=True, check=False)
+        self.assertEqual((done.returncode, done.stdout + done.stderr), (0, b""))
 
     def test_a_difference_in_each_part(self):
         for path, name in PARTS:
