@@ -4,7 +4,7 @@ import re
 import textwrap
 
 from arguments import arguments_of, queries, refused, said, tells
-from names import camel, capitals
+from names import camel, capitals, strings
 
 CALLS = "bindings/rust/src/calls.rs"
 NUMBERS = "bindings/rust/src/numbers.rs"
@@ -120,8 +120,8 @@ def choices(tables):
 def by_methods(tables):
     """The call by its method."""
     asked = queries(tables)
-    lines = [f"const QUERIES: [&str; {len(asked)}] = [", *[f'    "{it}",' for it in asked], "];", ""]
-    lines += ["fn by_its_method(table: &mut dyn Calls, call: Call) -> Result<Reply, Error> {", "    match call {"]
+    lines = ["#[rustfmt::skip]", f"const QUERIES: [&str; {len(asked)}] = [{strings(asked)}];", ""]
+    lines += ["#[rustfmt::skip]", "fn by_its_method(table: &mut dyn Calls, call: Call) -> Result<Reply, Error> {", "    match call {"]
     for row in tables["calls"]:
         passed = ", ".join(it.name for it in arguments_of(row))
         lines.append(f"        {pattern(row)} => table.{method(row)}({passed}).{BACK[told(row)]},")

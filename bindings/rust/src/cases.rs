@@ -2,6 +2,7 @@
 use crate::json::errno_name;
 use crate::*;
 use std::fs;
+use std::path::Path;
 
 /// What a case has open. A seat borrows its table, which stays to the end of the process.
 struct World {
@@ -214,16 +215,10 @@ impl World {
 }
 
 // Written by tools/interface: calls.
-const QUERIES: [&str; 7] = [
-    "getpid",
-    "nspid",
-    "getppid",
-    "count",
-    "getpgid",
-    "getsid",
-    "next",
-];
+#[rustfmt::skip]
+const QUERIES: [&str; 7] = ["getpid", "nspid", "getppid", "count", "getpgid", "getsid", "next"];
 
+#[rustfmt::skip]
 fn by_its_method(table: &mut dyn Calls, call: Call) -> Result<Reply, Error> {
     match call {
         Call::Fork { caller, new_space } => table.fork(caller, new_space).map(Reply::Forked),
@@ -441,9 +436,13 @@ fn end(world: &Option<World>) {
 
 #[test]
 fn cases() {
-    let folder = concat!(env!("CARGO_MANIFEST_DIR"), "/../../interface/cases");
+    let top = Path::new(env!("CARGO_MANIFEST_DIR"));
+    // The crate alone, as it is packed, has no cases.
+    if !top.join("tests").is_dir() {
+        return;
+    }
     let mut made = 0;
-    for file in fs::read_dir(folder).expect("the cases") {
+    for file in fs::read_dir(top.join("../../interface/cases")).expect("the cases") {
         let path = file.expect("a file").path();
         if path.extension().map_or(true, |it| it != "cases") {
             continue;
