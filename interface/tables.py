@@ -49,7 +49,7 @@ COLUMNS = {
         "functions": "functions", "since": "release", "python": "method or -", "rust": "method or -", "go": "method or -",
         "javascript": "method or -", "statuses": "statuses or -", "sentence": "sentence",
     },
-    "lines": {"calls": "lines", "asks": "sentence", "answer": "sentence"},
+    "lines": {"calls": "lines", "asks": "sentence", "answer": "sentence", "manual": "sentences"},
     "results": {"status": "capitals", "functions": "functions or -", "sentence": "sentences"},
     "calls": {
         "number": "number", "call": "word", "model": "name", "query": "yes or no", "memory": "yes or no", "makes": "made", "arguments": "arguments",
@@ -61,7 +61,7 @@ COLUMNS = {
 UNIQUE = {
     "errnos": ("name", "value"), "refusals": ("number", "word"), "calls": ("number", "call", "model"), "statuses": ("name", "error", "sentence"),
     "faults": ("number", "name", "rust", "words"), "kinds": ("name",), "bounds": ("name", "sentence"),
-    "functions": ("functions", "sentence"), "lines": ("calls", "asks"), "results": ("sentence",),
+    "functions": ("functions", "sentence"), "lines": ("calls", "asks", "manual"), "results": ("sentence",),
 }  # fmt: skip
 FIRST = {"refusals": 1, "calls": 0, "faults": 1, "kinds": 0}
 

@@ -1,6 +1,8 @@
 """The lines of the script language: what each call has in words, with a letter for each of its numbers."""
 
-from itertools import product
+import re
+import textwrap
+from itertools import groupby, product
 
 from arguments import arguments_of
 from names import strings, wrapped
@@ -50,6 +52,29 @@ def commands(tables):
     return ["", "| Line | What it asks | Answer |", "|---|---|---|", *rows, ""]
 
 
+def heading(form):
+    """A form as mdoc has it: words of the language by Cm, and numbers by Ar."""
+    command, *words = form.split(" ")
+    return f".It Ic {command}" + "".join(f" {'Ar' if upper else 'Cm'} {' '.join(those)}" for upper, those in groupby(words, str.isupper))
+
+
+def sentences(text):
+    """Sentences as mdoc has them: answers by Ql, and numbers by Ar."""
+    lines = []
+    for part in re.split(r"(?<=\.) |\s*((?:`[^`]+`|\{[A-Z]\})[,.]?)\s*", text):
+        found = re.fullmatch(r"(?:`([^`]+)`|\{([A-Z])\})([,.]?)", part or "")
+        if found:
+            lines.append(f".{'Ql' if found[1] else 'Ar'} {found[1] or found[2]} {found[3]}".rstrip())
+        elif part:
+            lines += textwrap.wrap(part, 80, break_on_hyphens=False)
+    return lines
+
+
+def manual(tables):
+    """The list of the manual page."""
+    return [".Bl -tag -width Ds", *[line for row, forms in rows_of(tables) for line in (*map(heading, forms), *sentences(row.manual))], ".El"]
+
+
 def python(tables):
     """A tuple."""
     return ["FORMS = (", *wrapped(strings(all_forms(tables)) + ",", "    ", 100), ")  # fmt: skip"]
@@ -72,6 +97,6 @@ def rust(tables):
 
 
 PARTS = {
-    ("docs/SCRIPT.md", "commands"): commands, ("bindings/python/pidtab/language.py", "forms"): python, ("page/language.js", "forms"): javascript,
+    ("docs/SCRIPT.md", "commands"): commands, ("man/pidtab.5", "commands"): manual, ("bindings/python/pidtab/language.py", "forms"): python, ("page/language.js", "forms"): javascript,
     ("bindings/go/pidtabtest/aim.go", "forms"): go, ("bindings/rust/src/testing.rs", "forms"): rust,
 }  # fmt: skip

@@ -130,6 +130,8 @@ FAULTS = [
     ("functions", "CLOSED, AGAIN, NO_MEMORY, DONE", "CLOSED, LATER, NO_MEMORY, DONE", "statuses 'LATER' is not in interface/statuses.tbl"),
     ("results", "AGAIN        |", "LATER        |", "status 'LATER' is not in interface/statuses.tbl"),
     ("results", "by now.", "by now", "sentence 'More calls, or fewer, were recorded by now' is no sentences"),
+    ("lines", "fork new ", "fork New ", "calls 'fork New' is no lines"),
+    ("lines", "rm               |", "mk               |", "calls mk stands in line"),
     ("errnos", "EBUSY           | 16", "EBUSY           | 13", "value 13 stands in line 12 already"),
 ]
 
