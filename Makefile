@@ -285,9 +285,9 @@ THREADS_TEST = test_threads guard guard_record
 SHARED_TEST = test_shared shared guard guard_record heap
 FOLLOW_TEST = test_follow shared guard guard_record heap
 SAVED_TEST = test_saved guard_record heap
-SAVED_FILE_TEST = test_saved_file shared guard_record
-SAVED_THREADS_TEST = test_saved_threads saved_file shared guard_record heap
-SAVER_TEST = test_saver saved_file shared guard_record heap
+SAVED_FILE_TEST = test_saved_file shared guard guard_record
+SAVED_THREADS_TEST = test_saved_threads saved_file shared guard guard_record heap
+SAVER_TEST = test_saver saved_file shared guard guard_record heap
 DEVICES = -Dread=test_read -Dwrite=test_write
 # What is the same for each machine.
 SAME_EVERYWHERE = bindings/c/test_names && tools/guard --check && bindings/c/test_guard
