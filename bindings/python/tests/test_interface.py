@@ -72,6 +72,7 @@ DIFFERENCES = [
     ("crates/pidtab_c/src/lib.rt", "pub const VERSION: u32 = 1;", "pub const VERSION: u32 = 2;", "the bound VERSION 2 is not in interface/"),
     ("crates/saved_form/src/block.rt", "pub const BLOCK: usize = 48;", "pub const BLOCK: usize = 49;", "the bound BLOCK 49 is not in interface/"),
     ("crates/saved_form/src/layout.rt", "pub const VERSION: u32 = 1;", "pub const VERSION: u32 = 2;", "the bound VERSION 2 is not in interface/"),
+    ("crates/foreign_calls/src/status.rt", "pub const TORN: u32 = 42;", "pub const TORN: u32 = 43;", "the status TORN 43 is not in interface/"),
     ("man/pidtab_saved.3", ".Er EILSEQ :", ".Er EINVAL :", "the status WRONG_BYTE EINVAL is not in interface/"),
     ("bindings/c/pidtab.h", "uint32_t pidtab_version(void);", "uint32_t pidtab_versions(void);", "pidtab_versions is not in interface/functions.tbl"),
     ("bindings/c/pidtab_shared.h", "uint32_t pidtab_shared_ask(", "uint32_t pidtab_shared_query(", "pidtab_shared_query is not in interface/functions.tbl"),
