@@ -6,7 +6,7 @@
 ghost use Rattle.std.specs.Prelude.{◌≡◌, ℕ, ◌+◌, ◌^◌, ◌<◌, ◌≤◌, [], ◌∷◌, ◌++◌, ◌↔◌, IsTrue};
 ghost use Rattle.std.specs.Prelude.{IfOk, OnOk, OnErr, IsOk, IfSome, Some, None, Err};
 ghost use Rattle.std.specs.Option.{option_copied};
-ghost use Rattle.std.specs.Prelude.{◌≢◌, ◌⊎◌, length, sum};
+ghost use Rattle.std.specs.Prelude.{◌≢◌, ◌⊎◌, true, length, sum};
 ghost use Rattle.pid_types.specs.declared.plain.Control.{Control};
 ghost use Rattle.pid_types.specs.Membership.{IsIn};
 ghost use Rattle.pid_types.specs.Shown.{Shows};
