@@ -73,8 +73,8 @@ static void time_calls(long live, uint64_t keep, long calls)
 	double forks = make((struct pidtab_call){ .operation = PIDTAB_FORK, .caller = 1 }, live, NULL);
 	double asks = make((struct pidtab_call){ .operation = PIDTAB_GETPID, .caller = 1 }, calls, each);
 	qsort(each, (size_t)calls, sizeof *each, by_length);
-	printf("forks %.2f s, %.2f M getpid a second, median %.2f us, longest %.1f ms, peak %ld MB\n", forks, (double)calls / asks / 1e6,
-	       each[calls / 2] * 1e6, each[calls - 1] * 1e3, peak_megabytes());
+	printf("forks %.2f s, %.2f M getpid a second, median %.2f us, longest %.0f us, peak %ld MB\n", forks, (double)calls / asks / 1e6,
+	       each[calls / 2] * 1e6, each[calls - 1] * 1e6, peak_megabytes());
 	free(each);
 }
 
