@@ -129,7 +129,7 @@ uint32_t pidtab_saved_append_shared(struct pidtab_saved *saved, struct pidtab_sh
 
 /* The saver of a shared record that threads work on, in a thread of its own. It appends, sleeps until a call is recorded, and begins
  * again, until pidtab_saved_end. With `to_disk` each turn ends with fdatasync, so one such call serves all that wait. Where keep is not 0,
- * it cuts the history whenever that has so many entries: all others wait while the last calls are written and the table is copied.
+ * it cuts the history whenever that has so many entries: all others wait while the last calls are written and the kept ones made once more.
  *
  * DONE where it has ended, and then all calls that were recorded before the end are saved. Any other status is that of the append, or
  * DEVICE of the fdatasync; all that wait have it too. It may be called again. Behind an fdatasync that failed, nobody knows what the disk
@@ -154,7 +154,7 @@ void pidtab_saved_bound(struct pidtab_shared *shared, uint64_t most);
 void pidtab_saved_end(struct pidtab_shared *shared);
 
 /* Opens a record by the head of the file, and makes its calls. The file is read from its beginning to its end, and not changed. Where keep is not 0, the
- * new record's history is cut whenever it has so many entries; each cut is a copy of the table. A shared record cuts none later.
+ * new record's history is cut whenever it has so many entries; each cut costs its calls once more. A shared record cuts none later.
  *
  * On DONE the record is open: `next` calls were made, and each had the saved reply. A torn end, which is that of a writer that was
  * stopped, is left out: `left_out` says how many bytes it has. Any other status says that nothing is to be closed:

@@ -51,7 +51,7 @@ type saving struct {
 // Serve is the saver of a table that goroutines work on, in a goroutine of its own. It does what Save does, sleeps until a call is recorded, and
 // begins again, until EndSaving. Each turn ends with sync, as an *os.File's Sync, if it is not nil: so one sync serves all that wait, and only behind
 // it a turn's calls count as saved. Where keep is not 0, it cuts the history whenever that has so many entries: all others wait while the last entries
-// are written and the table is copied.
+// are written and the kept ones made once more.
 //
 // The errors are those of Save, and that of sync in a SavedError. WaitSaved answers them too. Serve may be called again; but behind a Sync of a file
 // that failed, nobody knows what the disk has: load it.

@@ -25,8 +25,8 @@ type Settings struct {
 // The kept history replays, reply for reply, as one thread's, from its opening to the present state, and the calls of all workers add up to
 // Counts.Recorded. That is proved of the library. The lock is trusted: it is a sync.Mutex, so that a goroutine that waits holds no thread.
 //
-// The history has 184 bytes a call until it is cut. With Settings.Keep, the call that makes the kept entries as many cuts it, as Checkpoint
-// does, and pays for it; where there is no memory for that, the history grows on, and the next call tries again.
+// The history has 184 bytes a call until it is cut. With Settings.Keep, a call behind which there are more entries cuts the first, and makes its
+// call once more on a second table. Where that finds no memory, later calls make up for it.
 type Shared struct {
 	own *heldRecord
 }
@@ -226,7 +226,7 @@ func followPage(replica *Table, entries []Entry, next uint64) (uint64, error) {
 	return next, nil
 }
 
-// Checkpoint cuts the history: the present state is the opening from now on, and ordinals go on. It costs a copy of the whole table.
+// Checkpoint cuts the history: the present state is the opening from now on, and ordinals go on. It costs each kept call once more.
 // ErrNoMemory, and nothing has changed.
 func (shared *Shared) Checkpoint() error {
 	return shared.alone(func(raw *C.struct_pidtab_record) C.uint32_t { return C.pidtab_record_checkpoint(raw) })

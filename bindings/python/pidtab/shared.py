@@ -333,7 +333,7 @@ class Shared(Labelled, Owner):
         """The saver, for a thread of its own: it saves what is recorded, and sleeps until more is, until `end_saving` or `close`. What the file has then.
 
         With `sync` each turn ends with fdatasync(2), so one serves all that wait, and only behind it the calls of the turn count as saved. Where `keep`
-        is not 0, it cuts the history whenever that has so many entries: all others wait while the last calls are written and the table is copied.
+        is not 0, it cuts the history whenever that has so many entries: all others wait while the last calls are written and the kept ones made once more.
 
         It raises what `save` does, and `wait_saved` raises it too. It may be called again; but where fdatasync failed, nobody knows what the disk has:
         load the file. Ctrl-C waits for its end.
@@ -506,7 +506,7 @@ class Shared(Labelled, Owner):
             return opened.dump()
 
     def checkpoint(self) -> None:
-        """Cuts the history: no entry is kept. Ordinals, stamps and counts go on. It costs a copy of the table, while all threads wait."""
+        """Cuts the history: no entry is kept. Ordinals, stamps and counts go on. It costs each kept call once more, while all threads wait."""
         check(self._status("pidtab_shared_checkpoint"), "checkpoint")
 
     def checkpoint_at(self, seen: int) -> bool:

@@ -178,7 +178,7 @@ impl Shared {
     /// The saver of a table that threads work on, in a thread of its own. It saves, sleeps until a call is recorded, and begins again, until
     /// [`Shared::end_saving`]. Each turn ends with `sync`, as `File::sync_data`, so one sync serves all that wait: only behind it a turn's calls
     /// count as saved. Where `keep` is not 0, it cuts the history whenever that has so many entries: all others wait while the last entries are
-    /// written and the table is copied.
+    /// written and the kept ones made once more.
     ///
     /// ```
     /// use pidtab::{Calls, Error, Saved, Shared};

@@ -610,7 +610,7 @@ impl Record {
         Ok(count)
     }
 
-    /// Cuts the history: the present state is the opening from now on, and ordinals go on. It costs a copy of the whole table.
+    /// Cuts the history: the present state is the opening from now on, and ordinals go on. It costs each kept call once more.
     ///
     /// # Errors
     /// `NoMemory`, and nothing has changed; `Busy`.
