@@ -73,11 +73,9 @@ struct pidtab_saved_head {
 	uint64_t first_stamp;
 };
 
-/* Bytes in memory. `sum` is the running checksum: the head's functions begin it, and each entry's goes on with it. No function
- * changes anything unless it is PIDTAB_DONE, but `size`. What is written is read back. An operation, a kind, an error or a refusal that
- * this library does not know is a number all the same, and whoever makes the call refuses it.
- *
- * A reader of a piece does not see what is behind it. That zeroes at the end of a file are a torn end is known to the loads alone. */
+/* Bytes in memory. `sum` is the running checksum: the head's functions begin it, and each entry's goes on with it. No function but the
+ * last changes anything unless it is PIDTAB_DONE, but `size`. What is written is read back. An operation, a kind, an error or a refusal
+ * that this library does not know is a number all the same, and whoever makes the call refuses it. */
 
 /* The CRC-64/XZ of bytes behind those whose CRC is `sum`, which is 0 for none. */
 uint64_t pidtab_saved_sum(uint64_t sum, const void *bytes, size_t length);
@@ -97,6 +95,15 @@ uint32_t pidtab_saved_take_head(const void *bytes, size_t length, struct pidtab_
  * many there are at least; WRONG_BYTE, and then size is the place of the first block that is not as it was written. Nothing is
  * said of the call and the reply: they may be those of no record. */
 uint32_t pidtab_saved_take(const void *bytes, size_t length, struct pidtab_entry *entry, size_t *size, uint64_t *sum);
+
+/* Reads on behind the head or the last whole entry, in bytes that come in pieces; `is_end` says that none follow. Pieces may be cut
+ * anywhere, and one of PIDTAB_SAVED_LONGEST bytes always leads on. `left_out` is 0 at first, and is given back as it is: so many bytes
+ * behind the last whole entry are passed.
+ *
+ * DONE with a size that is not 0: an entry, of so many bytes. DONE with 0: the end, where `left_out` says how many bytes a torn end has. TORN:
+ * more bytes decide. Then size says how many of these are passed: all of them, or none, and then they come again with more behind them.
+ * WRONG_BYTE. */
+uint32_t pidtab_saved_next(const void *bytes, size_t length, bool is_end, struct pidtab_entry *entry, size_t *size, uint64_t *sum, uint64_t *left_out);
 
 /* A file that a history is saved to. Its fields may be read, and are not written. */
 struct pidtab_saved {

@@ -322,6 +322,7 @@ void pidtab_saved_end(struct pidtab_shared *shared)
 struct input {
 	size_t from, to;
 	bool has_ended;
+	uint64_t left_out; /* so many bytes behind the last whole entry are passed */
 	unsigned char bytes[AT_ONCE * PIDTAB_SAVED_LONGEST];
 };
 
@@ -370,23 +371,26 @@ struct batch {
 	struct pidtab_entry entries[AT_ONCE];
 	size_t sizes[AT_ONCE];
 	size_t count;
-	size_t place; /* in the entry behind them: of its first wrong block */
+	bool is_last; /* nothing is behind them but what is left out */
 };
 
-/* Takes entries until there are enough, or one is not whole, or wrong. */
+/* Takes entries until there are enough, or more bytes decide, or none follow, or one is wrong. */
 static uint32_t take_some(struct pidtab_saved *saved, struct input *input, struct batch *batch)
 {
 	uint32_t status = PIDTAB_DONE;
-	size_t size = 0;
+	size_t size = 1;
 
-	for (batch->count = 0; batch->count < AT_ONCE; input->from += size) {
-		status = pidtab_saved_take(input->bytes + input->from, input->to - input->from, &batch->entries[batch->count], &size, &saved->sum);
-		if (status != PIDTAB_DONE)
-			break;
-		batch->sizes[batch->count++] = size;
+	batch->count = 0;
+	while (batch->count < AT_ONCE && status == PIDTAB_DONE && size != 0) {
+		status = pidtab_saved_next(input->bytes + input->from, input->to - input->from, input->has_ended, &batch->entries[batch->count],
+			&size, &saved->sum, &input->left_out);
+		if (status != PIDTAB_WRONG_BYTE)
+			input->from += size;
+		if (status == PIDTAB_DONE && size != 0)
+			batch->sizes[batch->count++] = size;
 	}
-	batch->place = size;
-	return status;
+	batch->is_last = status == PIDTAB_DONE && size == 0;
+	return status == PIDTAB_TORN ? PIDTAB_DONE : status;
 }
 
 /* A cut that finds no memory is tried again behind the next entries. */
@@ -412,57 +416,24 @@ static uint32_t replay(struct pidtab_saved *saved, struct pidtab_record *record,
 	return status;
 }
 
-/* Counts the bytes to the end of the file, and finds whether all are 0. */
-static uint32_t find_zeroes(struct pidtab_saved *saved, struct input *input, uint64_t *count, bool *all)
-{
-	uint32_t status = PIDTAB_DONE;
-
-	*all = true;
-	for (*count = 0; status == PIDTAB_DONE && *all && input->from < input->to; status = fill(saved, input)) {
-		*count += input->to - input->from;
-		while (input->from < input->to)
-			*all = input->bytes[input->from++] == 0 && *all;
-	}
-	return status;
-}
-
-/* A wrong block is torn too where it has no checksum and only zeroes are behind it: a file may have its length before its bytes. */
-static uint32_t judge_wrong(struct pidtab_saved *saved, struct input *input, size_t place)
-{
-	uint64_t count;
-	size_t before = place + PIDTAB_SAVED_BLOCK - 8;
-	bool all;
-	uint32_t status;
-
-	input->from += before;
-	status = find_zeroes(saved, input, &count, &all);
-	if (status != PIDTAB_DONE)
-		return status;
-	if (!all)
-		return PIDTAB_WRONG_BYTE;
-	return leave_out(saved, before + count, PIDTAB_DONE);
-}
-
-/* Replays the entries behind the head to the end of the file. */
+/* Replays the entries behind the head to the end of the file. Those before a wrong byte are replayed first. */
 static uint32_t replay_on(struct pidtab_saved *saved, struct input *input, struct pidtab_record *record, uint64_t keep)
 {
-	struct batch batch;
-	uint32_t status, taken = PIDTAB_DONE;
+	struct batch batch = { .is_last = false };
+	uint32_t status = PIDTAB_DONE, taken = PIDTAB_DONE;
 
 	saved->bytes = PIDTAB_SAVED_BLOCK;
-	while (taken == PIDTAB_DONE) {
+	while (status == PIDTAB_DONE && taken == PIDTAB_DONE && !batch.is_last) {
 		status = fill(saved, input);
 		if (status != PIDTAB_DONE)
 			return status;
 		taken = take_some(saved, input, &batch);
 		status = replay(saved, record, &batch);
-		if (status != PIDTAB_DONE)
-			return status;
 		cut_behind(record, keep);
 	}
-	if (taken == PIDTAB_WRONG_BYTE)
-		return judge_wrong(saved, input, batch.place);
-	return leave_out(saved, input->to - input->from, PIDTAB_DONE);
+	if (status == PIDTAB_DONE && taken == PIDTAB_DONE)
+		return leave_out(saved, input->left_out, PIDTAB_DONE);
+	return status != PIDTAB_DONE ? status : taken;
 }
 
 /* No other thread has the shared record yet, so its lock may be held for all of it. */

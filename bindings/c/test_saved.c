@@ -113,6 +113,77 @@ static void the_example_is_read(void)
 	}
 }
 
+/* The entries behind the example's head, with what may be behind them, read in pieces of one length. */
+struct piecewise {
+	unsigned char bytes[sizeof example + 100];
+	size_t length;
+};
+
+/* Reads to the end; the status of that, with how many entries there were and how many bytes are left out. */
+static uint32_t read_in_pieces(const struct piecewise *of, size_t piece, size_t *count, uint64_t *left_out)
+{
+	struct pidtab_saved_head found;
+	struct pidtab_entry entry;
+	uint64_t sum;
+	size_t from, to, size = 0;
+	uint32_t status = pidtab_saved_take_head(of->bytes, of->length, &found, &from, &sum);
+
+	CHECK(status == PIDTAB_DONE);
+	to = from;
+	*count = 0;
+	*left_out = 0;
+	do {
+		status = pidtab_saved_next(of->bytes + from, to - from, to == of->length, &entry, &size, &sum, left_out);
+		if (status == PIDTAB_WRONG_BYTE)
+			return status;
+		CHECK(status != PIDTAB_TORN || to < of->length);
+		CHECK(status != PIDTAB_TORN || size == (*left_out == 0 ? 0 : to - from));
+		if (status == PIDTAB_DONE && size != 0)
+			CHECK(*count < 3 && size == PIDTAB_SAVED_BLOCK && same_entry(&entry, &entries[(*count)++]));
+		from += size;
+		if (status == PIDTAB_TORN)
+			to = of->length - to < piece ? of->length : to + piece;
+	} while (status == PIDTAB_TORN || size != 0);
+	return status;
+}
+
+/* However it is cut into pieces, the end is of this status, behind so many entries, and so many bytes are left out. */
+static void ends_as(const struct piecewise *of, uint32_t status, size_t count, uint64_t left_out)
+{
+	for (size_t piece = 1; piece <= of->length; piece += piece < 60 ? 1 : 37) {
+		size_t found;
+		uint64_t behind;
+		CHECK(read_in_pieces(of, piece, &found, &behind) == status && found == count);
+		CHECK(status != PIDTAB_DONE || behind == left_out);
+	}
+}
+
+/* A file that ends within its last entry; one that has its length, and zeroes in place of its bytes; and one with another byte behind them. */
+static void ends_in_pieces(void)
+{
+	struct piecewise whole = { .length = sizeof example }, of;
+	size_t last = sizeof example - PIDTAB_SAVED_BLOCK;
+
+	memcpy(whole.bytes, example, sizeof example);
+	ends_as(&whole, PIDTAB_DONE, 3, 0);
+	for (size_t cut = last; cut < sizeof example; cut++) {
+		of = whole;
+		of.length = cut;
+		ends_as(&of, PIDTAB_DONE, 2, cut - last);
+	}
+	for (size_t behind = 0; behind < 100; behind += 9) {
+		of = whole;
+		of.length = sizeof example + behind;
+		memset(of.bytes + last + 16, 0, PIDTAB_SAVED_BLOCK - 16);
+		ends_as(&of, PIDTAB_DONE, 2, PIDTAB_SAVED_BLOCK + behind);
+		of.bytes[of.length - 1] = 1;
+		ends_as(&of, PIDTAB_WRONG_BYTE, 2, 0);
+	}
+	of = whole;
+	of.bytes[last + 20] ^= 1;
+	ends_as(&of, PIDTAB_WRONG_BYTE, 2, 0);
+}
+
 /* An entry and its bytes are one another's. */
 static size_t there_and_back(const struct pidtab_entry *entry, unsigned char *bytes)
 {
@@ -414,6 +485,7 @@ int main(void)
 	the_checksum_is_the_published_one();
 	the_example_is_written();
 	the_example_is_read();
+	ends_in_pieces();
 	levels();
 	greatest_numbers();
 	entries_that_no_record_has();

@@ -292,8 +292,8 @@ func (saved *Saved) countWhole(size int, sum C.uint64_t) {
 }
 
 // leaveOut leaves out what is behind the last whole call.
-func (saved *Saved) leaveOut(count int64) {
-	saved.leftOut, saved.isTorn = uint64(count), count != 0
+func (saved *Saved) leaveOut(count uint64) {
+	saved.leftOut, saved.isTorn = count, count != 0
 }
 
 // loadInto opens a table by the head, and makes the calls behind it.
@@ -363,6 +363,7 @@ type input struct {
 	room       []byte
 	start, end int
 	hasEnded   bool
+	leftOut    C.uint64_t // so many bytes behind the last whole entry are passed
 }
 
 // fill reads on where there may be less in hand than the longest entry.
@@ -398,53 +399,29 @@ func (in *input) takeHead(saved *Saved) (Settings, error) {
 	case C.PIDTAB_OUT_OF_RANGE:
 		return Settings{}, ErrBadSettings
 	case C.PIDTAB_TORN:
-		saved.leaveOut(int64(length))
+		saved.leaveOut(uint64(length))
 	}
 	return Settings{}, faultOf(uint32(status))
 }
 
 // takeEntry takes the next entry, with its size. That is 0 at the end, of which what is torn is left out.
 func (in *input) takeEntry(saved *Saved, entry *C.struct_pidtab_entry) (int, error) {
-	if err := in.fill(); err != nil {
-		return 0, err
-	}
-	if in.start == in.end {
-		return 0, nil
-	}
-	var size C.size_t
-	length := in.end - in.start
-	status := C.pidtab_saved_take(unsafe.Pointer(&in.room[in.start]), C.size_t(length), entry, &size, &saved.sum)
-	switch status {
-	case C.PIDTAB_DONE:
-		in.start += int(size)
-		return int(size), nil
-	case C.PIDTAB_TORN:
-		saved.leaveOut(int64(length))
-		return 0, nil
-	}
-	count, err := in.zeroesBehind(int(size))
-	saved.leaveOut(count)
-	return 0, err
-}
-
-// zeroesBehind is how many bytes there are to the end, where the checksum of the wrong block and all behind it are 0: a file may have its length
-// before its bytes. Else there is a wrong byte.
-func (in *input) zeroesBehind(place int) (int64, error) {
-	const sum = 8
-	before := place + C.PIDTAB_SAVED_BLOCK - sum
-	in.start += before
-	count := int64(before)
-	for in.start < in.end {
-		for _, it := range in.room[in.start:in.end] {
-			if it != 0 {
-				return 0, ErrWrongByte
-			}
-		}
-		count += int64(in.end - in.start)
-		in.start = in.end
+	for {
 		if err := in.fill(); err != nil {
 			return 0, err
 		}
+		var size C.size_t
+		rest := unsafe.Add(unsafe.Pointer(&in.room[0]), in.start)
+		status := C.pidtab_saved_next(rest, C.size_t(in.end-in.start), C.bool(in.hasEnded), entry, &size, &saved.sum, &in.leftOut)
+		in.start += int(size)
+		switch {
+		case status == C.PIDTAB_DONE && size == 0:
+			saved.leaveOut(uint64(in.leftOut))
+			return 0, nil
+		case status == C.PIDTAB_DONE:
+			return int(size), nil
+		case status != C.PIDTAB_TORN:
+			return 0, faultOf(uint32(status))
+		}
 	}
-	return count, nil
 }

@@ -296,6 +296,7 @@ LATER_SHARED_FUNCTIONS: dict[str, Function] = {
 SAVED_FUNCTIONS: dict[str, Function] = {
     "pidtab_saved_take_head": (U32, [ctypes.c_char_p, SIZE_T, SAVED_HEAD, SIZE, NUMBER_64]),
     "pidtab_saved_take": (U32, [ctypes.c_char_p, SIZE_T, ENTRIES, SIZE, NUMBER_64]),
+    "pidtab_saved_next": (U32, [ctypes.c_char_p, SIZE_T, ctypes.c_bool, ENTRIES, SIZE, NUMBER_64, NUMBER_64]),
     "pidtab_saved_begin": (U32, [SAVED, ctypes.c_int, SAVED_HEAD]),
     "pidtab_saved_append_shared": (U32, [SAVED, SHARED]),
     "pidtab_saved_serve": (U32, [SAVED, SHARED, U64, ctypes.c_bool]),

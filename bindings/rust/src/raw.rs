@@ -401,6 +401,15 @@ extern "C" {
         size: *mut usize,
         sum: *mut u64,
     ) -> u32;
+    fn pidtab_saved_next(
+        bytes: *const c_void,
+        length: usize,
+        is_end: bool,
+        entry: *mut Entry,
+        size: *mut usize,
+        sum: *mut u64,
+        left_out: *mut u64,
+    ) -> u32;
 }
 // The end of functions.
 
@@ -739,10 +748,16 @@ pub(crate) fn take_head(bytes: &[u8], size: &mut usize, sum: &mut u64) -> Result
     done(status, head)
 }
 
-/// Reads an entry of a saved history from the front of the bytes, with the place for its size, or for that of its first wrong block.
-pub(crate) fn take_entry(bytes: &[u8], size: &mut usize, sum: &mut u64) -> Result<Entry, u32> {
+/// Reads on behind the last whole entry of a saved history. Where it is done, a size of 0 is the end, where so many bytes are left out.
+pub(crate) fn next_entry(
+    bytes: &[u8],
+    is_end: bool,
+    size: &mut usize,
+    sum: &mut u64,
+    left_out: &mut u64,
+) -> Result<Entry, u32> {
     let (at, length, mut entry) = (bytes.as_ptr().cast(), bytes.len(), Entry::blank());
     // SAFETY: as above.
-    let status = unsafe { pidtab_saved_take(at, length, &mut entry, size, sum) };
+    let status = unsafe { pidtab_saved_next(at, length, is_end, &mut entry, size, sum, left_out) };
     done(status, entry)
 }

@@ -399,13 +399,12 @@ struct Input<R> {
     bytes: Vec<u8>,
     taken: usize,
     has_ended: bool,
+    // So many bytes behind the last whole entry are passed.
+    left_out: u64,
 }
 
 /// How many bytes are in hand at most.
 const ROOM: usize = 1 << 13;
-
-/// How many bytes a checksum has, at the end of its block.
-const SUM: usize = 8;
 
 impl<R: Read> Input<R> {
     fn of(from: R) -> Input<R> {
@@ -414,6 +413,7 @@ impl<R: Read> Input<R> {
             bytes: Vec::with_capacity(ROOM),
             taken: 0,
             has_ended: false,
+            left_out: 0,
         }
     }
 
@@ -453,34 +453,27 @@ impl<R: Read> Input<R> {
 
     /// The next entry with its size; none at the end, of which what is torn is left out.
     fn take_entry(&mut self, saved: &mut Saved) -> Result<Option<(raw::Entry, usize)>, SavedFault> {
-        self.fill()?;
-        let mut size = 0;
-        match raw::take_entry(self.rest(), &mut size, &mut saved.sum) {
-            Ok(entry) => {
-                self.taken += size;
-                return Ok(Some((entry, size)));
-            }
-            Err(raw::TORN) => saved.leave_out(self.rest().len() as u64),
-            Err(_) => saved.leave_out(self.zeroes_behind(size)?),
-        }
-        Ok(None)
-    }
-
-    /// How many bytes there are to the end, where the checksum of the wrong block and all behind it are 0: a file may have its length before its
-    /// bytes. Else there is a wrong byte.
-    fn zeroes_behind(&mut self, place: usize) -> Result<u64, SavedFault> {
-        let before = place + raw::SAVED_BLOCK - SUM;
-        let mut count = before as u64;
-        self.taken += before;
-        while !self.rest().is_empty() {
-            if self.rest().iter().any(|byte| *byte != 0) {
-                return Err(SavedFault::WrongByte);
-            }
-            count += self.rest().len() as u64;
-            self.taken = self.bytes.len();
+        loop {
             self.fill()?;
+            let (rest, mut size) = (&self.bytes[self.taken..], 0);
+            let next = raw::next_entry(
+                rest,
+                self.has_ended,
+                &mut size,
+                &mut saved.sum,
+                &mut self.left_out,
+            );
+            self.taken += size;
+            match next {
+                Ok(entry) if size != 0 => return Ok(Some((entry, size))),
+                Ok(_) => {
+                    saved.leave_out(self.left_out);
+                    return Ok(None);
+                }
+                Err(raw::TORN) => {}
+                Err(status) => return Err(SavedFault::of(status)),
+            }
         }
-        Ok(count)
     }
 }
 

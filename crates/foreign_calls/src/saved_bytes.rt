@@ -1,9 +1,11 @@
 //! A saved history as bytes, in the room that is given for them.
-ghost use Rattle.std.specs.Prelude.{◌≡◌, ◌≢◌, ◌<◌, ◌≤◌, ◌↔◌, ◌⊎◌, ◌++◌, ℕ, [], ◌∷◌, IsTrue, length, drop};
+ghost use Rattle.std.specs.Prelude.{◌≡◌, ◌≢◌, ◌<◌, ◌≤◌, ◌↔◌, ◌⊎◌, ◌++◌, ℕ, List, [], ◌∷◌};
+ghost use Rattle.std.specs.Prelude.{IsTrue, true, false, length, drop};
 ghost use Rattle.saved_form.specs.Form.{head_block, head_bytes, entry_blocks, entry_bytes, entry_size, sum_behind};
 ghost use Rattle.saved_form.specs.Places.{HeadFits, HasPlaces, FitsTypes};
 ghost use Rattle.saved_form.specs.Taking.{MayBegin, IsOtherVersion, BeginsHead, BeginsEntry};
 ghost use Rattle.saved_form.specs.Taking.{IsTorn, IsWrongAt, IsTaken};
+ghost use Rattle.saved_form.specs.Ends.{StaysOpen, EndsHere, IsWrongHere, IsPassed, IsTornEnd};
 ghost use Rattle.saved_form.specs.declared.numbers.Head.{Head};
 ghost use Rattle.saved_form.specs.declared.numbers.EntryNumbers.{EntryNumbers};
 ghost use Rattle.foreign_calls.specs.Records.{CanOpen};
@@ -15,6 +17,7 @@ use pid_types::config::Config;
 use saved_form::BLOCK;
 use saved_form::entry::{has_places, put_entry, size_of};
 use saved_form::head::{HeadFault, put_head, take_head};
+use saved_form::next::{Next, read_on};
 use saved_form::numbers::{EntryNumbers, Head};
 use saved_form::take::{EntryFault, take_entry};
 
@@ -149,5 +152,51 @@ pub fn read_entry(bytes: &[u8], entry: &mut EntryNumbers, size: &mut usize, sum:
             *size = place;
             WRONG_BYTE
         }
+    }
+}
+
+/// Reads on behind the last whole entry, up to which the checksum is `sum`. The result is the status.
+pub fn read_next(
+    bytes: &[u8],
+    is_end: bool,
+    entry: &mut EntryNumbers,
+    size: &mut usize,
+    sum: &mut u64,
+    left_out: &mut u64,
+) -> u32
+    ensures entry { result ≡ DONE → 0 < size.new → (left_out.old ≡ 0) × (left_out.new ≡ 0)
+        × IsTaken sum.old bytes.now (record { entry = entry.new; size = size.new; sum = sum.new }) }
+    ensures read_back { (e : EntryNumbers) → left_out.old ≡ 0 → HasPlaces e → FitsTypes e
+        → BeginsEntry sum.old e bytes.now → (result ≡ DONE) × (0 < size.new) × (entry.new ≡ e) }
+    ensures no_entry { ((result ≢ DONE) ⊎ (size.new ≡ 0)) → (entry.new ≡ entry.old) × (sum.new ≡ sum.old) }
+    ensures end { result ≡ DONE → size.new ≡ 0
+        → (is_end ≡ true) × EndsHere sum.old left_out.old bytes.now left_out.new }
+    ensures torn { result ≡ TORN → (is_end ≡ false) × StaysOpen sum.old left_out.old bytes.now left_out.new }
+    ensures none_passed { result ≡ TORN → left_out.new ≡ 0 → size.new ≡ 0 }
+    ensures all_passed { result ≡ TORN → left_out.new ≢ 0 → size.new ≡ length bytes.now }
+    ensures wrong_byte { result ≡ WRONG_BYTE → IsWrongHere sum.old left_out.old bytes.now }
+    ensures nothing_passed { result ≡ WRONG_BYTE → (left_out.new ≡ left_out.old) × (size.new ≡ size.old) }
+    ensures torn_is_left_out { (before : List ℕ) → IsPassed sum.old left_out.old before
+        → IsTornEnd sum.old (before ++ bytes.now) → result ≢ WRONG_BYTE }
+    ensures statuses { (result ≡ DONE) ⊎ ((result ≡ TORN) ⊎ (result ≡ WRONG_BYTE)) }
+{
+    match read_on(bytes, *sum, *left_out, is_end) {
+        Next::Entry(taken) => {
+            *entry = taken.entry;
+            *size = taken.size;
+            *sum = taken.sum;
+            DONE
+        }
+        Next::Open { passed } => {
+            *size = if passed == 0 { 0 } else { bytes.len() };
+            *left_out = passed;
+            TORN
+        }
+        Next::End { left_out: count } => {
+            *size = 0;
+            *left_out = count;
+            DONE
+        }
+        Next::WrongByte => WRONG_BYTE,
     }
 }

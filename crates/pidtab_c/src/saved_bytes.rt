@@ -1,18 +1,19 @@
 //! A saved history as bytes in memory, for C: the head, and the entries behind it. docs/SAVED.md has the form.
 //!
-//! `sum` is the running checksum: the head's functions begin it, and each entry's goes on with it. No function changes
-//! anything unless it is `DONE`, but `size`. None of them needs a table or memory.
-ghost use Rattle.std.specs.Prelude.{◌≡◌, ◌≢◌, ◌<◌, ◌↔◌, ◌⊎◌, ◌++◌, ℕ, List, [], ◌∷◌, length, drop};
+//! `sum` is the running checksum: the head's functions begin it, and each entry's goes on with it. No function but the
+//! last changes anything unless it is `DONE`, but `size`. None of them needs a table or memory.
+ghost use Rattle.std.specs.Prelude.{◌≡◌, ◌≢◌, ◌<◌, ◌↔◌, ◌⊎◌, ◌++◌, ℕ, List, [], ◌∷◌, true, false, length, drop};
 ghost use Rattle.saved_form.specs.Crc.{crc64};
 ghost use Rattle.saved_form.specs.Form.{head_block, head_bytes, entry_blocks, entry_bytes, entry_size, sum_behind};
 ghost use Rattle.saved_form.specs.Places.{HeadFits, HasPlaces, FitsTypes};
 ghost use Rattle.saved_form.specs.Taking.{MayBegin, IsOtherVersion, BeginsHead, BeginsEntry};
 ghost use Rattle.saved_form.specs.Taking.{IsTorn, IsWrongAt, IsTaken};
+ghost use Rattle.saved_form.specs.Ends.{StaysOpen, EndsHere, IsWrongHere, IsPassed, IsTornEnd};
 ghost use Rattle.saved_form.specs.declared.numbers.Head.{Head};
 ghost use Rattle.saved_form.specs.declared.numbers.EntryNumbers.{EntryNumbers};
 ghost use Rattle.foreign_calls.specs.SavedBytes.{CanOpenBy};
 
-use foreign_calls::saved_bytes::{read_entry, read_head, write_entry, write_head};
+use foreign_calls::saved_bytes::{read_entry, read_head, read_next, write_entry, write_head};
 use foreign_calls::status::{
     DONE, NO_ROOM, NOT_SAVED, OTHER_VERSION, OUT_OF_RANGE, TORN, WRONG_BYTE,
 };
@@ -128,4 +129,39 @@ pub extern "C" fn pidtab_saved_take(
     ensures statuses { (result ≡ DONE) ⊎ ((result ≡ TORN) ⊎ (result ≡ WRONG_BYTE)) }
 {
     read_entry(bytes, entry, size, sum)
+}
+
+/// Reads on behind the last whole entry, in bytes that are given in pieces; `is_end` says that none follow. `sum` is as
+/// of the head or of the entry before. `left_out` is 0 at first, and is given back as it is: so many bytes behind the
+/// last whole entry are passed. Pieces may be cut anywhere; one of 192 bytes always leads on.
+///
+/// `DONE` with a `size` that is not 0: an entry, and its length. `DONE` with 0: the end, where `left_out` says how many
+/// bytes a torn end has. `TORN`: more bytes decide, and `size` is how many of these are passed: all, or none of them,
+/// and then they come again with more behind them. `WRONG_BYTE`.
+#[unsafe(no_mangle)]
+pub extern "C" fn pidtab_saved_next(
+    bytes: &[u8],
+    is_end: bool,
+    entry: &mut EntryNumbers,
+    size: &mut usize,
+    sum: &mut u64,
+    left_out: &mut u64,
+) -> u32
+    ensures entry { result ≡ DONE → 0 < size.new → (left_out.old ≡ 0) × (left_out.new ≡ 0)
+        × IsTaken sum.old bytes.now (record { entry = entry.new; size = size.new; sum = sum.new }) }
+    ensures read_back { (e : EntryNumbers) → left_out.old ≡ 0 → HasPlaces e → FitsTypes e
+        → BeginsEntry sum.old e bytes.now → (result ≡ DONE) × (0 < size.new) × (entry.new ≡ e) }
+    ensures no_entry { ((result ≢ DONE) ⊎ (size.new ≡ 0)) → (entry.new ≡ entry.old) × (sum.new ≡ sum.old) }
+    ensures end { result ≡ DONE → size.new ≡ 0
+        → (is_end ≡ true) × EndsHere sum.old left_out.old bytes.now left_out.new }
+    ensures torn { result ≡ TORN → (is_end ≡ false) × StaysOpen sum.old left_out.old bytes.now left_out.new }
+    ensures none_passed { result ≡ TORN → left_out.new ≡ 0 → size.new ≡ 0 }
+    ensures all_passed { result ≡ TORN → left_out.new ≢ 0 → size.new ≡ length bytes.now }
+    ensures wrong_byte { result ≡ WRONG_BYTE → IsWrongHere sum.old left_out.old bytes.now }
+    ensures nothing_passed { result ≡ WRONG_BYTE → (left_out.new ≡ left_out.old) × (size.new ≡ size.old) }
+    ensures torn_is_left_out { (before : List ℕ) → IsPassed sum.old left_out.old before
+        → IsTornEnd sum.old (before ++ bytes.now) → result ≢ WRONG_BYTE }
+    ensures statuses { (result ≡ DONE) ⊎ ((result ≡ TORN) ⊎ (result ≡ WRONG_BYTE)) }
+{
+    read_next(bytes, is_end, entry, size, sum, left_out)
 }

@@ -15,3 +15,4 @@ pub mod Right
 pub mod Tests
 pub mod Words
 pub mod Whole
+pub mod Ends

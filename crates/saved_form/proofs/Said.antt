@@ -29,9 +29,13 @@ pub said_levels : (bytes : List ℕ) → get_or bytes 3 0 ≡ 3 → get_or bytes
 said_levels bytes is few =
     by_count bytes is ∙ ap (λ b. if b then 0 else 1 + further (get_or bytes 3 0) (get_or bytes 6 0)) (le-ltb 33 (get_or bytes 6 0) few)
 
+pub said_none : (bytes : List ℕ) → get_or bytes 3 0 ≡ 3 → 33 < get_or bytes 6 0 → blocks_said bytes ≡ 0
+said_none bytes is many =
+    by_count bytes is ∙ ap (λ b. if b then 0 else 1 + further (get_or bytes 3 0) (get_or bytes 6 0)) (lt-ltb 33 (get_or bytes 6 0) many)
+
 pub said_few : (bytes : List ℕ) → get_or bytes 3 0 ≡ 3 → 0 < blocks_said bytes → get_or bytes 6 0 ≤ 33
 said_few bytes is some =
     elim (cases_lt 33 (get_or bytes 6 0)) [
-      | inl many ↦ absurd (omega (arith, some, by_count bytes is ∙ ap (λ b. if b then 0 else 1 + further (get_or bytes 3 0) (get_or bytes 6 0)) (lt-ltb 33 (get_or bytes 6 0) many)))
+      | inl many ↦ absurd (omega (arith, some, said_none bytes is many))
       | inr few ↦ few
     ]

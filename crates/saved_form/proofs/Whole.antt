@@ -27,7 +27,7 @@ bodies_sealed sum (block ∷ blocks) rest long =
     sym (drop-drop 8 40 bytes) ∙ ap (drop 8) (ap (drop 40) shape ∙ drop_at block (next ++ (more ++ rest)) 40 long.0) in
     (λ i. first i ∷ (ap (bodies (length blocks)) behind ∙ bodies_sealed (crc64 sum block) blocks rest long.1) i)
 
-further_few : (kind count : ℕ) → count ≤ 33 → further kind count ≤ 3
+pub further_few : (kind count : ℕ) → count ≤ 33 → further kind count ≤ 3
 further_few kind count few = elim (kind == 3) as (λ b. (if b then (count + 5) / 10 else 0) ≤ 3) [ true ↦ omega arith | false ↦ omega arith ]
 
 entry_long : (e : EntryNumbers) → HasPlaces e → FitsTypes e → AreLong (entry_blocks e)

@@ -2,9 +2,8 @@
 //! up to there.
 //!
 //! `docs/SAVED.md` has the form. What is written is read back, a torn piece is told from a wrong one, and what is read
-//! is what is written of it. A reader of a piece does not see what is behind it: that zeroes at the end of a file are a
-//! torn end is known to whoever reads the file. Numbers that this release has no call or reply for are bytes all the
-//! same.
+//! is what is written of it. Who reads on to the end may give the bytes in pieces. Numbers that this release has no
+//! call or reply for are bytes all the same.
 #![tactic(auto)]
 
 mod block;
@@ -12,6 +11,7 @@ pub mod crc;
 pub mod entry;
 pub mod head;
 mod layout;
+pub mod next;
 pub mod numbers;
 mod read;
 pub mod take;
