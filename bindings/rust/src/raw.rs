@@ -748,6 +748,14 @@ pub(crate) fn take_head(bytes: &[u8], size: &mut usize, sum: &mut u64) -> Result
     done(status, head)
 }
 
+/// Reads an entry of a saved history from the front of the bytes, with the place for its size, or for that of its first wrong block.
+pub(crate) fn take_entry(bytes: &[u8], size: &mut usize, sum: &mut u64) -> Result<Entry, u32> {
+    let (at, length, mut entry) = (bytes.as_ptr().cast(), bytes.len(), Entry::blank());
+    // SAFETY: as above.
+    let status = unsafe { pidtab_saved_take(at, length, &mut entry, size, sum) };
+    done(status, entry)
+}
+
 /// Reads on behind the last whole entry of a saved history. Where it is done, a size of 0 is the end, where so many bytes are left out.
 pub(crate) fn next_entry(
     bytes: &[u8],
