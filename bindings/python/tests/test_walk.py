@@ -64,6 +64,10 @@ class Walk(unittest.TestCase):
         status, said = self.say(RUNS.format("`main` `run`"), ADDS.format("`add`"), words=())
         self.assertEqual((status, said.splitlines()[0]), (0, "fork 1 new: 3 functions of 2 crates"))
 
+    def test_what_only_forwards_is_named(self):
+        status, said = self.say(RUNS.format("`main` `run`"), ADDS.format("`add`"), words=())
+        self.assertEqual((status, said.splitlines()[1:4]), (0, ["of these, only forward: 2", "  top/src/main.rt: main", "  top/src/main.rt: run"]))
+
     def test_a_function_that_is_not_there(self):
         status, said = self.say(RUNS.format("`main` `run` `runs`"))
         self.assertEqual((status, said), (1, "docs/ARCHITECTURE.md: the walk names `runs`, which is not in crates/top/src/main.rt\n"))
