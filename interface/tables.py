@@ -33,6 +33,9 @@ KINDS = {
     "release": r"\d+\.\d+\.\d+",
     "method or -": r"[A-Z]\w*((\.|::)\w+)?|-",
     "list": r"[a-z][a-z0-9-]*( \([^()]+\))?(, [a-z][a-z0-9-]*( \([^()]+\))?)*",
+    "form": r"list|text",
+    "letters or -": r"[A-Z]+|1|-",
+    "field type": r"numbers|number|id|count|root|limit|state|mark|apart|name|first|version|digest",
 }
 
 # The columns of each table with the kinds of their cells.
@@ -51,6 +54,9 @@ COLUMNS = {
     },
     "lines": {"calls": "lines", "asks": "sentence", "answer": "sentence", "manual": "sentences"},
     "results": {"status": "capitals", "functions": "functions or -", "sentence": "sentences"},
+    "list": {
+        "of": "form", "line": "word", "field": "word", "letter": "letters or -", "type": "field type", "none": "sentence or -", "since": "release", "sentence": "sentence",
+    },
     "calls": {
         "number": "number", "call": "word", "model": "name", "query": "yes or no", "memory": "yes or no", "makes": "made", "arguments": "arguments",
         "tells": "statuses or -", "takes": "sentence", "refusals": "list", "page": "sentence or -", "sentence": "sentence",
@@ -61,7 +67,7 @@ COLUMNS = {
 UNIQUE = {
     "errnos": ("name", "value"), "refusals": ("number", "word"), "calls": ("number", "call", "model"), "statuses": ("name", "error", "sentence"),
     "faults": ("number", "name", "rust", "words"), "kinds": ("name",), "bounds": ("name", "sentence"),
-    "functions": ("functions", "sentence"), "lines": ("calls", "asks", "manual"), "results": ("sentence",),
+    "functions": ("functions", "sentence"), "lines": ("calls", "asks", "manual"), "results": ("sentence",), "list": (),
 }  # fmt: skip
 FIRST = {"refusals": 1, "calls": 0, "faults": 1, "kinds": 0}
 

@@ -19,13 +19,13 @@ static const struct named errnos[] = {
 	{ ESRCH, "ESRCH" },
 	{ ECHILD, "ECHILD" },
 	{ EAGAIN, "EAGAIN" },
-	{ EPERM, "EPERM" },
-	{ EACCES, "EACCES" },
-	{ ENOENT, "ENOENT" },
 	{ ENOMEM, "ENOMEM" },
 	{ ENOSPC, "ENOSPC" },
-	{ EINVAL, "EINVAL" },
+	{ EPERM, "EPERM" },
+	{ EACCES, "EACCES" },
 	{ EBUSY, "EBUSY" },
+	{ ENOENT, "ENOENT" },
+	{ EINVAL, "EINVAL" },
 	{ 0, NULL }
 };
 

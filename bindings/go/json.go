@@ -15,13 +15,13 @@ var errnoNames = map[syscall.Errno]string{
 	syscall.ESRCH:  "ESRCH",
 	syscall.ECHILD: "ECHILD",
 	syscall.EAGAIN: "EAGAIN",
-	syscall.EPERM:  "EPERM",
-	syscall.EACCES: "EACCES",
-	syscall.ENOENT: "ENOENT",
 	syscall.ENOMEM: "ENOMEM",
 	syscall.ENOSPC: "ENOSPC",
-	syscall.EINVAL: "EINVAL",
+	syscall.EPERM:  "EPERM",
+	syscall.EACCES: "EACCES",
 	syscall.EBUSY:  "EBUSY",
+	syscall.ENOENT: "ENOENT",
+	syscall.EINVAL: "EINVAL",
 }
 
 // The end of errnos.

@@ -8,9 +8,11 @@ import (
 	"strings"
 )
 
+// Written by tools/interface: struct of a task.
+
 // Task is a task of a list.
 type Task struct {
-	Numbers   []uint32 // that of the root namespace first
+	Numbers   []uint32 // its numbers, that of the root namespace first
 	Space     uint64   // the id of its namespace
 	Parent    uint32   // the root number of its parent, 0 for none
 	Group     uint32   // the root number of its process group
@@ -20,29 +22,39 @@ type Task struct {
 	Killed    bool     // it ended by the fall of its namespace
 	Status    uint8    // of its exit, where it ended by one
 	Executed  bool     // it has executed
-	Children  *uint64  // the id of the namespace that its children go into, nil where that is its own
+	Children  *uint64  // the id of the namespace that its children go into, nil for its own
 	Subreaper bool     // it takes orphans of its namespace
 	Label     string   // a name from outside of the table, empty for none: WithLabels gives it
 }
 
+// The end of struct of a task.
+
 // Root is the task's number in the root namespace, by which it is named as a caller.
 func (task Task) Root() uint32 { return task.Numbers[0] }
 
+// Written by tools/interface: struct of a namespace.
+
 // Space is a namespace of a list.
 type Space struct {
-	ID     uint64  `json:"id"`     // 0 for the root, or the number of the call that made it
+	ID     uint64  `json:"id"`     // its id: 0 for the root, or the number of the call that made it
 	Parent *uint64 `json:"parent"` // the id of the namespace around it, nil for the root
 	Cursor uint32  `json:"cursor"` // where the search for its next number begins
 	Fallen bool    `json:"fallen"` // its init has ended
 }
 
+// The end of struct of a namespace.
+
+// Written by tools/interface: struct of a control group.
+
 // Control is a control group of a list.
 type Control struct {
-	ID     uint64  `json:"id"`     // 0 for the root, or the number of the call that made it
+	ID     uint64  `json:"id"`     // its id: 0 for the root, or the number of the call that made it
 	Parent *uint64 `json:"parent"` // the id of the control group above it, nil for the root
 	Limit  *uint32 `json:"limit"`  // how many tasks it may have, nil for no limit
 	Count  uint64  `json:"count"`  // how many tasks it and those below it have
 }
+
+// The end of struct of a control group.
 
 // Listing is all that stands in a table: tasks by root number, namespaces and control groups by id.
 type Listing struct {
@@ -50,6 +62,8 @@ type Listing struct {
 	Spaces   []Space
 	Controls []Control
 }
+
+// Written by tools/interface: object of a task.
 
 // A taskObject is a task as docs/list.schema.json has it.
 type taskObject struct {
@@ -66,6 +80,8 @@ type taskObject struct {
 	Subreaper bool     `json:"subreaper"`
 	Label     string   `json:"label,omitempty"`
 }
+
+// The end of object of a task.
 
 // MarshalJSON is the task as docs/list.schema.json has it.
 func (task Task) MarshalJSON() ([]byte, error) {
@@ -113,12 +129,16 @@ func (bad BadList) Error() string {
 	return fmt.Sprintf("pidtab: line %d: %s", bad.Line, bad.Why)
 }
 
+// Written by tools/interface: forms.
+
 var (
 	taskLine = regexp.MustCompile(`^task (\d+(?:,\d+)*) space (\d+) parent (\d+) group (\d+) session (\d+) control (\d+)` +
 		` (live|killed|exit (\d+))( executed)?(?: children (\d+))?( subreaper)?$`)
 	spaceLine   = regexp.MustCompile(`^space (\d+) parent (-|\d+) cursor (\d+)( fallen)?$`)
 	controlLine = regexp.MustCompile(`^control (\d+) parent (-|\d+) limit (max|\d+) count (\d+)$`)
 )
+
+// The end of forms.
 
 // ReadList is what the text of a list says, as Table.List or `pidtab list` writes it; a BadList where it is none.
 func ReadList(text string) (Listing, error) {
@@ -147,13 +167,11 @@ func (listing *Listing) add(line string) bool {
 		return !read.failed
 	}
 	if found := spaceLine.FindStringSubmatch(line); found != nil {
-		space := Space{ID: read.number(found[1], 64), Parent: read.id(found[2], "-"), Cursor: uint32(read.number(found[3], 32)), Fallen: found[4] != ""}
-		listing.Spaces = append(listing.Spaces, space)
+		listing.Spaces = append(listing.Spaces, read.space(found))
 		return !read.failed
 	}
 	if found := controlLine.FindStringSubmatch(line); found != nil {
-		control := Control{ID: read.number(found[1], 64), Parent: read.id(found[2], "-"), Limit: read.limit(found[3]), Count: read.number(found[4], 64)}
-		listing.Controls = append(listing.Controls, control)
+		listing.Controls = append(listing.Controls, read.control(found))
 		return !read.failed
 	}
 	return false
@@ -185,13 +203,27 @@ func (read *reader) limit(word string) *uint32 {
 	return &number
 }
 
-func (read *reader) task(found []string) Task {
+func (read *reader) numbers(word string) []uint32 {
 	var numbers []uint32
-	for _, word := range strings.Split(found[1], ",") {
-		numbers = append(numbers, uint32(read.number(word, 32)))
+	for _, it := range strings.Split(word, ",") {
+		numbers = append(numbers, uint32(read.number(it, 32)))
 	}
-	task := Task{
-		Numbers:   numbers,
+	return numbers
+}
+
+// status is that of an exit, 0 where there was none.
+func (read *reader) status(word string) uint8 {
+	if word == "" {
+		return 0
+	}
+	return uint8(read.number(word, 8))
+}
+
+// Written by tools/interface: readers.
+
+func (read *reader) task(found []string) Task {
+	return Task{
+		Numbers:   read.numbers(found[1]),
 		Space:     read.number(found[2], 64),
 		Parent:    uint32(read.number(found[3], 32)),
 		Group:     uint32(read.number(found[4], 32)),
@@ -199,12 +231,29 @@ func (read *reader) task(found []string) Task {
 		Control:   read.number(found[6], 64),
 		Live:      found[7] == "live",
 		Killed:    found[7] == "killed",
+		Status:    read.status(found[8]),
 		Executed:  found[9] != "",
 		Children:  read.id(found[10], ""),
 		Subreaper: found[11] != "",
 	}
-	if found[8] != "" {
-		task.Status = uint8(read.number(found[8], 8))
-	}
-	return task
 }
+
+func (read *reader) space(found []string) Space {
+	return Space{
+		ID:     read.number(found[1], 64),
+		Parent: read.id(found[2], "-"),
+		Cursor: uint32(read.number(found[3], 32)),
+		Fallen: found[4] != "",
+	}
+}
+
+func (read *reader) control(found []string) Control {
+	return Control{
+		ID:     read.number(found[1], 64),
+		Parent: read.id(found[2], "-"),
+		Limit:  read.limit(found[3]),
+		Count:  read.number(found[4], 64),
+	}
+}
+
+// The end of readers.

@@ -61,38 +61,64 @@ export interface Stat {
 
 /** A task of the list: its numbers, the root's first, and root numbers of parent (0 for none), group and session. */
 export interface Task {
+  // Written by tools/interface: fields of task.
+  /** Its numbers, that of the root namespace first. */
   numbers: number[];
-  root: number;
+  /** The id of its namespace. */
   space: bigint;
+  /** The root number of its parent, 0 for none. */
   parent: number;
+  /** The root number of its process group. */
   group: number;
+  /** The root number of its session. */
   session: number;
+  /** The id of its control group. */
   control: bigint;
+  /** Whether it lives. */
   live: boolean;
+  /** That of its exit, null where there was none. */
   status: number | null;
-  killed: boolean;
+  /** Whether it has executed. */
   executed: boolean;
-  /** The namespace of its children, where that is not its own. */
+  /** The id of the namespace that its children go into, null for its own. */
   children: bigint | null;
+  /** Whether it takes orphans of its namespace. */
   subreaper: boolean;
+  // The end of fields of task.
+  /** Its number in the root namespace. */
+  root: number;
+  /** Whether the fall of its namespace ended it. */
+  killed: boolean;
   /** A name from outside of the table, which `label` gives. */
   label?: string;
 }
 
 /** A namespace; the root has no parent. */
 export interface Space {
+  // Written by tools/interface: fields of space.
+  /** Its id: 0 for the root, or the number of the call that made it. */
   id: bigint;
+  /** The id of the namespace around it, null for the root. */
   parent: bigint | null;
+  /** Where the search for its next number begins. */
   cursor: number;
+  /** Whether its init has ended. */
   fallen: boolean;
+  // The end of fields of space.
 }
 
 /** A control group with the count of its subtree; a limit of null is `max`. */
 export interface Control {
+  // Written by tools/interface: fields of control.
+  /** Its id: 0 for the root, or the number of the call that made it. */
   id: bigint;
+  /** The id of the control group above it, null for the root. */
   parent: bigint | null;
+  /** How many tasks it may have, null for no limit. */
   limit: number | null;
+  /** How many tasks it and those below it have. */
   count: number;
+  // The end of fields of control.
 }
 
 /** All that stands in a table. */

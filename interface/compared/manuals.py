@@ -1,18 +1,14 @@
-"""The statuses in the manual page of saved histories, each with its errno."""
+"""That each function on a record, or on a shared table, has a section of the manual pages, and each section is of one."""
 
-from compared.sources import Source
+from written import sections
+from written.synopsis import functions_of
 
-PATHS = ("man/pidtab_saved.3",)
+PATHS = ()
 
 
-def differences(tables, top):
-    """What differs, as sentences with file and line."""
-    known = {(it.name, it.error) for it in tables["statuses"]}
-    faults = []
-    for path in PATHS:
-        source = Source(top, path)
-        for line, told in source.found(r"^\.It Dv PIDTAB_(\w+)\n\.Er (\w+) :$"):
-            if told not in known:
-                source.say(line, f"the status {' '.join(told)} is not in interface/")
-        faults += source.faults
-    return faults
+def differences(tables, _top):
+    """What differs, as sentences."""
+    wanted = {it.name.partition("_")[2] for path in sections.PAGES for it in functions_of(tables, path)} | {sections.LEFT}
+    known = sections.read_sections(tables)
+    faults = [f"{sections.TEXT}: there is no section `== {name}`" for name in sorted(wanted) if name not in known]
+    return faults + [f"{sections.TEXT}: the section `== {name}` is of no function" for name in known if name not in wanted]

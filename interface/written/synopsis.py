@@ -63,10 +63,11 @@ def said(sentences):
     """Sentences in mdoc, each on a line of its own, with its macros."""
     lines = []
     for sentence in re.split(r"(?<=\.) ", sentences):
-        for part in re.split(r"\s*((?:\{\w+\}|PIDTAB_\w+),?)\s*", sentence.replace(" - ", r" \- ")):
-            macro = re.fullmatch(r"(?:\{(\w+)\}|(PIDTAB_\w+))(,?)", part)
+        for part in re.split(r"\s*((?:\{\w+\}|\[\w+\]|PIDTAB_\w+)[,.]?)\s*", sentence.replace(" - ", r" \- ")):
+            macro = re.fullmatch(r"(?:\{(\w+)\}|\[(\w+)\]|(PIDTAB_\w+))([,.]?)", part)
             if macro:
-                lines.append(f".{'Fa' if macro[1] else 'Dv'} {macro[1] or macro[2]}{' ,' if macro[3] else ''}")
+                argument, field, name, end = macro.groups()
+                lines.append(f".{'Fa' if argument else 'Va' if field else 'Dv'} {argument or field or name}{end and ' ' + end}")
             elif part:
                 lines += textwrap.wrap(part, 80, break_on_hyphens=False)
     return lines
@@ -81,8 +82,9 @@ def sentence_of(tables, status, name):
 def statuses(tables, function):
     """The statuses of a function, in the order in which they are looked for. A shared table waits where a record is busy."""
     row = next(it for it in tables["functions"] if function in words_of(it.functions))
-    owner, _, name = function.partition("_")
-    waits = owner == "shared" and f"record_{name}" in words_of(row.functions)
+    owner, _, ending = function.partition("_")
+    name = function if owner == "saved" else ending
+    waits = owner == "shared" and f"record_{ending}" in words_of(row.functions)
     found = [it for it in words_of(row.statuses) if not (waits and it == "BUSY")]
     lines = [".Bl -tag -width PIDTAB_OUT_OF_RANGE -compact"]
     for status in found:
@@ -90,14 +92,18 @@ def statuses(tables, function):
     return [*lines, ".El"]
 
 
+# Whose statuses a page has together, and what it calls a table.
+OWNERS = {"man/pidtab.3": (("table",), "table"), "man/pidtab_record.3": (("table", "record"), "record"), "man/pidtab_saved.3": (("saved",), "record")}
+
+
 def errors(tables, path):
-    """All statuses of a page, each with its error. A record has those of a table too."""
-    held = "record" if path == "man/pidtab_record.3" else "table"
+    """All statuses of a page, each with its error. A record has those of a table too, and a saved history only its own."""
+    owners, held = OWNERS[path]
     lines = [".Bl -tag -width Ds"]
     for it in tables["statuses"]:
-        if it.of in ("table", held):
+        if it.of in owners or it.error == "-":
             text = (it.sentence if it.when == "-" else it.when).replace("the table", f"the {held}").replace("open table", f"open {held}")
-            told = re.sub(r"\b(size|pid_max)\b,?", lambda found: f"{{{found[1]}}}{found[0][len(found[1]):]}", text)
+            told = re.sub(r"\b(size|pid_max)\b,?", lambda found: f"{{{found[1]}}}{found[0][len(found[1]):]}", re.sub(r"`(\w+)`", r"[\1]", text))
             lines += [f".It Dv PIDTAB_{it.name}", *(["0."] if it.error == "-" else [f".Er {it.error} :", *said(f"{told}.")])]
     return [*lines, ".El"]
 
@@ -111,13 +117,10 @@ def parts_of(tables):
     """All parts, by their page and their name."""
     parts = {("man/pidtab.3", "prototypes"): prototypes}
     parts |= {("man/pidtab.3", f"struct {name}"): part(struct, f"pidtab_{name}") for name in ("call", "reply", "task")}
-    parts |= {("man/pidtab_record.3", "struct entry"): part(struct, "pidtab_entry")}
     parts |= {("man/pidtab_saved.3", "struct saved_head"): part(struct, "pidtab_saved_head")}
-    parts |= {(path, "statuses"): part(errors, path) for path in ("man/pidtab.3", "man/pidtab_record.3")}
+    parts |= {(path, "statuses"): part(errors, path) for path in OWNERS}
     for path in PAGES:
         parts |= {(path, "names"): part(names, path), (path, "synopsis"): part(synopsis, path)}
-        for it in functions_of(tables, path) if PAGES[path][1] else ():
-            rows = [row for row in tables["functions"] if it.name in words_of(row.functions) and row.statuses != "-"]
-            if it.result == "uint32_t" and rows:
-                parts[path, f"statuses of {it.name}"] = part(statuses, it.name)
-    return parts
+    known = {name: it.statuses for it in tables["functions"] for name in words_of(it.functions)}
+    of_saved = [it.name for it in functions_of(tables, "man/pidtab_saved.3") if known.get(it.name, "-") != "-" and not it.name.endswith("_shared")]
+    return parts | {("man/pidtab_saved.3", f"statuses of {name}"): part(statuses, name) for name in of_saved}

@@ -5,6 +5,16 @@ from harness.world import Refused, Task, World
 
 UNSEEN = "?"
 
+# The lines, with a place for each field.
+# Written by tools/interface: lines.
+TASK = (
+    "task {numbers} space {space} parent {parent} group {group} session {session} control {control} "
+    "{state}{executed}{children}{subreaper}"
+)
+SPACE = "space {id} parent {parent} cursor {cursor}{fallen}"
+CONTROL = "control {id} parent {parent} limit {limit} count {count}"
+# The end of lines.
+
 
 def end_of(stat: Stat) -> str:
     """How a process stands: `live`, `exit S` or `killed`."""
@@ -41,12 +51,17 @@ def task_line(world: World, stat: Stat) -> str:
     """The line of a task."""
     task = world.tasks[stat.number]
     assert world.proc
-    numbers = ",".join(str(number) for number in world.proc.numbers(stat.number))
-    executed = "" if stat.flags & NOT_EXECUTED else " executed"
-    return (
-        f"task {numbers} space {task.space} parent {stat.parent} group {stat.group} session {stat.session} "
-        f"control {home_of(world, task, stat)} {end_of(stat)}{executed}{children_of(world, task, stat)}"
-        f"{subreaper_of(world, task, stat)}"
+    return TASK.format(
+        numbers=",".join(str(number) for number in world.proc.numbers(stat.number)),
+        space=task.space,
+        parent=stat.parent,
+        group=stat.group,
+        session=stat.session,
+        control=home_of(world, task, stat),
+        state=end_of(stat),
+        executed="" if stat.flags & NOT_EXECUTED else " executed",
+        children=children_of(world, task, stat),
+        subreaper=subreaper_of(world, task, stat),
     )
 
 
@@ -64,7 +79,7 @@ def space_lines(world: World) -> list[str]:
     for id, space in world.spaces.items():
         if world.is_live(space.init) and world.tasks[space.init].space == id:
             parent = "-" if space.parent is None else space.parent
-            lines.append(f"space {id} parent {parent} cursor {cursor_of(world, space.init)}")
+            lines.append(SPACE.format(id=id, parent=parent, cursor=cursor_of(world, space.init), fallen=""))
     return lines
 
 
@@ -72,12 +87,11 @@ def control_lines(world: World) -> list[str]:
     """The lines of the control groups."""
     if world.groups is None:
         return []
-    groups = world.groups
-    return [
-        f"control {id} parent {'-' if groups.parents[id] is None else groups.parents[id]} "
-        f"limit {groups.limit(id)} count {groups.count(id)}"
-        for id in sorted(groups.folders)
-    ]
+    groups, lines = world.groups, []
+    for id in sorted(groups.folders):
+        parent = "-" if groups.parents[id] is None else groups.parents[id]
+        lines.append(CONTROL.format(id=id, parent=parent, limit=groups.limit(id), count=groups.count(id)))
+    return lines
 
 
 def kernel_list(world: World) -> list[str]:

@@ -1,63 +1,55 @@
 // The list of a table, as `pidtab list` writes it (docs/SCRIPT.md, "The list").
 
-const TASK_ROW = new RegExp(
-  "^task (?<numbers>\\d+(?:,\\d+)*) space (?<space>\\d+) parent (?<parent>\\d+) group (?<group>\\d+) session (?<session>\\d+)" +
-    " control (?<control>\\d+) (?<life>live|killed|exit (?<status>\\d+))" +
-    "(?<executed> executed)?(?: children (?<children>\\d+))?(?<subreaper> subreaper)?$",
-);
-const SPACE_ROW = /^space (?<id>\d+) parent (?<parent>-|\d+) cursor (?<cursor>\d+)(?<fallen> fallen)?$/;
-const CONTROL_ROW = /^control (?<id>\d+) parent (?<parent>-|\d+) limit (?<limit>max|\d+) count (?<count>\d+)$/;
+// The fields of each line in their order, each with its type. The first stands behind the word of its line, and others behind their names.
+// Written by tools/interface: fields.
+const FIELDS = {
+  task: { numbers: "numbers", space: "id", parent: "number", group: "number", session: "number", control: "id", live: "state", status: "status", executed: "mark", children: "apart", subreaper: "mark" },
+  space: { id: "id", parent: "root", cursor: "number", fallen: "mark" },
+  control: { id: "id", parent: "root", limit: "limit", count: "count" },
+};
+// The end of fields.
 
-/** The id that the word is, but null for the one that stands for none. */
-function idUnless(word, none) {
-  return word === undefined || word === none ? null : BigInt(word);
-}
-
-function readTask(line) {
-  const found = TASK_ROW.exec(line)?.groups;
-  if (!found) return null;
-  const numbers = found.numbers.split(",").map(Number);
-  return {
-    numbers,
-    root: numbers[0],
-    space: BigInt(found.space),
-    parent: Number(found.parent),
-    group: Number(found.group),
-    session: Number(found.session),
-    control: BigInt(found.control),
-    live: found.life === "live",
-    status: found.status === undefined ? null : Number(found.status),
-    killed: found.life === "killed",
-    executed: found.executed !== undefined,
-    children: idUnless(found.children),
-    subreaper: found.subreaper !== undefined,
-  };
-}
-
-function readSpace(line) {
-  const found = SPACE_ROW.exec(line)?.groups;
-  if (!found) return null;
-  return { id: BigInt(found.id), parent: idUnless(found.parent, "-"), cursor: Number(found.cursor), fallen: found.fallen !== undefined };
-}
-
-function readControl(line) {
-  const found = CONTROL_ROW.exec(line)?.groups;
-  if (!found) return null;
-  const limit = found.limit === "max" ? null : Number(found.limit);
-  return { id: BigInt(found.id), parent: idUnless(found.parent, "-"), limit, count: Number(found.count) };
-}
-
-/** Whether numbers have so many bits. */
-const fit = (bits, ...numbers) => numbers.every((it) => it === null || it < 2 ** bits);
-
-// Whether each number of a row is one that a list may have.
-const IN_RANGE = {
-  tasks: (it) => fit(32, ...it.numbers, it.parent, it.group, it.session) && fit(64, it.space, it.control, it.children) && fit(8, it.status),
-  spaces: (it) => fit(64, it.id, it.parent) && fit(32, it.cursor),
-  controls: (it) => fit(64, it.id, it.parent, it.count) && fit(32, it.limit),
+// How a field of each type is written, behind its word.
+const WRITTEN = {
+  numbers: (word, name) => `${word} (?<${name}>\\d+(?:,\\d+)*)`,
+  number: (word, name) => `${word} (?<${name}>\\d+)`,
+  root: (word, name) => `${word} (?<${name}>-|\\d+)`,
+  limit: (word, name) => `${word} (?<${name}>max|\\d+)`,
+  state: (word, name) => ` (?:(?<${name}>live)|killed|`,
+  status: (word, name) => `exit (?<${name}>\\d+))`,
+  mark: (word, name) => `(?<${name}>${word})?`,
+  apart: (word, name) => `(?:${word} (?<${name}>\\d+))?`,
 };
 
-const READERS = Object.entries({ tasks: readTask, spaces: readSpace, controls: readControl });
+/** The lines of a kind. */
+function pattern(kind) {
+  const written = Object.entries(FIELDS[kind]).map(([name, type], place) => (WRITTEN[type] ?? WRITTEN.number)(place === 0 ? kind : ` ${name}`, name));
+  return new RegExp(`^${written.join("")}$`);
+}
+
+const LINES = new Map(Object.keys(FIELDS).map((kind) => [kind, pattern(kind)]));
+
+// How many bits a number has: 64, but those of these types. An id is a BigInt.
+const BITS = { numbers: 32, number: 32, limit: 32, status: 8 };
+const IDS = ["id", "root", "apart"];
+
+/** What the word says of a field of the type; an undefined one where a number is too great. */
+function valueOf(type, word) {
+  if (type === "mark" || type === "state") return word !== undefined;
+  if (word === undefined || word === "-" || word === "max") return null;
+  const numbers = word.split(",").map(IDS.includes(type) ? BigInt : Number);
+  if (numbers.some((it) => it >= 2 ** (BITS[type] ?? 64))) return undefined;
+  return type === "numbers" ? numbers : numbers[0];
+}
+
+/** What the line says of the kind; null where it is none of a list. */
+function readRow(kind, line) {
+  const found = LINES.get(kind)?.exec(line)?.groups;
+  if (!found) return null;
+  const row = Object.fromEntries(Object.entries(FIELDS[kind]).map(([name, type]) => [name, valueOf(type, found[name])]));
+  if (Object.values(row).includes(undefined)) return null;
+  return kind === "task" ? { ...row, root: row.numbers[0], killed: !row.live && row.status === null } : row;
+}
 
 /** What the text of a list says; an Error names the first line that is none of a list. */
 export function readListing(text) {
@@ -66,13 +58,10 @@ export function readListing(text) {
   if (lines.pop() !== "") throw new Error(`line ${lines.length + 1}: cut off, without a newline`);
   const listing = { tasks: [], spaces: [], controls: [] };
   for (const [place, line] of lines.entries()) {
-    const found = READERS.some(([kind, read]) => {
-      const row = read(line);
-      if (!row || !IN_RANGE[kind](row)) return false;
-      listing[kind].push(row);
-      return true;
-    });
-    if (!found) throw new Error(`line ${place + 1}: not a line of a list`);
+    const kind = line.split(" ", 1)[0];
+    const row = readRow(kind, line);
+    if (!row) throw new Error(`line ${place + 1}: not a line of a list`);
+    listing[`${kind}s`].push(row);
   }
   return listing;
 }

@@ -2,21 +2,59 @@
 
 import json
 import re
-from collections.abc import Mapping
+from collections.abc import Callable, Mapping
 from dataclasses import dataclass, field, replace
 from typing import Any
 
-TASK = re.compile(
-    r"task (?P<numbers>\d+(?:,\d+)*) space (?P<space>\d+) parent (?P<parent>\d+) group (?P<group>\d+)"
-    r" session (?P<session>\d+) control (?P<control>\d+) (?P<life>live|killed|exit (?P<status>\d+))"
-    r"(?P<executed> executed)?(?: children (?P<children>\d+))?(?P<subreaper> subreaper)?",
-    re.ASCII,
-)
-SPACE = re.compile(r"space (?P<id>\d+) parent (?P<parent>-|\d+) cursor (?P<cursor>\d+)(?P<fallen> fallen)?", re.ASCII)
-CONTROL = re.compile(
-    r"control (?P<id>\d+) parent (?P<parent>-|\d+) limit (?P<limit>max|\d+) count (?P<count>\d+)", re.ASCII
-)
+# The fields of each line in their order, each with its type. The first stands behind the word of its line, and others behind their names.
+# Written by tools/interface: fields.
+FIELDS: dict[str, dict[str, str]] = {
+    "task": {
+        "numbers": "numbers",
+        "space": "id",
+        "parent": "number",
+        "group": "number",
+        "session": "number",
+        "control": "id",
+        "live": "state",
+        "status": "status",
+        "executed": "mark",
+        "children": "apart",
+        "subreaper": "mark",
+    },
+    "space": {
+        "id": "id",
+        "parent": "root",
+        "cursor": "number",
+        "fallen": "mark",
+    },
+    "control": {
+        "id": "id",
+        "parent": "root",
+        "limit": "limit",
+        "count": "count",
+    },
+}
+# The end of fields.
 
+# How a field of each type is written behind its word.
+WRITTEN = {
+    "numbers": r"{word} (?P<{name}>\d+(?:,\d+)*)",
+    "number": r"{word} (?P<{name}>\d+)",
+    "id": r"{word} (?P<{name}>\d+)",
+    "count": r"{word} (?P<{name}>\d+)",
+    "root": r"{word} (?P<{name}>-|\d+)",
+    "limit": r"{word} (?P<{name}>max|\d+)",
+    "state": r" (?:(?P<{name}>live)|killed|",
+    "status": r"exit (?P<{name}>\d+))",
+    "mark": r"(?P<{name}>{word})?",
+    "apart": r"(?:{word} (?P<{name}>\d+))?",
+}
+
+# What is there or not; how many bits a number has; and the words that stand for none.
+MARKS = ("mark", "state")
+BITS = {"number": 32, "limit": 32, "status": 8} | dict.fromkeys(("id", "count", "root", "apart"), 64)
+NONE = {"root": "-", "limit": "max"}
 
 # The fields of a task in JSON, in their order.
 TASK_FIELDS = ("numbers", "space", "parent", "group", "session", "control", "state", "status", "executed", "children", "subreaper", "label", "key")
@@ -92,6 +130,7 @@ class Control:
 
 
 Item = Task | Space | Control
+KINDS: dict[str, Callable[..., Item]] = {"task": Task, "space": Space, "control": Control}
 
 
 @dataclass(frozen=True)
@@ -175,55 +214,39 @@ class Changes:
         return json.dumps(self.to_object(), separators=(",", ":"))
 
 
-def number_unless(word: str | None, none: str | None) -> int | None:
-    """The number that a word is, but None for the word that stands for none."""
-    return None if word is None or word == none else int(word)
+def pattern(kind: str) -> re.Pattern[str]:
+    """The lines of a kind."""
+    fields = enumerate(FIELDS[kind].items())
+    return re.compile("".join(WRITTEN[form].format(word=f" {name}" if place else kind, name=name) for place, (name, form) in fields), re.ASCII)
 
 
-def read_task(line: str) -> Task | None:
-    """The task of a line, where it is one."""
-    found = TASK.fullmatch(line)
+LINES = {kind: pattern(kind) for kind in FIELDS}
+
+
+def value_of(form: str, word: str | None) -> Any:
+    """What a word says of a field; OverflowError where it is too great."""
+    if form in MARKS:
+        return word is not None
+    if word is None or word == NONE.get(form):
+        return None
+    if form == "numbers":
+        return tuple(value_of("number", it) for it in word.split(","))
+    number = int(word)
+    if number >> BITS[form]:
+        raise OverflowError
+    return number
+
+
+def read_item(line: str) -> Item | None:
+    """What a line says; None where it is none of a list."""
+    kind = line.partition(" ")[0]
+    found = LINES[kind].fullmatch(line) if kind in LINES else None
     if found is None:
         return None
-    numbers = tuple(int(word) for word in found["numbers"].split(","))
-    space, parent, group, session, control = (int(found[it]) for it in ("space", "parent", "group", "session", "control"))
-    status = number_unless(found["status"], None)
-    executed, subreaper = found["executed"] is not None, found["subreaper"] is not None
-    children = number_unless(found["children"], None)
-    live = found["life"] == "live"
-    return Task(numbers, space, parent, group, session, control, live, status, executed, children, subreaper)
-
-
-def read_space(line: str) -> Space | None:
-    """The namespace of a line, where it is one."""
-    found = SPACE.fullmatch(line)
-    if found is None:
+    try:
+        return KINDS[kind](**{name: value_of(form, found[name]) for name, form in FIELDS[kind].items()})
+    except OverflowError:
         return None
-    parent = number_unless(found["parent"], "-")
-    return Space(int(found["id"]), parent, int(found["cursor"]), found["fallen"] is not None)
-
-
-def read_control(line: str) -> Control | None:
-    """The control group of a line, where it is one."""
-    found = CONTROL.fullmatch(line)
-    if found is None:
-        return None
-    parent, limit = number_unless(found["parent"], "-"), number_unless(found["limit"], "max")
-    return Control(int(found["id"]), parent, limit, int(found["count"]))
-
-
-def fit(bits: int, *numbers: int | None) -> bool:
-    """Whether numbers have so many bits."""
-    return all(number is None or number >> bits == 0 for number in numbers)
-
-
-def is_in_range(item: Item) -> bool:
-    """Whether each number is one that a list may have."""
-    if isinstance(item, Task):
-        return fit(32, *item.numbers, item.parent, item.group, item.session) and fit(64, item.space, item.control, item.children) and fit(8, item.status)
-    if isinstance(item, Space):
-        return fit(64, item.id, item.parent) and fit(32, item.cursor)
-    return fit(64, item.id, item.parent, item.count) and fit(32, item.limit)
 
 
 def read_list(text: str) -> Listing:
@@ -233,10 +256,10 @@ def read_list(text: str) -> Listing:
         raise BadList("line 1: no list")
     if lines.pop():
         raise BadList(f"line {len(lines) + 1}: cut off, without a newline")
-    read: list[Task | Space | Control] = []
+    read: list[Item] = []
     for place, line in enumerate(lines, start=1):
-        item = read_task(line) or read_space(line) or read_control(line)
-        if item is None or not is_in_range(item):
+        item = read_item(line)
+        if item is None:
             raise BadList(f"line {place}: not a line of `pidtab list`")
         read.append(item)
     return Listing(
@@ -246,23 +269,24 @@ def read_list(text: str) -> Listing:
     )
 
 
-def say_task(task: Task) -> str:
-    """The line of a task in a list."""
-    numbers = ",".join(str(number) for number in task.numbers)
-    life = f"exit {task.status}" if task.state == "exited" else task.state
-    marks = " executed" * task.executed + ("" if task.children is None else f" children {task.children}") + " subreaper" * task.subreaper
-    places = f"space {task.space} parent {task.parent} group {task.group} session {task.session} control {task.control}"
-    return f"task {numbers} {places} {life}{marks}"
+def say_field(item: Item, word: str, name: str, form: str) -> str:
+    """A field as its line has it, with its word."""
+    value = getattr(item, name)
+    if form == "mark":
+        return word * value
+    if form == "state":
+        return "" if not isinstance(item, Task) or item.state == "exited" else f" {item.state}"
+    if value is None and form not in NONE:
+        return ""
+    said = NONE[form] if value is None else ",".join(map(str, value)) if form == "numbers" else value
+    return f"{' exit' if form == 'status' else word} {said}"
 
 
 def say_item(item: Item) -> str:
     """The line of what stands in a list."""
-    if isinstance(item, Task):
-        return say_task(item)
-    parent = "-" if item.parent is None else item.parent
-    if isinstance(item, Space):
-        return f"space {item.id} parent {parent} cursor {item.cursor}{' fallen' * item.fallen}"
-    return f"control {item.id} parent {parent} limit {'max' if item.limit is None else item.limit} count {item.count}"
+    kind = type(item).__name__.lower()
+    fields = enumerate(FIELDS[kind].items())
+    return "".join(say_field(item, f" {name}" if place else kind, name, form) for place, (name, form) in fields)
 
 
 def write_list(listing: Listing) -> str:

@@ -30,14 +30,6 @@ COMPARED = sorted({path for module in TOOL.COMPARED for path in module.PATHS})
 
 # A source that is compared and not written: what is changed in it, and what is said of that.
 DIFFERENCES = [
-    ("crates/pid_types/src/refusal.rt", "Refusal::TooDeep => 7,", "Refusal::TooDeep => 8,", "the refusal TooDeep 8 is not in interface/"),
-    ("crates/pid_types/src/refusal.rt", 'Refusal::TooDeep => b"too-deep"', 'Refusal::TooDeep => b"deep"', "the refusal TooDeep deep is not in"),
-    ("crates/pid_types/src/refusal.rt", "Refusal::NoChild => Errno::Echild", "Refusal::NoChild => Errno::Esrch", "the refusal NoChild Esrch is not"),
-    ("crates/pid_types/src/refusal.rt", "Errno::Echild => 10,", "Errno::Echild => 11,", "the errno Echild 11 is not in"),
-    ("crates/pid_types/src/refusal.rt", 'Errno::Echild => b"ECHILD"', 'Errno::Echild => b"ECHILDREN"', "the errno Echild ECHILDREN is not in"),
-    ("crates/pid_types/src/refusal.rt", "            Refusal::BadLimit => 18,\n", "", "the refusal BadLimit 18 of interface/ is missing"),
-    ("crates/pid_types/specs/Refusals.antt", "refusal_entry TooDeep = record { number = 7;", "refusal_entry TooDeep = record { number = 6;", "TooDeep 6"),
-    ("crates/pid_types/specs/Refusals.antt", 'codes "EINVAL"; value = 22', 'codes "EINVAL"; value = 23', "Einval EINVAL 23"),
     ("crates/pid_types/src/reply.rt", "    SpaceFallen,\n    /// A namespace below one of level 32, the deepest.\n    TooDeep,",
      "    TooDeep,\n    /// A namespace below one of level 32, the deepest.\n    SpaceFallen,", "the order of refusals is NoCaller, "),
     ("crates/pid_types/src/reply.rt", "    BadLimit,\n", "    BadLimit(u64),\n", "what has an id is NoNumber, PidsLimit, BadLimit,"),
@@ -45,24 +37,18 @@ DIFFERENCES = [
     ("crates/model_laws/specs/Refusals.antt", "NoControl (λ c.\n    refuse (deepest_control", "ControlBusy (λ c.\n    refuse (deepest_control",
      "the order of MakeControl is control-busy, control-depth, and in interface/ no-control, control-depth"),
     ("crates/model_laws/specs/Refusals.antt", "× (p ≡ caller.name.space → ⊥)) Elsewhere", "× (p ≡ caller.name.space → ⊥)) TooDeep", "the order of Fork is"),
-    ("crates/model_laws/specs/Refusals.antt", "is_query (Count id) = true\n", "", "the query Count of interface/ is missing"),
-    ("crates/pid_types/specs/Step.antt", "may_grow (MakeControl parent) = true\n", "", "what may grow, MakeControl of interface/ is missing"),
-    ("crates/pid_types/specs/Step.antt", "makes_id (Fork caller new_space) = new_space", "makes_id (Fork caller new_space) = true", "what makes an id, Fork true is not"),
-    ("crates/pid_script/src/answer.rt", 'b"EBUSY root-init"', 'b"EPERM root-init"', "the answer RootInit EPERM root-init is not in"),
-    ("crates/foreign_calls/src/numbers.rt", "10 => Some(Call::RemoveControl", "11 => Some(Call::RemoveControl", "the operation 11 RemoveControl is not in"),
+    ("crates/pid_script/src/line.rt", "`wait C own`", "`wait C mine`", "the line wait C mine is not in interface/"),
+    ("crates/saved_form/src/numbers.rt", "| 14, 15 | `getpgid`, `getsid` |", "| 14, 15 | `getsid`, `getpgid` |", "the operation 14 getsid is not in interface/"),
+    ("crates/saved_form/src/numbers.rt", "pub const SET_PGID: u32 = 7;", "pub const SET_PGID: u32 = 8;", "the operation 8 is not in interface/"),
+    ("crates/saved_form/src/numbers.rt", "/// | 5 | `NoneYet`", "/// | 6 | `NoneYet`", "the kind 6 NoneYet is not in interface/"),
+    ("crates/saved_form/src/numbers.rt", "pub const LEVELS_KIND: u32 = 3;", "pub const LEVELS_KIND: u32 = 2;", "the kind 2 is not in interface/"),
     ("bindings/python/pidtab/calls.py", "    def list_text(self)", "    def text_of(self)", "the package for python has no Listed.list_text"),
     ("bindings/js/pidtab.d.ts", "  checkpointAt(seen", "  cutAt(seen", "the package for javascript has no Record.checkpointAt"),
-    ("crates/foreign_calls/src/status.rt", "pub const SPENT: u32 = 75;", "pub const SPENT: u32 = 76;", "the status SPENT 76 is not in interface/"),
-    ("crates/foreign_calls/src/status.rt", "/// `ENODATA`: the", "/// `ENOENT`: the", "the status ENOENT EMPTY_LINE is not in interface/"),
-    ("crates/foreign_calls/src/saved_table.rt", "RestoreFault::NoInit(line) => (line, 10)", "RestoreFault::NoInit(line) => (line, 11)", "the fault NoInit 11 is not"),
-    ("crates/foreign_calls/specs/Saved.antt", "(why.BadName n) = record { line = n; kind = 8 }", "(why.BadName n) = record { line = n; kind = 9 }", "BadName 9"),
     ("crates/table_load/src/fault.rt", "line {0}: out of order", "line {0}: unsorted", "the fault unsorted Unsorted is not in interface/"),
     ("crates/table_text/src/fault.rt", "line {0}: wrong digest", "line {0}: other digest", "the fault other digest WrongDigest is not in interface/"),
-    ("crates/foreign_calls/src/numbers.rt", "2 => Some(Which::OwnGroup)", "4 => Some(Which::OwnGroup)", "the choice 4 OwnGroup is not in interface/"),
-    ("crates/foreign_calls/src/numbers.rt", "2 => Some(Kind::Session)", "3 => Some(Kind::Session)", "the choice 3 Session is not in interface/"),
-    ("crates/foreign_calls/src/numbers.rt", "put_values(reply, 7, *id, 0)", "put_values(reply, 8, *id, 0)", "the kind Control 8 is not in interface/"),
-    ("crates/foreign_calls/src/numbers.rt", "put_values(reply, 9, first, 0)", "put_values(reply, 10, first, 0)", "the kind Refused 10 is not in interface/"),
-    ("crates/foreign_calls/src/numbers.rt", "put_values(reply, 4, u64::from(*child), 256)", "put_values(reply, 4, u64::from(*child), 257)", "the status 257"),
+    ("crates/foreign_calls/src/numbers.rt", "(reply, kinds::CONTROL, *id, 0)", "(reply, kinds::COUNTED, *id, 0)", "the kind Control COUNTED is not in interface/"),
+    ("crates/foreign_calls/src/numbers.rt", "(reply, kinds::REFUSED, first, 0)", "(reply, kinds::END, first, 0)", "the kind Refused END is not in interface/"),
+    ("crates/foreign_calls/src/kinds.rt", "pub const KILLED: u64 = 256;", "pub const KILLED: u64 = 257;", "the bound KILLED 257 is not in interface/"),
     ("crates/pid_types/src/reply.rt", "pub enum Reply {\n", "pub enum Reply {\n    /// Nothing.\n    Nothing,\n", "the order of replies is Nothing, Forked,"),
     ("crates/pid_types/src/plain.rt", "pub const LEVELS: usize = 33;", "pub const LEVELS: usize = 34;", "the bound LEVELS 34 is not in interface/"),
     ("crates/pid_types/src/config.rt", "pub const LEAST_PID_MAX: u32 = 301;", "pub const LEAST_PID_MAX: u32 = 300;", "the bound LEAST_PID_MAX 300 is not in"),
@@ -72,8 +58,6 @@ DIFFERENCES = [
     ("crates/pidtab_c/src/lib.rt", "pub const VERSION: u32 = 1;", "pub const VERSION: u32 = 2;", "the bound VERSION 2 is not in interface/"),
     ("crates/saved_form/src/block.rt", "pub const BLOCK: usize = 48;", "pub const BLOCK: usize = 49;", "the bound BLOCK 49 is not in interface/"),
     ("crates/saved_form/src/layout.rt", "pub const VERSION: u32 = 1;", "pub const VERSION: u32 = 2;", "the bound VERSION 2 is not in interface/"),
-    ("crates/foreign_calls/src/status.rt", "pub const TORN: u32 = 42;", "pub const TORN: u32 = 43;", "the status TORN 43 is not in interface/"),
-    ("man/pidtab_saved.3", ".Er EILSEQ :", ".Er EINVAL :", "the status WRONG_BYTE EINVAL is not in interface/"),
     ("bindings/c/pidtab.h", "uint32_t pidtab_version(void);", "uint32_t pidtab_versions(void);", "pidtab_versions is not in interface/functions.tbl"),
     ("bindings/c/pidtab_shared.h", "uint32_t pidtab_shared_ask(", "uint32_t pidtab_shared_query(", "pidtab_shared_query is not in interface/functions.tbl"),
     ("bindings/c/pidtab_saved.h", "void pidtab_saved_end(struct", "void pidtab_saved_stop(struct", "pidtab_saved_end is in no header"),
@@ -96,6 +80,9 @@ DIFFERENCES = [
     ("bindings/go/table.go", "func (table *Table) List()", "func (table *Table) Lists()", "the package for go has no Table.List"),
     ("bindings/go/values.go", "func (call Call) Line(", "func (call Call) Text(", "the package for go has no Call.Line"),
     ("docs/list.schema.json", '"is-leader", "no-group"', '"no-group", "is-leader"', "the words of refusals is"),
+    ("docs/list.schema.json", '"required": ["id", "parent", "cursor", "fallen"]', '"required": ["id", "parent", "cursor"]', "the fields of a space is id, parent, cursor, and in"),
+    ("docs/SCRIPT.md", "    space 2 parent 0 cursor 2 fallen\n", "    space 2 parent 0 fallen cursor 2\n", "the line is not one of interface/list.tbl"),
+    ("bindings/example.list", " limit 0 count 2", " count 2 limit 0", "the line is not one of interface/list.tbl"),
     ("docs/list.schema.json", '"EPERM", "EACCES"', '"EPERM", "EBADF"', "the errors of refusals is"),
 ]  # fmt: skip
 
@@ -127,13 +114,15 @@ FAULTS = [
     ("bounds", "pidtab_c/src/lib.rt VERSION", "pidtab_c/src/lib.rt       ", "source 'pidtab_c/src/lib.rt' is no constant or -"),
     ("bounds", "| size   | saved     | -                                          | the longest entry", "| sizes  | saved     | - | the longest entry", "type 'sizes' is no type"),
     ("functions", "saved_end                 ", "saved-end                 ", "functions 'saved-end' is no functions"),
-    ("functions", "saved_trim                                                        | 0.2.0", "saved_trim                                                        | 0.2", "since '0.2' is no release"),
+    ("functions", "saved_trim                                 | 0.2.0", "saved_trim                                 | 0.2", "since '0.2' is no release"),
     ("functions", "CLOSED, AGAIN, NO_MEMORY, DONE", "CLOSED, LATER, NO_MEMORY, DONE", "statuses 'LATER' is not in interface/statuses.tbl"),
-    ("results", "AGAIN        |", "LATER        |", "status 'LATER' is not in interface/statuses.tbl"),
+    ("results", "AGAIN         |", "LATER         |", "status 'LATER' is not in interface/statuses.tbl"),
     ("results", "by now.", "by now", "sentence 'More calls, or fewer, were recorded by now' is no sentences"),
     ("lines", "fork new ", "fork New ", "calls 'fork New' is no lines"),
     ("lines", "rm               |", "mk               |", "calls mk stands in line"),
-    ("errnos", "EBUSY           | 16", "EBUSY           | 13", "value 13 stands in line 12 already"),
+    ("list", "list | task    | executed  | -       | mark ", "list | task    | executed  | -       | marks", "type 'marks' is no field type"),
+    ("list", "text | end     | sha256 ", "file | end     | sha256 ", "of 'file' is no form"),
+    ("errnos", "EBUSY           | 16", "EBUSY           | 13", "value 13 stands in line 14 already"),
 ]
 
 
@@ -144,6 +133,7 @@ class Interface(unittest.TestCase):
         self.top = Path(tempfile.mkdtemp())
         self.addCleanup(shutil.rmtree, self.top)
         shutil.copytree(REPOSITORY / "interface", self.top / "interface")
+        shutil.copytree(REPOSITORY / "examples", self.top / "examples")
         for path in sorted({"tools/interface", *COMPARED, *(path for path, _ in PARTS)}):
             (self.top / path).parent.mkdir(parents=True, exist_ok=True)
             shutil.copy(REPOSITORY / path, self.top / path)
@@ -171,16 +161,18 @@ class Interface(unittest.TestCase):
         self.assertEqual((done.returncode, done.stdout + done.stderr), (0, b""))
 
     def test_a_difference_in_each_part(self):
+        files, wanted = {}, []
         for path, name in PARTS:
-            with self.subTest(path, part=name):
-                text = (self.top / path).read_text(encoding="utf-8")
-                lines = text.split("\n")
-                first, last = TOOL.place_of(path, lines, name)
-                place = first + 1 + (last - first - 1) // 2
-                self.restore(path, "\n".join([*lines[:place], lines[place] + "x", *lines[place + 1 :]]))
-                self.assertEqual(self.say(), (1, f"tools/interface: {path}:{place + 1}: {name} is not that of the tables: run tools/interface write\n"))
-                self.assertEqual(self.say("write"), (0, ""))
-                self.assertEqual((self.top / path).read_text(encoding="utf-8"), text)
+            text = files.setdefault(path, (self.top / path).read_text(encoding="utf-8"))
+            first, last = TOOL.place_of(path, text.split("\n"), name)
+            place = first + 1 + (last - first - 1) // 2
+            lines = (self.top / path).read_text(encoding="utf-8").split("\n")
+            self.restore(path, "\n".join([*lines[:place], lines[place] + "x", *lines[place + 1 :]]))
+            wanted.append(f"tools/interface: {path}:{place + 1}: {name} is not that of the tables: run tools/interface write")
+        status, said = self.say()
+        self.assertEqual((status, sorted(said.splitlines())), (1, sorted(wanted)))
+        self.assertEqual(self.say("write"), (0, ""))
+        self.assertEqual({path: (self.top / path).read_text(encoding="utf-8") for path in files}, files)
 
     def test_a_part_without_its_end(self):
         path, name = PARTS[0]
@@ -191,19 +183,36 @@ class Interface(unittest.TestCase):
 
     def test_a_difference_in_each_source_that_is_compared(self):
         self.assertEqual(sorted({path for path, *_ in DIFFERENCES}), COMPARED)
-        for path, old, new, wanted in DIFFERENCES:
-            with self.subTest(path, new=new):
-                text, _ = self.plant(path, old, new)
-                status, said = self.say()
+        # Each file has one difference at a time.
+        rounds = {}
+        for at, row in enumerate(DIFFERENCES):
+            rounds.setdefault([path for path, *_ in DIFFERENCES[:at]].count(row[0]), []).append(row)
+        for rows in rounds.values():
+            texts = {path: self.plant(path, old, new)[0] for path, old, new, _ in rows}
+            status, said = self.say()
+            for path, text in texts.items():
                 self.restore(path, text)
-                self.assertEqual(status, 1)
-                self.assertRegex(said, rf"(?m)^tools/interface: (?:{path}|interface/functions.tbl):\d+: ")
-                self.assertIn(wanted, said)
+            self.assertEqual(status, 1)
+            for path, _, new, wanted in rows:
+                with self.subTest(path, new=new):
+                    self.assertRegex(said, rf"(?m)^tools/interface: (?:{path}|interface/functions.tbl):\d+: ")
+                    self.assertIn(wanted, said)
 
     def test_the_line_of_a_difference(self):
-        path = "crates/pid_types/src/refusal.rt"
-        _, line = self.plant(path, "Refusal::TooDeep => 7,", "Refusal::TooDeep => 8,")
-        self.assertIn(f"tools/interface: {path}:{line}: the refusal TooDeep 8 is not in interface/\n", self.say()[1])
+        path = "crates/pidtab_c/src/lib.rt"
+        _, line = self.plant(path, "pub const VERSION: u32 = 1;", "pub const VERSION: u32 = 2;")
+        self.assertIn(f"tools/interface: {path}:{line}: the bound VERSION 2 is not in interface/\n", self.say()[1])
+
+    def test_rows_without_their_definition(self):
+        for path, old, new, wanted in (
+            ("crates/pid_types/specs/Step.antt", "pub may_grow : ", "pub can_grow : ", "a line `(?:abbrev|unfoldable) pub may_grow : ` is there 0 times, not once"),
+            ("crates/pid_script/src/call.rt", "    match *call {", "    match call {{", "no line `(?:let .* = )?match .* \\{` follows"),
+        ):
+            text, _ = self.plant(path, old, new)
+            status, said = self.say("write")
+            self.restore(path, text)
+            self.assertEqual(status, 1)
+            self.assertIn(wanted, said)
 
     def test_each_fault_of_a_table(self):
         for name, old, new, wanted in FAULTS:
@@ -241,6 +250,19 @@ class Interface(unittest.TestCase):
             self.restore(path, text)
             self.assertIn(f"tools/interface: {path}: {form!r} stands there {count} times, not once\n", said)
 
+    def test_a_section_of_a_manual_page(self):
+        path = "interface/record.mdoc"
+        self.plant(path, "== keep\n", "== keeps\n")
+        status, said = self.say()
+        self.assertEqual(status, 1)
+        self.assertIn(f"tools/interface: {path}: there is no section `== keep`\ntools/interface: {path}: the section `== keeps` is of no function\n", said)
+        self.assertIn("tools/interface: man/pidtab_record.3:", said)
+
+    def test_a_field_that_no_example_has(self):
+        path = "bindings/example.list"
+        self.plant(path, " cursor 3 fallen\n", " cursor 3\n")
+        self.assertEqual(self.say(), (1, f"tools/interface: {path}: no line has the field fallen of interface/list.tbl\n"))
+
     def test_since_when(self):
         rows = TOOL.read_tables(self.top / "interface")["functions"]
         first = {f"pidtab_{name}" for row in rows if row.since == "0.1.0" for name in row.functions.split(", ")}
@@ -249,7 +271,7 @@ class Interface(unittest.TestCase):
 
     def test_other_words(self):
         status, said = self.say("read")
-        self.assertEqual((status, said.split("\n")[0]), (2, "Writes what the packages, the headers and the pages have of interface/*.tbl."))
+        self.assertEqual((status, said.split("\n")[0]), (2, "Writes what the packages, the headers, the pages and the crates have of interface/*.tbl."))
 
 
 if __name__ == "__main__":

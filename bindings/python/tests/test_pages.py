@@ -47,6 +47,7 @@ EXAMPLES = [
 LIBRARY_PAGES = sorted(path.name for path in MANUAL.glob("*.3"))
 
 STATUSES = {"DONE", "NOT_KEPT", "CLOSED", "AGAIN", "NO_MEMORY", "BUSY", "OUT_OF_RANGE", "NO_ROOM", "EMPTY_LINE", "BAD_LINE", "DIFFERS", "SPENT", "BAD_TEXT"}
+STATUSES |= {"DEVICE", "NOT_SAVED", "NOT_EMPTY", "ENDED", "TORN", "WRONG_BYTE", "OTHER_VERSION"}
 
 # What the header says of these by the name of another.
 INNER = {"pidtab_record_close": "pidtab_close", "pidtab_record_list": "pidtab_list", "pidtab_record_opening": "pidtab_list"}
@@ -62,7 +63,8 @@ def statuses_of(name: str) -> set[str]:
     """The statuses that the header lists with a function, or with the one whose work it does."""
     if name in ("pidtab_shared_close", "pidtab_shared_lock", "pidtab_shared_unlock"):
         return set()
-    header = read_page("bindings/c/pidtab_shared.h" if name.startswith("pidtab_shared_") else "bindings/c/pidtab.h")
+    kind = re.match("pidtab(_shared|_saved)?", name)[0]
+    header = read_page(f"bindings/c/{kind}.h")
     before = header.partition(f"\nuint32_t {name}(")[0]
     words = re.findall(r"\b[A-Z_]{4,}\b", before[before.rindex("/*") :])
     if "DONE" in words:
@@ -229,6 +231,18 @@ class LibraryManuals(unittest.TestCase):
                 with self.subTest(name):
                     self.assertEqual(len(statuses), len(set(statuses)))
                     self.assertEqual(set(statuses) - {"BUSY"}, statuses_of(name) - {"BUSY"})
+
+    def test_each_status_of_a_saved_history(self) -> None:
+        text = (MANUAL / "pidtab_saved.3").read_text()
+        found = re.findall(r'^\.\\" Written by tools/interface: statuses of (saved_\w+)\.\n(.*?)^\.El$', text, re.MULTILINE | re.DOTALL)
+        shown = {name: set(re.findall(r"^\.It Dv PIDTAB_(\w+)", body, re.MULTILINE)) for name, body in found}
+        wanted = {name: statuses_of(f"pidtab_{name}") for name in shown}
+        # The header says these by others: a shared record waits where another is BUSY, and a resume begins a TORN head.
+        wanted["saved_serve"] |= wanted["saved_append"] - {"BUSY"}
+        wanted["saved_wait"] |= wanted["saved_serve"]
+        wanted["saved_resume"] = wanted["saved_load"] - {"TORN"}
+        self.assertEqual(len(shown), 11)
+        self.assertEqual(shown, wanted)
 
     def test_the_statuses_together(self) -> None:
         # A page has all of its header, and others only of the header below.

@@ -39,13 +39,13 @@ pub(crate) fn errno_name(errno: i32) -> &'static str {
         3 => "ESRCH",
         10 => "ECHILD",
         11 => "EAGAIN",
-        1 => "EPERM",
-        13 => "EACCES",
-        2 => "ENOENT",
         12 => "ENOMEM",
         28 => "ENOSPC",
-        22 => "EINVAL",
+        1 => "EPERM",
+        13 => "EACCES",
         16 => "EBUSY",
+        2 => "ENOENT",
+        22 => "EINVAL",
         _ => unreachable!("no refusal has the errno {errno}"),
     }
 }

@@ -9,6 +9,7 @@ use std::str::FromStr;
 #[derive(Clone, Debug, PartialEq, Eq, Hash)]
 #[non_exhaustive]
 pub struct Task {
+    // Written by tools/interface: fields of a task.
     /// Its numbers, that of the root namespace first.
     pub numbers: Vec<u32>,
     /// The id of its namespace.
@@ -25,10 +26,11 @@ pub struct Task {
     pub ended: Option<Ended>,
     /// Whether it has executed.
     pub executed: bool,
-    /// The id of the namespace that its children go into, where that is another than its own.
+    /// The id of the namespace that its children go into, none for its own.
     pub children: Option<u64>,
     /// Whether it takes orphans of its namespace.
     pub subreaper: bool,
+    // The end of fields of a task.
     /// A name from outside of the table, which [`Listing::with_labels`] gives.
     pub label: Option<String>,
 }
@@ -44,28 +46,32 @@ impl Task {
 #[derive(Clone, Debug, PartialEq, Eq, Hash)]
 #[non_exhaustive]
 pub struct Space {
+    // Written by tools/interface: fields of a namespace.
     /// Its id: 0 for the root, or the number of the call that made it.
     pub id: u64,
-    /// The id of the namespace around it; the root has none.
+    /// The id of the namespace around it, none for the root.
     pub parent: Option<u64>,
     /// Where the search for its next number begins.
     pub cursor: u32,
     /// Whether its init has ended.
     pub fallen: bool,
+    // The end of fields of a namespace.
 }
 
 /// A control group of a list.
 #[derive(Clone, Debug, PartialEq, Eq, Hash)]
 #[non_exhaustive]
 pub struct Control {
+    // Written by tools/interface: fields of a control group.
     /// Its id: 0 for the root, or the number of the call that made it.
     pub id: u64,
-    /// The id of the control group above it; the root has none.
+    /// The id of the control group above it, none for the root.
     pub parent: Option<u64>,
-    /// How many tasks it may have; none for no limit.
+    /// How many tasks it may have, none for no limit.
     pub limit: Option<u32>,
     /// How many tasks it and those below it have.
     pub count: u64,
+    // The end of fields of a control group.
 }
 
 /// All that stands in a table.
@@ -141,11 +147,11 @@ impl FromStr for Listing {
                 return bad(place + 1, "cut off, without a newline");
             };
             let words: Vec<_> = line.split(' ').collect();
-            if let Some(task) = read_task(&words) {
+            if let Some(task) = whole(&words, read_task) {
                 tasks.push(task);
-            } else if let Some(space) = read_space(&words) {
+            } else if let Some(space) = whole(&words, read_space) {
                 spaces.push(space);
-            } else if let Some(control) = read_control(&words) {
+            } else if let Some(control) = whole(&words, read_control) {
                 controls.push(control);
             } else {
                 return bad(place + 1, "not a line of `pidtab list`");
@@ -165,91 +171,119 @@ fn number<T: FromStr>(word: &str) -> Option<T> {
     word.parse().ok().filter(|_| digits)
 }
 
-/// The number that a word is, but none for the word that stands for none.
-fn number_unless<T: FromStr>(word: &str, none: &str) -> Option<Option<T>> {
-    if word == none {
-        return Some(None);
+/// The words of a line that are not read yet.
+struct Words<'a>(&'a [&'a str]);
+
+impl<'a> Words<'a> {
+    /// Takes the next word.
+    fn take(&mut self) -> Option<&'a str> {
+        let (first, rest) = self.0.split_first()?;
+        self.0 = rest;
+        Some(first)
     }
-    number(word).map(Some)
+
+    /// Whether the next word is this one, which then is taken.
+    fn mark(&mut self, word: &str) -> bool {
+        let is_there = self.0.first() == Some(&word);
+        if is_there {
+            self.take();
+        }
+        is_there
+    }
+
+    /// What stands behind the word, which has to be there.
+    fn behind(&mut self, word: &str) -> Option<&'a str> {
+        if self.mark(word) {
+            self.take()
+        } else {
+            None
+        }
+    }
+
+    /// The number behind the word.
+    fn number<T: FromStr>(&mut self, word: &str) -> Option<T> {
+        number(self.behind(word)?)
+    }
+
+    /// The numbers behind the word.
+    fn numbers(&mut self, word: &str) -> Option<Vec<u32>> {
+        self.behind(word)?.split(',').map(number).collect()
+    }
+
+    /// The number behind the word, but none for the one that stands for none.
+    fn unless<T: FromStr>(&mut self, word: &str, none: &str) -> Option<Option<T>> {
+        let told = self.behind(word)?;
+        if told == none {
+            return Some(None);
+        }
+        number(told).map(Some)
+    }
+
+    /// The id behind the word, but none where the word is not there.
+    fn apart(&mut self, word: &str) -> Option<Option<u64>> {
+        if self.0.first() != Some(&word) {
+            return Some(None);
+        }
+        self.number(word).map(Some)
+    }
+
+    /// How a task ended, but none for one that lives.
+    fn state(&mut self) -> Option<Option<Ended>> {
+        match self.take()? {
+            "live" => Some(None),
+            "killed" => Some(Some(Ended::Killed)),
+            "exit" => number(self.take()?).map(|status| Some(Ended::Exited(status))),
+            _ => None,
+        }
+    }
 }
 
-/// The task of a line, where it is one.
-fn read_task(words: &[&str]) -> Option<Task> {
-    let ["task", numbers, "space", space, "parent", parent, "group", group, "session", session, "control", control, end @ ..] =
-        words
-    else {
-        return None;
-    };
-    let (ended, marks) = match end {
-        ["live", marks @ ..] => (None, marks),
-        ["killed", marks @ ..] => (Some(Ended::Killed), marks),
-        ["exit", status, marks @ ..] => (Some(Ended::Exited(number(status)?)), marks),
-        _ => return None,
-    };
-    let (executed, children, subreaper) = read_marks(marks)?;
+/// What a line says by the reader of its kind, where it is one with nothing behind it.
+fn whole<T>(words: &[&str], read: impl Fn(&mut Words<'_>) -> Option<T>) -> Option<T> {
+    let mut words = Words(words);
+    read(&mut words).filter(|_| words.0.is_empty())
+}
+
+// Written by tools/interface: readers.
+/// A task of a line, where it is one.
+fn read_task(words: &mut Words<'_>) -> Option<Task> {
     Some(Task {
-        numbers: numbers.split(',').map(number).collect::<Option<_>>()?,
-        space: number(space)?,
-        parent: number(parent)?,
-        group: number(group)?,
-        session: number(session)?,
-        control: number(control)?,
-        ended,
-        executed,
-        children,
-        subreaper,
+        numbers: words.numbers("task")?,
+        space: words.number("space")?,
+        parent: words.number("parent")?,
+        group: words.number("group")?,
+        session: words.number("session")?,
+        control: words.number("control")?,
+        ended: words.state()?,
+        executed: words.mark("executed"),
+        children: words.apart("children")?,
+        subreaper: words.mark("subreaper"),
         label: None,
     })
 }
 
-/// What stands at the end of a task's line: whether it has executed, where its children go, and whether it is a subreaper.
-fn read_marks(words: &[&str]) -> Option<(bool, Option<u64>, bool)> {
-    let (executed, words) = match words {
-        ["executed", rest @ ..] => (true, rest),
-        _ => (false, words),
-    };
-    let (children, words) = match words {
-        ["children", space, rest @ ..] => (Some(number(space)?), rest),
-        _ => (None, words),
-    };
-    match words {
-        [] => Some((executed, children, false)),
-        ["subreaper"] => Some((executed, children, true)),
-        _ => None,
-    }
-}
-
-/// The namespace of a line, where it is one.
-fn read_space(words: &[&str]) -> Option<Space> {
-    let ["space", id, "parent", parent, "cursor", cursor, end @ ..] = words else {
-        return None;
-    };
-    let fallen = match end {
-        [] => false,
-        ["fallen"] => true,
-        _ => return None,
-    };
+/// A namespace of a line, where it is one.
+fn read_space(words: &mut Words<'_>) -> Option<Space> {
     Some(Space {
-        id: number(id)?,
-        parent: number_unless(parent, "-")?,
-        cursor: number(cursor)?,
-        fallen,
+        id: words.number("space")?,
+        parent: words.unless("parent", "-")?,
+        cursor: words.number("cursor")?,
+        fallen: words.mark("fallen"),
     })
 }
 
-/// The control group of a line, where it is one.
-fn read_control(words: &[&str]) -> Option<Control> {
-    let ["control", id, "parent", parent, "limit", limit, "count", count] = words else {
-        return None;
-    };
+/// A control group of a line, where it is one.
+fn read_control(words: &mut Words<'_>) -> Option<Control> {
     Some(Control {
-        id: number(id)?,
-        parent: number_unless(parent, "-")?,
-        limit: number_unless(limit, "max")?,
-        count: number(count)?,
+        id: words.number("control")?,
+        parent: words.unless("parent", "-")?,
+        limit: words.unless("limit", "max")?,
+        count: words.number("count")?,
     })
 }
+// The end of readers.
 
+// Written by tools/interface: objects.
 /// The fields of a task, as docs/list.schema.json has them.
 fn task_object(task: &Task) -> String {
     let (state, status) = state(task.ended);
@@ -271,7 +305,7 @@ fn task_object(task: &Task) -> String {
     )
 }
 
-/// The fields of a namespace.
+/// The fields of a namespace, as docs/list.schema.json has them.
 fn space_object(space: &Space) -> String {
     format!(
         r#"{{"id":{},"parent":{},"cursor":{},"fallen":{}}}"#,
@@ -282,7 +316,7 @@ fn space_object(space: &Space) -> String {
     )
 }
 
-/// The fields of a control group.
+/// The fields of a control group, as docs/list.schema.json has them.
 fn control_object(control: &Control) -> String {
     format!(
         r#"{{"id":{},"parent":{},"limit":{},"count":{}}}"#,
@@ -292,3 +326,4 @@ fn control_object(control: &Control) -> String {
         control.count,
     )
 }
+// The end of objects.

@@ -21,12 +21,15 @@ fn asks(call: &Call) -> bool
     ensures { result ≡ is_query call.now }
 {
     match call {
-        Call::GetPid { caller: _ } | Call::GetPpid { caller: _ } | Call::Count { id: _ } => true,
-        Call::GetPgid { caller: _, pid: _ } | Call::GetSid { caller: _, pid: _ } => true,
+        Call::GetPid { caller: _ } => true,
         Call::NsPid {
             caller: _,
             target: _,
         } => true,
+        Call::GetPpid { caller: _ } => true,
+        Call::Count { id: _ } => true,
+        Call::GetPgid { caller: _, pid: _ } => true,
+        Call::GetSid { caller: _, pid: _ } => true,
         Call::Next {
             caller: _,
             kind: _,

@@ -5,6 +5,7 @@ ghost use Rattle.foreign_calls.specs.CallNumbers.{call_blank, call_numbers, wait
 ghost use Rattle.foreign_calls.specs.Numbers.{call_of};
 
 use crate::numbers::CallNumbers;
+use crate::{choices, operations};
 use pid_types::call::{Call, Kind, Which};
 
 /// A call of the operation that takes nothing.
@@ -50,10 +51,10 @@ fn tell_wait(caller: u32, which: Which) -> CallNumbers
     ensures back { call_of result ≡ Some (says.Wait caller which) }
 {
     match which {
-        Which::Any => blank_call(5, caller),
-        Which::Pid(number) => numbered(5, caller, 1, number),
-        Which::OwnGroup => numbered(5, caller, 2, 0),
-        Which::Group(number) => numbered(5, caller, 3, number),
+        Which::Any => blank_call(operations::WAIT, caller),
+        Which::Pid(number) => numbered(operations::WAIT, caller, choices::CHILD, number),
+        Which::OwnGroup => numbered(operations::WAIT, caller, choices::OWN_GROUP, 0),
+        Which::Group(number) => numbered(operations::WAIT, caller, choices::GROUP, number),
     }
 }
 
@@ -64,10 +65,10 @@ fn tell_limit(id: u64, limit: Option<u32>) -> CallNumbers
     ensures back { call_of result ≡ Some (says.SetLimit id limit) }
 {
     match limit {
-        None => identified(11, 0, id),
+        None => identified(operations::LIMIT, 0, id),
         Some(number) => CallNumbers {
             id,
-            ..numbered(11, 0, 1, number)
+            ..numbered(operations::LIMIT, 0, 1, number)
         },
     }
 }
@@ -79,32 +80,36 @@ pub fn tell_call(call: &Call) -> CallNumbers
     ensures back { call_of result ≡ Some call.now }
 {
     match *call {
-        Call::Fork { caller, new_space } => numbered(0, caller, u32::from(new_space), 0),
-        Call::GetPid { caller } => blank_call(1, caller),
-        Call::NsPid { caller, target } => numbered(2, caller, 0, target),
-        Call::Exec { caller } => blank_call(3, caller),
-        Call::Exit { caller, status } => numbered(4, caller, 0, u32::from(status)),
+        Call::Fork { caller, new_space } => {
+            numbered(operations::FORK, caller, u32::from(new_space), 0)
+        }
+        Call::GetPid { caller } => blank_call(operations::GETPID, caller),
+        Call::NsPid { caller, target } => numbered(operations::NSPID, caller, 0, target),
+        Call::Exec { caller } => blank_call(operations::EXEC, caller),
+        Call::Exit { caller, status } => numbered(operations::EXIT, caller, 0, u32::from(status)),
         Call::Wait { caller, which } => tell_wait(caller, which),
-        Call::GetPpid { caller } => blank_call(6, caller),
+        Call::GetPpid { caller } => blank_call(operations::GETPPID, caller),
         Call::SetPgid { caller, pid, pgid } => CallNumbers {
             pid,
             pgid,
-            ..blank_call(7, caller)
+            ..blank_call(operations::SETPGID, caller)
         },
-        Call::SetSid { caller } => blank_call(8, caller),
-        Call::MakeControl { parent } => identified(9, 0, parent),
-        Call::RemoveControl { id } => identified(10, 0, id),
+        Call::SetSid { caller } => blank_call(operations::SETSID, caller),
+        Call::MakeControl { parent } => identified(operations::MK, 0, parent),
+        Call::RemoveControl { id } => identified(operations::RM, 0, id),
         Call::SetLimit { id, limit } => tell_limit(id, limit),
-        Call::Move { task, id } => identified(12, task, id),
-        Call::Count { id } => identified(13, 0, id),
-        Call::GetPgid { caller, pid } => numbered(14, caller, 0, pid),
-        Call::GetSid { caller, pid } => numbered(15, caller, 0, pid),
+        Call::Move { task, id } => identified(operations::MOVE, task, id),
+        Call::Count { id } => identified(operations::COUNT, 0, id),
+        Call::GetPgid { caller, pid } => numbered(operations::GETPGID, caller, 0, pid),
+        Call::GetSid { caller, pid } => numbered(operations::GETSID, caller, 0, pid),
         Call::Next { caller, kind, from } => match kind {
-            Kind::Task => numbered(16, caller, 0, from),
-            Kind::Group => numbered(16, caller, 1, from),
-            Kind::Session => numbered(16, caller, 2, from),
+            Kind::Task => numbered(operations::NEXT, caller, choices::TASKS, from),
+            Kind::Group => numbered(operations::NEXT, caller, choices::GROUPS, from),
+            Kind::Session => numbered(operations::NEXT, caller, choices::SESSIONS, from),
         },
-        Call::Join { caller, target } => numbered(17, caller, 0, target),
-        Call::SetSubreaper { caller, on } => numbered(18, caller, u32::from(on), 0),
+        Call::Join { caller, target } => numbered(operations::JOIN, caller, 0, target),
+        Call::SetSubreaper { caller, on } => {
+            numbered(operations::SUBREAPER, caller, u32::from(on), 0)
+        }
     }
 }

@@ -6,10 +6,13 @@
 
 pub mod ask;
 pub mod call_numbers;
+pub mod choices;
 pub mod handle;
 pub mod history;
+pub mod kinds;
 pub mod loose;
 pub mod numbers;
+pub mod operations;
 pub mod read;
 pub mod record;
 pub mod record_calls;

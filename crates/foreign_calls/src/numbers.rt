@@ -5,6 +5,7 @@ ghost use Rattle.foreign_calls.specs.Numbers.{switch_of, which_of, kind_of, limi
 ghost use Rattle.foreign_calls.specs.Numbers.{control_call_of, later_call_of, blank, with_zeroes, levels_numbers};
 ghost use Rattle.foreign_calls.specs.Numbers.{refusal_numbers, numbers_of};
 
+use crate::{choices, kinds, operations};
 use arrayvec::ArrayVec;
 use pid_types::call::{Call, Kind, Which};
 use pid_types::plain::{Ended, LEVELS};
@@ -27,10 +28,10 @@ fn read_which(choice: u32, number: u32) -> Option<Which>
     ensures { result ≡ which_of choice number }
 {
     match choice {
-        0 => Some(Which::Any),
-        1 => Some(Which::Pid(number)),
-        2 => Some(Which::OwnGroup),
-        3 => Some(Which::Group(number)),
+        choices::ANY => Some(Which::Any),
+        choices::CHILD => Some(Which::Pid(number)),
+        choices::OWN_GROUP => Some(Which::OwnGroup),
+        choices::GROUP => Some(Which::Group(number)),
         _ => None,
     }
 }
@@ -40,9 +41,9 @@ fn read_kind(choice: u32) -> Option<Kind>
     ensures { result ≡ kind_of choice }
 {
     match choice {
-        0 => Some(Kind::Task),
-        1 => Some(Kind::Group),
-        2 => Some(Kind::Session),
+        choices::TASKS => Some(Kind::Task),
+        choices::GROUPS => Some(Kind::Group),
+        choices::SESSIONS => Some(Kind::Session),
         _ => None,
     }
 }
@@ -77,22 +78,24 @@ pub fn read_call(n: &CallNumbers) -> Option<Call>
 {
     let caller = n.caller;
     match n.operation {
-        0 => read_switch(n.choice).map(|new_space| Call::Fork { caller, new_space }),
-        1 => Some(Call::GetPid { caller }),
-        2 => Some(Call::NsPid {
+        operations::FORK => read_switch(n.choice).map(|new_space| Call::Fork { caller, new_space }),
+        operations::GETPID => Some(Call::GetPid { caller }),
+        operations::NSPID => Some(Call::NsPid {
             caller,
             target: n.number,
         }),
-        3 => Some(Call::Exec { caller }),
-        4 => read_status(n.number).map(|status| Call::Exit { caller, status }),
-        5 => read_which(n.choice, n.number).map(|which| Call::Wait { caller, which }),
-        6 => Some(Call::GetPpid { caller }),
-        7 => Some(Call::SetPgid {
+        operations::EXEC => Some(Call::Exec { caller }),
+        operations::EXIT => read_status(n.number).map(|status| Call::Exit { caller, status }),
+        operations::WAIT => {
+            read_which(n.choice, n.number).map(|which| Call::Wait { caller, which })
+        }
+        operations::GETPPID => Some(Call::GetPpid { caller }),
+        operations::SETPGID => Some(Call::SetPgid {
             caller,
             pid: n.pid,
             pgid: n.pgid,
         }),
-        8 => Some(Call::SetSid { caller }),
+        operations::SETSID => Some(Call::SetSid { caller }),
         _ => read_control_call(n),
     }
 }
@@ -104,11 +107,13 @@ fn read_control_call(n: &CallNumbers) -> Option<Call>
 {
     let id = n.id;
     match n.operation {
-        9 => Some(Call::MakeControl { parent: id }),
-        10 => Some(Call::RemoveControl { id }),
-        11 => read_limit(n.choice, n.number).map(|limit| Call::SetLimit { id, limit }),
-        12 => Some(Call::Move { task: n.caller, id }),
-        13 => Some(Call::Count { id }),
+        operations::MK => Some(Call::MakeControl { parent: id }),
+        operations::RM => Some(Call::RemoveControl { id }),
+        operations::LIMIT => {
+            read_limit(n.choice, n.number).map(|limit| Call::SetLimit { id, limit })
+        }
+        operations::MOVE => Some(Call::Move { task: n.caller, id }),
+        operations::COUNT => Some(Call::Count { id }),
         _ => read_later_call(n),
     }
 }
@@ -120,24 +125,24 @@ fn read_later_call(n: &CallNumbers) -> Option<Call>
 {
     let (caller, number) = (n.caller, n.number);
     match n.operation {
-        14 => Some(Call::GetPgid {
+        operations::GETPGID => Some(Call::GetPgid {
             caller,
             pid: number,
         }),
-        15 => Some(Call::GetSid {
+        operations::GETSID => Some(Call::GetSid {
             caller,
             pid: number,
         }),
-        16 => read_kind(n.choice).map(|kind| Call::Next {
+        operations::NEXT => read_kind(n.choice).map(|kind| Call::Next {
             caller,
             kind,
             from: number,
         }),
-        17 => Some(Call::Join {
+        operations::JOIN => Some(Call::Join {
             caller,
             target: number,
         }),
-        18 => read_switch(n.choice).map(|on| Call::SetSubreaper { caller, on }),
+        operations::SUBREAPER => read_switch(n.choice).map(|on| Call::SetSubreaper { caller, on }),
         _ => None,
     }
 }
@@ -168,7 +173,7 @@ pub fn padded(numbers: &ArrayVec<u32, LEVELS>) -> [u32; LEVELS]
 fn put_levels(reply: &mut ReplyNumbers, numbers: &ArrayVec<u32, LEVELS>)
     ensures { reply.new ≡ levels_numbers numbers.now.items }
 {
-    put_values(reply, 3, 0, 0);
+    put_values(reply, kinds::LEVELS, 0, 0);
     reply.count = numbers.len() as u32;
     reply.levels = padded(numbers);
 }
@@ -181,7 +186,7 @@ fn put_refusal(reply: &mut ReplyNumbers, refusal: Refusal)
         Refusal::NoNumber(id) | Refusal::PidsLimit(id) => id,
         _ => 0,
     };
-    put_values(reply, 9, first, 0);
+    put_values(reply, kinds::REFUSED, first, 0);
     reply.errno = refusal.errno();
     reply.refusal = u32::from(refusal.number());
 }
@@ -192,22 +197,24 @@ pub fn put_reply(told: &Reply, reply: &mut ReplyNumbers)
     ensures { reply.new ≡ numbers_of told.now }
 {
     match told {
-        Reply::Forked { child, root } => put_values(reply, 0, u64::from(*child), u64::from(*root)),
-        Reply::Done => put_values(reply, 1, 0, 0),
-        Reply::Number(number) => put_values(reply, 2, u64::from(*number), 0),
+        Reply::Forked { child, root } => {
+            put_values(reply, kinds::FORKED, u64::from(*child), u64::from(*root))
+        }
+        Reply::Done => put_values(reply, kinds::OK, 0, 0),
+        Reply::Number(number) => put_values(reply, kinds::NUMBER, u64::from(*number), 0),
         Reply::Levels(numbers) => put_levels(reply, numbers),
         Reply::Reaped {
             child,
             ended: Ended::Exited(status),
-        } => put_values(reply, 4, u64::from(*child), u64::from(*status)),
+        } => put_values(reply, kinds::REAPED, u64::from(*child), u64::from(*status)),
         Reply::Reaped {
             child,
             ended: Ended::Killed,
-        } => put_values(reply, 4, u64::from(*child), 256),
-        Reply::NoneYet => put_values(reply, 5, 0, 0),
-        Reply::Counted(count) => put_values(reply, 6, *count, 0),
-        Reply::Control(id) => put_values(reply, 7, *id, 0),
-        Reply::End => put_values(reply, 8, 0, 0),
+        } => put_values(reply, kinds::REAPED, u64::from(*child), kinds::KILLED),
+        Reply::NoneYet => put_values(reply, kinds::NONE_YET, 0, 0),
+        Reply::Counted(count) => put_values(reply, kinds::COUNTED, *count, 0),
+        Reply::Control(id) => put_values(reply, kinds::CONTROL, *id, 0),
+        Reply::End => put_values(reply, kinds::END, 0, 0),
         Reply::Refused(refusal) => put_refusal(reply, *refusal),
     }
 }
@@ -217,7 +224,7 @@ pub fn tell_reply(told: &Reply) -> ReplyNumbers
     ensures { result ≡ numbers_of told.now }
 {
     let mut reply = ReplyNumbers {
-        kind: 1,
+        kind: kinds::OK,
         errno: 0,
         refusal: 0,
         count: 0,

@@ -4,10 +4,11 @@ ghost use Rattle.pid_types.specs.declared.reply.CallFault.TheVariants.{NoMemory,
 
 use pid_types::reply::CallFault;
 
-/// It was done.
+// Written by tools/interface: statuses.
+/// Done.
 pub const DONE: u32 = 0;
 
-/// `ENOENT`: no entry with the ordinal is kept.
+/// `ENOENT`: the entry was cut away, or is not reached yet.
 pub const NOT_KEPT: u32 = 2;
 
 /// `ENOEXEC`: the bytes are no saved history.
@@ -19,41 +20,42 @@ pub const CLOSED: u32 = 9;
 /// `EAGAIN`: another number of calls was recorded by now.
 pub const AGAIN: u32 = 11;
 
-/// `ENOMEM`: there was no memory.
+/// `ENOMEM`: there is no memory.
 pub const NO_MEMORY: u32 = 12;
 
-/// `EBUSY`: the table is open already.
+/// `EBUSY`: another thread's call works on the table; or an open finds it open.
 pub const BUSY: u32 = 16;
 
-/// `EINVAL`: a number that is outside its range.
+/// `EINVAL`: pid_max, or what a call takes.
 pub const OUT_OF_RANGE: u32 = 22;
 
-/// `ERANGE`: the room is too short.
+/// `ERANGE`: size says what is needed.
 pub const NO_ROOM: u32 = 34;
 
-/// `ENOMSG`: the bytes end within the head or an entry.
+/// `ENOMSG`: the bytes end before the head, or the entry, does.
 pub const TORN: u32 = 42;
 
-/// `ENODATA`: the line is empty.
+/// `ENODATA`: a line of 0 bytes has no answer.
 pub const EMPTY_LINE: u32 = 61;
 
-/// `EPROTO`: the line is no line of the table of calls.
+/// `EPROTO`: the line is none of the script language.
 pub const BAD_LINE: u32 = 71;
 
 /// `EBADMSG`: a reply is not the saved one.
 pub const DIFFERS: u32 = 74;
 
-/// `EOVERFLOW`: the stamps are used up.
+/// `EOVERFLOW`: after 2^64 - 2 calls.
 pub const SPENT: u32 = 75;
 
 /// `EILSEQ`: a byte is not the one that was written.
 pub const WRONG_BYTE: u32 = 84;
 
-/// `EPROTONOSUPPORT`: the saved history is of another version.
+/// `EPROTONOSUPPORT`: the form is of a version that this library does not know.
 pub const OTHER_VERSION: u32 = 93;
 
-/// `EUCLEAN`: the text is that of no table.
+/// `EUCLEAN`: the text is that of no table; the fault says why.
 pub const BAD_TEXT: u32 = 117;
+// The end of statuses.
 
 /// The status of a call that has no reply.
 pub fn status_of(fault: CallFault) -> u32
