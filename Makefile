@@ -285,6 +285,7 @@ DUMP_RECORD_TEST = test_dump_record shared guard guard_record
 THREADS_TEST = test_threads guard guard_record
 SHARED_TEST = test_shared shared guard guard_record heap
 FOLLOW_TEST = test_follow shared guard guard_record heap
+WATCH_TEST = test_watch saved_file shared guard guard_record heap
 SAVED_TEST = test_saved guard_record heap
 SAVED_FILE_TEST = test_saved_file shared guard guard_record
 SAVED_THREADS_TEST = test_saved_threads saved_file shared guard guard_record heap
@@ -306,6 +307,7 @@ bindings-c:
 		for sanitizer in '$(CHECKED)' '$(THREADED)'; do \
 			$(CC) $$sanitizer -o $(OUT)/test_shared $(SHARED_TEST:%=bindings/c/%.c) $(OUT)/proved.a && $(RUN) $(OUT)/test_shared && \
 			$(CC) $$sanitizer -o $(OUT)/test_follow $(FOLLOW_TEST:%=bindings/c/%.c) $(OUT)/proved.a && $(RUN) $(OUT)/test_follow && \
+			$(CC) $$sanitizer -o $(OUT)/test_watch $(WATCH_TEST:%=bindings/c/%.c) $(OUT)/proved.a && $(RUN) $(OUT)/test_watch && \
 			$(CC) $$sanitizer -o $(OUT)/test_saved_threads $(SAVED_THREADS_TEST:%=bindings/c/%.c) $(OUT)/proved.a && $(RUN) $(OUT)/test_saved_threads && \
 			$(CC) $$sanitizer -o $(OUT)/test_saver $(SAVER_TEST:%=bindings/c/%.c) $(OUT)/proved.a && $(RUN) $(OUT)/test_saver || exit 1; done && \
 		$(CC) $(CHECKED) -o $(OUT)/test_saved $(SAVED_TEST:%=bindings/c/%.c) $(OUT)/proved.a && $(RUN) $(OUT)/test_saved && \

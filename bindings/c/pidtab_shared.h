@@ -16,6 +16,7 @@
 #include "pidtab.h"
 
 #include <pthread.h>
+#include <time.h>
 
 #ifdef __cplusplus
 extern "C" {
@@ -30,13 +31,14 @@ struct pidtab_shared {
 	uint32_t seated;
 	pthread_mutex_t gate;    /* of who goes before the calls */
 	pthread_cond_t told;     /* a saver has told how far it is */
-	pthread_cond_t recorded; /* a call was recorded while a saver slept */
+	pthread_cond_t recorded; /* a call was recorded while somebody slept */
 	uint64_t saved;          /* so many calls a saver has saved, as it has told */
 	uint64_t most;           /* as many calls may be recorded and not saved; 0: any number */
 	uint32_t saving;         /* the status of the saver's last turn */
 	int error;               /* the errno of what was PIDTAB_DEVICE */
 	bool is_awaited;         /* somebody at the gate waits for the lock */
-	bool sleeps;             /* a saver waits for a call */
+	bool sleeps;             /* a saver, or another, waits for a call */
+	bool is_over;            /* nobody waits for a call any more, but a saver */
 };
 
 /* Opens a record, as pidtab_record_open does. Where keep is not 0, at most so many entries are kept: a call behind which there are more
@@ -47,7 +49,7 @@ uint32_t pidtab_shared_open(struct pidtab_shared *shared, uint32_t pid_max, uint
  * NO_MEMORY. */
 uint32_t pidtab_shared_load(struct pidtab_shared *shared, const void *text, size_t length, const uint64_t *counts, size_t workers, uint64_t keep, struct pidtab_fault *fault);
 
-/* Closes it. No other thread is in a function of it, or calls one afterwards. */
+/* Closes it. No other thread is in a function of it, or calls one afterwards: pidtab_shared_end ends the waits before. */
 void pidtab_shared_close(struct pidtab_shared *shared);
 
 /* Hands out each worker's number once, from 0 on. DONE, and OUT_OF_RANGE where all are taken. */
@@ -83,6 +85,19 @@ uint32_t pidtab_shared_dump(struct pidtab_shared *shared, void *bytes, size_t ro
  * DIFFERS where a reply is not the recorded one: it was no replica of this record, and is none now. Else the status of a call that was
  * not made on it, and `next` says which: CLOSED, OUT_OF_RANGE, SPENT, NO_MEMORY, BUSY. It costs the calls once more. */
 uint32_t pidtab_shared_follow(struct pidtab_shared *shared, struct pidtab *replica, uint64_t *next);
+
+/* Waits until the call with the ordinal is recorded, so until more than so many calls are: for a viewer, or a thread that ships the history.
+ * It sleeps meanwhile, and any number of threads may. A call pays for it only where somebody waits, whom it wakes. The deadline is a time of
+ * CLOCK_REALTIME, as pthread_cond_timedwait has it, and NULL is none.
+ *
+ * DONE, and `recorded` says how many calls are: no more than `ordinal` only where the deadline has come. CLOSED where they are no more and
+ * pidtab_shared_end has ended the waits. OUT_OF_RANGE for nanoseconds outside 0 to 999,999,999. */
+uint32_t pidtab_shared_wait(struct pidtab_shared *shared, uint64_t ordinal, const struct timespec *until, uint64_t *recorded);
+
+/* Ends these waits, for good: what waits, or comes to wait, for a call that is not recorded is CLOSED. A wait for one that is recorded is DONE,
+ * so who follows the calls has them all first. All else goes on, a saver too. Behind it and the end of the threads that wait, the record may
+ * be closed. */
+void pidtab_shared_end(struct pidtab_shared *shared);
 
 #ifdef __cplusplus
 }

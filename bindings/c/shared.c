@@ -9,6 +9,9 @@
 /* So many entries are copied under one lock for a replica. */
 #define A_PAGE 64
 
+/* So many are a second. */
+#define NANOSECONDS 1000000000
+
 static void lock_before_calls(struct pidtab_shared *shared)
 {
 	pthread_mutex_lock(&shared->gate);
@@ -84,8 +87,8 @@ struct pidtab_record *pidtab_shared_lock(struct pidtab_shared *shared)
 	return &shared->record;
 }
 
-/* Calls may have been recorded: a saver that sleeps looks. */
-static void wake_saver(struct pidtab_shared *shared)
+/* Calls may have been recorded: all that sleep look, which are a saver, and who waits for a call. */
+static void wake_sleepers(struct pidtab_shared *shared)
 {
 	if (!shared->sleeps)
 		return;
@@ -95,7 +98,7 @@ static void wake_saver(struct pidtab_shared *shared)
 
 void pidtab_shared_unlock(struct pidtab_shared *shared)
 {
-	wake_saver(shared);
+	wake_sleepers(shared);
 	pthread_mutex_unlock(&shared->lock);
 }
 
@@ -109,6 +112,41 @@ uint32_t pidtab_shared_seat(struct pidtab_shared *shared, uint32_t *worker)
 		status = PIDTAB_DONE;
 	}
 	return unlocked(shared, status);
+}
+
+/* Sleeps until calls may have been recorded. Whether the deadline has come. */
+static bool sleep_until(struct pidtab_shared *shared, const struct timespec *until)
+{
+	shared->sleeps = true;
+	if (until != NULL)
+		return pthread_cond_timedwait(&shared->recorded, &shared->lock, until) != 0;
+	pthread_cond_wait(&shared->recorded, &shared->lock);
+	return false;
+}
+
+uint32_t pidtab_shared_wait(struct pidtab_shared *shared, uint64_t ordinal, const struct timespec *until, uint64_t *recorded)
+{
+	uint64_t first_kept;
+	bool is_late = false;
+	uint32_t status;
+
+	if (until != NULL && (until->tv_nsec < 0 || until->tv_nsec >= NANOSECONDS))
+		return PIDTAB_OUT_OF_RANGE;
+	lock_before_calls(shared);
+	/* One look more behind the deadline. */
+	while ((status = pidtab_record_counts(&shared->record, &first_kept, recorded)) == PIDTAB_DONE && *recorded <= ordinal
+	       && !shared->is_over && !is_late)
+		is_late = sleep_until(shared, until);
+	if (status == PIDTAB_DONE && *recorded <= ordinal && shared->is_over)
+		status = PIDTAB_CLOSED;
+	return unlocked(shared, status);
+}
+
+void pidtab_shared_end(struct pidtab_shared *shared)
+{
+	lock_before_calls(shared);
+	shared->is_over = true;
+	pidtab_shared_unlock(shared);
 }
 
 /* Waits until the saver is near enough. A saver that cannot save lets no call go on. */
@@ -138,7 +176,7 @@ static uint32_t end_call(struct pidtab_shared *shared, uint32_t status)
 	if (status == PIDTAB_DONE) {
 		if (shared->keep != 0)
 			pidtab_record_keep(&shared->record, shared->keep);
-		wake_saver(shared);
+		wake_sleepers(shared);
 	}
 	return unlocked(shared, status);
 }

@@ -41,11 +41,11 @@ func (it *turnLock) Unlock() {
 
 // A saving is how far the saver of a table is, as it has told. The lock of the record guards it.
 type saving struct {
-	told, recorded sync.Cond // the saver has told; a call was recorded while it slept
+	told, recorded sync.Cond // the saver has told; a call was recorded while somebody slept
 	saved, most    uint64    // so many calls are saved; as many may be recorded and not saved, or 0 for any number
 	fault          error     // of the saver's last turn, or ErrEnded
 	hasEnded       bool
-	sleeps         bool // the saver waits for a call
+	sleeps         bool // the saver, or another, waits for a call
 }
 
 // Serve is the saver of a table that goroutines work on, in a goroutine of its own. It does what Save does, sleeps until a call is recorded, and
@@ -172,14 +172,19 @@ func (held *heldRecord) sleepUntilCall(saved *Saved) (bool, error) {
 		if counts.Recorded > calls {
 			return false, nil
 		}
-		held.saving.sleeps = true
-		held.saving.recorded.Wait()
+		held.sleep()
 	}
 	return true, nil
 }
 
-// wakeSaver has a saver that sleeps look at what was recorded. The lock is held.
-func (held *heldRecord) wakeSaver() {
+// sleep sleeps until calls may have been recorded. The lock is held, but not meanwhile.
+func (held *heldRecord) sleep() {
+	held.saving.sleeps = true
+	held.saving.recorded.Wait()
+}
+
+// wakeSleepers has all that sleep look at what was recorded. The lock is held.
+func (held *heldRecord) wakeSleepers() {
 	if held.saving.sleeps {
 		held.saving.sleeps = false
 		held.saving.recorded.Broadcast()

@@ -4,6 +4,7 @@ package pidtab
 import "C"
 
 import (
+	"context"
 	"runtime"
 	"unsafe"
 )
@@ -69,7 +70,7 @@ func OpenShared(settings Settings) (*Shared, error) {
 }
 
 // Close frees the table and its history. A second time nothing is done; all methods, and those of the seats, answer ErrClosed from then on, also
-// what waits for the saver. A table that nobody has any more, nor a seat of it, is closed at some time.
+// what waits for the saver or a call. A table that nobody has any more, nor a seat of it, is closed at some time.
 func (shared *Shared) Close() {
 	shared.held().close()
 }
@@ -211,6 +212,54 @@ func (shared *Shared) Follow(replica *Table, next uint64) (uint64, error) {
 	return next, err
 }
 
+// WaitChanged waits until the call with the ordinal is recorded, so until more than so many calls are, and answers how many are.
+//
+// So a viewer, or a goroutine that ships the history, follows the table: it reads Entries, or has a table Follow, and waits for the next ordinal. It
+// sleeps meanwhile, and the call wakes it. Any number of goroutines may wait, beside a saver. A context that is done ends the wait for a call that
+// is not recorded, with its Err, and no other: so who follows the table has all calls first. ErrNil.
+func (shared *Shared) WaitChanged(ctx context.Context, ordinal uint64) (uint64, error) {
+	if ctx == nil {
+		return 0, ErrNil
+	}
+	held := shared.held()
+	held.lock.Lock()
+	defer held.lock.Unlock()
+	recorded, err := held.isRecorded(ctx, ordinal)
+	if err != nil || recorded > ordinal {
+		return recorded, err
+	}
+	if done := ctx.Done(); done != nil {
+		over := make(chan struct{})
+		defer close(over)
+		go held.wakeBehind(done, over)
+	}
+	for err == nil && recorded <= ordinal {
+		held.sleep()
+		recorded, err = held.isRecorded(ctx, ordinal)
+	}
+	return recorded, err
+}
+
+// isRecorded is how many calls are recorded, and why one that is not is not waited for. The lock is held.
+func (held *heldRecord) isRecorded(ctx context.Context, ordinal uint64) (uint64, error) {
+	counts, err := held.counts()
+	if err == nil && counts.Recorded <= ordinal {
+		err = ctx.Err()
+	}
+	return counts.Recorded, err
+}
+
+// wakeBehind wakes all that sleep once a context is done, if the wait is not over before.
+func (held *heldRecord) wakeBehind(done, over <-chan struct{}) {
+	select {
+	case <-done:
+		held.lock.Lock()
+		defer held.lock.Unlock()
+		held.wakeSleepers()
+	case <-over:
+	}
+}
+
 // followPage makes the calls of entries on a replica.
 func followPage(replica *Table, entries []Entry, next uint64) (uint64, error) {
 	for _, entry := range entries {
@@ -284,7 +333,7 @@ func (shared *Shared) Replay(saved []Entry) error {
 		room := numbersOf(saved[first:least(first+batch, len(saved))])
 		var place C.size_t
 		status := C.pidtab_record_replay(held.raw, &room[0], C.size_t(len(room)), &place)
-		held.wakeSaver()
+		held.wakeSleepers()
 		// Each cut is of two entries at most.
 		for range room {
 			held.cutWhereLong()
@@ -458,7 +507,7 @@ func (own *seated) step(call *C.struct_pidtab_call, reply *C.struct_pidtab_reply
 func (own *seated) after(status C.uint32_t, ordinal C.uint64_t) C.uint32_t {
 	if status == C.PIDTAB_DONE {
 		own.ordinal, own.made = uint64(ordinal), true
-		own.held.wakeSaver()
+		own.held.wakeSleepers()
 		own.held.cutWhereLong()
 	}
 	return status

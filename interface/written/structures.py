@@ -10,7 +10,7 @@ CTYPES = {"uint32_t": "c_uint32", "uint64_t": "c_uint64", "int32_t": "c_int32", 
 POINTERS = {
     "const struct pidtab_call *": "CALL_BYTES", "const void *": "ctypes.c_char_p", "void *": "BYTES", "size_t *": "SIZE", "uint32_t *": "NUMBER_32",
     "uint64_t *": "NUMBER_64", "const uint64_t *": "NUMBER_64", "struct pidtab *": "TABLE", "struct pidtab_entry *": "ENTRIES", "uint32_t": "U32",
-    "uint64_t": "U64", "size_t": "SIZE_T", "void": "None", "bool": "ctypes.c_bool", "int": "ctypes.c_int",
+    "const struct timespec *": "ctypes.c_void_p", "uint64_t": "U64", "size_t": "SIZE_T", "void": "None", "bool": "ctypes.c_bool", "int": "ctypes.c_int",
 }  # fmt: skip
 
 
@@ -45,7 +45,7 @@ def python_structs(tables):
 
 # The dictionaries of functions: which they are, and whether an earlier library may lack them.
 OTHERS = ("shared_lock", "shared_unlock", "call_line", *(f"saved_{it}" for it in ("sum", "put", "put_head", "append", "load", "resume")))
-ADDED = ("shared_load", "shared_dump", "shared_follow")
+ADDED = ("shared_load", "shared_dump", "shared_follow", "shared_wait", "shared_end")
 
 
 def python_functions(tables):

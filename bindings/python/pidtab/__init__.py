@@ -29,6 +29,7 @@ from pidtab.faults import (
     SeatsTaken,
     TableClosed,
     Unsaved,
+    WaitingEnded,
 )
 from pidtab.history import Counts, Entry
 from pidtab.library import find_library
@@ -98,6 +99,7 @@ __all__ = [
     "TableClosed",
     "Task",
     "Unsaved",
+    "WaitingEnded",
     "draw_list",
     "find_library",
     "find_program",

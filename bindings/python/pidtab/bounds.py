@@ -33,6 +33,16 @@ def check_seconds(name: str, seconds: float) -> float:
     return float(seconds)
 
 
+def check_timeout(name: str, seconds: float) -> float:
+    """A number of seconds to wait, as it is or the most that a thread can; below 0 it is over already."""
+    if isinstance(seconds, bool) or not isinstance(seconds, (int, float)):
+        raise TypeError(f"{name} is a number of seconds or None, not {type(seconds).__name__}")
+    # What is no number is no number itself. An integer may be above all numbers with a point.
+    if seconds != seconds:
+        raise ValueError(f"{name} is a number of seconds or None, not {seconds}")
+    return float(max(0, min(seconds, threading.TIMEOUT_MAX)))
+
+
 def check_pid_max(pid_max: SupportsIndex) -> int:
     """The same, if it is an integer in its range."""
     return check_range("pid_max", pid_max, LEAST_PID_MAX, GREATEST_PID_MAX)

@@ -31,6 +31,10 @@ class Unsaved(RuntimeError):
     """As many calls are recorded and not saved as the bound lets there be, and the saver has ended or failed, which is the cause. The call was not made."""
 
 
+class WaitingEnded(RuntimeError):
+    """The waits for calls of a shared table were ended, and the call is not recorded."""
+
+
 class BadHistory(ValueError):
     """A file that is no saved history, or not the one that was written, or whose calls have other replies now.
 

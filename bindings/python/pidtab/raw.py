@@ -290,6 +290,8 @@ LATER_SHARED_FUNCTIONS: dict[str, Function] = {
     "pidtab_shared_load": (U32, [SHARED, ctypes.c_char_p, SIZE_T, NUMBER_64, SIZE_T, U64, FAULT]),
     "pidtab_shared_dump": (U32, [SHARED, BYTES, SIZE_T, SIZE]),
     "pidtab_shared_follow": (U32, [SHARED, TABLE, NUMBER_64]),
+    "pidtab_shared_wait": (U32, [SHARED, U64, ctypes.c_void_p, NUMBER_64]),
+    "pidtab_shared_end": (None, [SHARED]),
 }
 
 # Those on the file of its saved history.

@@ -10,15 +10,16 @@ from itertools import islice
 from operator import index
 
 from pidtab.answers import Stat
-from pidtab.bounds import DEFAULT_PID_MAX, Unnamed, check_pid_max, check_range
-from pidtab.faults import NotKept, OtherSettings, SaverEnded, SeatsTaken, TableClosed, Unsaved
+from pidtab.bounds import DEFAULT_PID_MAX, Unnamed, check_pid_max, check_range, check_timeout
+from pidtab.faults import LibraryFault, NotKept, OtherSettings, SaverEnded, SeatsTaken, TableClosed, Unsaved, WaitingEnded
 from pidtab.history import Counts, Entry, read_entry
 from pidtab.labels import Labelled, Labels
-from pidtab.library import call_later, find_library, load_shared
+from pidtab.library import call_later, find_library, lacks, load_shared
 from pidtab.native import ROOT_INIT, Ask, NumberCalls, check_loaded, fault_of, head_of, read_written, text_bytes
 from pidtab.owner import TABLES, Owner
 from pidtab.raw import (
     AGAIN,
+    CLOSED,
     DEVICE,
     DIFFERS,
     DONE,
@@ -37,6 +38,7 @@ from pidtab.raw import (
 )
 from pidtab.saved import FilePath, Saved, SavedFile
 from pidtab.table import Table
+from pidtab.watch import Watch
 
 GREATEST_NUMBER = 2**64 - 1
 
@@ -68,6 +70,13 @@ class Hold:
         # The list takes what that answers, which is one step with it, so no interrupt loses it.
         opened.extend(map(open_at, [self.at]))
         self.status = opened[0]
+
+
+def end_waits(held: "weakref.ref[Hold]", process: int) -> None:
+    """Ends the waits at a table that nobody has any more but a thread that waits for nobody, and not in a forked child."""
+    hold = held()
+    if hold is not None and os.getpid() == process:
+        hold.functions.pidtab_shared_end(hold.at)
 
 
 class Seat(NumberCalls):
@@ -168,6 +177,8 @@ class Shared(Labelled, Owner):
     _is_loaded = False
     # Whether a thread saves, or may wait for one that does.
     _has_saver = False
+    # Whether a thread waits for a call, or may.
+    _has_waits = False
     # The text that it was made of, and the ordinal of its first call then; empty where its history begins with the root init.
     _opening = b""
     _first_ordinal = 0
@@ -287,14 +298,18 @@ class Shared(Labelled, Owner):
         """Has the table."""
         # One thread at a time is at the file. A handler of a signal may come between two steps of a save, and save too.
         self._saving = threading.RLock()
-        self._hold, self._labels = hold, Labels()
+        self._hold, self._labels, self._watch = hold, Labels(), Watch()
         TABLES.add(self)
 
     def close(self) -> None:
-        """Frees the table with its history. A second time nothing is done. Calls that other threads are in are made before, and the saver ends."""
+        """Frees the table with its history. A second time nothing is done. Calls that other threads are in are made before, and the saver and all waits end."""
         hold, self._hold, self._file = self._hold, None, None
-        if hold is not None and self._has_saver and not self._is_left():
+        if hold is None or self._is_left():
+            return
+        if self._has_saver:
             hold.functions.pidtab_saved_end(hold.at)
+        if self._has_waits:
+            hold.functions.pidtab_shared_end(hold.at)
 
     def dump(self) -> str:
         """All that there is to know of the table as it is now, as text (docs/SCRIPT.md). It has no history, and no workers.
@@ -499,6 +514,50 @@ class Shared(Labelled, Owner):
             raise ValueError(f"call {following.value - 1}: its reply is not the recorded one: the table is no replica of this one")
         check(status, f"call {following.value}")
         return following.value
+
+    def wait_changed(self, ordinal: int, timeout: float | None = None) -> int:
+        """Waits until the call with the ordinal is recorded, so until more than so many calls are, and answers how many are.
+
+        So a viewer, or a thread that ships the history, follows the table: it reads `entries`, or has a table `follow`, and waits for the next ordinal. It
+        sleeps meanwhile, and the call wakes it. Any number of threads may wait, beside a saver. Ctrl-C interrupts the main thread.
+
+        A TimeoutError is raised where no more calls are recorded in so many seconds, `WaitingEnded` behind `end_waiting`, and `TableClosed` where the table is
+        closed meanwhile.
+        """
+        ordinal = check_range("ordinal", ordinal, 0, GREATEST_NUMBER)
+        seconds = None if timeout is None else check_timeout("timeout", timeout)
+        status, recorded = self._waited(ordinal, seconds)
+        if status == CLOSED:
+            self._check_open()
+            raise WaitingEnded(f"the waits were ended, and call {ordinal} is not recorded")
+        check(status, f"wait for call {ordinal}")
+        if recorded <= ordinal:
+            raise TimeoutError(f"call {ordinal} was not recorded in {seconds:g} seconds")
+        return recorded
+
+    def end_waiting(self) -> None:
+        """Ends the waits of `wait_changed`, for good: what waits, or comes to wait, for a call that is not recorded is a `WaitingEnded`.
+
+        A wait for one that is recorded is answered, so who follows the table has all calls first. `close` ends them too.
+        """
+        hold = self._with_waits()
+        hold.functions.pidtab_shared_end(hold.at)
+
+    def _waited(self, ordinal: int, seconds: float | None) -> tuple[int, int]:
+        """The status of a wait, and how many calls are recorded."""
+        hold = self._with_waits()
+        return self._watch.wait(ordinal, lambda until, recorded: int(hold.functions.pidtab_shared_wait(hold.at, ordinal, until, recorded)), seconds)
+
+    def _with_waits(self) -> Hold:
+        """The open table, whose end ends the waits."""
+        hold = self._check_open()
+        if not hasattr(hold.functions, "pidtab_shared_wait"):
+            raise LibraryFault(lacks(self.library, "pidtab_shared_wait"))
+        if not self._has_waits:
+            weakref.finalize(self, end_waits, weakref.ref(hold), os.getpid()).atexit = False
+            self._has_waits = True
+        # A close that came before this was seen has ended no wait.
+        return self._check_open()
 
     def _as_opened(self) -> str:
         """The text of a table with the root init alone, and the stamp that this one began with."""

@@ -27,6 +27,7 @@ EXAMPLES = [
     ("bindings/python/README.md", "## By the program", "python"),
     ("bindings/python/README.md", "## In its own process", "python"),
     ("bindings/python/README.md", "## For many threads, with its history", "python"),
+    ("bindings/python/README.md", "## Who follows a shared table", "python"),
     ("bindings/python/README.md", "## A saved history", "python"),
     ("bindings/python/README.md", "## A table that is saved", "python"),
     ("bindings/c/README.md", "## Example", "c"),
@@ -61,7 +62,7 @@ def statuses_in(header: str) -> list[tuple[str, str, str]]:
 
 def statuses_of(name: str) -> set[str]:
     """The statuses that the header lists with a function, or with the one whose work it does."""
-    if name in ("pidtab_shared_close", "pidtab_shared_lock", "pidtab_shared_unlock"):
+    if name in ("pidtab_shared_close", "pidtab_shared_lock", "pidtab_shared_unlock", "pidtab_shared_end"):
         return set()
     kind = re.match("pidtab(_shared|_saved)?", name)[0]
     header = read_page(f"bindings/c/{kind}.h")
@@ -123,6 +124,7 @@ class Examples(unittest.TestCase):
     def test_python_for_many_threads(self) -> None:
         need_shared()
         self.check("python", run_python, "with its history")
+        self.check("python", run_python, "## Who follows a shared table")
         self.check("python", run_python, "## A saved history")
 
     def test_c(self) -> None:

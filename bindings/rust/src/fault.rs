@@ -183,6 +183,8 @@ pub enum Error {
     /// As many calls are recorded and not saved as the bound lets there be, and the saver has failed or ended:
     /// [`Shared::wait_saved`](crate::Shared::wait_saved) says why.
     Unsaved,
+    /// The waits for calls were ended, and the call is not recorded.
+    Ended,
     /// A label is printable text of one line, and this one is not.
     BadLabel,
 }
@@ -224,6 +226,7 @@ impl fmt::Display for Error {
             Error::Again => to.write_str("another number of calls was recorded by now"),
             Error::Differs => to.write_str("a reply is not the saved one"),
             Error::Unsaved => to.write_str("too many calls are not saved, and the saver has failed or ended"),
+            Error::Ended => to.write_str("the waits were ended"),
             Error::BadLabel => to.write_str("a label is printable text of one line"),
         }
     }
@@ -243,7 +246,7 @@ impl From<Error> for io::Error {
             Error::NotKept => kind_of(raw::NOT_KEPT as i32),
             Error::Again => kind_of(raw::AGAIN as i32),
             Error::Differs => io::ErrorKind::InvalidData,
-            Error::Unsaved => io::ErrorKind::BrokenPipe,
+            Error::Unsaved | Error::Ended => io::ErrorKind::BrokenPipe,
             Error::Spent => io::ErrorKind::Other,
         };
         io::Error::new(kind, error)

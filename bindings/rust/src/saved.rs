@@ -250,7 +250,7 @@ impl Shared {
             saving.has_ended = true;
             saving.fault = Some(Saved::new().error(SavedFault::Ended));
         });
-        self.wake_saver();
+        self.wake_sleepers();
     }
 
     /// Makes a table of a saved history, which is read to its end. It is opened with the settings of the head, no seat is given, and each call

@@ -11,6 +11,7 @@ use crate::{
 use std::ops::{Deref, DerefMut};
 use std::sync::atomic::{AtomicBool, AtomicU32, AtomicU64, Ordering};
 use std::sync::{Condvar, LockResult, Mutex, MutexGuard, PoisonError};
+use std::time::{Duration, Instant};
 use std::{fmt, mem};
 
 /// So many entries are copied under one lock for a table that follows.
@@ -120,7 +121,7 @@ pub struct Shared {
     is_awaited: AtomicBool,
     /// A saver has told how far it is.
     told: Condvar,
-    /// A call was recorded while a saver slept.
+    /// A call was recorded while somebody slept.
     recorded: Condvar,
     pub(crate) head: raw::SavedHead,
     /// Whether it was made of the text of another table, so that its history does not begin with the root init alone.
@@ -312,8 +313,8 @@ impl Shared {
         Ok(locked.saving.has_ended)
     }
 
-    /// Wakes a saver that sleeps.
-    pub(crate) fn wake_saver(&self) {
+    /// Wakes a saver that sleeps, and who waits for a call.
+    pub(crate) fn wake_sleepers(&self) {
         self.recorded.notify_all();
     }
 
@@ -451,6 +452,70 @@ impl Shared {
         }
         Ok(())
     }
+
+    /// Waits until the call with the ordinal is recorded, so until more than so many calls are: how many are. They are no more only where the
+    /// timeout is over; none has no end.
+    ///
+    /// So a viewer, or a thread that ships the history, follows the table: it reads [`Shared::entries`], or has a table [`Shared::follow`], and
+    /// waits for the next ordinal. It sleeps meanwhile, and the call wakes it. Any number of threads may wait, beside a saver.
+    ///
+    /// ```
+    /// use pidtab::{Calls, Error, Shared};
+    /// use std::thread;
+    ///
+    /// let shared = Shared::open(32768, 1)?;
+    /// let ship = || {
+    ///     let mut shipped = Vec::new();
+    ///     loop {
+    ///         let next = shipped.len() as u64;
+    ///         match shared.wait_changed(next, None) {
+    ///             Ok(_) => shipped.extend(shared.entries(next, 1000)?),
+    ///             Err(Error::Ended) => return Ok(shipped),
+    ///             Err(fault) => return Err(fault),
+    ///         }
+    ///     }
+    /// };
+    /// let shipped = thread::scope(|scope| {
+    ///     let shipper = scope.spawn(ship);
+    ///     let mut seat = shared.seat()?;
+    ///     let child = seat.fork(1, false)?;
+    ///     seat.exit(child.root, 7)?;
+    ///     shared.end_waiting();
+    ///     shipper.join().expect("no panic")
+    /// })?;
+    /// assert_eq!(shipped, shared.entries(0, 2)?);
+    /// # Ok::<(), Error>(())
+    /// ```
+    ///
+    /// # Errors
+    /// `Ended` where no more are recorded, and [`Shared::end_waiting`] has ended the waits; `Busy`.
+    pub fn wait_changed(&self, ordinal: u64, timeout: Option<Duration>) -> Result<u64, Error> {
+        // A time that the clock does not reach has no end.
+        let until = timeout.and_then(|it| Instant::now().checked_add(it));
+        let mut locked = self.lock();
+        loop {
+            let recorded = locked.counts()?.recorded;
+            if recorded > ordinal {
+                return Ok(recorded);
+            }
+            if locked.saving.is_over {
+                return Err(Error::Ended);
+            }
+            let left = until.map(|it| it.saturating_duration_since(Instant::now()));
+            if left == Some(Duration::ZERO) {
+                return Ok(recorded);
+            }
+            locked.saving.sleeps = true;
+            locked.wait_at_most(&self.recorded, left);
+        }
+    }
+
+    /// Ends the waits of [`Shared::wait_changed`], for good: what waits, or comes to wait, for a call that is not recorded is `Ended`. A wait for
+    /// one that is recorded is answered, so who follows the table has all calls first. All else goes on, a saver too.
+    pub fn end_waiting(&self) {
+        self.lock().saving.is_over = true;
+        self.wake_sleepers();
+    }
 }
 
 impl fmt::Debug for Shared {
@@ -474,10 +539,12 @@ pub(crate) struct Saving {
     /// Why the saver's last turn failed, or that it has ended.
     pub(crate) fault: Option<SavedError>,
     pub(crate) has_ended: bool,
-    /// A saver waits for a call.
+    /// A saver, or another, waits for a call.
     sleeps: bool,
     /// A call was recorded meanwhile.
     wakes: bool,
+    /// Nobody waits for a call any more, but a saver.
+    is_over: bool,
 }
 
 /// A table with its history, while its lock is held: what a [`Locked`] and a [`Turn`] lend.
@@ -722,7 +789,7 @@ impl Record {
         Ok((answer, ordinal))
     }
 
-    /// A saver that sleeps is woken when the lock is given back.
+    /// Who sleeps is woken when the lock is given back.
     fn after_call(&mut self) {
         self.saving.wakes |= mem::take(&mut self.saving.sleeps);
         if self.keep != 0 {
@@ -755,7 +822,15 @@ pub struct Locked<'a> {
 impl Locked<'_> {
     /// Gives the lock back until the condition is told.
     fn wait(&mut self, until: &Condvar) {
-        self.record = self.record.take().map(|it| whole(until.wait(it)));
+        self.wait_at_most(until, None);
+    }
+
+    /// The same, or until the time is over.
+    fn wait_at_most(&mut self, until: &Condvar, time: Option<Duration>) {
+        self.record = self.record.take().map(|it| match time {
+            Some(time) => whole(until.wait_timeout(it, time)).0,
+            None => whole(until.wait(it)),
+        });
     }
 }
 
@@ -764,7 +839,7 @@ impl Drop for Locked<'_> {
         let wakes = mem::take(&mut self.saving.wakes);
         self.record = None;
         if wakes {
-            self.shared.wake_saver();
+            self.shared.wake_sleepers();
         }
     }
 }
