@@ -243,7 +243,7 @@ class LibraryManuals(unittest.TestCase):
         wanted["saved_serve"] |= wanted["saved_append"] - {"BUSY"}
         wanted["saved_wait"] |= wanted["saved_serve"]
         wanted["saved_resume"] = wanted["saved_load"] - {"TORN"}
-        self.assertEqual(len(shown), 11)
+        self.assertEqual(len(shown), 12)
         self.assertEqual(shown, wanted)
 
     def test_the_statuses_together(self) -> None:
