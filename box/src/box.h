@@ -59,6 +59,9 @@ struct process {
 	bool joined;             /* its children go into another namespace than its own */
 	bool ignores_children;   /* SIGCHLD is ignored: its children leave no zombies */
 	bool wants_no_zombies;   /* the same by SA_NOCLDWAIT, which an exec ends */
+	bool may_catch_end;      /* it has, or had, a handler of SIGCHLD, which an exec ends */
+	bool shares_handlers;    /* with another process, which may change what this one does with a signal */
+	bool ends_unheard;       /* its end sends its parent another signal than SIGCHLD, or none */
 	pid_t held;              /* the thread of an init that waits for its namespace's members to die */
 	struct process *killer;  /* the init with which it fell */
 	uint32_t spare, spare_root; /* a child of the table whose real fork a signal put off */
@@ -110,11 +113,15 @@ struct thread {
 	struct registers made;   /* the call as the program made it */
 	struct registers behind; /* how it goes on behind an injected call */
 	uint64_t put_off;        /* signals that came before such a call, a bit each */
+	bool has_no_exit;        /* the call is a wait whose exit is not seen: the next stop comes right behind it */
 	uint64_t entered;        /* when, in events */
 	int64_t told;            /* what the table says of it */
 	struct lent lent[MOST_LENT];
 	int lent_count;
-	bool has_call_of_parent;      /* it has not begun yet, and its registers are those of a fork that this program has changed */
+	bool has_changed_call;        /* a fork whose registers this program has changed */
+	uint64_t given_flags;         /* those that the kernel has of it */
+	bool has_call_of_parent;      /* it has not begun yet, and its registers are those of such a fork */
+	bool has_options_of_init;     /* nor yet, and its parent was an init */
 	uint64_t tid_at;              /* where the kernel has written its number before it ran */
 	uint32_t child, child_root;   /* of a fork: its number to the caller */
 	uint64_t flags;               /* of that fork */
@@ -171,6 +178,7 @@ enum onward { GO, SEE_EXIT };
 
 enum onward call_enter(struct thread *thread);
 enum onward call_leave(struct thread *thread);
+void wait_over(struct thread *thread);
 enum onward answer_with(const struct thread *thread, int64_t result);
 enum onward watch(struct thread *thread, const struct registers *registers);
 enum onward answer_or_check(struct thread *thread, int64_t told, const struct registers *registers);
@@ -183,6 +191,7 @@ int64_t call_argument(const struct thread *thread, int index);
 
 void forked(struct thread *thread, pid_t real);
 void fork_failed(struct thread *thread, bool again);
+void give_registers_back(struct thread *thread);
 void unclaimed_end(void);
 
 /* ---- groups.c ---- */

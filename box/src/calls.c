@@ -92,7 +92,7 @@ const struct call calls[] = {
 	{ "prctl", { 157, 167 }, REFUSED, .test = WHEN_IS(0, PR_SCHED_CORE), .note = "`PR_SCHED_CORE`" },
 
 	/* Waits: the kernel reaps, and the table is told. */
-	{ "wait4", { 61, 260 }, KERNEL, .in = { VALUE(0, PROCESS_OR_GROUP) }, RESULT(PROCESS), .leave = leave_wait4 },
+	{ "wait4", { 61, 260 }, KERNEL, .in = { VALUE(0, PROCESS_OR_GROUP) }, RESULT(PROCESS), .enter = enter_wait4, .leave = leave_wait4 },
 	{ "waitid", { 247, 95 }, KERNEL, .test = WHEN_IS(0, P_PID), .in = { VALUE(1, PROCESS) }, .out = { MEMORY(2, AT_SENDER, PROCESS) }, .leave = leave_waitid,
 		.note = "`P_PID`" },
 	{ "waitid", { 247, 95 }, KERNEL, .test = WHEN_IS(0, P_PGID), .in = { VALUE(1, GROUP) }, .out = { MEMORY(2, AT_SENDER, PROCESS) }, .leave = leave_waitid,

@@ -64,7 +64,8 @@ enum onward enter_fork(struct thread *, struct registers *);     /* forks.c */
 enum onward enter_unshare(struct thread *, struct registers *);
 int64_t leave_fork(struct thread *, int64_t);
 int64_t leave_unshare(struct thread *, int64_t);
-int64_t leave_wait4(struct thread *, int64_t);                   /* waits.c */
+enum onward enter_wait4(struct thread *, struct registers *);    /* waits.c */
+int64_t leave_wait4(struct thread *, int64_t);
 int64_t leave_waitid(struct thread *, int64_t);
 enum onward enter_kill(struct thread *, struct registers *);     /* signals.c */
 enum onward enter_sigaction(struct thread *, struct registers *);

@@ -39,6 +39,14 @@ static struct wanted wanted_of_wait4(int32_t pid, bool is_known)
 	return (struct wanted){ PIDTAB_ANY, 0, is_known };
 }
 
+/* A child whose end sends another signal than SIGCHLD is no child to a plain wait. The table has no such children. */
+static bool is_unheard(const struct thread *thread, int32_t pid)
+{
+	const struct name *name = pid > 0 ? name_seen(thread->process, (uint32_t)pid) : NULL;
+
+	return name && name->process && name->process->ends_unheard;
+}
+
 static struct wanted wanted_by(const struct thread *thread)
 {
 	int32_t first = (int32_t)call_argument(thread, 0), second = (int32_t)call_argument(thread, 1);
@@ -46,7 +54,7 @@ static struct wanted wanted_by(const struct thread *thread)
 	bool is_known = !(options & (__WCLONE | __WNOTHREAD));
 
 	if (registers_call(&thread->made) == SYS_wait4)
-		return wanted_of_wait4(first, is_known);
+		return wanted_of_wait4(first, is_known && !is_unheard(thread, first));
 	is_known = is_known && options & WEXITED;
 	if (first == P_PID)
 		return (struct wanted){ PIDTAB_CHILD, (uint32_t)second, is_known };

@@ -11,7 +11,7 @@
 #include <unistd.h>
 
 /* Where clone(2) has its arguments. */
-enum { FLAGS = 0, PARENT_TID = 2, CHILD_TID = MACHINE == 0 ? 3 : 4 };
+enum { FLAGS = 0, STACK = 1, PARENT_TID = 2, CHILD_TID = MACHINE == 0 ? 3 : 4 };
 
 static int forking; /* threads whose child is not claimed yet */
 
@@ -37,10 +37,13 @@ static enum onward make_child(struct thread *thread, struct registers *registers
 	bool is_clone = registers_call(registers) == SYS_clone, sleeps = thread->flags & CLONE_VFORK;
 	uint64_t flags = thread->flags & ~(uint64_t)CLONE_NEWPID;
 
+	thread->has_changed_call = false;
 	if (sleeps && !is_clone)
 		return watch(thread, registers);
 	if (!sleeps && (flags & CSIGNAL) == SIGCHLD)
 		flags |= CLONE_PTRACE;
+	thread->has_changed_call = !is_clone || flags != registers_argument(registers, FLAGS);
+	thread->given_flags = flags;
 	registers_set_argument(registers, FLAGS, flags);
 	for (int i = 1; i < 5 && !is_clone; i++)
 		registers_set_argument(registers, i, 0);
@@ -108,11 +111,43 @@ static void tell_numbers(const struct thread *parent, struct thread *child)
 		child->tid_at = registers_argument(&registers, CHILD_TID);
 }
 
-/* The child begins with the registers of its parent, in which the call is ours. */
-static void inherit_call(const struct thread *parent, struct thread *child)
+/* The child begins with the registers and the options of its parent. */
+static void inherit(const struct thread *parent, struct thread *child)
 {
-	child->has_call_of_parent = parent->phase == IN_CALL;
+	child->has_options_of_init = parent->process->is_init;
+	child->has_call_of_parent = parent->phase == IN_CALL && parent->has_changed_call;
 	child->made = parent->made;
+	child->flags = parent->flags;
+	child->given_flags = parent->given_flags;
+}
+
+/* The registers of a child are those of the call that made it, but for the result; with a stack or a thread area of its own, or where the
+ * call was another one, they are read. */
+void give_registers_back(struct thread *thread)
+{
+	bool is_known = registers_call(&thread->made) == SYS_clone && !registers_argument(&thread->made, STACK) && !(thread->flags & CLONE_SETTLS);
+	struct registers present = thread->made, wanted;
+
+	thread->has_call_of_parent = false;
+	registers_set_argument(&present, FLAGS, thread->given_flags);
+	registers_set_result(&present, 0);
+	if (!is_known && !registers_read(thread->tid, &present))
+		return;
+	wanted = present;
+	registers_restore(&wanted, &thread->made);
+	registers_set_result(&wanted, 0);
+	registers_change(thread->tid, &present, &wanted);
+}
+
+/* What the child does with the end of its own children, and what its own end does. */
+static void inherit_handling(struct process *parent, struct process *child, uint64_t flags)
+{
+	child->ignores_children = parent->ignores_children;
+	child->wants_no_zombies = parent->wants_no_zombies;
+	child->may_catch_end = parent->may_catch_end;
+	child->ends_unheard = (flags & CSIGNAL) != SIGCHLD;
+	if (flags & CLONE_SIGHAND)
+		parent->shares_handlers = child->shares_handlers = true;
 }
 
 /* The kernel has made a process or a thread. */
@@ -124,8 +159,7 @@ void forked(struct thread *thread, pid_t real)
 
 	if (thread->phase == IN_CALL && thread->child) {
 		process = process_new(name_make(real, thread->child_root));
-		process->ignores_children = thread->process->ignores_children;
-		process->wants_no_zombies = thread->process->wants_no_zombies;
+		inherit_handling(thread->process, process, thread->flags);
 		process->is_init = thread->makes_space;
 		thread->is_made = true;
 		forking--;
@@ -136,7 +170,7 @@ void forked(struct thread *thread, pid_t real)
 	child->process = process;
 	thread_number(child);
 	tell_numbers(thread, child);
-	inherit_call(thread, child);
+	inherit(thread, child);
 	if (has_stopped)
 		begin(child);
 }

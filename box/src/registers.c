@@ -3,6 +3,7 @@
 #include "registers.h"
 
 #include <elf.h>
+#include <string.h>
 #include <sys/ptrace.h>
 #include <sys/uio.h>
 
@@ -74,6 +75,22 @@ uint64_t registers_stack(const struct registers *registers)
 	return registers->all.rsp;
 }
 
+bool registers_change(pid_t tid, const struct registers *present, const struct registers *wanted)
+{
+	enum { WORD = sizeof present->all.rax, WORDS = sizeof present->all / WORD };
+	const unsigned long long *one = &present->all.r15, *other = &wanted->all.r15; /* the first ones */
+	int differing = 0, last = 0;
+
+	for (int i = 0; i < WORDS; i++)
+		if (one[i] != other[i]) {
+			differing++;
+			last = i;
+		}
+	if (differing == 1)
+		return !ptrace(PTRACE_POKEUSER, tid, last * WORD, other[last]);
+	return differing == 0 || registers_write(tid, wanted);
+}
+
 bool registers_make_other(pid_t tid, struct registers *registers, int64_t call)
 {
 	registers->all.orig_rax = (unsigned long long)call;
@@ -117,6 +134,11 @@ void registers_set_result(struct registers *registers, int64_t result)
 uint64_t registers_stack(const struct registers *registers)
 {
 	return registers->all.sp;
+}
+
+bool registers_change(pid_t tid, const struct registers *present, const struct registers *wanted)
+{
+	return !memcmp(present, wanted, sizeof *present) || registers_write(tid, wanted);
 }
 
 /* The number of the call is a register set of its own here. */

@@ -25,6 +25,9 @@ struct registers {
 bool registers_read(pid_t tid, struct registers *registers);
 bool registers_write(pid_t tid, const struct registers *registers);
 
+/* Writes those that differ from the ones that the thread has. One alone takes a cheaper call, where the machine has it. */
+bool registers_change(pid_t tid, const struct registers *present, const struct registers *wanted);
+
 int64_t registers_call(const struct registers *registers);
 uint64_t registers_argument(const struct registers *registers, int index);
 void registers_set_argument(struct registers *registers, int index, uint64_t value);

@@ -65,14 +65,17 @@ int64_t leave_kill(struct thread *thread, int64_t result)
 	return result;
 }
 
+enum { SIGNAL_SET = 8 }; /* the size of a set of signals: the kernel refuses others */
+
 /* A parent that ignores SIGCHLD, or says so by a flag, has no zombies. */
 enum onward enter_sigaction(struct thread *thread, struct registers *registers)
 {
 	uint64_t at = registers_argument(registers, 1);
 	uint64_t action[2]; /* the handler and the flags, as the kernel has them */
 
-	if (at && read_memory(thread->tid, at, action, sizeof action)) {
+	if (registers_argument(registers, 3) == SIGNAL_SET && at && read_memory(thread->tid, at, action, sizeof action)) {
 		thread->process->ignores_children = action[0] == (uint64_t)SIG_IGN;
+		thread->process->may_catch_end |= action[0] != (uint64_t)SIG_IGN && action[0] != (uint64_t)SIG_DFL;
 		thread->process->wants_no_zombies = action[1] & SA_NOCLDWAIT;
 	}
 	return GO;
@@ -111,15 +114,18 @@ static bool is_fault(int signal, int code)
 /* A signal is about to be delivered: its sender's number is translated. An init gets none without a handler, but those of its own faults. */
 int signal_arrives(const struct thread *thread, int signal)
 {
+	const struct process *process = thread->process;
 	siginfo_t info;
 	bool is_harmless = signal == SIGCHLD || signal == SIGCONT || signal == SIGURG || signal == SIGWINCH;
 
+	if (signal == SIGCHLD && !process->may_catch_end && !process->shares_handlers)
+		return signal; /* nobody will look who has sent it */
 	if (ptrace(PTRACE_GETSIGINFO, thread->tid, 0, &info))
 		return signal;
-	if (thread->process->is_init && !is_harmless && !is_fault(signal, info.si_code) && !is_caught(thread->tid, signal))
+	if (process->is_init && !is_harmless && !is_fault(signal, info.si_code) && !is_caught(thread->tid, signal))
 		return 0;
 	if (is_from_a_process(signal, info.si_code) && info.si_pid > 0) {
-		info.si_pid = (pid_t)to_number(thread->process, PROCESS, info.si_pid);
+		info.si_pid = (pid_t)to_number(process, PROCESS, info.si_pid);
 		ptrace(PTRACE_SETSIGINFO, thread->tid, 0, &info);
 	}
 	return signal;

@@ -27,7 +27,9 @@ struct thread *thread_new(pid_t tid, struct process *process)
 {
 	struct thread *thread = need(calloc(1, sizeof *thread));
 
-	*thread = (struct thread){ .tid = tid, .process = process, .phase = FREE, .behind_reads = -1, .content = -1 };
+	thread->tid = tid;
+	thread->process = process;
+	thread->behind_reads = thread->content = -1;
 	if (!process)
 		claim(NULL, thread);
 	return by_real[tid] = thread;

@@ -66,18 +66,6 @@ static bool make_subreaper(struct thread *thread)
 	return registers_write(thread->tid, &registers);
 }
 
-static void give_registers_back(struct thread *thread)
-{
-	struct registers registers;
-
-	thread->has_call_of_parent = false;
-	if (!registers_read(thread->tid, &registers))
-		return;
-	registers_restore(&registers, &thread->made);
-	registers_set_result(&registers, 0);
-	registers_write(thread->tid, &registers);
-}
-
 /* The first stop of a process or a thread. Options are inherited, and those of an init are its own. */
 void begin(struct thread *thread)
 {
@@ -86,7 +74,7 @@ void begin(struct thread *thread)
 	bool is_main = thread->tid == process->real, is_nested = process->is_init && is_main;
 
 	thread->is_begun = true;
-	if (is_main)
+	if (is_main && thread->has_options_of_init != process->is_init)
 		trace(PTRACE_SETOPTIONS, thread->tid, options | (process->is_init ? PTRACE_O_TRACEEXIT : 0));
 	if (thread->has_call_of_parent)
 		give_registers_back(thread);
@@ -107,8 +95,9 @@ static void executed(struct thread *thread)
 		process->threads--;
 	}
 	thread->phase = FREE;
+	thread->has_no_exit = false;
 	thread->lent_count = 0;
-	process->wants_no_zombies = false;
+	process->wants_no_zombies = process->may_catch_end = false;
 	process->exec_waits = true;
 	if (!process->asked)
 		exec_told(process);
@@ -254,6 +243,8 @@ static void stopped(struct thread *thread, int status)
 	int event = status >> 16, signal = WSTOPSIG(status);
 
 	stops++;
+	if (thread->has_no_exit && event != PTRACE_EVENT_SECCOMP)
+		wait_over(thread);
 	if (event)
 		event_stopped(thread, event, signal);
 	else if (signal == SYSCALL_STOP)
@@ -289,18 +280,35 @@ void catch_up(const struct process *process, int flags)
 		handle(real, status);
 }
 
+/* Where the box runs beside the program, on another processor, the next report often comes within some microseconds: to look for it a few
+ * times then takes less than to sleep and be woken. Where most looks are in vain they soon are rare: they keep a processor busy. */
+static pid_t report_soon(int *status)
+{
+	enum { LOOKS = 10, MOST_CREDIT = 8, RARE = 64 };
+	static int credit = MOST_CREDIT, waits;
+	int most = credit > 0 || ++waits % RARE == 0 ? LOOKS : checking, looks = 0;
+	pid_t tid = 0;
+
+	while (tid == 0 && looks++ < most)
+		tid = waitpid(-1, status, __WALL | WNOHANG);
+	if (tid == 0 && credit > 0)
+		credit--;
+	if (tid > 0 && looks > 1 && credit < MOST_CREDIT)
+		credit++;
+	return tid;
+}
+
 /* In check mode the state is compared where nothing is reported, at most a hundred times a second. */
 static pid_t next_report(int *status)
 {
 	static struct timespec last;
 	struct timespec now;
-	pid_t tid;
+	pid_t tid = report_soon(status);
 
-	if (!checking)
-		return waitpid(-1, status, __WALL);
-	tid = waitpid(-1, status, __WALL | WNOHANG);
 	if (tid != 0)
 		return tid;
+	if (!checking)
+		return waitpid(-1, status, __WALL);
 	clock_gettime(CLOCK_MONOTONIC, &now);
 	if ((now.tv_sec - last.tv_sec) * 1000000000L + now.tv_nsec - last.tv_nsec > CHECK_EVERY) {
 		last = now;

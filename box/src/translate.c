@@ -3,7 +3,6 @@
 #include "calls.h"
 
 #include <errno.h>
-#include <string.h>
 
 int64_t call_argument(const struct thread *thread, int index)
 {
@@ -29,8 +28,7 @@ static enum onward refuse(struct thread *thread)
 /* The kernel makes the call, perhaps with other arguments, and its exit is seen. */
 enum onward watch(struct thread *thread, const struct registers *registers)
 {
-	if (memcmp(registers, &thread->made, sizeof *registers))
-		registers_write(thread->tid, registers);
+	registers_change(thread->tid, &thread->made, registers);
 	thread->phase = IN_CALL;
 	thread->entered = events;
 	return SEE_EXIT;
@@ -109,13 +107,27 @@ static int64_t translate_back(const struct thread *thread, int64_t result)
 	return result;
 }
 
+/* The kernel makes the same wait once more, as behind a freezer. */
+static void wait_again(struct thread *thread, struct registers *registers)
+{
+	thread->has_no_exit = false;
+	if (registers_call(registers) != registers_call(&thread->made)) {
+		errno = 0;
+		die("a wait has ended unseen");
+	}
+	registers_restore(registers, &thread->made);
+	registers_write(thread->tid, registers);
+}
+
 enum onward call_enter(struct thread *thread)
 {
 	struct registers registers;
 
-	if (!registers_read(thread->tid, &thread->made))
+	if (!registers_read(thread->tid, &registers))
 		return GO;
-	registers = thread->made;
+	if (thread->has_no_exit)
+		wait_again(thread, &registers);
+	thread->made = registers;
 	thread->call = call_row(&registers);
 	if (!thread->call || thread->call->decides == REFUSED)
 		return refuse(thread);
@@ -131,15 +143,24 @@ static enum onward add_filter(struct thread *thread, struct registers *registers
 	return filter_for_reads(thread, registers, file) ? SEE_EXIT : GO;
 }
 
+/* Behind a wait whose exit is not seen. */
+void wait_over(struct thread *thread)
+{
+	thread->has_no_exit = false;
+	if (!thread->process->ended)
+		call_leave(thread);
+}
+
 /* The exit of a call. The program finds its arguments as it passed them. */
 enum onward call_leave(struct thread *thread)
 {
-	struct registers registers;
+	struct registers registers, present;
 	int64_t result;
 
 	thread->phase = FREE;
 	if (!registers_read(thread->tid, &registers))
 		return GO;
+	present = registers;
 	result = registers_result(&registers);
 	give_back(thread);
 	result = thread->call->leave ? thread->call->leave(thread, result) : translate_back(thread, result);
@@ -150,6 +171,6 @@ enum onward call_leave(struct thread *thread)
 	thread->once_more = false;
 	if (thread->behind_reads >= 0)
 		return add_filter(thread, &registers);
-	registers_write(thread->tid, &registers);
+	registers_change(thread->tid, &present, &registers);
 	return GO;
 }

@@ -5,6 +5,7 @@
 #include <errno.h>
 #include <signal.h>
 #include <stddef.h>
+#include <sys/ptrace.h>
 #include <sys/wait.h>
 
 /* The kernel reaped, or showed, the child with the number. Its number to the caller; 0 where the table knows no such child: then it is a
@@ -43,6 +44,32 @@ static bool is_wait4_end(const struct thread *thread, pid_t real)
 	if (at && read_memory(thread->tid, at, &status, sizeof status))
 		return WIFEXITED(status) || WIFSIGNALED(status);
 	return kill(real, 0) && errno == ESRCH;
+}
+
+/* Whether a SIGCHLD is sure to stop the caller right behind its wait: its only thread waits for the end of a child that lives, and
+ * neither ignores nor blocks the signal. Another signal that interrupts it stops it too. */
+static bool is_ended_by_signal(const struct thread *thread)
+{
+	const struct process *caller = thread->process;
+	int32_t pid = (int32_t)call_argument(thread, 0);
+	const struct name *name = pid > 0 ? name_seen(caller, (uint32_t)pid) : NULL;
+	const struct process *child = name ? name->process : NULL;
+	uint64_t blocked;
+
+	if (!child || child->ended || child->dead || child->gone || child->ends_unheard || parent_of(child) != caller)
+		return false;
+	if (call_argument(thread, 2) != 0 || caller->threads != 1 || caller->shares_handlers || caller->ignores_children || caller->wants_no_zombies)
+		return false;
+	return !ptrace(PTRACE_GETSIGMASK, thread->tid, sizeof blocked, &blocked) && !(blocked >> (SIGCHLD - 1) & 1);
+}
+
+/* The exit of such a wait is not seen: what is to do behind it is done where the signal stops it, which saves a stop. */
+enum onward enter_wait4(struct thread *thread, struct registers *registers)
+{
+	enum onward onward = translate(thread, registers);
+
+	thread->has_no_exit = is_ended_by_signal(thread);
+	return thread->has_no_exit ? GO : onward;
 }
 
 int64_t leave_wait4(struct thread *thread, int64_t result)
