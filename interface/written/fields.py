@@ -94,7 +94,7 @@ def python(tables):
 def javascript(tables):
     """An object of objects."""
     lines = [f"  {line}: {{ {', '.join(f'{name}: {chr(34)}{kind}{chr(34)}' for name, kind in readable(tables, line).items())} }}," for line, _ in lines_of(tables, "list")]
-    return ["const FIELDS = {", *lines, "};"]
+    return ["const LINE_FIELDS = {", *lines, "};"]
 
 
 def typed(line):

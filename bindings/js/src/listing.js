@@ -2,7 +2,7 @@
 
 // The fields of each line in their order, each with its type. The first stands behind the word of its line, and others behind their names.
 // Written by tools/interface: fields.
-const FIELDS = {
+const LINE_FIELDS = {
   task: { numbers: "numbers", space: "id", parent: "number", group: "number", session: "number", control: "id", live: "state", status: "status", executed: "mark", children: "apart", subreaper: "mark" },
   space: { id: "id", parent: "root", cursor: "number", fallen: "mark" },
   control: { id: "id", parent: "root", limit: "limit", count: "count" },
@@ -23,21 +23,21 @@ const WRITTEN = {
 
 /** The lines of a kind. */
 function pattern(kind) {
-  const written = Object.entries(FIELDS[kind]).map(([name, type], place) => (WRITTEN[type] ?? WRITTEN.number)(place === 0 ? kind : ` ${name}`, name));
+  const written = Object.entries(LINE_FIELDS[kind]).map(([name, type], place) => (WRITTEN[type] ?? WRITTEN.number)(place === 0 ? kind : ` ${name}`, name));
   return new RegExp(`^${written.join("")}$`);
 }
 
-const LINES = new Map(Object.keys(FIELDS).map((kind) => [kind, pattern(kind)]));
+const LINES = new Map(Object.keys(LINE_FIELDS).map((kind) => [kind, pattern(kind)]));
 
 // How many bits a number has: 64, but those of these types. An id is a BigInt.
 const BITS = { numbers: 32, number: 32, limit: 32, status: 8 };
-const IDS = ["id", "root", "apart"];
+const ID_TYPES = ["id", "root", "apart"];
 
 /** What the word says of a field of the type; an undefined one where a number is too great. */
 function valueOf(type, word) {
   if (type === "mark" || type === "state") return word !== undefined;
   if (word === undefined || word === "-" || word === "max") return null;
-  const numbers = word.split(",").map(IDS.includes(type) ? BigInt : Number);
+  const numbers = word.split(",").map(ID_TYPES.includes(type) ? BigInt : Number);
   if (numbers.some((it) => it >= 2 ** (BITS[type] ?? 64))) return undefined;
   return type === "numbers" ? numbers : numbers[0];
 }
@@ -46,7 +46,7 @@ function valueOf(type, word) {
 function readRow(kind, line) {
   const found = LINES.get(kind)?.exec(line)?.groups;
   if (!found) return null;
-  const row = Object.fromEntries(Object.entries(FIELDS[kind]).map(([name, type]) => [name, valueOf(type, found[name])]));
+  const row = Object.fromEntries(Object.entries(LINE_FIELDS[kind]).map(([name, type]) => [name, valueOf(type, found[name])]));
   if (Object.values(row).includes(undefined)) return null;
   return kind === "task" ? { ...row, root: row.numbers[0], killed: !row.live && row.status === null } : row;
 }
