@@ -691,7 +691,7 @@ func said(t *testing.T, run *exec.Cmd, given []byte) []byte {
 	return out
 }
 
-// The program of docs/SAVED.md reads what is written here.
+// An example of C reads what is written here.
 func TestCReadsWhatIsWrittenHere(t *testing.T) {
 	if _, err := exec.LookPath("cc"); err != nil {
 		t.Skip(err)
@@ -700,7 +700,7 @@ func TestCReadsWhatIsWrittenHere(t *testing.T) {
 		t.Skip(err)
 	}
 	_, saved := whole(t)
-	code := between(t, read(t, "docs/SAVED.md"), "```c\n", "```")
+	code := read(t, "bindings/c/examples/lines.c")
 	program := filepath.Join(t.TempDir(), "program")
 	said(t, exec.Command("cc", "-x", "c", "-", "-x", "none", "-pthread", "-I../c", "../../out/libpidtab.a", "-o", program), []byte(code))
 	wanted := "pid_max 32768 workers 2 first stamp 1\n"

@@ -61,7 +61,7 @@ def functions(tables):
     for it in tables["functions"]:
         names = ", ".join(f"`pidtab_{name}`" for name in words_of(it.functions))
         packages = [it.cell(language) for language in ("python", "rust", "go", "javascript")]
-        rows.append((it.sentence, names, *["none" if cell == "-" else f"`{cell}`" for cell in packages]))
+        rows.append((it.sentence, names, *["" if cell == "-" else f"`{cell}`" for cell in packages]))
     return table(("What it does", "C", "Python", "Rust", "Go", "JavaScript"), rows)
 
 

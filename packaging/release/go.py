@@ -14,7 +14,7 @@ def make(source, built, parts):
     name = f"pidtab-go-{source.version}"
     stage = parts.parent / "go"
     # Its tests compare it with the rest of the repository.
-    copy(source, "bindings/go", [it for it in source.below("bindings/go") if not it.endswith("_test.go")], stage)
+    copy(source, "bindings/go", [it for it in source.below("bindings/go") if it == "example_test.go" or not it.endswith("_test.go")], stage)
     if built.assembler:
         (stage / CHECKOUT).unlink()
         copy(source, "packaging/portable", ["link_source.go"], stage)

@@ -50,7 +50,7 @@ class Source:
 
     def pages(self):
         """The names of what users read: the pages with their pictures, and the examples."""
-        return [it for it in self.names if it.startswith(("docs/", "examples/")) or re.fullmatch(r"[A-Z]+\.md|(?!\.).*/README\.md", it)]
+        return [it for it in self.names if it.startswith(("docs/", "examples/", "bindings/c/examples/")) or re.fullmatch(r"[A-Z]+\.md|(?!\.).*/README\.md", it)]
 
     def changes(self):
         """What the change log says of this version, an entry each."""

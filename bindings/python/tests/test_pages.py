@@ -9,7 +9,6 @@ import tempfile
 import unittest
 from collections.abc import Callable
 from pathlib import Path
-from textwrap import indent
 
 from pidtab import Process, find_program
 from tests.pages import REPOSITORY, displays, fenced, read_page, section
@@ -18,6 +17,7 @@ from tests.ways import need_hypothesis, need_library, need_program, need_shared
 
 PACKAGES = REPOSITORY / "bindings" / "python"
 MANUAL = REPOSITORY / "man"
+C_EXAMPLES = REPOSITORY / "bindings" / "c" / "examples"
 
 # Where each example stands: the page, the title and the language.
 EXAMPLES = [
@@ -27,21 +27,9 @@ EXAMPLES = [
     ("bindings/python/README.md", "## By the program", "python"),
     ("bindings/python/README.md", "## In its own process", "python"),
     ("bindings/python/README.md", "## For many threads, with its history", "python"),
-    ("bindings/python/README.md", "## Who follows a shared table", "python"),
-    ("bindings/python/README.md", "## A saved history", "python"),
-    ("bindings/python/README.md", "## A table that is saved", "python"),
     ("bindings/c/README.md", "## Example", "c"),
-    ("bindings/c/README.md", "## A table as text", "c"),
-    ("bindings/c/README.md", "## A saved history", "c"),
-    ("docs/SAVED.md", "## Answer once it is on the disk", "c"),
     ("bindings/rust/README.md", "## Example", "rust"),
-    ("bindings/rust/README.md", "## A table for many threads, with its history", "rust"),
-    ("bindings/rust/README.md", "## A saved history", "rust"),
-    ("bindings/rust/README.md", "## A table that is saved", "rust"),
     ("bindings/go/README.md", "## Example", "go"),
-    ("bindings/go/README.md", "## A table for many goroutines, with its history", "go"),
-    ("bindings/go/README.md", "## A saved history", "go"),
-    ("bindings/go/README.md", "## A table that is saved", "go"),
 ]
 
 # The pages of the library's functions.
@@ -52,6 +40,12 @@ STATUSES |= {"DEVICE", "NOT_SAVED", "NOT_EMPTY", "ENDED", "TORN", "WRONG_BYTE", 
 
 # What the header says of these by the name of another.
 INNER = {"pidtab_record_close": "pidtab_close", "pidtab_record_list": "pidtab_list", "pidtab_record_opening": "pidtab_list"}
+
+
+def printed_by(code: str) -> str:
+    """What an example in a file of C or Python says at its end that it prints."""
+    _, _, shown = re.split(r"^(/\*|#) It prints$", code, maxsplit=1, flags=re.MULTILINE)
+    return "".join(f"{line}\n" for line in re.findall(r"^(?: \*|#)     (.*)$", shown, re.MULTILINE))
 
 
 def statuses_in(header: str) -> list[tuple[str, str, str]]:
@@ -94,15 +88,9 @@ class Examples(unittest.TestCase):
                 self.assertEqual(len(fenced(read_page(page), kind)), len(here), (page, kind))
 
     def test_rattle(self) -> None:
-        # The gate proves the test, which compares the answers.
+        # The gate proves the example, and compares the answers. tools/pages sees that its file is there.
         text = section(read_page("bindings/rattle/README.md"), "## Example")
-        (code,), (printed,) = fenced(text, "rattle"), fenced(text, "text")
-        crate = REPOSITORY / "crates" / "test_product"
-        self.assertEqual(code, (crate / "src" / "first.rt").read_text(encoding="utf-8"))
-        told, _, _ = code.partition('const ANSWERS: &str = "')[2].partition('"')
-        self.assertEqual(printed, told.replace("\\n", "\n"))
-        proof = (crate / "proofs" / "first" / "makes_four_calls" / "Invariants.antt").read_text(encoding="utf-8")
-        self.assertIn(indent("```antt\n" + proof + "```\n", "  "), text)
+        self.assertIn("crates/test_product/src/first.rt", text)
         self.assertIn(f"`{next(line for line in read_page('crates.txt').splitlines() if line.startswith('test_product:'))}`", text)
 
     def test_the_shell(self) -> None:
@@ -118,18 +106,34 @@ class Examples(unittest.TestCase):
     def test_python_in_its_own_process(self) -> None:
         need_library()
         self.check("python", run_python, "## In its own process")
-        self.check("python", run_python, "## A table that is saved")
         self.check("python", run_python, "### From Python")
 
     def test_python_for_many_threads(self) -> None:
         need_shared()
         self.check("python", run_python, "with its history")
-        self.check("python", run_python, "## Who follows a shared table")
-        self.check("python", run_python, "## A saved history")
+
+    def test_python_in_files(self) -> None:
+        need_shared()
+        shown = sorted((PACKAGES / "examples").glob("*.py"))
+        self.assertEqual([it.stem for it in shown], ["follow", "saved", "text"])
+        for path in shown:
+            with self.subTest(path.name), tempfile.TemporaryDirectory() as folder:
+                code = path.read_text(encoding="utf-8")
+                self.assertEqual(run_python(code, Path(folder)), printed_by(code))
 
     def test_c(self) -> None:
         need_archive()
         self.check("c", run_c)
+
+    def test_c_in_files(self) -> None:
+        need_archive()
+        shown = sorted(C_EXAMPLES.glob("*.c"))
+        self.assertEqual([it.stem for it in shown], ["lines", "saver", "text"])
+        # That of lines.c is run by SavedHistory.
+        for path in shown[1:]:
+            with self.subTest(path.name), tempfile.TemporaryDirectory() as folder:
+                code = path.read_text(encoding="utf-8")
+                self.assertEqual(run_c(code, Path(folder), ["-pthread", f"-I{BUILT}", str(ARCHIVE)]), printed_by(code))
 
     def test_rust(self) -> None:
         need_archive()
@@ -287,14 +291,13 @@ class SavedHistory(unittest.TestCase):
 
     def test_the_program_that_shows_it(self) -> None:
         need_archive()
-        text = section(read_page("docs/SAVED.md"), "## As a script")
-        (code,), (printed,) = fenced(text, "c"), fenced(text, "text")
+        code = (C_EXAMPLES / "lines.c").read_text(encoding="utf-8")
         with tempfile.TemporaryDirectory() as name:
             folder = Path(name)
             (folder / "history").write_bytes(b"".join(self.blocks()))
             (folder / "show.c").write_text(code)
             run([need_tool("cc"), *STRICT, "-pthread", "-o", "show", "show.c", f"-I{BUILT}", str(ARCHIVE)], folder)
-            self.assertEqual(run(["sh", "-c", "./show < history"], folder), printed)
+            self.assertEqual(run(["sh", "-c", "./show < history"], folder), printed_by(code))
 
 
 if __name__ == "__main__":

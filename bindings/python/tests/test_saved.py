@@ -401,7 +401,7 @@ class OtherLanguages(Files):
     def test_read_by_c(self) -> None:
         need_archive()
         saved, entries, _ = self.whole()
-        (code,) = fenced(section(read_page("docs/SAVED.md"), "## As a script"), "c")
+        code = read_page("bindings/c/examples/lines.c")
         done = subprocess.run([self.build(code)], input=saved, stdout=subprocess.PIPE, check=True)
         wanted = ["pid_max 32768 workers 2 first stamp 1", *(f"{it.ordinal} {it.worker} {it.line}" for it in entries)]
         self.assertEqual(done.stdout.decode().splitlines(), wanted)

@@ -1,4 +1,4 @@
-//! The example of README.md on a saved history: `cargo run --offline --example saved`. A test compares both.
+//! A saved history, by a supervisor that lives twice: `cargo run --offline --example saved` prints what is said at the end.
 use pidtab::{Calls, Shared};
 use std::fs::{self, File};
 use std::io;
@@ -38,3 +38,11 @@ fn main() -> io::Result<()> {
     }
     fs::remove_file(path)
 }
+
+// It prints
+//
+//     calls: 0, bytes left out: 0
+//     child 2
+//     calls: 1, bytes left out: 4
+//     child 3
+//     call 0, saved at byte 48: a byte is not the one that was written

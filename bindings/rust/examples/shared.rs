@@ -1,4 +1,4 @@
-//! The example of README.md with threads.
+//! A table for many threads, with its history: `cargo run --offline --example shared` prints what is said at the end.
 use pidtab::{Call, Calls, Error, Shared, Which};
 use std::thread;
 
@@ -37,3 +37,15 @@ fn main() -> Result<(), Error> {
     println!("{:?}", shared.entry(0));
     Ok(())
 }
+
+// It prints
+//
+//     1 Some(0)
+//     Counts { first_kept: 0, recorded: 1205 }
+//     1 301
+//     Counted(5)
+//     Entry { ordinal: 0, worker: 0, call: Getpid { caller: 1 }, reply: Number(1) }
+//     the same list: true
+//     Err(Again)
+//     Counts { first_kept: 1205, recorded: 1205 }
+//     Err(NotKept)

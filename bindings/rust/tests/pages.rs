@@ -58,21 +58,34 @@ fn built(name: &str) -> PathBuf {
     folder.join("examples").join(name)
 }
 
-/// A section's code is that of the example, and its text is what the example prints.
-fn same_example(name: &str, title: &str) {
-    let code = read(&format!("bindings/rust/examples/{name}.rs"));
-    let (_, code) = code.split_once('\n').expect("a head");
-    assert_eq!(code, block(title, "rust"));
+/// The example prints that.
+fn prints(name: &str, wanted: &str) {
     let mut example = Command::new(built(name));
     let done = example.current_dir(env!("CARGO_TARGET_TMPDIR")).output();
     let done = done.expect("the example");
     let said = String::from_utf8(done.stdout).expect("text");
-    assert_eq!((done.status.success(), said), (true, block(title, "text")));
+    assert_eq!((done.status.success(), &*said), (true, wanted));
 }
 
 #[test]
-fn the_examples_of_the_page() {
-    same_example("containers", "Example");
-    same_example("shared", "A table for many threads, with its history");
-    same_example("saved", "A saved history");
+fn the_example_of_the_page() {
+    let code = read("bindings/rust/examples/containers.rs");
+    let (_, code) = code.split_once('\n').expect("a head");
+    assert_eq!(code, block("Example", "rust"));
+    prints("containers", &block("Example", "text"));
+}
+
+#[test]
+fn the_examples_print_what_is_said_at_their_ends() {
+    for name in ["dump", "saved", "shared"] {
+        let code = read(&format!("bindings/rust/examples/{name}.rs"));
+        let (_, end) = code
+            .split_once("\n// It prints\n//\n")
+            .expect("what it prints");
+        let wanted: String = end
+            .split_inclusive('\n')
+            .map(|line| line.strip_prefix("//     ").expect("a line of it"))
+            .collect();
+        prints(name, &wanted);
+    }
 }

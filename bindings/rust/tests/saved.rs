@@ -896,13 +896,12 @@ fn run(command: &mut Command, bytes: &[u8]) -> Option<Vec<u8>> {
     Some(done.stdout)
 }
 
-/// The program of docs/SAVED.md reads what is written here.
+/// An example of C reads what is written here.
 #[test]
 fn c_reads_what_is_written_here() {
     let (out, top) = folders();
     let (shared, bytes) = whole();
-    let page = read_page("docs/SAVED.md");
-    let code = between(&page, "```c\n", "```");
+    let code = read_page("bindings/c/examples/lines.c");
     let program = Kept::new(&[]);
     let mut compile = Command::new("cc");
     compile.args(["-x", "c", "-", "-x", "none", "-pthread"]);

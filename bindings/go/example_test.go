@@ -1,0 +1,164 @@
+package pidtab_test
+
+import (
+	"fmt"
+	"log"
+	"math"
+	"os"
+	"path/filepath"
+	"strings"
+	"sync"
+
+	"pidtab"
+)
+
+// serve makes a container of the worker's own, and in it one process after the other.
+func serve(seat *pidtab.Seat) {
+	container, _ := seat.Fork(1, pidtab.NewNamespace)
+	for status := uint8(0); status < 100; status++ {
+		process, _ := seat.Fork(container.Root, pidtab.NoNewNamespace)
+		seat.Exit(process.Root, status)
+		seat.Wait(container.Root, pidtab.Pid(process.Number))
+	}
+}
+
+// A table for many goroutines, with its history.
+func ExampleOpenShared() {
+	settings := pidtab.Settings{PidMax: 32768, Workers: 5}
+	shared, err := pidtab.OpenShared(settings)
+	if err != nil {
+		log.Fatal(err)
+	}
+	defer shared.Close()
+	seat, _ := shared.Seat()
+	fmt.Println(seat.Getpid(1))
+	fmt.Println(seat.Ordinal())
+	var busy sync.WaitGroup
+	for i := 1; i < 5; i++ {
+		worker, _ := shared.Seat()
+		busy.Add(1)
+		go func() {
+			defer busy.Done()
+			serve(worker)
+		}()
+	}
+	busy.Wait()
+	fmt.Println(shared.Counts())
+	fmt.Println(shared.Worker(4))
+	count, _ := shared.Ask(pidtab.Call{Operation: pidtab.OpCount})
+	fmt.Println(count.First, "live tasks")
+	first, _ := shared.Entry(0)
+	fmt.Println(first.Call.Operation == pidtab.OpGetpid, first.Reply.First)
+	history, _ := shared.Entries(0, math.MaxInt)
+	again, _ := pidtab.OpenShared(settings)
+	defer again.Close()
+	fmt.Println(again.Replay(history))
+	list, _ := shared.List()
+	same, _ := again.List()
+	fmt.Println("the same list:", same == list)
+	fmt.Println(shared.CheckpointAt(7))
+	fmt.Println(shared.CheckpointAt(uint64(len(history))))
+	fmt.Println(shared.Counts())
+	_, err = shared.Entry(0)
+	fmt.Println(err)
+	// Output:
+	// 1 <nil>
+	// 0 true
+	// {0 1205} <nil>
+	// 301 <nil>
+	// 5 live tasks
+	// true 1
+	// <nil>
+	// the same list: true
+	// pidtab: another number of calls was recorded by now
+	// <nil>
+	// {1205 1205} <nil>
+	// pidtab: no entry with the ordinal is kept: it was cut away, or is not reached yet
+}
+
+// live is a supervisor's life: it goes on where the file ends, forks, and saves that.
+func live(path string) error {
+	file, err := os.OpenFile(path, os.O_RDWR|os.O_CREATE, 0o600)
+	if err != nil {
+		return err
+	}
+	defer file.Close()
+	shared, saved, err := pidtab.ResumeShared(file, pidtab.Settings{PidMax: 32768, Workers: 4})
+	if err != nil {
+		return err
+	}
+	defer shared.Close()
+	fmt.Println("calls:", saved.Calls(), "bytes left out:", saved.LeftOut())
+	seat, _ := shared.Seat()
+	child, _ := seat.Fork(1, pidtab.NoNewNamespace)
+	if err := shared.Save(file, saved); err != nil {
+		return err
+	}
+	fmt.Println("child", child.Number)
+	return file.Sync()
+}
+
+// A supervisor lives three times. Before the second a write was stopped, and before the third a byte was changed.
+func ExampleResumeShared() {
+	folder, err := os.MkdirTemp("", "pidtab")
+	if err != nil {
+		log.Fatal(err)
+	}
+	defer os.RemoveAll(folder)
+	history := filepath.Join(folder, "history")
+	if err := live(history); err != nil {
+		log.Fatal(err)
+	}
+	bytes, _ := os.ReadFile(history)
+	bytes = append(bytes, "torn"...) // as a writer leaves it that was stopped
+	os.WriteFile(history, bytes, 0o600)
+	if err := live(history); err != nil {
+		log.Fatal(err)
+	}
+	bytes[60] ^= 1
+	os.WriteFile(history, bytes, 0o600)
+	fmt.Println(live(history))
+	// Output:
+	// calls: 0 bytes left out: 0
+	// child 2
+	// calls: 1 bytes left out: 4
+	// child 3
+	// pidtab: a byte is not the one that was written: call 0, saved at byte 48
+}
+
+// A table as text, and tables of that text.
+func ExampleFromDump() {
+	table, err := pidtab.Open(32768)
+	if err != nil {
+		log.Fatal(err)
+	}
+	child, _ := table.Fork(1, true)
+	text, err := table.Dump()
+	if err != nil {
+		log.Fatal(err)
+	}
+
+	again, err := pidtab.FromDump(text)
+	if err != nil {
+		log.Fatal(err)
+	}
+	fmt.Println(again.Fork(child.Root, false))
+	fmt.Println(table.Fork(child.Root, false))
+
+	// For goroutines, with a history that begins there: one worker, which has made one call before.
+	shared, err := pidtab.SharedFromDump(text, []uint64{1}, 0)
+	if err != nil {
+		log.Fatal(err)
+	}
+	seat, _ := shared.Seat()
+	seat.Fork(child.Root, false)
+	fmt.Println(seat.Ordinal())
+
+	_, err = pidtab.FromDump(strings.Replace(text, "live", "dead", 1))
+	fmt.Println(err)
+	// Output:
+	// {2 3} <nil>
+	// {2 3} <nil>
+	// 1 true
+	// pidtab: the text is that of no table: line 2: bad line
+}

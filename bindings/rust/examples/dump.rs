@@ -1,0 +1,30 @@
+//! A table as text, and a table of that text: `cargo run --offline --example dump` prints what is said at the end.
+use pidtab::{Calls, Shared, Table};
+
+fn main() -> Result<(), Box<dyn std::error::Error>> {
+    let mut table = Table::open(32768)?;
+    let init = table.fork(1, true)?.root;
+    let text = table.dump()?;
+
+    let mut again = Table::from_dump(&text)?;
+    println!("{:?}", again.fork(init, false)?);
+    println!("{:?}", table.fork(init, false)?);
+
+    // For threads, with a history that begins there: one worker, which has made one call before.
+    let shared = Shared::from_dump(&text, &[1], 0)?;
+    let mut seat = shared.seat()?;
+    seat.fork(init, false)?;
+    println!("{:?}", seat.ordinal());
+
+    if let Err(refused) = Table::from_dump(text.replace("live", "dead")) {
+        println!("{refused}");
+    }
+    Ok(())
+}
+
+// It prints
+//
+//     Child { number: 2, root: 3 }
+//     Child { number: 2, root: 3 }
+//     Some(1)
+//     line 2: bad line
