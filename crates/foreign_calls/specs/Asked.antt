@@ -1,7 +1,7 @@
 -- The query that numbers say.
 use Rattle.std.specs.Prelude.{Option, Some, None, if◌then◌else◌}
 use Rattle.pid_types.specs.declared.call.Call.{Call}
-use Rattle.kept_table.specs.Queries.{is_query}
+use Rattle.model_laws.specs.Refusals.{is_query}
 use Rattle.saved_form.specs.declared.numbers.CallNumbers.{CallNumbers}
 use Rattle.foreign_calls.specs.Numbers.{call_of}
 

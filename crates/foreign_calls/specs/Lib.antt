@@ -1,4 +1,4 @@
-pub mod Stamped
+pub mod Made
 pub mod Owned
 pub mod Numbers
 pub mod CallNumbers

@@ -4,17 +4,17 @@
 ghost use Rattle.std.specs.Prelude.{◌≡◌, ◌≢◌, ◌↔◌, ◌⊎◌, IsTrue, Some, None, IfSome};
 ghost use Rattle.pid_types.specs.declared.call.Call.{Call};
 ghost use Rattle.kept_table.specs.Calls.{outcome};
-ghost use Rattle.kept_table.specs.Queries.{is_query};
+ghost use Rattle.model_laws.specs.Refusals.{is_query};
 ghost use Rattle.foreign_calls.specs.Asked.{query_of};
 ghost use Rattle.foreign_calls.specs.Numbers.{numbers_of};
-ghost use Rattle.foreign_calls.specs.Stamped.{reply_to};
+ghost use Rattle.stamped_table.specs.Stamped.{reply_to};
 
 use crate::numbers::{CallNumbers, ReplyNumbers, put_reply, read_call};
-use crate::stamped::StampedTable;
 use crate::status::{DONE, OUT_OF_RANGE};
 use kept_table::Kept;
 use pid_types::call::Call;
 use pid_types::reply::Reply;
+use stamped_table::StampedTable;
 
 /// Whether the call is a query.
 fn asks(call: &Call) -> bool
@@ -49,10 +49,9 @@ fn read_query(n: &CallNumbers) -> Option<Call>
 }
 
 /// Answers the query that the numbers say on the table. The result is the status.
-pub fn ask_table(held: &mut StampedTable, call: &CallNumbers, reply: &mut ReplyNumbers) -> u32
-    ensures same { held.new ≡ held.old }
+pub fn ask_table(held: &StampedTable, call: &CallNumbers, reply: &mut ReplyNumbers) -> u32
     ensures done { result ≡ DONE → (asked : Call) × (query_of call.now ≡ Some asked)
-        × (reply.new ≡ numbers_of (reply_to held.old asked)) }
+        × (reply.new ≡ numbers_of (reply_to held.now asked)) }
     ensures not_done { result ≢ DONE → reply.new ≡ reply.old }
     ensures out_of_range { (result ≡ OUT_OF_RANGE) ↔ (query_of call.now ≡ None) }
     ensures statuses { (result ≡ DONE) ⊎ (result ≡ OUT_OF_RANGE) }
@@ -65,10 +64,9 @@ pub fn ask_table(held: &mut StampedTable, call: &CallNumbers, reply: &mut ReplyN
 }
 
 /// Answers the query that the numbers say on the record, which is not recorded. The result is the status.
-pub fn ask_record(held: &mut Kept, call: &CallNumbers, reply: &mut ReplyNumbers) -> u32
-    ensures same { held.new ≡ held.old }
+pub fn ask_record(held: &Kept, call: &CallNumbers, reply: &mut ReplyNumbers) -> u32
     ensures done { result ≡ DONE → (asked : Call) × (query_of call.now ≡ Some asked)
-        × (reply.new ≡ numbers_of (outcome held.old asked).reply) }
+        × (reply.new ≡ numbers_of (outcome held.now asked).reply) }
     ensures not_done { result ≢ DONE → reply.new ≡ reply.old }
     ensures out_of_range { (result ≡ OUT_OF_RANGE) ↔ (query_of call.now ≡ None) }
     ensures statuses { (result ≡ DONE) ⊎ (result ≡ OUT_OF_RANGE) }

@@ -1,10 +1,10 @@
 //! The handle that crosses to C.
 ghost use Rattle.std.specs.Prelude.{◌≡◌, Option, Some, None, IsSome};
 ghost use Rattle.std.specs.Global.{Global};
-ghost use Rattle.foreign_calls.specs.Stamped.{Stamped};
+ghost use Rattle.stamped_table.specs.Stamped.{Stamped};
 
 use crate::loose::Loose;
-use crate::stamped::StampedTable;
+use stamped_table::StampedTable;
 use std::alloc::{Allocator, Global};
 use std::marker::Model;
 use std::ptr;
@@ -20,7 +20,7 @@ pub struct Handle {
 
 impl Model for Handle {
     ghost use Rattle.std.specs.Box.Ownership.{box_owns};
-    ghost use Rattle.foreign_calls.specs.contracts.stamped.StampedTable.{the_row};
+    ghost use Rattle.stamped_table.specs.contracts.StampedTable.{the_row};
     ghost use Rattle.foreign_calls.specs.Owned.{IfHeld};
 
     ghost also_owns = { λ h. IfHeld h.held (box_owns (⟦<Global as Allocator>⟧.dealloc_token h.heap) the_row h.at) };

@@ -8,11 +8,12 @@ ghost use Rattle.table_text.specs.Reading.{IsNoText};
 ghost use Rattle.table_text.specs.Texts.{text_of};
 ghost use Rattle.foreign_calls.specs.Records.{Has};
 ghost use Rattle.foreign_calls.specs.Saved.{no_fault, fault_numbers};
-ghost use Rattle.foreign_calls.specs.Stamped.{IsInOrder};
+ghost use Rattle.stamped_table.specs.Stamped.{IsInOrder};
 
-use crate::stamped::StampedTable;
 use crate::status::{BAD_TEXT, BUSY, DONE, NO_MEMORY};
 use crate::table::Pidtab;
+use crate::table_texts::of_loaded;
+use stamped_table::StampedTable;
 use std::alloc::Global;
 use table_load::fault::RestoreFault;
 use table_load::load::load;
@@ -70,7 +71,7 @@ fn boxed_load(alloc: Global, text: &[u8]) -> Result<Box<StampedTable>, RestoreFa
     ensures form { IfErr result (λ fault. IsOfForm fault → IsNoText text.now) }
     ensures refused { IfErr result (λ fault. fault ≢ RestoreFault.NoMemory → IsTextOfNoTable text.now) }
 {
-    let held = StampedTable::of_loaded(load(alloc, text)?);
+    let held = of_loaded(load(alloc, text)?);
     match Box::new(alloc, held) {
         Ok(held) => Ok(held),
         Err(_) => Err(RestoreFault::NoMemory),

@@ -5,9 +5,9 @@ ghost use Rattle.pid_types.specs.State.{root_state};
 
 use crate::handle::{Handle, null};
 use crate::loose::Loose;
-use crate::stamped::StampedTable;
 use crate::status::{NO_MEMORY, OUT_OF_RANGE};
 use pid_types::config::Config;
+use stamped_table::StampedTable;
 use std::alloc::{AllocError, Global};
 use std::mem;
 

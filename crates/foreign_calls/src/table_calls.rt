@@ -3,14 +3,15 @@ ghost use Rattle.std.specs.Prelude.{◌≡◌, ◌≢◌, ◌≤◌, ◌↔◌, 
 ghost use Rattle.pid_types.specs.Step.{may_grow};
 ghost use Rattle.pid_script.specs.Answers.{reply_text};
 ghost use Rattle.foreign_calls.specs.Numbers.{numbers_of};
-ghost use Rattle.foreign_calls.specs.Stamped.{after_call, reply_to};
+ghost use Rattle.stamped_table.specs.Stamped.{after_call, reply_to};
 
 use crate::numbers::{ReplyNumbers, put_reply};
-use crate::stamped::StampedTable;
 use crate::status::{DONE, NO_MEMORY, SPENT, status_of};
 use crate::texts::write_reply;
 use pid_script::answer::LONGEST_ANSWER;
 use pid_types::call::Call;
+use pid_types::reply::Reply;
+use stamped_table::StampedTable;
 
 /// Makes the call, and tells its reply as numbers. The result is the status.
 pub fn call_table(held: &mut StampedTable, made: Call, reply: &mut ReplyNumbers) -> u32
@@ -21,8 +22,9 @@ pub fn call_table(held: &mut StampedTable, made: Call, reply: &mut ReplyNumbers)
     ensures no_memory { result ≡ NO_MEMORY → IsTrue (may_grow made) }
     ensures statuses { (result ≡ DONE) ⊎ ((result ≡ SPENT) ⊎ (result ≡ NO_MEMORY)) }
 {
-    match held.make(made) {
-        Ok(told) => {
+    let mut told = Reply::Done;
+    match held.make(made, &mut told) {
+        Ok(()) => {
             put_reply(&told, reply);
             DONE
         }
@@ -43,10 +45,10 @@ pub fn line_table(held: &mut StampedTable, made: Call, answer: &mut [u8], size: 
     ensures no_memory { result ≡ NO_MEMORY → IsTrue (may_grow made) }
     ensures statuses { (result ≡ DONE) ⊎ ((result ≡ SPENT) ⊎ (result ≡ NO_MEMORY)) }
 {
-    let reply = match held.make(made) {
-        Ok(reply) => reply,
-        Err(fault) => return status_of(fault),
-    };
-    *size = write_reply(answer, made, reply);
+    let mut told = Reply::Done;
+    if let Err(fault) = held.make(made, &mut told) {
+        return status_of(fault);
+    }
+    *size = write_reply(answer, made, told);
     DONE
 }

@@ -150,11 +150,3 @@ whole-push past next config resumed first lag room cut calls calls' old present 
       bare = λ none. absurd (some none);
       at = k.at;
     })
-
--- where no state is held, a call more leaves all counts but its worker's as they were cut
-pub cut_by_one : (past : Past) (calls calls' : List ℕ) (c : Chronicle) (worker : ℕ) → IsKeptWhole past calls c → past.opening ≡ None
-    → ((w : ℕ) → slice_index calls' w ≡ slice_index calls w + one_of worker w) → (w : ℕ) → w < length calls → w ≢ worker → slice_index calls' w ≡ slice_index c.cut w
-cut_by_one past calls calls' c worker k none each w lt other =
-    let none_of : by_worker w c.entries ≡ 0 = ap (by_worker w) (k.bare none) in
-    let same : one_of worker w ≡ 0 = one_no worker w (ne_eqb worker w (λ e. other (sym e))) in
-    omega (arith, each w, same, none_of, k.counted.each w (omega (arith, lt, k.counted.len)))

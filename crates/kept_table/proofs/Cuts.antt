@@ -165,24 +165,6 @@ whole-bare law stays past next config resumed first first' stamp lag room cut cu
       at = stamps;
     })
 
--- one recorded call more, which is cut away at once with all that was kept
-pub whole-cut : RunsKeepSoundness → BoundStays → (past next : Past) (config : Settings) (resumed : Bool) (first first' stamp lag room : ℕ) (cut cut' calls calls' : List ℕ) (old present : State) (e : Entry) → IsKeptWhole past calls (told config resumed past first cut old calls)
-    → next ≡ record { opening = None; is_fixed = false; entries = []; stamp = stamp; lag = lag; room = room } → e.worker < length cut → (next_stamp (told config resumed past first cut old calls) + 1) < 2 ^ 64
-    → (let o : Outcome = record { state = present; reply = e.reply } in o) ≡ step old (next_stamp (told config resumed past first cut old calls)) e.call
-    → ((w : ℕ) → slice_index calls' w ≡ slice_index calls w + one_of e.worker w) → sum calls' ≡ sum calls + 1 → length calls' ≡ length calls
-    → first' ≡ first + length past.entries + 1 → stamp ≡ config.first_stamp + first' → cut' ≡ calls'
-    → IsKeptWhole next calls' (told config resumed next first' cut' present calls')
-whole-cut law stays past next config resumed first first' stamp lag room cut cut' calls calls' old present e k left known fits is each all len firsts stamps same =
-    let c : Chronicle = told config resumed past first cut old calls in
-    let more : length (c.entries ++ e ∷ []) ≡ length c.entries + 1 = length-append c.entries (e ∷ []) in
-    let pushed : IsKeptCounted calls' (record c { entries = c.entries ++ e ∷ []; present = present; booked = sum calls' }) = counted-push calls calls' c e (c.entries ++ e ∷ []) present c.room k.counted refl refl known fits is each all len in
-    subst (λ (p : Past). IsKeptWhole p calls' (told config resumed p first' cut' present calls')) (sym left) (record {
-      counted = freed calls' (record c { opening = present; first_kept = first'; cut = cut'; entries = []; present = present; booked = sum calls' }) 0 (is_fresh resumed first')
-          (counted-cut law stays calls' cut' (record c { entries = c.entries ++ e ∷ []; present = present; booked = sum calls' }) present [] first' _ pushed refl refl refl (omega (arith, firsts, more)) same);
-      bare = λ _. refl;
-      at = stamps;
-    })
-
 -- behind a call that was cut away the opening is no more the root init's state
 pub not_fresh : (resumed : Bool) (first : ℕ) → 0 < first → is_fresh resumed first ≡ false
 not_fresh true first some = refl

@@ -59,10 +59,6 @@ after_call c worker call = counted c (c.entries ++ entry_of c worker call ∷ []
 abbrev pub cut_at : Chronicle → ℕ → List ℕ → ℕ → Chronicle
 cut_at c first cut room = record c { opening = c.present; first_kept = first; cut = cut; entries = []; room = room }
 
--- the record with a call more counted, which is cut away at once with all that is kept
-abbrev pub made_and_cut : Chronicle → State → List ℕ → ℕ → Chronicle
-made_and_cut c present cut room = record (cut_at (counted c [] present 0) (total c + 1) cut room) { by_steps = false }
-
 -- how many of the first entries go where at most so many are to be kept: two at most, or all where the opening does not move on by calls
 abbrev pub to_cut : Chronicle → ℕ → ℕ
 to_cut c keep = if c.by_steps then min 2 (length c.entries - keep) else (if nat_lt keep (length c.entries) then length c.entries else 0)

@@ -1,5 +1,4 @@
 pub mod Calls
-pub mod Queries
 pub mod Chronicle
 pub mod Whole
 pub mod Opening

@@ -13,11 +13,11 @@ ghost use Rattle.pid_types.specs.Sound.{IsBelow};
 ghost use Rattle.pid_types.specs.Step.{step, may_grow};
 ghost use Rattle.translate.specs.Stat.{stat_at, glimpse_in, IsSeen};
 ghost use Rattle.kept_table.specs.Calls.{begun, resumed, outcome, entry_of, after_call, counted, cut_at};
-ghost use Rattle.kept_table.specs.Calls.{IsWithoutFirst, made_and_cut, to_cut, to_cut_once};
+ghost use Rattle.kept_table.specs.Calls.{IsWithoutFirst, to_cut, to_cut_once};
 ghost use Rattle.kept_table.specs.Chronicle.{Chronicle, total, next_stamp, recorded, recorded_by_all, kept_entry};
 ghost use Rattle.kept_table.specs.Chronicle.{last_reply, by_worker};
 ghost use Rattle.kept_table.specs.Promise.{IsSubtreeCount, KeepsPromise};
-ghost use Rattle.kept_table.specs.Queries.{is_query};
+ghost use Rattle.model_laws.specs.Refusals.{is_query};
 ghost use Rattle.kept_table.specs.Whole.{one_of, is_fresh};
 
 use crate::history::History;
@@ -302,22 +302,16 @@ impl Kept {
 
     /// Answers a query by the model's step at the next call's stamp. It uses no stamp and is not recorded, and nothing
     /// that is held changes. It costs what the query costs, and no memory.
-    pub fn ask(&mut self, call: Call, reply: &mut Reply)
+    pub fn ask(&self, call: Call, reply: &mut Reply)
         requires { IsTrue (is_query call) }
-        ensures same { self.new ≡ self.old }
-        ensures reply { reply.new ≡ (outcome self.old call).reply }
+        ensures { reply.new ≡ (outcome self.now call).reply }
     {
-        let next = self.config.first_stamp() + self.first_kept + self.history.len() as u64;
-        soundness_is_kept();
-        if self.table.step(next, call, reply).is_err() {
-            unreachable!()
-        }
+        self.table.ask(call, reply);
     }
 
     /// Makes room for the entries of n more calls. Each recorded call uses up one of them. A new record holds the root
     /// init's state as its opening, which takes no memory. Where the opening is the present state behind a
-    /// [`Kept::make_and_cut`] or a [`Kept::resume`], the first room costs a copy of the whole table, which becomes the
-    /// opening.
+    /// [`Kept::resume`], the first room costs a copy of the whole table, which becomes the opening.
     #[inline(always)]
     pub fn reserve_calls(&mut self, n: usize) -> Result<(), AllocError>
         ensures ok { OnOk result (n ≤ self.new.room) }
@@ -393,52 +387,9 @@ impl Kept {
         Ok(())
     }
 
-    /// Makes a call of the worker, and cuts it away at once with all that is kept: the reply is the caller's alone,
-    /// and the opening is the state that the call leaves. It is [`Kept::make_call`] and [`Kept::checkpoint`] in
-    /// one, and needs neither a copy nor room for an entry: so it finds no memory only for what the call itself
-    /// makes. An error changes nothing, and leaves the reply with no meaning.
-    #[inline(always)]
-    pub fn make_and_cut(
-        &mut self,
-        worker: usize,
-        call: Call,
-        reply: &mut Reply,
-    ) -> Result<(), CallFault>
-        requires { worker < length self.old.cut }
-        ensures step { OnOk result (self.new.present ≡ (outcome self.old call).state) }
-        ensures reply { OnOk result (reply.new ≡ (outcome self.old call).reply) }
-        ensures cut { OnOk result
-            (self.new ≡ made_and_cut self.old self.new.present self.new.cut self.new.room) }
-        ensures recorded { OnOk result
-            ((w : ℕ) → w < length self.old.cut → recorded self.new w ≡ recorded self.old w + one_of worker w) }
-        ensures workers { length self.new.cut ≡ length self.old.cut }
-
-        ensures spent { (result ≡ Err CallFault.Spent) ↔ (next_stamp self.old ≡ u64.MAX) }
-        ensures err { OnErr result (self.new ≡ self.old) }
-        ensures no_memory { result ≡ Err CallFault.NoMemory → IsTrue (may_grow call) }
-    {
-        let Some(stamp) = self.next_stamp() else {
-            return Err(CallFault::Spent);
-        };
-        soundness_is_kept();
-        bound_stays();
-        self.table.step(stamp, call, reply)?;
-        count_call(&mut self.calls, worker);
-        self.first_kept += self.history.len() as u64 + 1;
-        cut_with(
-            &mut self.cut,
-            self.calls.as_slice(),
-            worker,
-            self.history.is_bare(),
-        );
-        self.history.forget(stamp + 1);
-        Ok(())
-    }
-
     /// Cuts the first kept entry away: the state that its call leads to is the opening. It answers whether there was
     /// one to cut. Where the opening is held as a snapshot no call can be made on it, and the answer is no: so it is
-    /// where calls were made by [`Kept::make_and_cut`], or the record goes on from a saved table, and it has no second
-    /// table by [`Kept::give_opening`].
+    /// where the record goes on from a saved table, and has no second table by [`Kept::give_opening`].
     ///
     /// It costs what the call costs. Where that finds no memory the entry is cut all the same, and its call is made
     /// later: at a later call or a later cut.
@@ -560,23 +511,6 @@ fn added(counts: &[u64]) -> u64
         all = all.saturating_add(counts[place]);
     }
     all
-}
-
-/// Keeps how many calls of each worker there were, where all are cut away. Where no entry was kept, only the count of
-/// the worker who made the last call differs, and no other is copied.
-#[inline(always)]
-fn cut_with(cut: &mut Vec<u64>, calls: &[u64], worker: usize, is_bare: bool)
-    requires known { worker < length calls.now }
-    requires len { length cut.old.items ≡ length calls.now }
-    requires others { IsTrue is_bare
-        → (w : ℕ) → w < length calls.now → w ≢ worker → slice_index calls.now w ≡ slice_index cut.old.items w }
-    ensures { cut.new.items ≡ calls.now }
-{
-    if is_bare {
-        cut[worker] = calls[worker];
-    } else {
-        cut_all(cut, calls);
-    }
 }
 
 /// Keeps how many calls of each worker there were, where all are cut away.

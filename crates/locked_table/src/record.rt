@@ -13,7 +13,7 @@ ghost use Rattle.pid_types.specs.Shown.{Shows};
 ghost use Rattle.pid_types.specs.Sound.{IsBelow};
 ghost use Rattle.pid_types.specs.Step.{may_grow};
 ghost use Rattle.kept_table.specs.Calls.{begun, resumed, outcome, entry_of, after_call, counted, cut_at};
-ghost use Rattle.kept_table.specs.Calls.{IsWithoutFirst, made_and_cut, to_cut};
+ghost use Rattle.kept_table.specs.Calls.{IsWithoutFirst, to_cut};
 ghost use Rattle.kept_table.specs.Chronicle.{Chronicle, total, next_stamp, recorded, recorded_by_all, kept_entry};
 ghost use Rattle.kept_table.specs.Chronicle.{last_reply};
 ghost use Rattle.kept_table.specs.Promise.{IsSubtreeCount, KeepsPromise};
@@ -350,35 +350,6 @@ impl<L: Ledger, const N: usize> Record<L, N> {
         ensures { self.new ≡ record self.old { room = self.new.room; by_steps = true } }
     {
         self.kept.give_opening(opening);
-    }
-
-    /// Makes a call of the seat's worker, and cuts it away at once with all that is kept: [`Record::make_call`] and
-    /// [`Record::checkpoint`] in one. It copies no state, and needs no room for an entry, so it finds no memory
-    /// only for what the call itself makes. An error changes nothing, and leaves the reply with no meaning.
-    #[inline(always)]
-    pub fn make_and_cut(
-        &mut self,
-        seat: &mut Seat<L, N>,
-        call: Call,
-        reply: &mut Reply,
-    ) -> Result<(), CallFault>
-        ensures step { OnOk result (self.new.present ≡ (outcome self.old call).state) }
-        ensures reply { OnOk result (reply.new ≡ (outcome self.old call).reply) }
-        ensures cut { OnOk result
-            (self.new ≡ made_and_cut self.old self.new.present self.new.cut self.new.room) }
-        ensures recorded { OnOk result
-            ((w : ℕ) → w < N → recorded self.new w ≡ recorded self.old w + one_of seat.old.worker w) }
-        ensures seat { OnOk result (seat.new ≡ record seat.old { calls = seat.old.calls + 1 }) }
-
-        ensures spent { (result ≡ Err CallFault.Spent) ↔ (next_stamp self.old ≡ u64.MAX) }
-        ensures err { OnErr result (self.new ≡ self.old) }
-        ensures err_seat { OnErr result (seat.new ≡ seat.old) }
-        ensures no_memory { result ≡ Err CallFault.NoMemory → IsTrue (may_grow call) }
-    {
-        let _total = self.kept.total();
-        self.kept.make_and_cut(seat.worker, call, reply)?;
-        book_call(&mut self.book, seat);
-        Ok(())
     }
 }
 

@@ -114,7 +114,7 @@ where
 {
     match command {
         Command::Run(config) => run_script(rt.alloc(), &config, input, output)?,
-        Command::List(config) => list_script(rt, &config, input, output)?,
+        Command::List(config) => list_script(rt.alloc(), &config, input, output)?,
         Command::Work { config, files } => work(rt, disk, &config, files, output)?,
     }
     match output.flush() {
@@ -137,15 +137,15 @@ fn run_script<I: Read + Drop, O: Write>(
 {
     let mut source = FromReader::new(input);
     let mut sink = ToWriter::new(output);
-    match run::<Brand, _, _>(alloc, Blank::new(1), &mut source, &mut sink, config) {
+    match run(alloc, &mut source, &mut sink, config) {
         Ok(_) => Ok(()),
         Err(fault) => Err(Fault::from(fault)),
     }
 }
 
 /// Writes the list of the table that a script leaves.
-fn list_script<R: Threads + AllocGlobal, I: Read + Drop, O: Write>(
-    rt: &R,
+fn list_script<I: Read + Drop, O: Write>(
+    alloc: Global,
     config: &Config,
     input: I,
     output: &mut O,
@@ -156,7 +156,7 @@ fn list_script<R: Threads + AllocGlobal, I: Read + Drop, O: Write>(
         (O.contents output.new)) }
 {
     let mut source = FromReader::new(input);
-    let list = list_of_script::<Brand, _, _>(rt, Blank::new(1), &mut source, config)?;
+    let list = list_of_script(alloc, &mut source, config)?;
     match output.write_all(list.as_slice()) {
         Ok(()) => Ok(()),
         Err(_) => Err(Fault::Write),
@@ -164,30 +164,21 @@ fn list_script<R: Threads + AllocGlobal, I: Read + Drop, O: Write>(
 }
 
 /// The list of the table that a script leaves. It is no list where a call of the script found no memory.
-fn list_of_script<L: Ledger, R: Threads + AllocGlobal, S: Source>(
-    rt: &R,
-    blank: Blank,
+fn list_of_script<S: Source>(
+    alloc: Global,
     source: &mut S,
     config: &Config,
 ) -> Result<Vec<u8>, Fault>
-    requires name { blank.name ≡ L.name }
-    requires parts { (blank.parts ≡ L.parts) × (L.parts ≡ 1) }
     ensures ok { IfOk result (λ list. ListsScript config.now (S.remaining source.old)
         (S.remaining source.new) list.items) }
     ensures fault { IfErr result (FailsToList MOST_READS config.now (S.remaining source.old) (S.remaining source.new)
         (S.has_failed source.new)) }
 {
-    let (tally, record) = run_for_table::<L, _, _>(
-        rt.alloc(),
-        blank,
-        source,
-        &mut Discard,
-        config,
-    )?;
+    let (tally, held) = run_for_table(alloc, source, &mut Discard, config)?;
     if tally.starved > 0 {
         return Err(Fault::NoMemory);
     }
-    Ok(list_table(rt.alloc(), record.present())?)
+    Ok(list_table(alloc, held.table())?)
 }
 
 /// Reads the job files, runs a worker for each, and writes what they had. Its text is held whole, so

@@ -1,5 +1,6 @@
 //! Any call: [`PidTable::step`] picks the function that makes it. The record makes all its calls so.
-ghost use Rattle.std.specs.Prelude.{◌≡◌, IsTrue, OnOk, OnErr};
+ghost use Rattle.std.specs.Prelude.{◌≡◌, ℕ, IsTrue, OnOk, OnErr};
+ghost use Rattle.model_laws.specs.Refusals.{is_query};
 ghost use Rattle.pid_types.specs.Sound.{IsBelow};
 ghost use Rattle.pid_types.specs.Step.{step, may_grow};
 ghost use Rattle.task_table.specs.View.{state_of};
@@ -60,7 +61,50 @@ fn make(store: &mut Tasks, stamp: u64, call: Call, reply: &mut Reply) -> Result<
     Ok(())
 }
 
+/// Answers a query of a store, and writes the reply in place.
+#[tactic(auto, unfolding(pid_types::specs::Step::step))]
+fn answer(store: &Tasks, call: Call, reply: &mut Reply)
+    requires whole { IsWhole store.now }
+    requires asks { IsTrue (is_query call) }
+    ensures { (stamp : ℕ) → reply.new ≡ (step (state_of store.now) stamp call).reply }
+{
+    let short = match call {
+        Call::GetPid { caller } => get_pid(store, caller),
+        Call::GetPpid { caller } => get_ppid(store, caller),
+        Call::GetPgid { caller, pid } => get_pgid(store, caller, pid),
+        Call::GetSid { caller, pid } => get_sid(store, caller, pid),
+        Call::NsPid { caller, target } => {
+            ns_pid(store, caller, target, reply);
+            return;
+        }
+        Call::Next { caller, kind, from } => next(store, caller, kind, from),
+        Call::Count { id } => count(store, id),
+        Call::Fork { .. }
+        | Call::MakeControl { .. }
+        | Call::RemoveControl { .. }
+        | Call::SetLimit { .. }
+        | Call::Move { .. }
+        | Call::Exec { .. }
+        | Call::Exit { .. }
+        | Call::Wait { .. }
+        | Call::SetPgid { .. }
+        | Call::SetSid { .. }
+        | Call::Join { .. }
+        | Call::SetSubreaper { .. } => unreachable!(),
+    };
+    short.tell(reply);
+}
+
 impl PidTable {
+    /// Answers a query, as [`PidTable::step`] does at any stamp, and changes nothing. The reply is written in place. It
+    /// costs a search on each level of the namespaces that the query names.
+    pub fn ask(&self, call: Call, reply: &mut Reply)
+        requires { IsTrue (is_query call) }
+        ensures { (stamp : ℕ) → reply.new ≡ (step self.now stamp call).reply }
+    {
+        answer(&self.store, call, reply);
+    }
+
     /// Makes the call, of which the stamp is the id of what it makes; so the stamp is above all ids that
     /// stand. The reply is written in place. The error is want of memory, and then what the reply holds is of no
     /// account.

@@ -3,16 +3,15 @@
 //! [`run_workers`] opens a table, has each job run in a thread of its own, takes the seats back, and has [`audit`]
 //! compare what each worker was told with what was recorded.
 //!
-//! [`run`] answers a script on a new table, [`run_limited`] with a bound on reads, and [`run_state`] and
-//! [`run_for_table`] hand back the record too. They wait for nobody but the reader and the writer. [`run_state`] keeps
-//! the whole history of the run, 184 bytes a call; the others cut each call away at once, so that they take the memory
-//! of the table.
+//! [`run`] answers a script on a new table, [`run_limited`] with a bound on reads. [`run_for_table`] hands back the
+//! table too, and [`run_state`] a record with the whole history of the run, 184 bytes a call. They wait for nobody but
+//! the reader and the writer. All but [`run_state`] take the memory of the table alone.
 #![tactic(auto)]
 
 mod files;
 mod one_seat;
 mod script;
-mod short_seat;
+mod script_table;
 mod threads;
 
 pub use files::JobFiles;

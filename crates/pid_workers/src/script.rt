@@ -13,12 +13,13 @@ ghost use Rattle.script_session.specs.Dialogue.{Converses};
 ghost use Rattle.script_session.specs.Session.{any_call, ended_at, Finishes, Leaves};
 
 use crate::one_seat::OneSeat;
-use crate::short_seat::ShortSeat;
+use crate::script_table::ScriptTable;
 use locked_table::Record;
 use pid_types::config::Config;
 use pid_types::device::{Sink, Source};
 use script_session::session::run_script;
 use script_session::tally::{RunScriptFault, Tally};
+use stamped_table::StampedTable;
 use std::alloc::Global;
 use std::sync::ledger::{Blank, Ledger};
 
@@ -31,18 +32,14 @@ pub const MOST_READS: u32 = 1_000_000_000;
 /// `NoMemory` comes where no table could be made, and then nothing is read or written. A call that
 /// finds no memory later is answered `no memory`, and the script goes on: only `fork` and `mk` take any.
 ///
-/// Each call is cut away as soon as it is recorded. So a run takes the memory of its greatest table, whatever its
-/// length, and no line pays for a copy of it.
-pub fn run_limited<L: Ledger, S: Source, K: Sink>(
+/// No history is kept. So a run takes the memory of its greatest table, whatever its length.
+pub fn run_limited<S: Source, K: Sink>(
     alloc: Global,
-    blank: Blank,
     source: &mut S,
     sink: &mut K,
     config: &Config,
     turns: u32,
 ) -> Result<Tally, RunScriptFault>
-    requires name { blank.name ≡ L.name }
-    requires parts { (blank.parts ≡ L.parts) × (L.parts ≡ 1) }
     ensures ok { IfOk result (λ tally. (present : State) × (stamp : ℕ) × (text : List ℕ) × (calls : List (Call × Reply))
         × Finishes may_grow (start_of config.now)
         (ended_at present stamp tally text calls)
@@ -56,7 +53,7 @@ pub fn run_limited<L: Ledger, S: Source, K: Sink>(
         × (K.has_failed sink.new ≡ K.has_failed sink.old) × (K.is_full sink.new ≡ K.is_full sink.old)) }
     ensures stopped { result ≡ Err Write → HasStopped (K.has_failed sink.new) (K.is_full sink.new) }
 {
-    let mut table = match ShortSeat::<L>::new(alloc, blank, config) {
+    let mut table = match ScriptTable::new(alloc, config) {
         Ok(table) => table,
         Err(_) => return Err(RunScriptFault::NoMemory),
     };
@@ -64,15 +61,12 @@ pub fn run_limited<L: Ledger, S: Source, K: Sink>(
 }
 
 /// Runs a script on a new table, as [`run_limited`] does, with at most [`MOST_READS`] reads.
-pub fn run<L: Ledger, S: Source, K: Sink>(
+pub fn run<S: Source, K: Sink>(
     alloc: Global,
-    blank: Blank,
     source: &mut S,
     sink: &mut K,
     config: &Config,
 ) -> Result<Tally, RunScriptFault>
-    requires name { blank.name ≡ L.name }
-    requires parts { (blank.parts ≡ L.parts) × (L.parts ≡ 1) }
     ensures ok { IfOk result (λ tally. (present : State) × (stamp : ℕ) × (text : List ℕ) × (calls : List (Call × Reply))
         × Finishes may_grow (start_of config.now)
         (ended_at present stamp tally text calls)
@@ -86,7 +80,7 @@ pub fn run<L: Ledger, S: Source, K: Sink>(
         × (K.has_failed sink.new ≡ K.has_failed sink.old) × (K.is_full sink.new ≡ K.is_full sink.old)) }
     ensures stopped { result ≡ Err Write → HasStopped (K.has_failed sink.new) (K.is_full sink.new) }
 {
-    run_limited::<L, S, K>(alloc, blank, source, sink, config, MOST_READS)
+    run_limited(alloc, source, sink, config, MOST_READS)
 }
 
 /// Runs a script on a new table, as [`run`] does, and hands back the record that the lines leave, with
@@ -128,33 +122,29 @@ pub fn run_state<L: Ledger, S: Source, K: Sink>(
     Ok((tally, record))
 }
 
-/// Runs a script on a new table, as [`run`] does, and hands back the record that the lines leave, without a history.
+/// Runs a script on a new table, as [`run`] does, and hands back the table that the lines leave, which has no history.
 /// [`Tally::starved`] says how many calls found no memory, and so are not in it.
-pub fn run_for_table<L: Ledger, S: Source, K: Sink>(
+pub fn run_for_table<S: Source, K: Sink>(
     alloc: Global,
-    blank: Blank,
     source: &mut S,
     sink: &mut K,
     config: &Config,
-) -> Result<(Tally, Record<L, 1>), RunScriptFault>
-    requires name { blank.name ≡ L.name }
-    requires parts { (blank.parts ≡ L.parts) × (L.parts ≡ 1) }
-    ensures ok { IfOk result (λ r. (stamp : ℕ) × (text : List ℕ) × (calls : List (Call × Reply))
-        × Finishes may_grow (start_of config.now) (ended_at r.1.present stamp r.0 text calls)
+) -> Result<(Tally, StampedTable), RunScriptFault>
+    ensures ok { IfOk result (λ r. (text : List ℕ) × (calls : List (Call × Reply))
+        × Finishes may_grow (start_of config.now) (ended_at r.1.state r.1.stamp r.0 text calls)
         (S.remaining source.old) (S.remaining source.new) (K.contents sink.old) (K.contents sink.new)) }
     ensures err { IfErr result (Leaves may_grow MOST_READS (start_of config.now)
         (S.remaining source.old) (S.remaining source.new) (K.contents sink.old) (K.contents sink.new)
         (S.has_failed source.new)) }
 {
-    let mut table = match ShortSeat::<L>::new(alloc, blank, config) {
+    let mut table = match ScriptTable::new(alloc, config) {
         Ok(table) => table,
         Err(_) => return Err(RunScriptFault::NoMemory),
     };
     let tally = run_script(&mut table, source, sink, MOST_READS)?;
-    let ShortSeat {
-        record,
-        seat: _seat,
+    let ScriptTable {
+        table,
         reply: _reply,
     } = table;
-    Ok((tally, record))
+    Ok((tally, table))
 }

@@ -7,7 +7,7 @@ ghost use Rattle.kept_table.specs.Calls.{outcome};
 ghost use Rattle.foreign_calls.specs.Asked.{query_of};
 ghost use Rattle.foreign_calls.specs.Numbers.{numbers_of};
 ghost use Rattle.foreign_calls.specs.Records.{Has};
-ghost use Rattle.foreign_calls.specs.Stamped.{reply_to};
+ghost use Rattle.stamped_table.specs.Stamped.{reply_to};
 
 use foreign_calls::ask::{ask_record, ask_table};
 use foreign_calls::numbers::{CallNumbers, ReplyNumbers};
@@ -37,10 +37,10 @@ pub extern "C" fn pidtab_ask(
     ensures out_of_range { (result ≡ OUT_OF_RANGE) ↔ IsSome table.old.handle.held × (query_of call.now ≡ None) }
     ensures statuses { (result ≡ DONE) ⊎ ((result ≡ CLOSED) ⊎ (result ≡ OUT_OF_RANGE)) }
 {
-    let Some(mut held) = table.take(alloc) else {
+    let Some(held) = table.take(alloc) else {
         return CLOSED;
     };
-    let status = ask_table(&mut held, call, reply);
+    let status = ask_table(&held, call, reply);
     table.put(held);
     status
 }
@@ -64,10 +64,10 @@ pub extern "C" fn pidtab_record_ask(
     ensures out_of_range { (result ≡ OUT_OF_RANGE) ↔ IsSome table.old.handle.held × (query_of call.now ≡ None) }
     ensures statuses { (result ≡ DONE) ⊎ ((result ≡ CLOSED) ⊎ (result ≡ OUT_OF_RANGE)) }
 {
-    let Some(mut held) = table.take(alloc) else {
+    let Some(held) = table.take(alloc) else {
         return CLOSED;
     };
-    let status = ask_record(&mut held, call, reply);
+    let status = ask_record(&held, call, reply);
     table.put(held);
     status
 }

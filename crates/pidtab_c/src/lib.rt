@@ -23,7 +23,8 @@ ghost use Rattle.table_lines.specs.Listed.{list_of_state};
 ghost use Rattle.foreign_calls.specs.Numbers.{call_of, numbers_of};
 ghost use Rattle.foreign_calls.specs.Lines.{IsCall};
 ghost use Rattle.foreign_calls.specs.Records.{Has};
-ghost use Rattle.foreign_calls.specs.Stamped.{IsInOrder, Makes};
+ghost use Rattle.foreign_calls.specs.Made.{Makes};
+ghost use Rattle.stamped_table.specs.Stamped.{IsInOrder};
 
 mod ask;
 mod history;
@@ -43,6 +44,7 @@ use foreign_calls::status::{
 };
 use foreign_calls::table::{Pidtab, new_table};
 use foreign_calls::table_calls::{call_table, line_table};
+use foreign_calls::table_texts::list_of;
 use foreign_calls::texts::write_text;
 use pid_script::answer::LONGEST_ANSWER;
 use pid_script::line::{Line, parse_line};
@@ -173,7 +175,7 @@ pub extern "C" fn pidtab_list(
     let Some(held) = table.take(alloc) else {
         return CLOSED;
     };
-    let text = held.list(alloc);
+    let text = list_of(alloc, &held);
     table.put(held);
     match text {
         Ok(text) => write_text(text.as_slice(), room, size),

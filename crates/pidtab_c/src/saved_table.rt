@@ -5,11 +5,12 @@ ghost use Rattle.table_text.specs.Reading.{IsNoText};
 ghost use Rattle.table_text.specs.Texts.{text_of};
 ghost use Rattle.foreign_calls.specs.Records.{Has};
 ghost use Rattle.foreign_calls.specs.Saved.{no_fault};
-ghost use Rattle.foreign_calls.specs.Stamped.{IsInOrder};
+ghost use Rattle.stamped_table.specs.Stamped.{IsInOrder};
 
 use foreign_calls::saved_table::FaultNumbers;
 use foreign_calls::status::{BAD_TEXT, BUSY, CLOSED, DONE, NO_MEMORY, NO_ROOM};
 use foreign_calls::table::Pidtab;
+use foreign_calls::table_texts::dump_of;
 use foreign_calls::texts::write_text;
 use std::alloc::Global;
 
@@ -41,7 +42,7 @@ pub extern "C" fn pidtab_dump(
     let Some(held) = table.take(alloc) else {
         return CLOSED;
     };
-    let text = held.dump(alloc);
+    let text = dump_of(alloc, &held);
     table.put(held);
     match text {
         Ok(text) => write_text(text.as_slice(), room, size),

@@ -6,9 +6,7 @@ use pid_types::config::Config;
 use pid_types::device::{DeviceFault, Sink, Source};
 use pid_workers::{RunScriptFault, Tally, run_limited};
 use std::alloc::Global;
-use std::marker::Brand;
 use std::process::Abort;
-use std::sync::ledger::{Blank, Ledger};
 use std::test::Fail;
 
 /// A source that gives so many bytes a read, and may fail at its end.
@@ -127,20 +125,6 @@ fn make_paper(room: usize, breaks: bool) -> Paper {
 }
 
 /// Runs a script, of which the callers know nothing more.
-fn run_branded<L: Ledger, S: Source, K: Sink>(
-    alloc: Global,
-    blank: Blank,
-    source: &mut S,
-    sink: &mut K,
-    config: &Config,
-    turns: u32,
-) -> Result<Tally, RunScriptFault>
-    requires name { blank.name ≡ L.name }
-    requires parts { (blank.parts ≡ L.parts) × (L.parts ≡ 1) }
-{
-    run_limited::<L, S, K>(alloc, blank, source, sink, config, turns)
-}
-
 fn run_here(
     alloc: Global,
     source: &mut Pieces,
@@ -148,7 +132,7 @@ fn run_here(
     config: &Config,
     turns: u32,
 ) -> Result<Tally, RunScriptFault> {
-    run_branded::<Brand, _, _>(alloc, Blank::new(1), source, sink, config, turns)
+    run_limited(alloc, source, sink, config, turns)
 }
 
 /// Runs a script in at most so many turns, and asserts what comes of it and what was written.

@@ -8,14 +8,14 @@ pub returns-clause-ok : goal.returns-clause-ok
 returns-clause-ok g c =
     let ran = c.in_ok-tally.ensures.ok in
     record {
-      present = c.in_ok-tally.record.present;
-      stamp = ran.0;
+      present = c.in_ok-tally.held.state;
+      stamp = c.in_ok-tally.held.stamp;
       tally = c.in_ok-tally.tally;
-      text = ran.1;
-      calls = ran.2;
-      finished = ran.3;
+      text = ran.0;
+      calls = ran.1;
+      finished = ran.2;
       all = omega arith;
-      listed = c.in_ok-list_table.ensures ∙ ap list_of_state c.present.ensures;
+      listed = c.in_ok-list_table.ensures ∙ ap list_of_state c.table.ensures;
     }
 
 -- want of memory for the list

@@ -14,8 +14,8 @@ use denote.Struct.Owning.{shape, fields, to}
 use Rattle.std.specs.Prelude.{Option, Some, None}
 use Rattle.std.proofs.Crossing.{frees}
 use Rattle.foreign_calls.specs.Owned.{IfHeld}
-use Rattle.foreign_calls.specs.contracts.stamped.StampedTable as table
-use Rattle.foreign_calls.proofs.stamped.StampedTable.TheSendSync as table_may
+use Rattle.stamped_table.specs.contracts.StampedTable as table
+use Rattle.stamped_table.proofs.StampedTable.TheSendSync as table_may
 use Rattle.foreign_calls.specs.contracts.handle.Handle.{the_row, the_type}
 
 still_quiet : {D X : Type 0} (to : D → X) (e : Exit X) → Quiet e → Quiet (hidden (under to e))

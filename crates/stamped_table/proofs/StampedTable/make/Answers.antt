@@ -1,5 +1,5 @@
 use Rattle.std.proofs.Common.{rules}
-use Rattle.foreign_calls.proofs.stamped.StampedTable.make.Goals as goal
+use Rattle.stamped_table.proofs.StampedTable.make.Goals as goal
 
 pub returns-then-self-clause-spent : goal.returns-then-self-clause-spent
 returns-then-self-clause-spent c = search rules

@@ -1,5 +1,5 @@
 use Rattle.std.proofs.Common.{rules}
-use Rattle.foreign_calls.proofs.stamped.StampedTable.dump.Goals as goal
+use Rattle.foreign_calls.proofs.table_texts.dump_of.Goals as goal
 
 pub returns : goal.returns
 returns c = search rules

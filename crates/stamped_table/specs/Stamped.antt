@@ -1,5 +1,5 @@
--- What is held for C between two calls.
-use Rattle.std.specs.Prelude.{◌≡◌, ◌+◌, ℕ, Option, Some, IfSome}
+-- A table between two calls.
+use Rattle.std.specs.Prelude.{ℕ, ◌+◌}
 use Rattle.pid_types.specs.declared.call.Call.{Call}
 use Rattle.pid_types.specs.declared.reply.Reply.{Reply}
 use Rattle.pid_types.specs.State.{State}
@@ -23,7 +23,3 @@ after_call s call = record { state = (step s.state s.stamp call).state; stamp = 
 -- the reply to the call
 abbrev pub reply_to : Stamped → Call → Reply
 reply_to s call = (step s.state s.stamp call).reply
-
--- the call was made, once: it has left what is held, and this is its reply
-abbrev pub Makes : Option Stamped → Call → Reply → Option Stamped → Type 0
-Makes old call reply new = IfSome old (λ s. (new ≡ Some (after_call s call)) × (reply ≡ reply_to s call))

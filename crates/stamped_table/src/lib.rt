@@ -1,13 +1,16 @@
-//! What is held for C: a table without a history, and the stamp of its next call.
+//! A process table with the stamp of its next call, and no history: for whoever asks for replies alone.
+//!
+//! The type keeps the order of the stamps: the ids in the table are below the next one. The record of the crates above
+//! keeps the calls too.
+#![tactic(auto)]
+
 ghost use Rattle.std.specs.Prelude.{◌≡◌, ◌+◌, ◌↔◌, IfOk, OnOk, OnErr, Err, IsTrue};
+ghost use Rattle.model_laws.specs.Refusals.{is_query};
+ghost use Rattle.pid_types.specs.Sound.{IsSound, IsBelow};
 ghost use Rattle.pid_types.specs.State.{root_state};
 ghost use Rattle.pid_types.specs.Step.{may_grow};
+ghost use Rattle.stamped_table.specs.Stamped.{IsInOrder, after_call, reply_to};
 ghost use Rattle.translate.specs.Stat.{stat_at};
-ghost use Rattle.kept_table.specs.Queries.{is_query};
-ghost use Rattle.foreign_calls.specs.Stamped.{IsInOrder, after_call, reply_to};
-ghost use Rattle.pid_types.specs.Sound.{IsSound, IsBelow};
-ghost use Rattle.table_text.specs.Texts.{text_of};
-ghost use Rattle.table_lines.specs.Listed.{list_of_state};
 
 use model_laws::soundness::{root_state_is_sound, soundness_is_kept};
 use pid_table::PidTable;
@@ -16,9 +19,6 @@ use pid_types::config::Config;
 use pid_types::reply::{CallFault, Refusal, Reply};
 use std::alloc::{AllocError, Global};
 use std::marker::Model;
-use table_lines::dump::dump_table;
-use table_lines::list::list_table;
-use table_load::load::Loaded;
 use translate::stat::Stat;
 
 /// A table and the stamp of its next call. Between two calls its state is sound, and the ids in it are below the stamp.
@@ -29,7 +29,7 @@ pub struct StampedTable {
 }
 
 impl Model for StampedTable {
-    ghost use Rattle.foreign_calls.specs.Stamped.{Stamped, IsInOrder};
+    ghost use Rattle.stamped_table.specs.Stamped.{Stamped, IsInOrder};
 
     ghost Value = { Stamped };
 
@@ -53,11 +53,44 @@ impl StampedTable {
         })
     }
 
-    /// Makes the call. An error says that the table is as it was: the stamps are used up, or there was no memory for a
-    /// call that makes something.
-    pub fn make(&mut self, call: Call) -> Result<Reply, CallFault>
+    /// A table that is there already, that of a saved text, say.
+    pub fn of(table: PidTable, stamp: u64) -> StampedTable
+        requires sound { IsSound table }
+        requires below { IsBelow stamp table }
+        ensures { result ≡ record { state = table; stamp = stamp } }
+    {
+        StampedTable { table, stamp }
+    }
+
+    /// What is true between any two calls. The call does nothing.
+    pub fn laws(&self)
+        ensures { IsInOrder self.now }
+    {
+        let _ = &self.table;
+    }
+
+    /// The table, to be read. It costs nothing.
+    #[inline(always)]
+    pub fn table(&self) -> &PidTable
+        ensures { result.now ≡ self.now.state }
+    {
+        &self.table
+    }
+
+    /// The stamp of the next call. It costs nothing.
+    pub fn stamp(&self) -> u64
+        ensures { result ≡ self.now.stamp }
+    {
+        self.stamp
+    }
+
+    /// Makes the call, and writes the reply. An error says that the table is as it was, and leaves the reply with no
+    /// meaning: the stamps are used up, or there was no memory for a call that makes something. It costs what
+    /// [`PidTable::step`] says.
+    #[inline(always)]
+    pub fn make(&mut self, call: Call, reply: &mut Reply) -> Result<(), CallFault>
         ensures state { OnOk result (self.new ≡ after_call self.old call) }
-        ensures reply { IfOk result (λ reply. reply ≡ reply_to self.old call) }
+        ensures reply { OnOk result (reply.new ≡ reply_to self.old call) }
         ensures err { OnErr result (self.new ≡ self.old) }
         ensures spent { (result ≡ Err CallFault.Spent) ↔ (self.old.stamp ≡ u64.MAX) }
         ensures no_memory { result ≡ Err CallFault.NoMemory → IsTrue (may_grow call) }
@@ -66,22 +99,18 @@ impl StampedTable {
             return Err(CallFault::Spent);
         }
         soundness_is_kept();
-        let mut reply = Reply::Done;
-        self.table.step(self.stamp, call, &mut reply)?;
+        self.table.step(self.stamp, call, reply)?;
         self.stamp += 1;
-        Ok(reply)
+        Ok(())
     }
 
     /// Answers a query. It uses no stamp, and changes nothing.
-    pub fn ask(&mut self, call: Call) -> Reply
+    pub fn ask(&self, call: Call) -> Reply
         requires { IsTrue (is_query call) }
-        ensures same { self.new ≡ self.old }
-        ensures reply { result ≡ reply_to self.old call }
+        ensures { result ≡ reply_to self.now call }
     {
         let mut reply = Reply::Done;
-        if self.table.step(self.stamp, call, &mut reply).is_err() {
-            unreachable!()
-        }
+        self.table.ask(call, &mut reply);
         reply
     }
 
@@ -90,31 +119,5 @@ impl StampedTable {
         ensures { result ≡ stat_at self.now.state caller pid }
     {
         self.table.stat(caller, pid)
-    }
-
-    /// The text of the list. The error is want of memory. Its contract tells what is true of a table between any two
-    /// calls.
-    pub fn list(&self, alloc: Global) -> Result<Vec<u8>, AllocError>
-        ensures text { IfOk result (λ text. text.items ≡ list_of_state self.now.state) }
-        ensures sound { IsInOrder self.now }
-    {
-        list_table(alloc, &self.table)
-    }
-
-    /// The text of the table, with the stamp of its next call. The error is want of memory.
-    pub fn dump(&self, alloc: Global) -> Result<Vec<u8>, AllocError>
-        ensures { IfOk result (λ text. text.items ≡ text_of self.now.stamp self.now.state) }
-    {
-        dump_table(alloc, &self.table, self.stamp)
-    }
-
-    /// The table that was loaded from a text.
-    pub fn of_loaded(loaded: Loaded) -> StampedTable
-        requires sound { IsSound loaded.table }
-        requires below { IsBelow loaded.stamp loaded.table }
-        ensures { result ≡ record { state = loaded.table; stamp = loaded.stamp } }
-    {
-        let Loaded { table, stamp } = loaded;
-        StampedTable { table, stamp }
     }
 }

@@ -1,0 +1,39 @@
+//! The texts of a table without a history, and the table that was loaded from one.
+ghost use Rattle.std.specs.Prelude.{◌≡◌, IfOk};
+ghost use Rattle.pid_types.specs.Sound.{IsSound, IsBelow};
+ghost use Rattle.stamped_table.specs.Stamped.{IsInOrder};
+ghost use Rattle.table_lines.specs.Listed.{list_of_state};
+ghost use Rattle.table_text.specs.Texts.{text_of};
+
+use stamped_table::StampedTable;
+use std::alloc::{AllocError, Global};
+use table_lines::dump::dump_table;
+use table_lines::list::list_table;
+use table_load::load::Loaded;
+
+/// The text of the list. The error is want of memory. Its contract tells what is true of a table between any two
+/// calls.
+pub fn list_of(alloc: Global, held: &StampedTable) -> Result<Vec<u8>, AllocError>
+    ensures text { IfOk result (λ text. text.items ≡ list_of_state held.now.state) }
+    ensures sound { IsInOrder held.now }
+{
+    held.laws();
+    list_table(alloc, held.table())
+}
+
+/// The text of the table, with the stamp of its next call. The error is want of memory.
+pub fn dump_of(alloc: Global, held: &StampedTable) -> Result<Vec<u8>, AllocError>
+    ensures { IfOk result (λ text. text.items ≡ text_of held.now.stamp held.now.state) }
+{
+    dump_table(alloc, held.table(), held.stamp())
+}
+
+/// The table that was loaded from a text.
+pub fn of_loaded(loaded: Loaded) -> StampedTable
+    requires sound { IsSound loaded.table }
+    requires below { IsBelow loaded.stamp loaded.table }
+    ensures { result ≡ record { state = loaded.table; stamp = loaded.stamp } }
+{
+    let Loaded { table, stamp } = loaded;
+    StampedTable::of(table, stamp)
+}
