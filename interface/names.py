@@ -1,5 +1,6 @@
 """The forms of a name and of a list that the languages have."""
 
+import re
 import textwrap
 
 
@@ -11,6 +12,11 @@ def capitals(word):
 def camel(word):
     """NoCaller of no-caller, and of NO_CALLER."""
     return "".join(part.capitalize() for part in word.replace("_", "-").split("-"))
+
+
+def snake(word):
+    """A name of a type as the name of a function: `get_pid` for `GetPid`."""
+    return re.sub(r"(?<!^)(?=[A-Z])", "_", word).lower()
 
 
 def with_id(sentence):

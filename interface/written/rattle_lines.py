@@ -2,6 +2,7 @@
 
 from arguments import arguments_of
 from model import call, code, imported, in_lines, is_numbered, named, of
+from names import snake
 from places import arms, definition, imports
 from tables import TableFault
 
@@ -30,9 +31,9 @@ BEHIND = {"number": "push_one", "number number": "push_two", "number byte": "pus
 ITSELF = {"number new": "push_fork", "number which": "push_wait", "number signed signed": "push_set_pgid", "number use number": "push_next", "id most": "push_limit",
           "number id": "push_move", "number on": "push_subreaper"}  # fmt: skip
 
-# How long the commands are, in words; and what reads the numbers of a call that has nothing else.
+# How long the commands are, in words; and the arguments of a call of which a function of its own reads the numbers.
 LENGTHS = {2: "two", 4: "four", 5: "five", 6: "six", 7: "seven", 9: "nine"}
-PLAIN = {"number": "read_u32", "id": "read_u64", "number number": "read_pair"}
+PLAIN = ("number", "id", "number number")
 
 
 def kinds_of(row):
@@ -106,10 +107,10 @@ def writes(tables):
 
 def reads(row):
     """What reads the words behind a command."""
-    kinds, names = " ".join(kinds_of(row)), ", ".join(name for _, name in named(row))
-    if kinds not in PLAIN:
-        return f"{ITSELF.get(kinds, f'read_{row.call}').replace('push', 'read')}(words)"
-    return f"{PLAIN[kinds]}(words).map(|{f'({names})' if ',' in names else names}| {code(row)})"
+    kinds = " ".join(kinds_of(row))
+    if kinds in PLAIN:
+        return f"read_{snake(row.model)}(words)"
+    return f"{ITSELF.get(kinds, f'read_{row.call}').replace('push', 'read')}(words)"
 
 
 def of_length(length):

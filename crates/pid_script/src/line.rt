@@ -3,7 +3,7 @@
 ghost use Rattle.std.specs.Prelude.{◌≡◌, ◌<◌, ◌^◌, length, codes};
 ghost use Rattle.pid_types.specs.declared.call.Call.TheVariants as calls;
 ghost use Rattle.pid_script.specs.Reading.{process_of, control_of, status_of, signed_of, kind_of, switch_of, limit_of};
-ghost use Rattle.pid_script.specs.Reading.{numbered_of, which_of, pair, two, three, fork_new_of, fork_of};
+ghost use Rattle.pid_script.specs.Reading.{numbered_of, which_of, pair, one, two, three, fork_new_of, fork_of};
 ghost use Rattle.pid_script.specs.Reading.{command_of, call_of, call_or_bad, parsed};
 ghost use Rattle.pid_script.specs.Lines.{Says};
 
@@ -214,14 +214,120 @@ fn read_subreaper(words: &[u8]) -> Option<Call>
     })
 }
 
+/// `P`.
+#[inline(always)]
+fn read_exec(words: &[u8]) -> Option<Call>
+    ensures { result ≡ one process_of calls.Exec words.now }
+{
+    Some(Call::Exec {
+        caller: read_u32(words)?,
+    })
+}
+
+/// `P`.
+#[inline(always)]
+fn read_set_sid(words: &[u8]) -> Option<Call>
+    ensures { result ≡ one process_of calls.SetSid words.now }
+{
+    Some(Call::SetSid {
+        caller: read_u32(words)?,
+    })
+}
+
+/// `P`.
+#[inline(always)]
+fn read_get_pid(words: &[u8]) -> Option<Call>
+    ensures { result ≡ one process_of calls.GetPid words.now }
+{
+    Some(Call::GetPid {
+        caller: read_u32(words)?,
+    })
+}
+
+/// `P`.
+#[inline(always)]
+fn read_get_ppid(words: &[u8]) -> Option<Call>
+    ensures { result ≡ one process_of calls.GetPpid words.now }
+{
+    Some(Call::GetPpid {
+        caller: read_u32(words)?,
+    })
+}
+
+/// `I`.
+#[inline(always)]
+fn read_make_control(words: &[u8]) -> Option<Call>
+    ensures { result ≡ one control_of calls.MakeControl words.now }
+{
+    Some(Call::MakeControl {
+        parent: read_u64(words)?,
+    })
+}
+
+/// `I`.
+#[inline(always)]
+fn read_remove_control(words: &[u8]) -> Option<Call>
+    ensures { result ≡ one control_of calls.RemoveControl words.now }
+{
+    Some(Call::RemoveControl {
+        id: read_u64(words)?,
+    })
+}
+
+/// `I`.
+#[inline(always)]
+fn read_count(words: &[u8]) -> Option<Call>
+    ensures { result ≡ one control_of calls.Count words.now }
+{
+    Some(Call::Count {
+        id: read_u64(words)?,
+    })
+}
+
+/// `P P`.
+#[inline(always)]
+fn read_get_pgid(words: &[u8]) -> Option<Call>
+    ensures { result ≡ two process_of process_of calls.GetPgid words.now }
+{
+    let (caller, pid) = read_pair(words)?;
+    Some(Call::GetPgid { caller, pid })
+}
+
+/// `P P`.
+#[inline(always)]
+fn read_get_sid(words: &[u8]) -> Option<Call>
+    ensures { result ≡ two process_of process_of calls.GetSid words.now }
+{
+    let (caller, pid) = read_pair(words)?;
+    Some(Call::GetSid { caller, pid })
+}
+
+/// `P P`.
+#[inline(always)]
+fn read_ns_pid(words: &[u8]) -> Option<Call>
+    ensures { result ≡ two process_of process_of calls.NsPid words.now }
+{
+    let (caller, target) = read_pair(words)?;
+    Some(Call::NsPid { caller, target })
+}
+
+/// `P P`.
+#[inline(always)]
+fn read_join(words: &[u8]) -> Option<Call>
+    ensures { result ≡ two process_of process_of calls.Join words.now }
+{
+    let (caller, target) = read_pair(words)?;
+    Some(Call::Join { caller, target })
+}
+
 /// The call of a command of two letters and the words behind it.
 #[tactic(auto, unfolding(crate::specs::Reading::command_of))]
 fn read_two_letters(command: &[u8], words: &[u8]) -> Option<Call>
     ensures { length command.now ≡ 2 → result ≡ command_of command.now words.now }
 {
     match command {
-        b"mk" => read_u64(words).map(|parent| Call::MakeControl { parent }),
-        b"rm" => read_u64(words).map(|id| Call::RemoveControl { id }),
+        b"mk" => read_make_control(words),
+        b"rm" => read_remove_control(words),
         _ => None,
     }
 }
@@ -233,12 +339,12 @@ fn read_four_letters(command: &[u8], words: &[u8]) -> Option<Call>
 {
     match command {
         b"fork" => read_fork(words),
-        b"exec" => read_u32(words).map(|caller| Call::Exec { caller }),
+        b"exec" => read_exec(words),
         b"exit" => read_exit(words),
         b"wait" => read_wait(words),
         b"next" => read_next(words),
         b"move" => read_move(words),
-        b"join" => read_pair(words).map(|(caller, target)| Call::Join { caller, target }),
+        b"join" => read_join(words),
         _ => None,
     }
 }
@@ -249,9 +355,9 @@ fn read_five_letters(command: &[u8], words: &[u8]) -> Option<Call>
     ensures { length command.now ≡ 5 → result ≡ command_of command.now words.now }
 {
     match command {
-        b"nspid" => read_pair(words).map(|(caller, target)| Call::NsPid { caller, target }),
+        b"nspid" => read_ns_pid(words),
         b"limit" => read_limit(words),
-        b"count" => read_u64(words).map(|id| Call::Count { id }),
+        b"count" => read_count(words),
         _ => None,
     }
 }
@@ -262,9 +368,9 @@ fn read_six_letters(command: &[u8], words: &[u8]) -> Option<Call>
     ensures { length command.now ≡ 6 → result ≡ command_of command.now words.now }
 {
     match command {
-        b"setsid" => read_u32(words).map(|caller| Call::SetSid { caller }),
-        b"getpid" => read_u32(words).map(|caller| Call::GetPid { caller }),
-        b"getsid" => read_pair(words).map(|(caller, pid)| Call::GetSid { caller, pid }),
+        b"setsid" => read_set_sid(words),
+        b"getpid" => read_get_pid(words),
+        b"getsid" => read_get_sid(words),
         _ => None,
     }
 }
@@ -276,8 +382,8 @@ fn read_seven_letters(command: &[u8], words: &[u8]) -> Option<Call>
 {
     match command {
         b"setpgid" => read_set_pgid(words),
-        b"getppid" => read_u32(words).map(|caller| Call::GetPpid { caller }),
-        b"getpgid" => read_pair(words).map(|(caller, pid)| Call::GetPgid { caller, pid }),
+        b"getppid" => read_get_ppid(words),
+        b"getpgid" => read_get_pgid(words),
         _ => None,
     }
 }
@@ -371,7 +477,7 @@ fn set_pgid_line(words: &[u8]) -> Line
 fn set_sid_line(words: &[u8]) -> Line
     ensures { result ≡ call_or_bad (command_of (codes "setsid") words.now) }
 {
-    line_of_call(read_u32(words).map(|caller| Call::SetSid { caller }))
+    line_of_call(read_set_sid(words))
 }
 
 /// What `getpid` says with the words behind it.
@@ -380,7 +486,7 @@ fn set_sid_line(words: &[u8]) -> Line
 fn get_pid_line(words: &[u8]) -> Line
     ensures { result ≡ call_or_bad (command_of (codes "getpid") words.now) }
 {
-    line_of_call(read_u32(words).map(|caller| Call::GetPid { caller }))
+    line_of_call(read_get_pid(words))
 }
 
 /// What `getppid` says with the words behind it.
@@ -389,7 +495,7 @@ fn get_pid_line(words: &[u8]) -> Line
 fn get_ppid_line(words: &[u8]) -> Line
     ensures { result ≡ call_or_bad (command_of (codes "getppid") words.now) }
 {
-    line_of_call(read_u32(words).map(|caller| Call::GetPpid { caller }))
+    line_of_call(read_get_ppid(words))
 }
 
 /// What `getpgid` says with the words behind it.
@@ -398,7 +504,7 @@ fn get_ppid_line(words: &[u8]) -> Line
 fn get_pgid_line(words: &[u8]) -> Line
     ensures { result ≡ call_or_bad (command_of (codes "getpgid") words.now) }
 {
-    line_of_call(read_pair(words).map(|(caller, pid)| Call::GetPgid { caller, pid }))
+    line_of_call(read_get_pgid(words))
 }
 
 /// What `getsid` says with the words behind it.
@@ -407,7 +513,7 @@ fn get_pgid_line(words: &[u8]) -> Line
 fn get_sid_line(words: &[u8]) -> Line
     ensures { result ≡ call_or_bad (command_of (codes "getsid") words.now) }
 {
-    line_of_call(read_pair(words).map(|(caller, pid)| Call::GetSid { caller, pid }))
+    line_of_call(read_get_sid(words))
 }
 
 /// What `nspid` says with the words behind it.
@@ -416,7 +522,7 @@ fn get_sid_line(words: &[u8]) -> Line
 fn ns_pid_line(words: &[u8]) -> Line
     ensures { result ≡ call_or_bad (command_of (codes "nspid") words.now) }
 {
-    line_of_call(read_pair(words).map(|(caller, target)| Call::NsPid { caller, target }))
+    line_of_call(read_ns_pid(words))
 }
 
 /// What `count` says with the words behind it.
@@ -425,7 +531,7 @@ fn ns_pid_line(words: &[u8]) -> Line
 fn count_line(words: &[u8]) -> Line
     ensures { result ≡ call_or_bad (command_of (codes "count") words.now) }
 {
-    line_of_call(read_u64(words).map(|id| Call::Count { id }))
+    line_of_call(read_count(words))
 }
 
 /// What a line says that has a byte, whatever its command.
