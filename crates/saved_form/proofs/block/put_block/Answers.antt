@@ -13,3 +13,6 @@ returns-clause-bytes c =
     c.copy_from_slice-2.ensures.after ∙ c.to_le_bytes.ensures ∙ ap eight c.sum_of-behind.ensures.value in
     (λ i. put_mid (at + 40) (at + 48 - (at + 40)) (put_mid at (at + 40 - at) bytes (c.copy_from_slice.ensures.after i)) (sum i))
     ∙ put_two_parts bytes c.args.block.now (eight (crc64 c.args.sum c.args.block.now)) at (omega arith) (search rules) refl
+
+pub returns-clause-sum : goal.returns-clause-sum
+returns-clause-sum c = search rules

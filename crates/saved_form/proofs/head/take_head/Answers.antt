@@ -1,4 +1,4 @@
-use Rattle.std.proofs.Common.{◌≡◌, ℕ, ◌+◌, ◌<◌, List, true, ap, sym, subst, ◌∙◌, arith}
+use Rattle.std.proofs.Common.{◌≡◌, ℕ, ◌+◌, ◌<◌, List, true, ap, sym, subst, ◌∙◌, arith, rules}
 use Rattle.saved_form.specs.Form as form
 use Rattle.saved_form.specs.Taking.{AreRight}
 use Rattle.saved_form.proofs.Heads.{begins_there, begins_may, begins_version, begins_back, begins_block, begins_right, taken}
@@ -40,3 +40,12 @@ pub returns-in_default-2-clause-read_back : goal.returns-in_default-2-clause-rea
 returns-in_default-2-clause-read_back c h fits begins =
     let bad = c.in_default.ensures.wrong in
     first_is_right _ c.args.bytes.now bad.0 bad.2 (begins_right h c.args.bytes.now begins)
+
+pub returns-in-Ok-clause-other_version : goal.returns-in-Ok-clause-other_version
+returns-in-Ok-clause-other_version c = search rules
+
+pub returns-in_default-clause-other_version : goal.returns-in_default-clause-other_version
+returns-in_default-clause-other_version c = search rules
+
+pub returns-in_default-2-clause-other_version : goal.returns-in_default-2-clause-other_version
+returns-in_default-2-clause-other_version c = search rules
