@@ -281,6 +281,7 @@ HELD = -Dmalloc=test_malloc -Drealloc=test_realloc
 CASES_TEST = test_cases shared guard guard_record heap
 RECORD_TEST = test_record guard guard_record
 DUMP_TEST = test_dump guard
+DUMP_SEEDS_TEST = test_dump_seeds guard heap
 DUMP_RECORD_TEST = test_dump_record shared guard guard_record
 THREADS_TEST = test_threads guard guard_record
 SHARED_TEST = test_shared shared guard guard_record heap
@@ -301,6 +302,7 @@ bindings-c:
 		$(CC) $(CHECKED) -o $(OUT)/test_cases $(CASES_TEST:%=bindings/c/%.c) $(OUT)/proved.a && $(RUN) $(OUT)/test_cases interface/cases/*.cases && \
 		$(CC) $(CHECKED) -o $(OUT)/test_record $(RECORD_TEST:%=bindings/c/%.c) $(OUT)/test_heap.o $(OUT)/proved.a && $(RUN) $(OUT)/test_record && \
 		$(CC) $(CHECKED) -o $(OUT)/test_dump $(DUMP_TEST:%=bindings/c/%.c) $(OUT)/test_heap.o $(OUT)/proved.a && $(RUN) $(OUT)/test_dump && \
+		$(CC) $(CHECKED) -o $(OUT)/test_dump_seeds $(DUMP_SEEDS_TEST:%=bindings/c/%.c) $(OUT)/proved.a && $(RUN) $(OUT)/test_dump_seeds && \
 		$(CC) $(CHECKED) -o $(OUT)/test_dump_record $(DUMP_RECORD_TEST:%=bindings/c/%.c) $(OUT)/test_heap.o $(OUT)/proved.a && $(RUN) $(OUT)/test_dump_record && \
 		$(CC) $(THREADED) $(HELD) -Dfree=test_free -c -o $(OUT)/held_heap.o bindings/c/heap.c && \
 		$(CC) $(THREADED) -o $(OUT)/test_threads $(THREADS_TEST:%=bindings/c/%.c) $(OUT)/held_heap.o $(OUT)/proved.a && $(RUN) $(OUT)/test_threads && \

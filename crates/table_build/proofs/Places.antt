@@ -1,6 +1,8 @@
 -- Places of lists, and what stands there.
-use Rattle.std.proofs.Common.{◌≡◌, inl, inr, ℕ, zero, suc, ◌<◌, List, [], ◌∷◌, length, slice_get, Some, None, sym, ap, arith}
-use Rattle.std.specs.Prelude.{slice_index}
+use Rattle.std.proofs.Common.{◌≡◌, ◌∙◌, inl, inr, ℕ, zero, suc, ◌<◌, List, [], ◌∷◌, length, slice_get, Option, Some, None, refl, subst, sym, ap, arith}
+use Rattle.std.specs.Prelude.{slice_index, IfSome}
+use Rattle.pid_types.specs.declared.plain.Row.{Row}
+use Rattle.pid_types.specs.Names.{root_number}
 use Rattle.pid_types.specs.Membership.{IsIn}
 
 module _ {X : Type 0} where
@@ -27,3 +29,15 @@ first-is (x ∷ xs) n e = (let z : x ≡ n = cc in z)
 pub no-first : (xs : List ℕ) → slice_get xs 0 ≡ None → 0 < length xs → ⊥
 no-first [] e some = omega (arith, some)
 no-first (x ∷ xs) e some = absurd (cc)
+
+-- there is something at each place below the length
+pub at-some : {X : Type 0} (xs : List X) (j : ℕ) → j < length xs → (x : X) × (slice_get xs j ≡ Some x)
+at-some [] j lt = absurd (omega (arith, lt))
+at-some (x ∷ xs) zero lt = (x, refl)
+at-some (x ∷ xs) (suc j) lt = at-some xs j (omega (arith, lt))
+
+-- the number of a row that was read at its place
+pub number-is : (rows : List Row) (j : ℕ) (row : Row) (o : Option ℕ) (n : ℕ) → slice_get rows j ≡ Some row → IfSome (slice_get rows j) (λ r. o ≡ slice_get r.name.numbers.items 0) → o ≡ Some n → root_number row.name ≡ n
+number-is rows j row o n here told is =
+    let known : o ≡ slice_get row.name.numbers.items 0 = subst (λ at. IfSome at (λ (r : Row). o ≡ slice_get r.name.numbers.items 0)) here told in
+    first-is row.name.numbers.items n (sym known ∙ is)

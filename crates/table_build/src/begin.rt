@@ -24,21 +24,22 @@ use table_text::read::Saved;
 use task_table::Tasks;
 use task_table::view::laws;
 use task_tree::Task;
+use translate::shown::blank_row;
 
 /// Whether the line's number is below that of the line before.
 fn is_unsorted(saved: &Saved, index: usize) -> bool
-    requires { index < length saved.now.rows.items }
-    ensures sorted { result ≡ false → IsNotBelow saved.now.rows.items index }
-    ensures unsorted { IsTrue result → IsRising (map (λ row. root_number row.name) saved.now.rows.items) → ⊥ }
+    requires { index < length saved.now.rows }
+    ensures sorted { result ≡ false → IsNotBelow saved.now.rows index }
+    ensures unsorted { IsTrue result → IsRising (map (λ row. root_number row.name) saved.now.rows) → ⊥ }
 {
     if index == 0 {
         return false;
     }
-    let before = saved.rows[index - 1].name.numbers.first();
-    let (Some(before), Some(number)) = (before, saved.rows[index].name.numbers.first()) else {
+    let (Some(before), Some(number)) = (saved.rows.number(index - 1), saved.rows.number(index))
+    else {
         return false;
     };
-    *number < *before
+    number < before
 }
 
 /// The task of a line begins.
@@ -72,23 +73,25 @@ pub fn begin_tasks(alloc: Global, store: &mut Tasks, saved: &Saved) -> Result<Pl
     ensures ungrouped { OnOk result (IsUngrouped store.new) }
     ensures places { OnOk result (KeepsPlaces store.old store.new) }
     ensures lines { IfOk result (λ placed. AreLines store.new placed
-        (λ j. option_map begun (slice_get saved.now.rows.items j))) }
-    ensures keys { IfOk result (λ placed. length placed.keys.items ≡ length saved.now.rows.items) }
+        (λ j. option_map begun (slice_get saved.now.rows j))) }
+    ensures keys { IfOk result (λ placed. length placed.keys.items ≡ length saved.now.rows) }
     ensures groups { IfOk result (λ placed. placed.groups.items ≡ []) }
     ensures nobody { IfOk result (λ placed. placed.placeholders.items ≡ []) }
-    ensures sorted { OnOk result ((j : ℕ) → j < length saved.now.rows.items → IsNotBelow saved.now.rows.items j) }
+    ensures sorted { OnOk result ((j : ℕ) → j < length saved.now.rows → IsNotBelow saved.now.rows j) }
     ensures part { HasPlaces store.old (saved_state saved.now)
         → OnOk result (IsPart store.new (saved_state saved.now)) }
     ensures refused { IfErr result (λ fault. fault ≢ BuildFault.NoMemory → IsSound (saved_state saved.now)
         → HasPlaces store.old (saved_state saved.now) → ⊥) }
 {
     let mut placed = Placed::new(alloc);
+    let mut row = blank_row();
     for index in 0..saved.rows.len() {
         if is_unsorted(saved, index) {
             return Err(BuildFault::Unsorted(task_line(index)));
         }
+        saved.rows.write(index, &mut row);
         laws(store);
-        let key = begin_task(store, &saved.rows[index], task_line(index))?;
+        let key = begin_task(store, &row, task_line(index))?;
         placed.add_key(key)?;
     }
     Ok(placed)

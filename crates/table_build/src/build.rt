@@ -47,7 +47,7 @@ fn put_places(alloc: Global, saved: &Saved) -> Result<Tasks, BuildFault>
 fn put_tasks(alloc: Global, store: &mut Tasks, saved: &Saved) -> Result<(), BuildFault>
     requires ungrouped { IsUngrouped store.old }
     requires nobody { (k : ℕ) → row_with store.old k ≡ None }
-    ensures rows { OnOk result ((state_of store.new).rows ≡ saved.now.rows.items) }
+    ensures rows { OnOk result ((state_of store.new).rows ≡ saved.now.rows) }
     ensures places { OnOk result (KeepsPlaces store.old store.new) }
     ensures kin { OnOk result (HasParents store.new) }
     ensures refused { IfErr result (λ fault. fault ≢ BuildFault.NoMemory → IsSound (saved_state saved.now)

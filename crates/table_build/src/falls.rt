@@ -133,7 +133,7 @@ pub fn put_falls(alloc: Global, store: &mut Tasks, saved: &Saved) -> Result<(), 
     ensures bound { store.new.numbering.pid_max ≡ store.old.numbering.pid_max }
     ensures rest { store.new ≡ record store.old { numbering = store.new.numbering } }
     ensures refused { IfErr result (λ fault. fault ≢ BuildFault.NoMemory → IsSound (saved_state saved.now)
-        → (state_of store.old).rows ≡ saved.now.rows.items → ⊥) }
+        → (state_of store.old).rows ≡ saved.now.rows → ⊥) }
 {
     laws(store);
     let flags = fallen_flags(alloc, store, saved)?;

@@ -29,6 +29,7 @@ use table_text::read::Saved;
 use task_table::Tasks;
 use task_table::view::laws;
 use task_tree::Task;
+use translate::shown::blank_row;
 
 /// A task that bears a name which no line has.
 fn begin_placeholder(
@@ -188,20 +189,20 @@ pub fn enter_sessions(
     saved: &Saved,
 ) -> Result<(), BuildFault>
     requires ungrouped { IsUngrouped store.old }
-    requires lines { AreLines store.old placed.old (λ j. option_map begun (slice_get saved.now.rows.items j)) }
+    requires lines { AreLines store.old placed.old (λ j. option_map begun (slice_get saved.now.rows j)) }
     requires groups { placed.old.groups.items ≡ [] }
-    requires keys { length placed.old.keys.items ≡ length saved.now.rows.items }
+    requires keys { length placed.old.keys.items ≡ length saved.now.rows }
     ensures ungrouped { OnOk result (IsUngrouped store.new) }
     ensures lines { OnOk result (AreLines store.new placed.new
-        (λ j. option_map seated (slice_get saved.now.rows.items j))) }
-    ensures groups { OnOk result (AreGroups store.new placed.new saved.now.rows.items) }
-    ensures keys { OnOk result (length placed.new.keys.items ≡ length saved.now.rows.items) }
-    ensures all { OnOk result (length placed.new.groups.items ≡ length saved.now.rows.items) }
+        (λ j. option_map seated (slice_get saved.now.rows j))) }
+    ensures groups { OnOk result (AreGroups store.new placed.new saved.now.rows) }
+    ensures keys { OnOk result (length placed.new.keys.items ≡ length saved.now.rows) }
+    ensures all { OnOk result (length placed.new.groups.items ≡ length saved.now.rows) }
     ensures few { OnOk result (KeepsFew placed.old placed.new) }
     ensures places { OnOk result (KeepsPlaces store.old store.new) }
     ensures part { IsPart store.old (saved_state saved.now) → OnOk result (IsPart store.new (saved_state saved.now)) }
-    ensures seated { HasGoodGroups saved.now.rows.items → OnOk result
-        (AreSeated store.new placed.new saved.now.rows.items) }
+    ensures seated { HasGoodGroups saved.now.rows → OnOk result
+        (AreSeated store.new placed.new saved.now.rows) }
     ensures refused { IfErr result (λ fault. fault ≢ BuildFault.NoMemory → IsSound (saved_state saved.now)
         → IsPart store.old (saved_state saved.now) → ⊥) }
 {
@@ -209,13 +210,15 @@ pub fn enter_sessions(
         session: RecentName::none(),
         group: RecentName::none(),
     };
-    for (index, row) in saved.rows.iter().enumerate() {
+    let mut row = blank_row();
+    for index in 0..saved.rows.len() {
         let line = task_line(index);
         let Some(key) = placed.keys.get(index) else {
             return Err(BuildFault::Impossible(line));
         };
         let key = *key;
-        put_in_session(store, placed, key, row, &mut last, line)?;
+        saved.rows.write(index, &mut row);
+        put_in_session(store, placed, key, &row, &mut last, line)?;
     }
     laws(store);
     Ok(())

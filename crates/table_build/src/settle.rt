@@ -26,6 +26,7 @@ use pid_types::plain::{Ended, Life, Name, Row};
 use table_text::read::Saved;
 use task_table::Tasks;
 use task_table::view::{is_live, laws};
+use translate::shown::blank_row;
 
 /// The task goes to its group, all of whose members are in its session.
 fn join_group(store: &mut Tasks, key: TaskKey, group: TaskKey, line: u64) -> Result<(), BuildFault>
@@ -210,27 +211,29 @@ fn settle_task(
 /// All tasks of lines go to their groups, get their parents, and end if they have ended.
 pub fn settle_tasks(store: &mut Tasks, placed: &Placed, saved: &Saved) -> Result<(), BuildFault>
     requires grouping { IsGrouping store.old }
-    requires lines { AreLines store.old placed.now (λ j. option_map seated (slice_get saved.now.rows.items j)) }
-    requires groups { AreGroups store.old placed.now saved.now.rows.items }
+    requires lines { AreLines store.old placed.now (λ j. option_map seated (slice_get saved.now.rows j)) }
+    requires groups { AreGroups store.old placed.now saved.now.rows }
     requires real { HasRealParents store.old placed.now }
-    requires keys { length placed.now.keys.items ≡ length saved.now.rows.items }
-    requires all { length placed.now.groups.items ≡ length saved.now.rows.items }
+    requires keys { length placed.now.keys.items ≡ length saved.now.rows }
+    requires all { length placed.now.groups.items ≡ length saved.now.rows }
     ensures grouping { OnOk result (IsGrouping store.new) }
-    ensures lines { OnOk result (AreLines store.new placed.now (slice_get saved.now.rows.items)) }
+    ensures lines { OnOk result (AreLines store.new placed.now (slice_get saved.now.rows)) }
     ensures real { OnOk result (HasRealParents store.new placed.now) }
     ensures places { OnOk result (KeepsPlaces store.old store.new) }
     ensures refused { OnErr result (IsSound (saved_state saved.now) → IsPart store.old (saved_state saved.now)
-        → AreSeated store.old placed.now saved.now.rows.items → ⊥) }
+        → AreSeated store.old placed.now saved.now.rows → ⊥) }
 {
     let mut last = RecentName::none();
-    for (index, row) in saved.rows.iter().enumerate() {
+    let mut row = blank_row();
+    for index in 0..saved.rows.len() {
         let line = task_line(index);
         let (Some(key), Some(group)) = (placed.keys.get(index), placed.groups.get(index)) else {
             return Err(BuildFault::Impossible(line));
         };
+        saved.rows.write(index, &mut row);
         laws(store);
         join_group(store, *key, *group, line)?;
-        settle_task(store, placed, *key, row, &mut last, line)?;
+        settle_task(store, placed, *key, &row, &mut last, line)?;
     }
     Ok(())
 }

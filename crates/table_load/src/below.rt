@@ -3,11 +3,10 @@ ghost use Rattle.std.specs.Prelude.{◌≡◌, ◌↔◌, IsTrue, nat_lt};
 ghost use Rattle.std.specs.List.{list_all};
 ghost use Rattle.pid_types.specs.Sound.{IsBelow};
 ghost use Rattle.pid_types.specs.declared.plain.Control.{Control};
-ghost use Rattle.pid_types.specs.declared.plain.Row.{Row};
 ghost use Rattle.pid_types.specs.declared.plain.Space.{Space};
 ghost use Rattle.table_text.specs.Reading.{saved_state};
 
-use pid_types::plain::{Control, Row, Space};
+use pid_types::plain::{Control, Space};
 use table_text::read::Saved;
 
 /// Whether the namespaces' ids are below the stamp.
@@ -24,13 +23,6 @@ fn are_controls_below(controls: &[Control], stamp: u64) -> bool
     controls.iter().all(|control| control.id < stamp)
 }
 
-/// Whether the ids of the namespaces that children go into are below the stamp.
-fn are_children_below(rows: &[Row], stamp: u64) -> bool
-    ensures { result ≡ list_all (λ (r : Row). nat_lt r.children_space stamp) rows.now }
-{
-    rows.iter().all(|row| row.children_space < stamp)
-}
-
 /// Whether all ids of the text are below its stamp.
 pub fn is_below(saved: &Saved) -> bool
     ensures { IsTrue result ↔ IsBelow saved.now.stamp (saved_state saved.now) }
@@ -41,5 +33,5 @@ pub fn is_below(saved: &Saved) -> bool
     if !are_controls_below(&saved.controls, saved.stamp) {
         return false;
     }
-    are_children_below(&saved.rows, saved.stamp)
+    saved.rows.have_children_below(saved.stamp)
 }

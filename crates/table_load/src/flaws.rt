@@ -10,8 +10,8 @@ use table_text::read::Saved;
 
 /// The line of the task with the number in the root namespace.
 fn line_of_task(saved: &Saved, number: Pid) -> u64 {
-    for (index, row) in saved.rows.iter().enumerate() {
-        if row.name.numbers.first() == Some(&number) {
+    for index in 0..saved.rows.len() {
+        if saved.rows.number(index) == Some(number) {
             return task_line(index);
         }
     }

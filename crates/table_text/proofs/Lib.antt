@@ -8,4 +8,5 @@ pub mod Missed
 pub mod Named
 pub mod Tasks
 pub mod Whole
+pub mod Standing
 pub mod Snapshots

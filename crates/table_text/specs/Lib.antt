@@ -1,4 +1,5 @@
 pub mod Texts
 pub mod Ranges
+pub mod Rows
 pub mod Laws
 pub mod Reading

@@ -145,7 +145,7 @@ IsNoText text = (stamp : ℕ) (state : State) → IsWord stamp → IsHeldState s
 -- the state that a text says
 abbrev pub saved_state : Saved → State
 saved_state saved = record {
-  rows = saved.rows.items;
+  rows = saved.rows;
   spaces = saved.spaces.items;
   controls = saved.controls.items;
   pid_max = saved.pid_max;

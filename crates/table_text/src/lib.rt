@@ -11,4 +11,5 @@ pub mod fault;
 pub mod fits;
 pub mod laws;
 pub mod read;
+pub mod rows;
 mod scan;

@@ -16,6 +16,7 @@ ghost use Rattle.table_text.specs.declared.fault.LoadFault.TheVariants.{NoMemory
 
 use crate::dump::end_of;
 use crate::fault::LoadFault;
+use crate::rows::Rows;
 use crate::scan::{
     read_field, read_life, read_limit, read_mark, read_parent, read_small, read_small_field,
     read_word,
@@ -33,7 +34,7 @@ pub struct Saved {
     /// The stamp of the next call.
     pub stamp: u64,
     /// The tasks, in the order of their lines.
-    pub rows: Vec<Row>,
+    pub rows: Rows,
     /// The namespaces, in the order of their lines.
     pub spaces: Vec<Space>,
     /// The control groups, in the order of their lines.
@@ -234,24 +235,23 @@ fn line_behind(lines: u64, more: usize) -> u64 {
 }
 
 /// The lines of the tasks, behind so many lines.
-fn read_tasks(alloc: Global, text: &[u8], at: &mut usize, lines: u64) -> Result<Vec<Row>, LoadFault>
+fn read_tasks(alloc: Global, text: &[u8], at: &mut usize, lines: u64) -> Result<Rows, LoadFault>
     requires { at.old ≤ length text.now }
     ensures within { at.new ≤ length text.now }
-    ensures read { IfOk result (λ rows. IsRead text.now at.old at.new (flat_map task_line rows.items)) }
-    ensures words { IfOk result (λ rows. Each IsRowOfWords rows.items) }
+    ensures read { IfOk result (λ rows. IsRead text.now at.old at.new (flat_map task_line rows)) }
+    ensures words { IfOk result (λ rows. Each IsRowOfWords rows) }
     ensures over { OnOk result (Lacks (codes "t") text.now at.new) }
     ensures missing { IfErr result
         (λ fault. fault ≢ NoMemory → LacksLines IsHeldRow task_line 116 text.now at.old) }
 {
-    let mut rows = Vec::new(alloc);
+    let mut rows = Rows::new(alloc);
+    let mut row = no_row();
     while begins_with(text, *at, b't') {
-        let line = line_behind(lines, rows.len());
-        if rows.push(no_row()).is_err() {
+        let Some(()) = read_task(text, at, &mut row) else {
+            return Err(LoadFault::BadLine(line_behind(lines, rows.len())));
+        };
+        let Ok(()) = rows.add(&row) else {
             return Err(LoadFault::NoMemory);
-        }
-        let last = rows.len() - 1;
-        let Some(()) = read_task(text, at, &mut rows[last]) else {
-            return Err(LoadFault::BadLine(line));
         };
     }
     Ok(rows)

@@ -1,9 +1,10 @@
 //! What texts read like.
 
+use arrayvec::ArrayVec;
 use pid_script::line::{Line, parse_line};
 use pid_script::list::list_text;
 use pid_types::config::Config;
-use pid_types::plain::Plain;
+use pid_types::plain::{Life, Name, Plain, Row};
 use plain_table::table::PlainTable;
 use std::alloc::{AllocError, Global};
 use std::process::Abort;
@@ -11,6 +12,7 @@ use std::test::Fail;
 use table_text::dump::dump_text;
 use table_text::laws::what_is_written_is_read;
 use table_text::read::{Saved, read_text};
+use table_text::rows::Rows;
 
 /// A table that a script left, and the stamp of its next call.
 #[derive(Drop)]
@@ -54,13 +56,51 @@ fn expect_text(rt: &(impl AllocGlobal + Abort), script: &str, text: &str) {
     assert!(rt; read_text(rt.alloc(), text.as_bytes()).is_ok());
 }
 
+/// A name to be written over.
+fn no_name() -> Name {
+    Name {
+        space: 0,
+        numbers: ArrayVec::new(),
+    }
+}
+
+/// A row to be written over.
+fn no_row() -> Row {
+    Row {
+        name: no_name(),
+        parent: None,
+        group: no_name(),
+        session: no_name(),
+        executed: false,
+        life: Life::Live,
+        home: 0,
+        children_space: 0,
+        subreaper: false,
+    }
+}
+
+/// Whether the rows that were read are those that are shown.
+fn are_rows(read: &Rows, shown: &[Row]) -> bool {
+    if read.len() != shown.len() {
+        return false;
+    }
+    let mut row = no_row();
+    for index in 0..shown.len() {
+        read.write(index, &mut row);
+        if row != shown[index] {
+            return false;
+        }
+    }
+    true
+}
+
 /// Whether what was read is what the table shows.
 fn is_as_shown(saved: &Saved, left: &Left) -> bool {
     let plain = &left.plain;
     let controls = saved.controls.iter().zip(plain.controls.iter());
     saved.stamp == left.stamp
         && saved.pid_max == plain.pid_max
-        && saved.rows == plain.rows
+        && are_rows(&saved.rows, &plain.rows)
         && saved.spaces == plain.spaces
         && saved.controls.len() == plain.controls.len()
         && controls.into_iter().all(|(a, b)| a.id == b.id

@@ -6,7 +6,7 @@ use Rattle.std.proofs.lemmas.Bool.{cases_eq}
 use Rattle.table_build.specs.Sorted.{IsNotBelow}
 use Rattle.table_build.specs.Stages.{begun}
 use Rattle.table_build.proofs.Steps.{places-both}
-use Rattle.table_build.proofs.LineSteps.{get-is, lines-push}
+use Rattle.table_build.proofs.LineSteps.{lines-push}
 use Rattle.model_laws.proofs.Names.{own_name_in_use}
 use Rattle.table_text.specs.Reading.{saved_state}
 use Rattle.pid_types.specs.Controls.{control_at}
@@ -16,11 +16,6 @@ use Rattle.table_build.proofs.PartSteps.{part-set, unborne-next}
 use Rattle.table_build.proofs.Places.{at_place}
 use Rattle.table_build.proofs.begin.begin_tasks.Goals as goal
 
-row-here : (c : goal.In_ok-add_key) → slice_get c.args.saved.now.rows.items c.loop-index.index ≡ Some c.index.result.now
-row-here c =
-    let lt : c.loop-index.index < length c.args.saved.now.rows.items = (let a = c.loop-index-test.true in let b = c.len-index-end.ensures in omega (arith, a, b)) in
-    get-is c.args.saved.now.rows.items c.loop-index.index c.index.result.now lt ∙ ap Some (sym c.index.ensures)
-
 pub loop-index-preserved : goal.loop-index-preserved
 loop-index-preserved c =
     let b = c.in_ok-key.ensures in
@@ -29,29 +24,28 @@ loop-index-preserved c =
     record {
       ungrouped = b.ungrouped;
       places = places-both c.args.store.now c.loop-index.store c.begin_task.new.store i.places b.places;
-      lines = lines-push c.loop-index.store c.begin_task.new.store c.loop-index.placed c.add_key.new.self (λ j. option_map begun (slice_get c.args.saved.now.rows.items j)) c.in_ok-key.key _ i.lines b.added
-          (ap (λ n. option_map begun (slice_get c.args.saved.now.rows.items n)) i.keys ∙ ap (option_map begun) (row-here c)) p.keys p.placeholders (ap (λ (l : List Bool). is_flagged l c.in_ok-key.key) i.placeholders);
+      lines = lines-push c.loop-index.store c.begin_task.new.store c.loop-index.placed c.add_key.new.self (λ j. option_map begun (slice_get c.args.saved.now.rows j)) c.in_ok-key.key _ i.lines b.added
+          (ap (λ n. option_map begun (slice_get c.args.saved.now.rows n)) i.keys ∙ ap (option_map begun) c.write.ensures) p.keys p.placeholders (ap (λ (l : List Bool). is_flagged l c.in_ok-key.key) i.placeholders);
       keys = ap length p.keys ∙ length-append c.loop-index.placed.keys.items (c.in_ok-key.key ∷ []) ∙ ap (λ n. n + 1) i.keys;
       groups = ap (λ (v : Vec ℕ Global). v.items) p.groups ∙ i.groups;
       placeholders = ap (λ (v : Vec Bool Global). v.items) p.placeholders ∙ i.placeholders;
       part = λ had.
-          let rows = c.args.saved.now.rows.items in
+          let rows = c.args.saved.now.rows in
           part-set c.loop-index.store c.begin_task.new.store (saved_state c.args.saved.now) b.places (i.part had) c.in_ok-key.key _ b.added.sets
-          (own_name_in_use rows c.index.result.now (at_place rows c.loop-index.index c.index.result.now (row-here c)));
+          (own_name_in_use rows c.write.new.row (at_place rows c.loop-index.index c.write.new.row c.write.ensures));
       sorted = λ j lt. elim (cases_eq j c.loop-index.index) [
-        | inl same ↦ subst (IsNotBelow c.args.saved.now.rows.items) (sym same) (c.is_unsorted.ensures.sorted c.if-is_unsorted.false)
+        | inl same ↦ subst (IsNotBelow c.args.saved.now.rows) (sym same) (c.is_unsorted.ensures.sorted c.if-is_unsorted.false)
         | inr not ↦ i.sorted j (omega (arith, lt, not))
       ];
     }
 
 pub returns-in_err-key-clause-refused : goal.returns-in_err-key-clause-refused
 returns-in_err-key-clause-refused c =
-    let rows = c.args.saved.now.rows.items in
+    let rows = c.args.saved.now.rows in
     let text = saved_state c.args.saved.now in
-    let row = c.index.result.now in
+    let row = c.write.new.row in
     let i = c.loop-index.invariant in
-    let lt : c.loop-index.index < length rows = (let a = c.loop-index-test.true in let b = c.len-index-end.ensures in omega (arith, a, b)) in
-    let here : slice_get rows c.loop-index.index ≡ Some row = get-is rows c.loop-index.index row lt ∙ ap Some (sym c.index.ensures) in
+    let here : slice_get rows c.loop-index.index ≡ Some row = c.write.ensures in
     let inside = at_place rows c.loop-index.index row here in
     if_err c.from_residual.result _ c.in_err-key.field-0.0 c.from_residual.ensures.1 (λ not sound had.
     let part = i.part had in

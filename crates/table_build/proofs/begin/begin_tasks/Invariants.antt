@@ -11,10 +11,10 @@ abbrev pub invariant-loop-index : goal.invariant-loop-index
 invariant-loop-index l = record {
   ungrouped : IsUngrouped l.store;
   places : KeepsPlaces l.initial.store l.store;
-  lines : AreLines l.store l.placed (λ j. option_map begun (slice_get l.saved.rows.items j));
+  lines : AreLines l.store l.placed (λ j. option_map begun (slice_get l.saved.rows j));
   keys : length l.placed.keys.items ≡ l.index;
   groups : l.placed.groups.items ≡ [];
   placeholders : l.placed.placeholders.items ≡ [];
   part : HasPlaces l.initial.store (saved_state l.saved) → IsPart l.store (saved_state l.saved);
-  sorted : (j : ℕ) → j < l.index → IsNotBelow l.saved.rows.items j;
+  sorted : (j : ℕ) → j < l.index → IsNotBelow l.saved.rows j;
 }

@@ -14,9 +14,9 @@ loop-index-init c = record {
   ungrouped = c.requires.ungrouped;
   places = places-none c.args.store.now;
   recent = record { session = λ k e. let z = sym c.none.ensures ∙ e in absurd (cc); group = λ k e. let z = sym c.none-2.ensures ∙ e in absurd (cc) };
-  lines = lines-shown c.args.store.now c.args.placed.now (λ j. option_map begun (slice_get c.args.saved.now.rows.items j)) (stage seated begun c.args.saved.now.rows.items 0) c.requires.lines
-      (λ j k e. stage-begin seated begun c.args.saved.now.rows.items j);
-  groups = groups-none c.args.store.now c.args.placed.now c.args.saved.now.rows.items c.requires.groups;
+  lines = lines-shown c.args.store.now c.args.placed.now (λ j. option_map begun (slice_get c.args.saved.now.rows j)) (stage seated begun c.args.saved.now.rows 0) c.requires.lines
+      (λ j k e. stage-begin seated begun c.args.saved.now.rows j);
+  groups = groups-none c.args.store.now c.args.placed.now c.args.saved.now.rows c.requires.groups;
   count = ap length c.requires.groups;
   few = λ few. few;
   part = λ part. part;
@@ -24,58 +24,53 @@ loop-index-init c = record {
   keys = refl;
 }
 
-row-here : (c : goal.In_ok-put_in_session) → slice_get c.args.saved.now.rows.items c.loop-index.index ≡ Some c.row-item.result
-row-here c =
-    get-found c.args.saved.now.rows.items c.deref-row-items.result.now c.loop-index.index c.row-item.result c.deref-row-items.ensures.value c.loop-index-test.true c.row-item.is
-
 key-here : (c : goal.In_ok-put_in_session) → slice_get c.loop-index.placed.keys.items c.loop-index.index ≡ Some c.in-Some.key.now
 key-here c =
     get-found c.loop-index.placed.keys.items c.deref.result.now c.loop-index.index c.in-Some.key.now c.deref.ensures.value c.in-Some.ensures.lookup.3.0 c.in-Some.ensures.lookup.1
 
 pub put_in_session-requires-clause-begun : goal.put_in_session-requires-clause-begun
 put_in_session-requires-clause-begun c =
-    let row : slice_get c.args.saved.now.rows.items c.loop-index.index ≡ Some c.row-item.result =
-    get-found c.args.saved.now.rows.items c.deref-row-items.result.now c.loop-index.index c.row-item.result c.deref-row-items.ensures.value c.loop-index-test.true c.row-item.is in
+    let row : slice_get c.args.saved.now.rows c.loop-index.index ≡ Some c.write.new.row = c.write.ensures in
     let key : slice_get c.loop-index.placed.keys.items c.loop-index.index ≡ Some c.in-Some.key.now =
     get-found c.loop-index.placed.keys.items c.deref.result.now c.loop-index.index c.in-Some.key.now c.deref.ensures.value c.in-Some.ensures.lookup.3.0 c.in-Some.ensures.lookup.1 in
-    line-at c.loop-index.store c.loop-index.placed (stage seated begun c.args.saved.now.rows.items c.loop-index.index) c.loop-index.index c.in-Some.key.now (begun c.row-item.result) c.loop-index.invariant.lines key
-    (stage-todo seated begun c.args.saved.now.rows.items c.loop-index.index c.row-item.result row)
+    line-at c.loop-index.store c.loop-index.placed (stage seated begun c.args.saved.now.rows c.loop-index.index) c.loop-index.index c.in-Some.key.now (begun c.write.new.row) c.loop-index.invariant.lines key
+    (stage-todo seated begun c.args.saved.now.rows c.loop-index.index c.write.new.row row)
 
 pub loop-index-preserved : goal.loop-index-preserved
 loop-index-preserved c =
     let e = c.in_ok-put_in_session.ensures in
     let i = c.loop-index.invariant in
-    let rows = c.args.saved.now.rows.items in
+    let rows = c.args.saved.now.rows in
     record {
       ungrouped = e.ungrouped;
       places = places-both c.args.store.now c.loop-index.store c.put_in_session.new.store i.places e.places;
       recent = e.recent;
       lines = lines-set c.loop-index.store c.put_in_session.new.store c.loop-index.placed c.put_in_session.new.placed (stage seated begun rows c.loop-index.index) (stage seated begun rows (c.loop-index.index + 1))
-          c.loop-index.index c.in-Some.key.now (seated c.row-item.result) i.lines e.set e.group.keys (key-here c) (stage-here seated begun rows c.loop-index.index c.row-item.result (row-here c))
+          c.loop-index.index c.in-Some.key.now (seated c.write.new.row) i.lines e.set e.group.keys (key-here c) (stage-here seated begun rows c.loop-index.index c.write.new.row c.write.ensures)
           (λ j not. stage-others seated begun rows c.loop-index.index j not);
-      groups = groups-push c.loop-index.store c.put_in_session.new.store c.loop-index.placed c.put_in_session.new.placed rows c.in-Some.key.now c.row-item.result i.groups e.names e.group
-          (ap (slice_get rows) i.count ∙ row-here c);
+      groups = groups-push c.loop-index.store c.put_in_session.new.store c.loop-index.placed c.put_in_session.new.placed rows c.in-Some.key.now c.write.new.row i.groups e.names e.group
+          (ap (slice_get rows) i.count ∙ c.write.ensures);
       count = ap length e.group.added ∙ length-append c.loop-index.placed.groups.items (e.group.group ∷ []) ∙ ap (λ n. n + 1) i.count;
       few = λ few. e.few (i.few few);
-      part = λ had. e.part (saved_state c.args.saved.now) (i.part had) (at_place rows c.loop-index.index c.row-item.result (row-here c));
+      part = λ had. e.part (saved_state c.args.saved.now) (i.part had) (at_place rows c.loop-index.index c.write.new.row c.write.ensures);
       seats = λ good.
-          seats-next c.loop-index.store c.put_in_session.new.store c.loop-index.placed c.put_in_session.new.placed rows c.in-Some.key.now c.row-item.result good i.groups (i.seats good) e.group
-          (ap (slice_get rows) i.count ∙ row-here c) e.set.here.real e.names;
+          seats-next c.loop-index.store c.put_in_session.new.store c.loop-index.placed c.put_in_session.new.placed rows c.in-Some.key.now c.write.new.row good i.groups (i.seats good) e.group
+          (ap (slice_get rows) i.count ∙ c.write.ensures) e.set.here.real e.names;
       keys = e.group.keys ∙ i.keys;
     }
 
 pub returns : goal.returns
 returns c =
     let i = c.loop-index.invariant in
-    let rows = c.args.saved.now.rows.items in
-    let all : length rows ≤ c.loop-index.index = (let a = c.loop-index-test.false in let b = ap length c.deref-row-items.ensures.value in omega (arith, a, b)) in
+    let rows = c.args.saved.now.rows in
+    let all : length rows ≤ c.loop-index.index = (let a = c.loop-index-test.false in let b = c.len-index-end.ensures in omega (arith, a, b)) in
     record {
       ungrouped = i.ungrouped;
       lines = lines-shown c.loop-index.store c.loop-index.placed (stage seated begun rows c.loop-index.index) (λ j. option_map seated (slice_get rows j)) i.lines
           (λ j k e. sym (stage-end seated begun rows c.loop-index.index all j));
       groups = i.groups;
       keys = ap (λ v. length v.items) i.keys ∙ c.requires.keys;
-      all = (let end = c.loop-index.auto.index-end in let len = ap length c.deref-row-items.ensures.value in let count = i.count in omega (arith, all, end, len, count));
+      all = (let end = c.loop-index.auto.index-end in let len = c.len-index-end.ensures in let count = i.count in omega (arith, all, end, len, count));
       few = i.few;
       places = i.places;
       part = i.part;
@@ -85,8 +80,7 @@ returns c =
 
 pub returns-in_err-put_in_session-clause-refused : goal.returns-in_err-put_in_session-clause-refused
 returns-in_err-put_in_session-clause-refused c =
-    let rows = c.args.saved.now.rows.items in
-    let here : slice_get rows c.loop-index.index ≡ Some c.row-item.result =
-    get-found rows c.deref-row-items.result.now c.loop-index.index c.row-item.result c.deref-row-items.ensures.value c.loop-index-test.true c.row-item.is in
+    let rows = c.args.saved.now.rows in
+    let here : slice_get rows c.loop-index.index ≡ Some c.write.new.row = c.write.ensures in
     if_err c.from_residual.result _ c.in_err-put_in_session.field-0.0 c.from_residual.ensures.1 (λ not sound had.
-    c.in_err-put_in_session.ensures.refused not (saved_state c.args.saved.now) sound (c.loop-index.invariant.part had) (at_place rows c.loop-index.index c.row-item.result here))
+    c.in_err-put_in_session.ensures.refused not (saved_state c.args.saved.now) sound (c.loop-index.invariant.part had) (at_place rows c.loop-index.index c.write.new.row here))

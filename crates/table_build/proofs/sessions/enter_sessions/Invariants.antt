@@ -13,11 +13,11 @@ invariant-loop-index l = record {
   ungrouped : IsUngrouped l.store;
   places : KeepsPlaces l.initial.store l.store;
   recent : AreRecent l.store l.last;
-  lines : AreLines l.store l.placed (stage seated begun l.saved.rows.items l.index);
-  groups : AreGroups l.store l.placed l.saved.rows.items;
+  lines : AreLines l.store l.placed (stage seated begun l.saved.rows l.index);
+  groups : AreGroups l.store l.placed l.saved.rows;
   count : length l.placed.groups.items ≡ l.index;
   few : KeepsFew l.initial.placed l.placed;
   part : IsPart l.initial.store (saved_state l.saved) → IsPart l.store (saved_state l.saved);
-  seats : HasGoodGroups l.saved.rows.items → HaveSeats l.store l.placed l.saved.rows.items;
+  seats : HasGoodGroups l.saved.rows → HaveSeats l.store l.placed l.saved.rows;
   keys : l.placed.keys ≡ l.initial.placed.keys;
 }

@@ -13,8 +13,8 @@ invariant-loop-index l = record {
   grouping : IsGrouping l.store;
   recent : IsRecent l.store l.last;
   places : KeepsPlaces l.initial.store l.store;
-  lines : AreLines l.store l.placed (stage (λ r. r) seated l.saved.rows.items l.index);
-  groups : AreGroups l.store l.placed l.saved.rows.items;
+  lines : AreLines l.store l.placed (stage (λ r. r) seated l.saved.rows l.index);
+  groups : AreGroups l.store l.placed l.saved.rows;
   part : IsPart l.initial.store (saved_state l.saved) → IsPart l.store (saved_state l.saved);
   held : (k : ℕ) → is_held l.placed k ≡ true → row_with l.store k ≡ row_with l.initial.store k;
   real : HasRealParents l.store l.placed;

@@ -37,11 +37,8 @@ returns c = (
             (ap (list_all (λ (s : Space). nat_lt s.id stamp)) (sym c.deref.ensures.value) ∙ sym c.are_spaces_below.ensures ∙ c.if-not-are_spaces_below.false);
         controls = each_below (λ (s : Control). s.id) stamp c.args.saved.now.controls.items
             (ap (list_all (λ (s : Control). nat_lt s.id stamp)) (sym c.deref-2.ensures.value) ∙ sym c.are_controls_below.ensures ∙ c.if-not-are_controls_below.false);
-        children = each_below (λ (s : Row). s.children_space) stamp c.args.saved.now.rows.items
-            (ap (list_all (λ (s : Row). nat_lt s.children_space stamp)) (sym c.deref-3.ensures.value) ∙ sym c.are_children_below.ensures ∙ h);
+        children = each_below (λ (s : Row). s.children_space) stamp c.args.saved.now.rows (sym c.have_children_below.ensures ∙ h);
       }),
   (λ low.
-      let stamp = c.args.saved.now.stamp in
-      c.are_children_below.ensures ∙ ap (list_all (λ (s : Row). nat_lt s.children_space stamp)) c.deref-3.ensures.value
-      ∙ all_below (λ (s : Row). s.children_space) stamp c.args.saved.now.rows.items low.children),
+      c.have_children_below.ensures ∙ all_below (λ (s : Row). s.children_space) c.args.saved.now.stamp c.args.saved.now.rows low.children),
 )

@@ -5,12 +5,12 @@ use Rattle.table_text.specs.Ranges.{Each, IsRowOfWords}
 use Rattle.table_text.specs.Reading.{IsRead}
 use Rattle.table_text.proofs.read.read_tasks.Given as goal
 
-abbrev pub invariant-loop-rows : goal.invariant-loop-rows
-invariant-loop-rows l = record {
+abbrev pub invariant-loop-row : goal.invariant-loop-row
+invariant-loop-row l = record {
   within : l.at ≤ length l.text;
-  read : IsRead l.text l.fn.at l.at (flat_map task_line l.rows.items);
-  words : Each IsRowOfWords l.rows.items;
+  read : IsRead l.text l.fn.at l.at (flat_map task_line l.rows);
+  words : Each IsRowOfWords l.rows;
 }
 
-abbrev pub decreases-loop-rows : goal.decreases-loop-rows
-decreases-loop-rows l = length l.text - l.at
+abbrev pub decreases-loop-row : goal.decreases-loop-row
+decreases-loop-row l = length l.text - l.at

@@ -1,0 +1,18 @@
+use Rattle.std.proofs.Common.{◌∙◌}
+use Rattle.table_text.proofs.Standing.{grown_on, name_kept, parent_kept, row_told}
+use Rattle.table_text.proofs.rows.line_of.Goals as goal
+
+pub returns-clause-row : goal.returns-clause-row
+returns-clause-row c =
+    let first = c.add_name.new.numbers.items in
+    let second = c.parent_place.new.numbers.items in
+    let third = c.place_of.new.numbers.items in
+    let last = c.place_of-2.new.numbers.items in
+    let third-last = c.in_ok-session.ensures.grown in
+    let second-last = grown_on second third last c.in_ok-group.ensures.grown third-last in
+    let first-last = grown_on first second last c.in_ok-parent.ensures.grown second-last in
+    row_told c.args.row.now _ _ _ _
+    (name_kept first last c.in_ok-name.name first-last c.in_ok-name.ensures.within ∙ c.in_ok-name.ensures.named)
+    (parent_kept second last c.in_ok-parent.parent second-last c.in_ok-parent.ensures.within ∙ c.in_ok-parent.ensures.named)
+    (name_kept third last c.in_ok-group.group third-last c.in_ok-group.ensures.within ∙ c.in_ok-group.ensures.named)
+    c.in_ok-session.ensures.named
