@@ -33,13 +33,12 @@ fn end(table: &mut Running, caller: Pid) -> Result<(), Wrong> {
 }
 
 /// All 300 numbers are in use, and a task's children go into a namespace that is gone.
-fn keeps_full(alloc: Global) -> Result<(), Wrong> {
-    let mut table = small(alloc)?;
+fn fill(table: &mut Running) -> Result<(), Wrong> {
     for _number in 2..299u32 {
-        let _child = fork(&mut table, 1, false)?;
+        let _child = fork(table, 1, false)?;
     }
-    let (_, outer) = fork(&mut table, 1, true)?;
-    let (_, inner) = fork(&mut table, outer, true)?;
+    let (_, outer) = fork(table, 1, true)?;
+    let (_, inner) = fork(table, outer, true)?;
     let _joined = table.call(Call::Join {
         caller: 2,
         target: inner,
@@ -48,7 +47,14 @@ fn keeps_full(alloc: Global) -> Result<(), Wrong> {
         caller: outer,
         status: 0,
     })?;
-    let _last = fork(&mut table, 1, false)?;
+    let _last = fork(table, 1, false)?;
+    Ok(())
+}
+
+/// Such a table comes back.
+fn keeps_full(alloc: Global) -> Result<(), Wrong> {
+    let mut table = small(alloc)?;
+    fill(&mut table)?;
     table.comes_back(alloc)
 }
 
@@ -59,16 +65,27 @@ fn loads_a_full_table(rt: HostRuntime) -> Result<(), Fail> {
 }
 
 /// Half of the numbers are free, and the children of 150 tasks go into as many namespaces that are gone.
-fn keeps_lost(alloc: Global) -> Result<(), Wrong> {
-    let mut table = small(alloc)?;
+fn lose_namespaces(table: &mut Running) -> Result<(), Wrong> {
     for _number in 2..152u32 {
-        let _child = fork(&mut table, 1, false)?;
+        let _child = fork(table, 1, false)?;
     }
     for caller in 2..152u32 {
-        let (target, init) = fork(&mut table, 1, true)?;
-        let _joined = table.call(Call::Join { caller, target })?;
-        end(&mut table, init)?;
+        lose_namespace(table, caller)?;
     }
+    Ok(())
+}
+
+/// The children of the task go into a namespace, which then is gone.
+fn lose_namespace(table: &mut Running, caller: Pid) -> Result<(), Wrong> {
+    let (target, init) = fork(table, 1, true)?;
+    let _joined = table.call(Call::Join { caller, target })?;
+    end(table, init)
+}
+
+/// Such a table comes back.
+fn keeps_lost(alloc: Global) -> Result<(), Wrong> {
+    let mut table = small(alloc)?;
+    lose_namespaces(&mut table)?;
     table.comes_back(alloc)
 }
 
@@ -78,24 +95,37 @@ fn loads_many_lost_namespaces(rt: HostRuntime) -> Result<(), Fail> {
     Ok(())
 }
 
-/// Namespaces down to the deepest, each with a session of its own; then those from the tenth on have fallen.
-fn keeps_levels(alloc: Global) -> Result<(), Wrong> {
-    let mut table = small(alloc)?;
+/// Namespaces down to the deepest, each with a session of its own. It answers the init of the tenth.
+fn make_levels(table: &mut Running) -> Result<Pid, Wrong> {
     let mut caller = 1;
     let mut tenth = 1;
     for level in 1..33u32 {
-        let (_, init) = fork(&mut table, caller, true)?;
-        let _session = table.call(Call::SetSid { caller: init })?;
-        caller = init;
+        caller = make_level(table, caller)?;
         if level == 10 {
-            tenth = init;
+            tenth = caller;
         }
     }
+    Ok(tenth)
+}
+
+/// Makes a namespace with a session of its own, and answers its init.
+fn make_level(table: &mut Running, caller: Pid) -> Result<Pid, Wrong> {
+    let (_, init) = fork(table, caller, true)?;
+    let _session = table.call(Call::SetSid { caller: init })?;
+    Ok(init)
+}
+
+/// All levels stand; then those from the tenth on have fallen.
+fn keeps_levels(alloc: Global) -> Result<(), Wrong> {
+    let mut table = small(alloc)?;
+    keep_levels(alloc, &mut table)
+}
+
+/// The table comes back with all levels, and when those from the tenth on have fallen.
+fn keep_levels(alloc: Global, table: &mut Running) -> Result<(), Wrong> {
+    let caller = make_levels(table)?;
     table.comes_back(alloc)?;
-    let _fell = table.call(Call::Exit {
-        caller: tenth,
-        status: 3,
-    })?;
+    let _fell = table.call(Call::Exit { caller, status: 3 })?;
     table.comes_back(alloc)
 }
 

@@ -7,7 +7,6 @@ use pid_types::device::{DeviceFault, FromReader, Source};
 use script_session::job::{JobFault, MOST_JOB_BYTES, read_job};
 use std::alloc::Global;
 use std::process::Abort;
-use std::test::Fail;
 
 /// A source that gives its bytes and then fails.
 #[derive(Drop)]
@@ -120,18 +119,30 @@ fn repeated(rt: &(impl AllocGlobal + Abort), byte: u8, count: usize) -> Vec<u8> 
     vec![in rt.alloc(); byte; count].expect(rt, "no memory")
 }
 
+/// A job of the byte so many times, and then of the ones behind them.
+fn expect_long(
+    rt: &(impl AllocGlobal + Abort),
+    byte: u8,
+    count: usize,
+    behind: &[u8],
+    told: Result<usize, JobFault>,
+) {
+    let mut bytes = repeated(rt, byte, count);
+    bytes.extend_from_slice(behind).expect(rt, "no memory");
+    expect_count(rt, bytes.as_slice(), told);
+}
+
 #[test]
-fn takes_so_many_bytes(rt: HostRuntime) -> Result<(), Fail> {
-    let mut bytes = vec![in rt.alloc(); b'\n'; MOST_JOB_BYTES]?;
-    expect_count(&rt, bytes.as_slice(), Ok(0));
-    bytes[MOST_JOB_BYTES - 1] = b'a';
+fn takes_so_many_bytes(rt: HostRuntime) {
     let last = JobFault::BadLine(1_048_576);
-    expect_count(&rt, bytes.as_slice(), Err(last));
-    bytes.push(b'\n')?;
-    expect_count(&rt, bytes.as_slice(), Err(JobFault::TooLong));
-    let newlines = repeated(&rt, b'\n', MOST_JOB_BYTES + 1);
-    expect_count(&rt, newlines.as_slice(), Err(JobFault::TooLong));
-    let letters = repeated(&rt, b'a', MOST_JOB_BYTES + 1);
-    expect_count(&rt, letters.as_slice(), Err(JobFault::TooLong));
-    Ok(())
+    let jobs: [(u8, usize, &[u8], Result<usize, JobFault>); 5] = [
+        (b'\n', MOST_JOB_BYTES, b"", Ok(0)),
+        (b'\n', MOST_JOB_BYTES - 1, b"a", Err(last)),
+        (b'\n', MOST_JOB_BYTES - 1, b"a\n", Err(JobFault::TooLong)),
+        (b'\n', MOST_JOB_BYTES + 1, b"", Err(JobFault::TooLong)),
+        (b'a', MOST_JOB_BYTES + 1, b"", Err(JobFault::TooLong)),
+    ];
+    for (byte, count, behind, told) in jobs {
+        expect_long(&rt, byte, count, behind, told);
+    }
 }

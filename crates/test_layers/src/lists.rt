@@ -3,8 +3,7 @@
 use arrayvec::ArrayVec;
 use pid_script::list::list_text;
 use pid_types::plain::{ControlRow, Ended, Life, Name, Plain, Row, Space};
-use std::alloc::Global;
-use std::test::Fail;
+use std::process::Abort;
 
 fn name(space: u64, numbers: &[u32]) -> Name {
     let mut all = ArrayVec::new();
@@ -50,20 +49,39 @@ fn unlimited_root(count: u64) -> ControlRow {
     }
 }
 
+/// The list of the snapshot has these lines.
+fn expect_list(rt: &(impl AllocGlobal + Abort), plain: &Plain, lines: &[u8]) {
+    let text = list_text(rt.alloc(), plain).expect(rt, "no memory");
+    assert!(rt; text.as_slice() == lines);
+}
+
+/// Three tasks, of which two are in a namespace inside the root.
+fn nested_rows(rt: &(impl AllocGlobal + Abort)) -> Vec<Row> {
+    let rows = vec![in rt.alloc();
+        task(name(0, &[1]), None),
+        task(name(1, &[2, 1]), Some(name(0, &[1]))),
+        task(name(1, &[3, 2]), Some(name(1, &[2, 1]))),
+    ];
+    rows.expect(rt, "no memory")
+}
+
+fn two_spaces(rt: &(impl AllocGlobal + Abort)) -> Vec<Space> {
+    let spaces = vec![in rt.alloc(); standing(0, None, 4), standing(1, Some(0), 3)];
+    spaces.expect(rt, "no memory")
+}
+
+fn one_control(rt: &(impl AllocGlobal + Abort), control: ControlRow) -> Vec<ControlRow> {
+    vec![in rt.alloc(); control].expect(rt, "no memory")
+}
+
 #[test]
-fn lists_nested_namespaces(rt: HostRuntime) -> Result<(), Fail> {
-    let alloc = rt.alloc();
+fn lists_nested_namespaces(rt: HostRuntime) {
     let plain = Plain {
         pid_max: 32768,
-        rows: vec![in alloc;
-            task(name(0, &[1]), None),
-            task(name(1, &[2, 1]), Some(name(0, &[1]))),
-            task(name(1, &[3, 2]), Some(name(1, &[2, 1]))),
-        ]?,
-        spaces: vec![in alloc; standing(0, None, 4), standing(1, Some(0), 3)]?,
-        controls: vec![in alloc; unlimited_root(3)]?,
+        rows: nested_rows(&rt),
+        spaces: two_spaces(&rt),
+        controls: one_control(&rt, unlimited_root(3)),
     };
-    let text = list_text(alloc, &plain)?;
     let lines: &[u8] = b"task 1 space 0 parent 0 group 1 session 1 control 0 live
 task 2,1 space 1 parent 1 group 1 session 1 control 0 live
 task 3,2 space 1 parent 2 group 1 session 1 control 0 live
@@ -71,12 +89,11 @@ space 0 parent - cursor 4
 space 1 parent 0 cursor 3
 control 0 parent - limit max count 3
 ";
-    assert!(rt; text.as_slice() == lines);
-    Ok(())
+    expect_list(&rt, &plain, lines);
 }
 
 /// One zombie with all marks and a group without numbers, and one that was killed.
-fn marked_rows(alloc: Global) -> Result<Vec<Row>, Fail> {
+fn marked_rows(rt: &(impl AllocGlobal + Abort)) -> Vec<Row> {
     let mut row = task(name(0, &[2]), Some(name(0, &[1])));
     row.group = name(0, &[]);
     row.executed = true;
@@ -86,14 +103,18 @@ fn marked_rows(alloc: Global) -> Result<Vec<Row>, Fail> {
     row.subreaper = true;
     let mut killed = task(name(0, &[5]), Some(name(0, &[2])));
     killed.life = Life::Zombie(Ended::Killed);
-    Ok(vec![in alloc; row, killed]?)
+    vec![in rt.alloc(); row, killed].expect(rt, "no memory")
+}
+
+/// A namespace that has fallen.
+fn one_fallen(rt: &(impl AllocGlobal + Abort)) -> Vec<Space> {
+    let mut space = standing(2, Some(0), 2);
+    space.fallen = true;
+    vec![in rt.alloc(); space].expect(rt, "no memory")
 }
 
 #[test]
-fn lists_marks(rt: HostRuntime) -> Result<(), Fail> {
-    let alloc = rt.alloc();
-    let mut space = standing(2, Some(0), 2);
-    space.fallen = true;
+fn lists_marks(rt: HostRuntime) {
     let control = ControlRow {
         id: 13,
         parent: Some(1),
@@ -102,17 +123,15 @@ fn lists_marks(rt: HostRuntime) -> Result<(), Fail> {
     };
     let plain = Plain {
         pid_max: 301,
-        rows: marked_rows(alloc)?,
-        spaces: vec![in alloc; space]?,
-        controls: vec![in alloc; control]?,
+        rows: marked_rows(&rt),
+        spaces: one_fallen(&rt),
+        controls: one_control(&rt, control),
     };
-    let text = list_text(alloc, &plain)?;
     let lines: &[u8] =
         b"task 2 space 0 parent 1 group 0 session 1 control 13 exit 7 executed children 5 subreaper
 task 5 space 0 parent 2 group 1 session 1 control 0 killed
 space 2 parent 0 cursor 2 fallen
 control 13 parent 1 limit 2 count 18446744073709551615
 ";
-    assert!(rt; text.as_slice() == lines);
-    Ok(())
+    expect_list(&rt, &plain, lines);
 }

@@ -102,7 +102,7 @@ impl Pair {
         let mut fast = Reply::Done;
         self.fast.step(self.stamp, call, &mut fast)?;
         self.stamp = next;
-        if fast != plain {
+        if !is_one(&fast, &plain) {
             return Err(Fault::Replies { fast, plain });
         }
         Ok(plain)
@@ -122,6 +122,13 @@ impl Pair {
         }
         Ok(plain)
     }
+}
+
+/// Whether two replies are one.
+fn is_one(fast: &Reply, plain: &Reply) -> bool
+    ensures { IsTrue result ↔ (fast.now ≡ plain.now) }
+{
+    fast == plain
 }
 
 /// Whether two snapshots have the same tasks.

@@ -6,7 +6,7 @@
 //! changed. Together they meet each refusal.
 
 use crate::plain_openings::{ask_below_deepest, build_controls, build_spaces};
-use crate::plain_pair::Pair;
+use crate::plain_pair::{Fault, Pair};
 use crate::plain_tally::Tally;
 use anyhow::{Result, bail};
 use pid_types::config::Config;
@@ -174,7 +174,12 @@ fn run(alloc: Global, setting: &Setting, tally: &mut Tally) -> Result<()> {
 /// Makes one run on new tables.
 fn act(pair: &mut Pair, setting: &Setting, tally: &mut Tally) -> Result<()> {
     open(pair, setting.opening, tally)?;
-    play(pair, setting, tally)
+    let before = tally.calls();
+    let Err(fault) = play(pair, setting, tally) else {
+        return Ok(());
+    };
+    let call = tally.calls().saturating_sub(before);
+    bail!("seed {}, call {call}: {fault}", setting.seed)
 }
 
 /// Makes what a run begins with.
@@ -193,42 +198,25 @@ fn open(pair: &mut Pair, opening: Opening, tally: &mut Tally) -> Result<()> {
 }
 
 /// Makes the calls of a run, and compares what they leave.
-fn play(pair: &mut Pair, setting: &Setting, tally: &mut Tally) -> Result<()> {
+fn play(pair: &mut Pair, setting: &Setting, tally: &mut Tally) -> Result<(), Fault> {
     let mut generator = Generator::new(setting.seed, setting.aims, pair.snapshot()?);
     for ordinal in 0..CALLS {
         if ordinal % BETWEEN_PICTURES == 0 {
-            look(&mut generator, pair, setting.seed, ordinal)?;
+            look(&mut generator, pair)?;
         }
-        make(&mut generator, pair, tally, setting.seed, ordinal)?;
+        make(&mut generator, pair, tally)?;
     }
-    look(&mut generator, pair, setting.seed, CALLS)
+    look(&mut generator, pair)
 }
 
 /// Shows the generator the table that both have. The error is that they have two.
-fn look(generator: &mut Generator, pair: &Pair, seed: u64, ordinal: u32) -> Result<()> {
-    match pair.snapshot() {
-        Ok(picture) => {
-            generator.look(picture);
-            Ok(())
-        }
-        Err(fault) => bail!("seed {seed}, before call {ordinal}: {fault}"),
-    }
+fn look(generator: &mut Generator, pair: &Pair) -> Result<(), Fault> {
+    generator.look(pair.snapshot()?);
+    Ok(())
 }
 
 /// Makes the next call. The error is that the tables answer otherwise than one another.
-fn make(
-    generator: &mut Generator,
-    pair: &mut Pair,
-    tally: &mut Tally,
-    seed: u64,
-    ordinal: u32,
-) -> Result<()> {
-    let call = generator.call();
-    match pair.make(call) {
-        Ok(reply) => {
-            tally.count(&reply);
-            Ok(())
-        }
-        Err(fault) => bail!("seed {seed}, call {ordinal}, {call:?}: {fault}"),
-    }
+fn make(generator: &mut Generator, pair: &mut Pair, tally: &mut Tally) -> Result<(), Fault> {
+    tally.count(&pair.make(generator.call())?);
+    Ok(())
 }

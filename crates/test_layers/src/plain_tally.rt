@@ -30,6 +30,11 @@ impl Tally {
         }
     }
 
+    /// How many calls were made.
+    pub fn calls(&self) -> u64 {
+        self.calls
+    }
+
     /// Counts a call by its reply.
     pub fn count(&mut self, reply: &Reply) {
         self.calls = self.calls.saturating_add(1);

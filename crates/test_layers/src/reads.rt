@@ -6,7 +6,7 @@ use std::alloc::{AllocError, Global};
 use std::process::Abort;
 use table_text::dump::dump_text;
 use table_text::fault::LoadFault;
-use table_text::read::read_text;
+use table_text::read::{Saved, read_text};
 
 /// The text of the state that each table begins in.
 fn first_text_of(alloc: Global) -> Result<Vec<u8>, AllocError> {
@@ -33,8 +33,12 @@ fn expect_sizes(
 ) {
     let saved = read_text(rt.alloc(), text).expect(rt, "a fault");
     assert!(rt; (saved.pid_max, saved.stamp) == settings);
-    let found = [saved.rows.len(), saved.spaces.len(), saved.controls.len()];
-    assert!(rt; found == sizes);
+    assert!(rt; sizes_of(&saved) == sizes);
+}
+
+/// How many tasks, namespaces and control groups there are.
+fn sizes_of(saved: &Saved) -> [usize; 3] {
+    [saved.rows.len(), saved.spaces.len(), saved.controls.len()]
 }
 
 #[test]
@@ -79,6 +83,12 @@ fn change(text: &mut [u8]) {
     }
 }
 
+fn changed_text(rt: &(impl AllocGlobal + Abort)) -> Vec<u8> {
+    let mut text = first_text(rt);
+    change(&mut text);
+    text
+}
+
 /// A byte more behind the last line.
 fn longer_text(rt: &(impl AllocGlobal + Abort)) -> Vec<u8> {
     let mut text = first_text(rt);
@@ -88,12 +98,8 @@ fn longer_text(rt: &(impl AllocGlobal + Abort)) -> Vec<u8> {
 
 #[test]
 fn refuses_a_changed_text(rt: HostRuntime) {
-    let mut text = first_text(&rt);
-    change(&mut text);
-    expect_fault(&rt, text.as_slice(), Some(LoadFault::WrongDigest(5)));
-    expect_fault(
-        &rt,
-        longer_text(&rt).as_slice(),
-        Some(LoadFault::BadLine(5)),
-    );
+    let wrong = Some(LoadFault::WrongDigest(5));
+    expect_fault(&rt, changed_text(&rt).as_slice(), wrong);
+    let longer = Some(LoadFault::BadLine(5));
+    expect_fault(&rt, longer_text(&rt).as_slice(), longer);
 }

@@ -92,20 +92,36 @@ impl Running {
 
     /// Saves the table and loads it, which is to be as it was.
     pub fn comes_back(&self, alloc: Global) -> Result<(), Wrong> {
-        let text = self.text(alloc)?;
-        let loaded = match Running::from_text(alloc, text.as_slice()) {
-            Ok(loaded) => loaded,
-            Err(fault) => return Err(Wrong::NotLoaded(0, fault)),
-        };
-        if loaded.text(alloc)?.as_slice() == text.as_slice() {
-            return Ok(());
-        }
-        Err(Wrong::OtherText(0))
+        self.reloaded(alloc, 0)?;
+        Ok(())
+    }
+
+    /// The table saved and loaded, which is as it was. So many calls were made.
+    pub fn reloaded(&self, alloc: Global, made: u64) -> Result<Running, Wrong> {
+        loaded_as(alloc, self.text(alloc)?.as_slice(), made)
+    }
+
+    /// Whether the table has this text.
+    fn has_text(&self, alloc: Global, text: &[u8]) -> Result<bool, AllocError> {
+        Ok(self.text(alloc)?.as_slice() == text)
     }
 
     /// The text of the table.
     pub fn text(&self, alloc: Global) -> Result<Vec<u8>, AllocError> {
         let plain = self.table.snapshot()?;
         dump_text(alloc, &plain, self.stamp)
+    }
+}
+
+/// The table of a text, which has that text. So many calls were made.
+fn loaded_as(alloc: Global, text: &[u8], made: u64) -> Result<Running, Wrong> {
+    match Running::from_text(alloc, text) {
+        Ok(loaded) => {
+            if loaded.has_text(alloc, text)? {
+                return Ok(loaded);
+            }
+            Err(Wrong::OtherText(made))
+        }
+        Err(fault) => Err(Wrong::NotLoaded(made, fault)),
     }
 }

@@ -7,14 +7,20 @@ use pid_types::config::Config;
 use std::alloc::Global;
 use std::test::Fail;
 
-/// Makes the calls of the lines, and then saves and loads the table, which is to be as it was.
-fn keeps(alloc: Global, lines: &[&[u8]]) -> Result<(), Wrong> {
-    let mut table = Running::new(alloc, &Config::default_values())?;
+/// Makes the calls of the lines.
+fn play(table: &mut Running, lines: &[&[u8]]) -> Result<(), Wrong> {
     for line in lines {
         if let Line::Call(call) = parse_line(line) {
             let _reply = table.call(call)?;
         }
     }
+    Ok(())
+}
+
+/// Makes the calls of the lines, and then saves and loads the table, which is to be as it was.
+fn keeps(alloc: Global, lines: &[&[u8]]) -> Result<(), Wrong> {
+    let mut table = Running::new(alloc, &Config::default_values())?;
+    play(&mut table, lines)?;
     table.comes_back(alloc)
 }
 

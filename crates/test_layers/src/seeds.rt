@@ -2,6 +2,7 @@
 //! never saved.
 
 use crate::running::{Running, Wrong};
+use pid_types::call::Call;
 use pid_types::config::Config;
 use random_calls::draft::Theme;
 use random_calls::generator::{Aims, Generator};
@@ -33,21 +34,24 @@ fn compare(
     generator: &mut Generator,
     made: u64,
 ) -> Result<(), Wrong> {
-    let text = table.text(alloc)?;
-    let mut loaded = match Running::from_text(alloc, text.as_slice()) {
-        Ok(loaded) => loaded,
-        Err(fault) => return Err(Wrong::NotLoaded(made, fault)),
-    };
-    if loaded.text(alloc)?.as_slice() != text.as_slice() {
-        return Err(Wrong::OtherText(made));
-    }
+    let mut loaded = table.reloaded(alloc, made)?;
     for _further in 0..MORE {
-        let call = generator.call();
-        let first = table.call(call)?;
-        let second = loaded.call(call)?;
-        if first != second {
-            return Err(Wrong::OtherReply(made, first, second));
-        }
+        call_both(table, &mut loaded, generator.call(), made)?;
+    }
+    Ok(())
+}
+
+/// Makes a call on both tables, which are to answer the same.
+fn call_both(
+    table: &mut Running,
+    loaded: &mut Running,
+    call: Call,
+    made: u64,
+) -> Result<(), Wrong> {
+    let first = table.call(call)?;
+    let second = loaded.call(call)?;
+    if first != second {
+        return Err(Wrong::OtherReply(made, first, second));
     }
     Ok(())
 }

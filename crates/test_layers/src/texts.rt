@@ -4,7 +4,7 @@ use arrayvec::ArrayVec;
 use pid_script::line::{Line, parse_line};
 use pid_script::list::list_text;
 use pid_types::config::Config;
-use pid_types::plain::{Life, Name, Plain, Row};
+use pid_types::plain::{Control, ControlRow, Life, Name, Plain, Row};
 use plain_table::table::PlainTable;
 use std::alloc::{AllocError, Global};
 use std::process::Abort;
@@ -21,20 +21,24 @@ struct Left {
     stamp: u64,
 }
 
-/// Makes the calls of the script on a new table.
-fn left_by(alloc: Global, config: &Config, script: &str) -> Result<Left, AllocError> {
-    let mut table = PlainTable::new(alloc, config)?;
-    let mut stamp = config.first_stamp();
+/// Makes the calls of the script, from a stamp on, and answers the stamp of the next call.
+fn play(table: &mut PlainTable, first: u64, script: &str) -> Result<u64, AllocError> {
+    let mut stamp = first;
     for line in script.lines() {
         if let Line::Call(call) = parse_line(line.as_bytes()) {
             table.step(stamp, call)?;
             stamp = stamp.saturating_add(1);
         }
     }
-    Ok(Left {
-        plain: table.snapshot()?,
-        stamp,
-    })
+    Ok(stamp)
+}
+
+/// Makes the calls of the script on a new table.
+fn left_by(alloc: Global, config: &Config, script: &str) -> Result<Left, AllocError> {
+    let mut table = PlainTable::new(alloc, config)?;
+    let stamp = play(&mut table, config.first_stamp(), script)?;
+    let plain = table.snapshot()?;
+    Ok(Left { plain, stamp })
 }
 
 /// What the script leaves of a table with the usual settings.
@@ -97,15 +101,21 @@ fn are_rows(read: &Rows, shown: &[Row]) -> bool {
 /// Whether what was read is what the table shows.
 fn is_as_shown(saved: &Saved, left: &Left) -> bool {
     let plain = &left.plain;
-    let controls = saved.controls.iter().zip(plain.controls.iter());
     saved.stamp == left.stamp
         && saved.pid_max == plain.pid_max
         && are_rows(&saved.rows, &plain.rows)
         && saved.spaces == plain.spaces
-        && saved.controls.len() == plain.controls.len()
-        && controls.into_iter().all(|(a, b)| a.id == b.id
-            && a.parent == b.parent
-            && a.limit == b.limit)
+        && are_as_shown(&saved.controls, &plain.controls)
+}
+
+/// Whether these are the control groups that are shown.
+fn are_as_shown(saved: &[Control], shown: &[ControlRow]) -> bool {
+    for (a, b) in saved.iter().zip(shown) {
+        if (a.id, a.parent, a.limit) != (b.id, b.parent, b.limit) {
+            return false;
+        }
+    }
+    saved.len() == shown.len()
 }
 
 /// Whether what the script leaves is written and read back as it is.

@@ -1,16 +1,16 @@
 //! A tree without tasks.
 
-use std::alloc::{AllocError, Global};
+ghost use Rattle.std.specs.Prelude.{◌<◌};
+
 use std::process::Abort;
-use std::test::Fail;
 use task_tree::TaskTree;
 
-/// A tree with room for seven keys.
-fn seven(alloc: Global) -> Result<TaskTree, AllocError> {
-    let mut tree = TaskTree::new(alloc);
-    tree.grow(3)?;
-    tree.grow(4)?;
-    Ok(tree)
+/// Makes room for so many keys more.
+fn grow(rt: &impl Abort, tree: &mut TaskTree, count: usize)
+    requires { count < 8 }
+{
+    assert!(rt; tree.keys() < 8);
+    tree.grow(count).expect(rt, "no memory");
 }
 
 fn expect_keys(rt: &impl Abort, tree: &TaskTree, keys: usize) {
@@ -27,10 +27,11 @@ fn expect_free(rt: &impl Abort, tree: &TaskTree, key: u32) {
 
 /// Each key has no task at first.
 #[test]
-fn grows(rt: HostRuntime) -> Result<(), Fail> {
-    expect_keys(&rt, &TaskTree::new(rt.alloc()), 0);
-    let tree = seven(rt.alloc())?;
+fn grows(rt: HostRuntime) {
+    let mut tree = TaskTree::new(rt.alloc());
+    expect_keys(&rt, &tree, 0);
+    grow(&rt, &mut tree, 3);
+    grow(&rt, &mut tree, 4);
     expect_keys(&rt, &tree, 7);
     expect_free(&rt, &tree, 6);
-    Ok(())
 }
