@@ -16,7 +16,7 @@ ghost use Rattle.table_text.specs.declared.fault.LoadFault.TheVariants.{NoMemory
 
 use crate::dump::end_of;
 use crate::fault::LoadFault;
-use crate::rows::Rows;
+use crate::rows::{Rows, no_name};
 use crate::scan::{
     read_field, read_life, read_limit, read_mark, read_parent, read_small, read_small_field,
     read_word,
@@ -114,14 +114,6 @@ fn read_name(text: &[u8], at: &mut usize, label: &[u8], name: &mut Name) -> Opti
     read_numbers(text, at, &mut name.numbers)?;
     name.space = read_field(text, at, b"@")?;
     Some(())
-}
-
-/// A name to be written over.
-fn no_name() -> Name {
-    Name {
-        space: 0,
-        numbers: ArrayVec::new(),
-    }
 }
 
 /// The name of a task's parent, `-` for none, which is written over another.

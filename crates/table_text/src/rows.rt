@@ -89,7 +89,7 @@ fn write_name(numbers: &[Pid], place: Place, name: &mut Name)
 }
 
 /// A name to be written over.
-fn no_name() -> Name {
+pub(crate) fn no_name() -> Name {
     Name {
         space: 0,
         numbers: ArrayVec::new(),
