@@ -1,0 +1,8 @@
+use Rattle.std.proofs.Common.{rules}
+use Rattle.kept_table.proofs.kept.Kept.cut_to.Goals as goal
+
+pub returns-then-not-cut_first-clause-cut : goal.returns-then-not-cut_first-clause-cut
+returns-then-not-cut_first-clause-cut c = search rules
+
+pub returns-else-not-cut_first-clause-cut : goal.returns-else-not-cut_first-clause-cut
+returns-else-not-cut_first-clause-cut c = search rules
