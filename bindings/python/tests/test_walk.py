@@ -68,6 +68,14 @@ class Walk(unittest.TestCase):
         status, said = self.say(RUNS.format("`main` `run`"), ADDS.format("`add`"), words=())
         self.assertEqual((status, said.splitlines()[1:4]), (0, ["of these, only forward: 2", "  top/src/main.rt: main", "  top/src/main.rt: run"]))
 
+    def test_places_that_decide_a_refusal_are_counted(self):
+        code = "fn a() -> Refusal\n    ensures { result ≡ Refusal.NoTask }\n{\n    Refusal::NoTask\n}\n\nfn b() { c(Refusal::NoTask, Refusal::NoCaller) }\n"
+        (self.top / "crates" / "low" / "src" / "more.rt").write_text(code, encoding="utf-8")
+        (self.top / "crates" / "plain_low" / "src").mkdir(parents=True)
+        (self.top / "crates" / "plain_low" / "src" / "lib.rt").write_text(code, encoding="utf-8")
+        status, said = self.say(RUNS.format("`main` `run`"), ADDS.format("`add`"), words=())
+        self.assertEqual((status, said.splitlines()[4:6]), (0, ["refusals that one place of the code decides: 1 of 2", "  NoTask: 2 places"]))
+
     def test_a_function_that_is_not_there(self):
         status, said = self.say(RUNS.format("`main` `run` `runs`"))
         self.assertEqual((status, said), (1, "docs/ARCHITECTURE.md: the walk names `runs`, which is not in crates/top/src/main.rt\n"))
