@@ -72,10 +72,18 @@ enum onward enter_wait4(struct thread *thread, struct registers *registers)
 	return thread->has_no_exit ? GO : onward;
 }
 
+/* A status that cannot be written is told behind the reaping: the child is gone all the same. */
+static void reap_untold(struct thread *thread, int64_t result)
+{
+	if (result == -EFAULT)
+		reap_vanished(thread->process);
+}
+
 int64_t leave_wait4(struct thread *thread, int64_t result)
 {
 	int64_t number;
 
+	reap_untold(thread, result);
 	if (result <= 0) {
 		if (checking && (result == 0 || result == -ECHILD))
 			compare_no_child(thread, result);
@@ -96,6 +104,7 @@ int64_t leave_waitid(struct thread *thread, int64_t result)
 	int32_t number;
 	bool is_end;
 
+	reap_untold(thread, result);
 	if (is_comparable && result == -ECHILD)
 		compare_no_child(thread, result);
 	if (result != 0)
