@@ -163,6 +163,7 @@ class Checkout(unittest.TestCase):
         status, _, said = self.run_gate("measure", STATUS="1")
         self.assertEqual((status, self.table.read_text()), (1, TABLE))
         self.assertIn("rt ci ended with status 1", said)
+        self.assertEqual((self.top / "out/gate.tsv").read_text().splitlines()[3:], ["# closing: 3 passed, 0 failed", "crate\tproofs\ttests\tedits\tnumber"])
 
     def test_a_budget(self) -> None:
         # 73 seconds of the crates that are there: 73 * 2 / 60 = 2.4 minutes.
