@@ -347,13 +347,14 @@ replicated: ## * tests one table on many hosts (some 8 minutes); where there is 
 SERVICE = service/target/release/pidtabd
 CRATES_FROM = /usr/share/cargo/registry
 CRATES = itoa lexopt listenfd mio nix sd-notify signal-hook
+# No path of this machine is left in it.
 service: ## builds pidtabd, one table for all processes of a host, over what `make lib` has built (a minute; needs cargo and Debian's crates)
 	@command -v cargo > /dev/null || { echo 'no cargo: the service needs Rust 1.89 or later' >&2; exit 1; }
 	@for it in $(CRATES); do ls -d $(CRATES_FROM)/$$it-[0-9]* > /dev/null 2>&1 \
 		|| { echo "no crate $$it: on Debian, apt-get install librust-$$it-dev" >&2; exit 1; }; done
 	@test -e out/libpidtab.a || { echo 'no library out/libpidtab.a: build it with `make lib`' >&2; exit 1; }
 	@mkdir -p out/service
-	@cd service && cargo build --release --offline --quiet > ../out/service.log 2>&1 || { echo 'make service failed: see out/service.log' >&2; exit 1; }
+	@cd service && RUSTFLAGS="$${RUSTFLAGS:-} --remap-path-prefix=$(CURDIR)=." cargo build --release --offline --quiet > ../out/service.log 2>&1 || { echo 'make service failed: see out/service.log' >&2; exit 1; }
 	@tools/report out/service.txt $(SERVICE)
 	@echo $(SERVICE)
 
