@@ -99,7 +99,7 @@ linux: built ## compares the table with real processes; as root, or with user na
 	@linux/compare --seeds 1..200
 
 # Each load of loads/loads.py at its sizes, beside the figures of a peer.
-loads: built ## what a call costs, by instructions; with valgrind (some 10 minutes)
+loads: built ## what a call costs, by instructions; with valgrind (some minutes)
 	@loads/loads.py measure '$(PIDTAB)' $(LOADS)
 
 clean: ## removes all that was built, and what the checker has kept
