@@ -6,7 +6,6 @@ from itertools import groupby
 from names import sentence
 from written.lines import sentences
 from written.markdown import said
-from written.markdown import table as markdown
 
 SCRIPT = "docs/SCRIPT.md"
 MANUAL = "man/pidtab.5"
@@ -21,6 +20,7 @@ BEHIND = {
     "limit": ", `max` for {none}",
 }  # fmt: skip
 STATES = ("live", "exit S", "killed")
+AS_IN_THE_LIST = "as in the list"
 
 # The types of TypeScript; a state is two fields.
 TYPES = {"numbers": "number[]", "id": "bigint", "root": "bigint | null", "apart": "bigint | null", "limit": "number | null", "mark": "boolean"}
@@ -49,14 +49,18 @@ def what(row):
 
 
 def page(of):
-    """The table of a page."""
+    """The lists of a page, one for each line. Fields in a row that are as in the list are one item."""
 
     def part(tables):
-        rows = []
+        lines = []
         for line, fields in lines_of(tables, of):
+            told = []
             for place, it in enumerate(fields):
-                rows.append((f"`{line}`" if place == 0 else "", ", ".join(f"`{form}`" for form in written(it, place == 0)), said(what(it))))
-        return markdown(("Line", "Field", "What it says"), rows)
+                text = it.sentence if it.sentence == AS_IN_THE_LIST else said(what(it))
+                told.append((text, ", ".join(f"`{form}`" for form in written(it, place == 0))))
+            lines += [f"- `{line}`"]
+            lines += [f"  - {', '.join(form for _, form in same)}: {text}" for text, same in groupby(told, lambda it: it[0])]
+        return ["", *lines, ""]
 
     return part
 

@@ -56,12 +56,13 @@ def faults_of(tables, part):
 
 
 def functions(tables):
-    """The functions of C, and what has them in each package."""
+    """The functions of C that two packages have, and what has them in each package."""
     rows = []
     for it in tables["functions"]:
         names = ", ".join(f"`pidtab_{name}`" for name in words_of(it.functions))
         packages = [it.cell(language) for language in ("python", "rust", "go", "javascript")]
-        rows.append((it.sentence, names, *["" if cell == "-" else f"`{cell}`" for cell in packages]))
+        if packages.count("-") < 3:
+            rows.append((it.sentence, names, *["" if cell == "-" else f"`{cell}`" for cell in packages]))
     return table(("What it does", "C", "Python", "Rust", "Go", "JavaScript"), rows)
 
 

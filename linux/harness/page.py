@@ -10,7 +10,9 @@ from harness.world import NOT_ASKED
 LINUX = Path(__file__).resolve().parent.parent
 FRAME = LINUX / "page.md"
 PAGE = LINUX.parent / "docs" / "LINUX.md"
-HEAD = "| Name | What | Smallest script | Kernel; table | Seen on |\n|---|---|---|---|---|\n"
+HEAD = "| What | Smallest script | Kernel; table |\n|---|---|---|\n"
+# Where most rows were seen, which the head of the page says once.
+USUAL = ("", "6.18, 6.1", "6.18 (version 1), 6.1 (version 2)")
 SHORTEST_RUN = 5
 
 
@@ -65,8 +67,9 @@ def shown_row(row: Row) -> str:
     script = " / ".join(shown_runs(row.lines()))
     if row.pid_max is not None:
         script = f"pid_max {row.pid_max}: {script}"
+    seen = "" if row.seen in USUAL else ". It was not run" if row.seen == "not run" else f". Seen on {row.seen} alone"
     reason = f" ({row.run})" if row.run not in ("", "endless") else ""
-    return f"| {row.name} | {row.what} | {script} | {shown_answers(row)} | {row.seen}{reason} |\n"
+    return f"| *{row.name}*: {row.what}{seen}{reason} | {script} | {shown_answers(row)} |\n"
 
 
 def make_page(rows: list[Row]) -> str:

@@ -25,8 +25,6 @@ EXAMPLES = [
     ("README.md", "### From C", "c"),
     ("README.md", "### From Python", "python"),
     ("bindings/python/README.md", "## By the program", "python"),
-    ("bindings/python/README.md", "## In its own process", "python"),
-    ("bindings/python/README.md", "## For many threads, with its history", "python"),
     ("bindings/c/README.md", "## Example", "c"),
     ("bindings/rust/README.md", "## Example", "rust"),
     ("bindings/go/README.md", "## Example", "go"),
@@ -105,17 +103,14 @@ class Examples(unittest.TestCase):
 
     def test_python_in_its_own_process(self) -> None:
         need_library()
-        self.check("python", run_python, "## In its own process")
         self.check("python", run_python, "### From Python")
-
-    def test_python_for_many_threads(self) -> None:
-        need_shared()
-        self.check("python", run_python, "with its history")
+        # The page says that the other way prints the same.
+        self.check("python", lambda code, folder: run_python(code.replace("pidtab.Process()", "pidtab.Table()"), folder), "## By the program")
 
     def test_python_in_files(self) -> None:
         need_shared()
         shown = sorted((PACKAGES / "examples").glob("*.py"))
-        self.assertEqual([it.stem for it in shown], ["follow", "saved", "text"])
+        self.assertEqual([it.stem for it in shown], ["follow", "saved", "shared", "text"])
         for path in shown:
             with self.subTest(path.name), tempfile.TemporaryDirectory() as folder:
                 code = path.read_text(encoding="utf-8")
