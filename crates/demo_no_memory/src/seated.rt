@@ -8,7 +8,7 @@ use crate::tell::{MOST_TRIES, tell};
 use anyhow::{Result, bail};
 use locked_table::{Receipt, Record, Seat};
 use pid_script::answer::answer_text;
-use pid_script::list::list_text;
+use pid_script::list::{list_text, push_field};
 use pid_types::config::Config;
 use pid_types::plain::Plain;
 use pid_types::reply::CallFault;
@@ -138,7 +138,7 @@ impl<L: Ledger> Seated<L> {
             Made::Nothing => tell(rt, &[b"= ok\n"]),
             Made::Counts(counts) => {
                 tell(rt, &[b"= "])?;
-                tell(rt, &[count_line(rt.alloc(), counts)?.as_bytes()])
+                tell(rt, &[count_line(rt.alloc(), counts)?.as_slice()])
             }
             Made::List(text) => tell(rt, &[b"= list\n", text.as_slice()]),
             Made::Dump(text) => tell(rt, &[b"= dump\n", text.as_slice()]),
@@ -166,7 +166,7 @@ impl<L: Ledger> Seated<L> {
     fn picture(&self, alloc: Global) -> Result<Vec<u8>> {
         let counts = self.counts();
         let mut picture = list_table(alloc, self.record.present())?;
-        picture.extend_from_slice(count_line(alloc, &counts)?.as_bytes())?;
+        picture.extend_from_slice(count_line(alloc, &counts)?.as_slice())?;
         let last = self.record.entry(counts.total.saturating_sub(1));
         picture.extend_from_slice(format!(in alloc; "{last:?}")?.as_bytes())?;
         Ok(picture)
@@ -174,17 +174,15 @@ impl<L: Ledger> Seated<L> {
 }
 
 /// The counts as a line.
-fn count_line(alloc: Global, counts: &Counts) -> Result<String> {
-    let Counts {
-        total,
-        first_kept,
-        recorded,
-        calls,
-        tasks,
-        controls,
-        pid_max,
-    } = *counts;
-    Ok(format!(in alloc;
-        "total {total} kept {first_kept} recorded {recorded} calls {calls} tasks {tasks} controls {controls} pid_max {pid_max}\n"
-    )?)
+fn count_line(alloc: Global, counts: &Counts) -> Result<Vec<u8>, AllocError> {
+    let mut line = Vec::new(alloc);
+    push_field(&mut line, b"total ", counts.total)?;
+    push_field(&mut line, b" kept ", counts.first_kept)?;
+    push_field(&mut line, b" recorded ", counts.recorded)?;
+    push_field(&mut line, b" calls ", counts.calls)?;
+    push_field(&mut line, b" tasks ", counts.tasks as u64)?;
+    push_field(&mut line, b" controls ", counts.controls as u64)?;
+    push_field(&mut line, b" pid_max ", u64::from(counts.pid_max))?;
+    line.push(b'\n')?;
+    Ok(line)
 }

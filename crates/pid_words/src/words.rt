@@ -49,20 +49,13 @@ fn fault_of(error: Error) -> WordsFault {
 /// `Usage` comes for all other words, a call for help among them, and `NoMemory` where there is
 /// none to read or to keep them.
 pub fn read_words<S: AsStr>(alloc: Global, words: &[S]) -> Result<Command, WordsFault> {
-    let files = Arg::new(alloc, "files")
-        .action(ArgAction::Append)
-        .num_args(1..);
-    let work = clap::Command::new(alloc, "work")
-        .arg(pid_max(alloc))?
-        .arg(files)?;
-    let command = clap::Command::new(alloc, "pidtab")
-        .subcommand(clap::Command::new(alloc, "run").arg(pid_max(alloc))?)?
-        .subcommand(clap::Command::new(alloc, "list").arg(pid_max(alloc))?)?
-        .subcommand(work)?;
     let line = with_name(alloc, words)?;
-    let matches = command
-        .try_get_matches_from(line.as_slice())
-        .map_err(fault_of)?;
+    let matches = match_line(alloc, line.as_slice())?;
+    asked_for(alloc, &matches)
+}
+
+/// The command that was found in the words, with its options.
+fn asked_for(alloc: Global, matches: &ArgMatches) -> Result<Command, WordsFault> {
     match matches.subcommand() {
         Some(("run", options)) => Ok(Command::Run(read_config(options)?)),
         Some(("list", options)) => Ok(Command::List(read_config(options)?)),
@@ -74,6 +67,37 @@ pub fn read_words<S: AsStr>(alloc: Global, words: &[S]) -> Result<Command, Words
     }
 }
 
+/// What clap finds in the words, the program's name first.
+fn match_line<'a, S: AsStr>(alloc: Global, line: &'a [S]) -> Result<ArgMatches<'a>, WordsFault> {
+    commands(alloc)?
+        .try_get_matches_from(line)
+        .map_err(fault_of)
+}
+
+/// The program's commands.
+fn commands<'a>(alloc: Global) -> Result<clap::Command<'a>, AllocError> {
+    clap::Command::new(alloc, "pidtab")
+        .subcommand(with_pid_max(alloc, "run")?)?
+        .subcommand(with_pid_max(alloc, "list")?)?
+        .subcommand(work_command(alloc)?)
+}
+
+/// The command `work`, which takes the names of files too.
+fn work_command<'a>(alloc: Global) -> Result<clap::Command<'a>, AllocError> {
+    let files = Arg::new(alloc, "files")
+        .action(ArgAction::Append)
+        .num_args(1..);
+    with_pid_max(alloc, "work")?.arg(files)
+}
+
+/// A command with the option that bounds the numbers.
+fn with_pid_max<'a>(alloc: Global, name: &'a str) -> Result<clap::Command<'a>, AllocError> {
+    let pid_max = Arg::new(alloc, "pid-max")
+        .long("pid-max")
+        .action(ArgAction::Set);
+    clap::Command::new(alloc, name).arg(pid_max)
+}
+
 /// The words behind the program's name.
 fn with_name<S: AsStr>(alloc: Global, words: &[S]) -> Result<Vec<&str>, AllocError> {
     let mut line = Vec::new(alloc);
@@ -82,13 +106,6 @@ fn with_name<S: AsStr>(alloc: Global, words: &[S]) -> Result<Vec<&str>, AllocErr
         line.push(word.as_str())?;
     }
     Ok(line)
-}
-
-/// The option with the bound of numbers.
-fn pid_max<'a>(alloc: Global) -> Arg<'a> {
-    Arg::new(alloc, "pid-max")
-        .long("pid-max")
-        .action(ArgAction::Set)
 }
 
 /// The configuration with this bound of numbers, or with the usual one. `Usage` comes for a word
