@@ -284,6 +284,7 @@ DUMP_TEST = test_dump guard
 DUMP_SEEDS_TEST = test_dump_seeds guard heap
 DUMP_RECORD_TEST = test_dump_record shared guard guard_record
 THREADS_TEST = test_threads guard guard_record
+READERS_TEST = test_readers shared guard guard_record
 SHARED_TEST = test_shared shared guard guard_record heap
 FOLLOW_TEST = test_follow shared guard guard_record heap
 WATCH_TEST = test_watch saved_file shared guard guard_record heap
@@ -306,6 +307,10 @@ bindings-c:
 		$(CC) $(CHECKED) -o $(OUT)/test_dump_record $(DUMP_RECORD_TEST:%=bindings/c/%.c) $(OUT)/test_heap.o $(OUT)/proved.a && $(RUN) $(OUT)/test_dump_record && \
 		$(CC) $(THREADED) $(HELD) -Dfree=test_free -c -o $(OUT)/held_heap.o bindings/c/heap.c && \
 		$(CC) $(THREADED) -o $(OUT)/test_threads $(THREADS_TEST:%=bindings/c/%.c) $(OUT)/held_heap.o $(OUT)/proved.a && $(RUN) $(OUT)/test_threads && \
+		for sanitizer in '$(TESTED)' '$(THREADED)'; do \
+			$(CC) $$sanitizer $(HELD) -Dfree=test_free -c -o $(OUT)/readers_heap.o bindings/c/heap.c && \
+			$(CC) $$sanitizer -o $(OUT)/test_readers $(READERS_TEST:%=bindings/c/%.c) $(OUT)/readers_heap.o $(OUT)/proved.a && \
+			$(RUN) $(OUT)/test_readers || exit 1; done && \
 		for sanitizer in '$(CHECKED)' '$(THREADED)'; do \
 			$(CC) $$sanitizer -o $(OUT)/test_shared $(SHARED_TEST:%=bindings/c/%.c) $(OUT)/proved.a && $(RUN) $(OUT)/test_shared && \
 			$(CC) $$sanitizer -o $(OUT)/test_follow $(FOLLOW_TEST:%=bindings/c/%.c) $(OUT)/proved.a && $(RUN) $(OUT)/test_follow && \

@@ -1,5 +1,6 @@
-/* The functions of pidtab.h that work on a table. Each marks the table, calls the proved function, and takes the mark away: while
- * it is there, every other is PIDTAB_BUSY. The proved functions have other names here, by renamed.syms. Written by tools/guard. */
+/* The functions of pidtab.h that work on a table. Each marks the table, calls the proved function, and takes the mark away. Queries are
+ * counted, and work side by side. A call works alone: while its mark is there, every other function is PIDTAB_BUSY, and while queries
+ * are counted, it is PIDTAB_BUSY itself. The proved functions have other names here, by renamed.syms. Written by tools/guard. */
 #include "pidtab.h"
 
 uint32_t proved_open(struct pidtab *table, uint32_t pid_max);
@@ -12,12 +13,26 @@ uint32_t proved_call(struct pidtab *table, const struct pidtab_call *call, struc
 uint32_t proved_ask(struct pidtab *table, const struct pidtab_call *call, struct pidtab_reply *reply);
 uint32_t proved_stat(struct pidtab *table, uint32_t caller, uint32_t number, struct pidtab_task *task);
 
-/* Marks the table, and takes out what the proved function works on: it may write each byte of that, and would clear the mark. */
+/* The mark is ALONE in a call, and else the number of queries. One more than the most waits until one ends. */
+#define ALONE UINT8_MAX
+#ifndef PIDTAB_MOST_QUERIES
+#define PIDTAB_MOST_QUERIES (ALONE - 1)
+#endif
+
+/* What the proved function works on is taken out: it may write each byte of that, and would clear the mark. */
+static struct pidtab held_by(const struct pidtab *table)
+{
+	return (struct pidtab){ table->at, table->is_open, 0 };
+}
+
+/* Marks the table for a call. */
 static bool enter(struct pidtab *table, struct pidtab *held)
 {
-	if (__atomic_test_and_set(&table->in_call, __ATOMIC_ACQUIRE))
+	uint8_t unused = 0;
+
+	if (!__atomic_compare_exchange_n(&table->in_use, &unused, ALONE, false, __ATOMIC_ACQUIRE, __ATOMIC_RELAXED))
 		return false;
-	*held = (struct pidtab){ table->at, table->is_open, false };
+	*held = held_by(table);
 	return true;
 }
 
@@ -26,7 +41,27 @@ static uint32_t leave(struct pidtab *table, const struct pidtab *held, uint32_t 
 {
 	table->at = held->at;
 	table->is_open = held->is_open;
-	__atomic_clear(&table->in_call, __ATOMIC_RELEASE);
+	__atomic_store_n(&table->in_use, 0, __ATOMIC_RELEASE);
+	return status;
+}
+
+/* Counts one query more. The mark is all that a query changes. */
+static bool enter_query(const struct pidtab *table, struct pidtab *held)
+{
+	uint8_t *in_use = (uint8_t *)&table->in_use, count;
+
+	do {
+		count = __atomic_load_n(in_use, __ATOMIC_RELAXED);
+		if (count == ALONE)
+			return false;
+	} while (count == PIDTAB_MOST_QUERIES || !__atomic_compare_exchange_n(in_use, &count, count + 1, false, __ATOMIC_ACQUIRE, __ATOMIC_RELAXED));
+	*held = held_by(table);
+	return true;
+}
+
+static uint32_t leave_query(const struct pidtab *table, uint32_t status)
+{
+	__atomic_sub_fetch((uint8_t *)&table->in_use, 1, __ATOMIC_RELEASE);
 	return status;
 }
 
@@ -58,22 +93,22 @@ uint32_t pidtab_line(struct pidtab *table, const void *line, size_t length, void
 	return leave(table, &held, proved_line(&held, line, length, answer, room, size));
 }
 
-uint32_t pidtab_list(struct pidtab *table, void *bytes, size_t room, size_t *size)
+uint32_t pidtab_list(const struct pidtab *table, void *bytes, size_t room, size_t *size)
 {
 	struct pidtab held;
 
-	if (!enter(table, &held))
+	if (!enter_query(table, &held))
 		return PIDTAB_BUSY;
-	return leave(table, &held, proved_list(&held, bytes, room, size));
+	return leave_query(table, proved_list(&held, bytes, room, size));
 }
 
-uint32_t pidtab_dump(struct pidtab *table, void *bytes, size_t room, size_t *size)
+uint32_t pidtab_dump(const struct pidtab *table, void *bytes, size_t room, size_t *size)
 {
 	struct pidtab held;
 
-	if (!enter(table, &held))
+	if (!enter_query(table, &held))
 		return PIDTAB_BUSY;
-	return leave(table, &held, proved_dump(&held, bytes, room, size));
+	return leave_query(table, proved_dump(&held, bytes, room, size));
 }
 
 uint32_t pidtab_load(struct pidtab *table, const void *text, size_t length, struct pidtab_fault *fault)
@@ -95,20 +130,20 @@ uint32_t pidtab_call(struct pidtab *table, const struct pidtab_call *call, struc
 	return leave(table, &held, proved_call(&held, call, reply));
 }
 
-uint32_t pidtab_ask(struct pidtab *table, const struct pidtab_call *call, struct pidtab_reply *reply)
+uint32_t pidtab_ask(const struct pidtab *table, const struct pidtab_call *call, struct pidtab_reply *reply)
 {
 	struct pidtab held;
 
-	if (!enter(table, &held))
+	if (!enter_query(table, &held))
 		return PIDTAB_BUSY;
-	return leave(table, &held, proved_ask(&held, call, reply));
+	return leave_query(table, proved_ask(&held, call, reply));
 }
 
-uint32_t pidtab_stat(struct pidtab *table, uint32_t caller, uint32_t number, struct pidtab_task *task)
+uint32_t pidtab_stat(const struct pidtab *table, uint32_t caller, uint32_t number, struct pidtab_task *task)
 {
 	struct pidtab held;
 
-	if (!enter(table, &held))
+	if (!enter_query(table, &held))
 		return PIDTAB_BUSY;
-	return leave(table, &held, proved_stat(&held, caller, number, task));
+	return leave_query(table, proved_stat(&held, caller, number, task));
 }

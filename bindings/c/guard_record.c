@@ -21,12 +21,26 @@ uint32_t proved_record_opening(struct pidtab_record *record, void *bytes, size_t
 uint32_t proved_record_dump(struct pidtab_record *record, void *bytes, size_t room, size_t *size);
 uint32_t proved_record_load(struct pidtab_record *record, const void *text, size_t length, const uint64_t *counts, size_t workers, struct pidtab_fault *fault);
 
-/* Marks the record, and takes out what the proved function works on: it may write each byte of that, and would clear the mark. */
+/* The mark is ALONE in a call, and else the number of queries. One more than the most waits until one ends. */
+#define ALONE UINT8_MAX
+#ifndef PIDTAB_MOST_QUERIES
+#define PIDTAB_MOST_QUERIES (ALONE - 1)
+#endif
+
+/* What the proved function works on is taken out: it may write each byte of that, and would clear the mark. */
+static struct pidtab_record held_by(const struct pidtab_record *record)
+{
+	return (struct pidtab_record){ record->at, record->is_open, 0 };
+}
+
+/* Marks the record for a call. */
 static bool enter(struct pidtab_record *record, struct pidtab_record *held)
 {
-	if (__atomic_test_and_set(&record->in_call, __ATOMIC_ACQUIRE))
+	uint8_t unused = 0;
+
+	if (!__atomic_compare_exchange_n(&record->in_use, &unused, ALONE, false, __ATOMIC_ACQUIRE, __ATOMIC_RELAXED))
 		return false;
-	*held = (struct pidtab_record){ record->at, record->is_open, false };
+	*held = held_by(record);
 	return true;
 }
 
@@ -35,7 +49,27 @@ static uint32_t leave(struct pidtab_record *record, const struct pidtab_record *
 {
 	record->at = held->at;
 	record->is_open = held->is_open;
-	__atomic_clear(&record->in_call, __ATOMIC_RELEASE);
+	__atomic_store_n(&record->in_use, 0, __ATOMIC_RELEASE);
+	return status;
+}
+
+/* Counts one query more. The mark is all that a query changes. */
+static bool enter_query(const struct pidtab_record *record, struct pidtab_record *held)
+{
+	uint8_t *in_use = (uint8_t *)&record->in_use, count;
+
+	do {
+		count = __atomic_load_n(in_use, __ATOMIC_RELAXED);
+		if (count == ALONE)
+			return false;
+	} while (count == PIDTAB_MOST_QUERIES || !__atomic_compare_exchange_n(in_use, &count, count + 1, false, __ATOMIC_ACQUIRE, __ATOMIC_RELAXED));
+	*held = held_by(record);
+	return true;
+}
+
+static uint32_t leave_query(const struct pidtab_record *record, uint32_t status)
+{
+	__atomic_sub_fetch((uint8_t *)&record->in_use, 1, __ATOMIC_RELEASE);
 	return status;
 }
 
@@ -85,58 +119,58 @@ uint32_t pidtab_record_line(struct pidtab_record *record, uint32_t worker, const
 	return leave(record, &held, proved_record_line(&held, worker, line, length, answer, room, size, ordinal));
 }
 
-uint32_t pidtab_record_ask(struct pidtab_record *record, const struct pidtab_call *call, struct pidtab_reply *reply)
+uint32_t pidtab_record_ask(const struct pidtab_record *record, const struct pidtab_call *call, struct pidtab_reply *reply)
 {
 	struct pidtab_record held;
 
-	if (!enter(record, &held))
+	if (!enter_query(record, &held))
 		return PIDTAB_BUSY;
-	return leave(record, &held, proved_record_ask(&held, call, reply));
+	return leave_query(record, proved_record_ask(&held, call, reply));
 }
 
-uint32_t pidtab_record_stat(struct pidtab_record *record, uint32_t caller, uint32_t number, struct pidtab_task *task)
+uint32_t pidtab_record_stat(const struct pidtab_record *record, uint32_t caller, uint32_t number, struct pidtab_task *task)
 {
 	struct pidtab_record held;
 
-	if (!enter(record, &held))
+	if (!enter_query(record, &held))
 		return PIDTAB_BUSY;
-	return leave(record, &held, proved_record_stat(&held, caller, number, task));
+	return leave_query(record, proved_record_stat(&held, caller, number, task));
 }
 
-uint32_t pidtab_record_counts(struct pidtab_record *record, uint64_t *first_kept, uint64_t *recorded)
+uint32_t pidtab_record_counts(const struct pidtab_record *record, uint64_t *first_kept, uint64_t *recorded)
 {
 	struct pidtab_record held;
 
-	if (!enter(record, &held))
+	if (!enter_query(record, &held))
 		return PIDTAB_BUSY;
-	return leave(record, &held, proved_record_counts(&held, first_kept, recorded));
+	return leave_query(record, proved_record_counts(&held, first_kept, recorded));
 }
 
-uint32_t pidtab_record_worker(struct pidtab_record *record, uint32_t worker, uint64_t *calls)
+uint32_t pidtab_record_worker(const struct pidtab_record *record, uint32_t worker, uint64_t *calls)
 {
 	struct pidtab_record held;
 
-	if (!enter(record, &held))
+	if (!enter_query(record, &held))
 		return PIDTAB_BUSY;
-	return leave(record, &held, proved_record_worker(&held, worker, calls));
+	return leave_query(record, proved_record_worker(&held, worker, calls));
 }
 
-uint32_t pidtab_record_entry(struct pidtab_record *record, uint64_t ordinal, uint64_t *worker, struct pidtab_call *call, struct pidtab_reply *reply)
+uint32_t pidtab_record_entry(const struct pidtab_record *record, uint64_t ordinal, uint64_t *worker, struct pidtab_call *call, struct pidtab_reply *reply)
 {
 	struct pidtab_record held;
 
-	if (!enter(record, &held))
+	if (!enter_query(record, &held))
 		return PIDTAB_BUSY;
-	return leave(record, &held, proved_record_entry(&held, ordinal, worker, call, reply));
+	return leave_query(record, proved_record_entry(&held, ordinal, worker, call, reply));
 }
 
-uint32_t pidtab_record_read(struct pidtab_record *record, uint64_t from, struct pidtab_entry *entries, size_t room, size_t *count)
+uint32_t pidtab_record_read(const struct pidtab_record *record, uint64_t from, struct pidtab_entry *entries, size_t room, size_t *count)
 {
 	struct pidtab_record held;
 
-	if (!enter(record, &held))
+	if (!enter_query(record, &held))
 		return PIDTAB_BUSY;
-	return leave(record, &held, proved_record_read(&held, from, entries, room, count));
+	return leave_query(record, proved_record_read(&held, from, entries, room, count));
 }
 
 uint32_t pidtab_record_replay(struct pidtab_record *record, const struct pidtab_entry *saved, size_t count, size_t *place)
@@ -175,31 +209,31 @@ uint32_t pidtab_record_checkpoint_at(struct pidtab_record *record, uint64_t seen
 	return leave(record, &held, proved_record_checkpoint_at(&held, seen));
 }
 
-uint32_t pidtab_record_list(struct pidtab_record *record, void *bytes, size_t room, size_t *size)
+uint32_t pidtab_record_list(const struct pidtab_record *record, void *bytes, size_t room, size_t *size)
 {
 	struct pidtab_record held;
 
-	if (!enter(record, &held))
+	if (!enter_query(record, &held))
 		return PIDTAB_BUSY;
-	return leave(record, &held, proved_record_list(&held, bytes, room, size));
+	return leave_query(record, proved_record_list(&held, bytes, room, size));
 }
 
-uint32_t pidtab_record_opening(struct pidtab_record *record, void *bytes, size_t room, size_t *size)
+uint32_t pidtab_record_opening(const struct pidtab_record *record, void *bytes, size_t room, size_t *size)
 {
 	struct pidtab_record held;
 
-	if (!enter(record, &held))
+	if (!enter_query(record, &held))
 		return PIDTAB_BUSY;
-	return leave(record, &held, proved_record_opening(&held, bytes, room, size));
+	return leave_query(record, proved_record_opening(&held, bytes, room, size));
 }
 
-uint32_t pidtab_record_dump(struct pidtab_record *record, void *bytes, size_t room, size_t *size)
+uint32_t pidtab_record_dump(const struct pidtab_record *record, void *bytes, size_t room, size_t *size)
 {
 	struct pidtab_record held;
 
-	if (!enter(record, &held))
+	if (!enter_query(record, &held))
 		return PIDTAB_BUSY;
-	return leave(record, &held, proved_record_dump(&held, bytes, room, size));
+	return leave_query(record, proved_record_dump(&held, bytes, room, size));
 }
 
 uint32_t pidtab_record_load(struct pidtab_record *record, const void *text, size_t length, const uint64_t *counts, size_t workers, struct pidtab_fault *fault)

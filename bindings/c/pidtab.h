@@ -4,8 +4,9 @@
  * guard_record.c, which mark the table, and are only tested, as the shared and the saved ones are. This header is written to fit, in part
  * by tools/interface; bindings/c/test.c and test_guard compare it.
  *
- * One function at a time works on a table: while one does, each other that another thread calls is PIDTAB_BUSY, and does nothing.
- * Threads that take turns under a lock never see it. Two tables share nothing.
+ * A function that takes a `const` table is a query: it changes nothing, and any number of threads may be in queries of one table at once.
+ * Each other function works alone: while one does, each that another thread calls is PIDTAB_BUSY, and does nothing, and so is it where it
+ * finds queries at work. Threads that share a lock for readers and writers never see it. Two tables share nothing.
  *
  * Nobody checks that a caller keeps these rules:
  *
@@ -30,9 +31,9 @@ extern "C" {
 struct pidtab {
 	void *at;
 	bool is_open;
-	bool in_call; /* while a function works on the table */
+	uint8_t in_use; /* by queries, or by a call */
 };
-#define PIDTAB_INIT { 0, false, false }
+#define PIDTAB_INIT { 0, false, 0 }
 
 /* Written by tools/interface: statuses. */
 /* What a function answers: 0, or a number of Linux's errno. Any status but PIDTAB_DONE says that the table is as it was.
@@ -119,11 +120,11 @@ uint32_t pidtab_line(struct pidtab *table, const void *line, size_t length, void
 
 /* Writes the list of the table, as `pidtab list` does. DONE, CLOSED, NO_MEMORY, and NO_ROOM where it is longer than the room; then
  * too size is its length. */
-uint32_t pidtab_list(struct pidtab *table, void *bytes, size_t room, size_t *size);
+uint32_t pidtab_list(const struct pidtab *table, void *bytes, size_t room, size_t *size);
 
 /* Writes the text of the table with the stamp of its next call (docs/SCRIPT.md): all that there is to know of it. One table has one
  * text, and its SHA-256 is in it. DONE, CLOSED, NO_MEMORY, and NO_ROOM as pidtab_list has it. */
-uint32_t pidtab_dump(struct pidtab *table, void *bytes, size_t room, size_t *size);
+uint32_t pidtab_dump(const struct pidtab *table, void *bytes, size_t room, size_t *size);
 
 /* Written by tools/interface: faults. */
 /* Why a text is that of no table. */
@@ -283,7 +284,7 @@ uint32_t pidtab_call(struct pidtab *table, const struct pidtab_call *call, struc
 
 /* Answers a query, as the operations have it, as a call would be answered, and is none: it uses no stamp, and nothing changes.
  * DONE, CLOSED, and OUT_OF_RANGE for each other operation too. */
-uint32_t pidtab_ask(struct pidtab *table, const struct pidtab_call *call, struct pidtab_reply *reply);
+uint32_t pidtab_ask(const struct pidtab *table, const struct pidtab_call *call, struct pidtab_reply *reply);
 
 /* A task as the caller's namespace sees it. The numbers of processes are those there, 0 where there is none. */
 struct pidtab_task {
@@ -304,7 +305,7 @@ struct pidtab_task {
 
 /* Reads the task with the number in the caller's namespace, where 0 is the caller, and a zombie too: as getpgid finds it. It is no
  * call, as pidtab_ask is none. What the table refuses is PIDTAB_DONE: the task says so. DONE, CLOSED. */
-uint32_t pidtab_stat(struct pidtab *table, uint32_t caller, uint32_t number, struct pidtab_task *task);
+uint32_t pidtab_stat(const struct pidtab *table, uint32_t caller, uint32_t number, struct pidtab_task *task);
 
 /* Writes the call as a line of the script language, without a newline and a zero byte: pidtab_line makes the same call of it. It needs
  * no table. DONE; OUT_OF_RANGE where the numbers say no call; NO_ROOM where the line is longer than the room, and then too size is its
@@ -501,9 +502,9 @@ static inline int64_t pidtab_subreaper(struct pidtab *table, uint32_t caller, ui
 struct pidtab_record {
 	void *at;
 	bool is_open;
-	bool in_call; /* while a function works on the record */
+	uint8_t in_use; /* by queries, or by a call */
 };
-#define PIDTAB_RECORD_INIT { 0, false, false }
+#define PIDTAB_RECORD_INIT { 0, false, 0 }
 
 
 /* Opens a record with process 1 alone, for 1 to 16 workers; first_stamp is at least 1. DONE, BUSY, OUT_OF_RANGE, NO_MEMORY. Each of
@@ -525,19 +526,19 @@ uint32_t pidtab_record_call_keeping(struct pidtab_record *record, uint32_t worke
 uint32_t pidtab_record_line(struct pidtab_record *record, uint32_t worker, const void *line, size_t length, void *answer, size_t room, size_t *size, uint64_t *ordinal);
 
 /* Answers a query, as pidtab_ask does; it is not recorded. DONE, CLOSED, OUT_OF_RANGE. */
-uint32_t pidtab_record_ask(struct pidtab_record *record, const struct pidtab_call *call, struct pidtab_reply *reply);
+uint32_t pidtab_record_ask(const struct pidtab_record *record, const struct pidtab_call *call, struct pidtab_reply *reply);
 
 /* Reads a task, as pidtab_stat does; it is not recorded. DONE, CLOSED. */
-uint32_t pidtab_record_stat(struct pidtab_record *record, uint32_t caller, uint32_t number, struct pidtab_task *task);
+uint32_t pidtab_record_stat(const struct pidtab_record *record, uint32_t caller, uint32_t number, struct pidtab_task *task);
 
 /* The ordinal of the first kept entry, and how many calls were recorded, the cut ones too. DONE, CLOSED. */
-uint32_t pidtab_record_counts(struct pidtab_record *record, uint64_t *first_kept, uint64_t *recorded);
+uint32_t pidtab_record_counts(const struct pidtab_record *record, uint64_t *first_kept, uint64_t *recorded);
 
 /* How many calls of the worker were recorded, the cut ones too. DONE, CLOSED, OUT_OF_RANGE. */
-uint32_t pidtab_record_worker(struct pidtab_record *record, uint32_t worker, uint64_t *calls);
+uint32_t pidtab_record_worker(const struct pidtab_record *record, uint32_t worker, uint64_t *calls);
 
 /* The kept entry with the ordinal. What its call does not take is 0. DONE, CLOSED, NOT_KEPT. */
-uint32_t pidtab_record_entry(struct pidtab_record *record, uint64_t ordinal, uint64_t *worker, struct pidtab_call *call, struct pidtab_reply *reply);
+uint32_t pidtab_record_entry(const struct pidtab_record *record, uint64_t ordinal, uint64_t *worker, struct pidtab_call *call, struct pidtab_reply *reply);
 
 struct pidtab_entry {
 	uint64_t worker;
@@ -547,7 +548,7 @@ struct pidtab_entry {
 
 /* The kept entries from the ordinal on, as many as there are and as there is room for; count is how many. DONE, CLOSED, NOT_KEPT,
  * which says that `from` is neither a kept entry nor the next call. */
-uint32_t pidtab_record_read(struct pidtab_record *record, uint64_t from, struct pidtab_entry *entries, size_t room, size_t *count);
+uint32_t pidtab_record_read(const struct pidtab_record *record, uint64_t from, struct pidtab_entry *entries, size_t room, size_t *count);
 
 /* Makes the calls of saved entries, and compares their replies. It stops at the first that cannot be made, which is OUT_OF_RANGE, SPENT
  * or NO_MEMORY, or has another reply, which is DIFFERS and was made; place is then its place among them. DONE, CLOSED. */
@@ -564,11 +565,11 @@ uint32_t pidtab_record_checkpoint_at(struct pidtab_record *record, uint64_t seen
 
 /* The list of the present state, and of the state that the kept history begins in, as pidtab_list writes it. Where a cut found no memory,
  * the opening has NO_MEMORY until later calls have made up for it. */
-uint32_t pidtab_record_list(struct pidtab_record *record, void *bytes, size_t room, size_t *size);
-uint32_t pidtab_record_opening(struct pidtab_record *record, void *bytes, size_t room, size_t *size);
+uint32_t pidtab_record_list(const struct pidtab_record *record, void *bytes, size_t room, size_t *size);
+uint32_t pidtab_record_opening(const struct pidtab_record *record, void *bytes, size_t room, size_t *size);
 
 /* Writes the text of the present state with the stamp of the next call, as pidtab_dump does. DONE, CLOSED, NO_MEMORY, NO_ROOM. */
-uint32_t pidtab_record_dump(struct pidtab_record *record, void *bytes, size_t room, size_t *size);
+uint32_t pidtab_record_dump(const struct pidtab_record *record, void *bytes, size_t room, size_t *size);
 
 /* Opens a record that goes on as a text says: with its state, and its stamp for the next call. counts has how many calls of each of 1 to
  * 16 workers were recorded before; their sum is the ordinal of the next call. The history begins there. DONE; BUSY where it is open

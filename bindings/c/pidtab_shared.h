@@ -1,11 +1,13 @@
 /* pidtab_shared.h - a record of pidtab.h behind a lock, for any number of threads at once.
  *
- * Each function is one of pidtab_record_.., alone on its record: a thread that finds the lock taken waits for it. So each thread
- * has the answer that one sequential table would give, and a call's ordinal is its place. The functions on the record are proved.
- * The lock is pthread's, and shared.c, which takes it, is trusted.
+ * Each function is one of pidtab_record_.. on its record: a thread that finds the lock taken waits for it. Queries, those that take a
+ * `const` record there, share the lock, and each other function has it alone. So each thread has the answer that one sequential table
+ * would give, and a call's ordinal is its place. The functions on the record are proved. The locks are pthread's, and shared.c, which
+ * takes them, is trusted.
  *
- * A call, a query and a stat give way to all other functions: one that has come for the lock has it after one more of each other
- * thread at most. So a thread that saves the history, or cuts it, keeps up with busy ones.
+ * What changes the record waits for the queries that it finds, and none that comes then passes it. A call, an ask and a stat give way to
+ * all other functions: one that has come for the lock has it after one more of each other thread at most. So a thread that saves the
+ * history, or cuts it, keeps up with busy ones.
  *
  * No function is called from a signal handler, nor in the forked child of a process with threads, and no thread is cancelled in
  * one. The rules of pidtab.h hold too. A struct pidtab_shared is never copied.
@@ -26,15 +28,18 @@ extern "C" {
 struct pidtab_shared {
 	pthread_mutex_t lock;
 	struct pidtab_record record;
-	uint64_t keep; /* at most so many entries are kept; 0: any number */
+	uint32_t queries; /* so many are under way, and whether there is a change of the record */
 	uint32_t workers;
+	uint64_t keep; /* at most so many entries are kept; 0: any number */
 	uint32_t seated;
+	uint32_t saving;         /* the status of the saver's last turn */
 	pthread_mutex_t gate;    /* of who goes before the calls */
 	pthread_cond_t told;     /* a saver has told how far it is */
 	pthread_cond_t recorded; /* a call was recorded while somebody slept */
+	pthread_mutex_t drain;   /* of a change that waits for queries */
+	pthread_cond_t drained;  /* they have ended */
 	uint64_t saved;          /* so many calls a saver has saved, as it has told */
 	uint64_t most;           /* as many calls may be recorded and not saved; 0: any number */
-	uint32_t saving;         /* the status of the saver's last turn */
 	int error;               /* the errno of what was PIDTAB_DEVICE */
 	bool is_awaited;         /* somebody at the gate waits for the lock */
 	bool sleeps;             /* a saver, or another, waits for a call */

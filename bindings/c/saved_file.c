@@ -204,6 +204,9 @@ static void wake_all(struct pidtab_shared *shared)
 	pidtab_shared_unlock(shared);
 }
 
+/* Of shared.c: sleeps until it is told, without the lock, which this thread has. */
+void sleep_in_pidtab_shared(struct pidtab_shared *shared, pthread_cond_t *told);
+
 /* Tells all that wait how far the file is. What ended is not taken back. */
 static uint32_t tell(const struct pidtab_saved *saved, struct pidtab_shared *shared, uint32_t status)
 {
@@ -268,7 +271,7 @@ static bool sleep_until_call(const struct pidtab_saved *saved, struct pidtab_sha
 
 	while (shared->saving != PIDTAB_ENDED && pidtab_record_counts(record, &first_kept, &recorded) == PIDTAB_DONE && recorded <= saved->next) {
 		shared->sleeps = true;
-		pthread_cond_wait(&shared->recorded, &shared->lock);
+		sleep_in_pidtab_shared(shared, &shared->recorded);
 	}
 	has_ended = shared->saving == PIDTAB_ENDED;
 	pidtab_shared_unlock(shared);
@@ -295,7 +298,7 @@ uint32_t pidtab_saved_wait(struct pidtab_shared *shared, uint64_t ordinal)
 
 	pidtab_shared_lock(shared);
 	while (shared->saved <= ordinal && shared->saving == PIDTAB_DONE)
-		pthread_cond_wait(&shared->told, &shared->lock);
+		sleep_in_pidtab_shared(shared, &shared->told);
 	if (shared->saved <= ordinal)
 		status = shared->saving;
 	if (status == PIDTAB_DEVICE)

@@ -1,7 +1,12 @@
 /* The lock around a record that threads share. Mutexes of the default type: to lock and to unlock them in turn cannot fail.
  *
- * Such a mutex is for whoever comes first when it is free, which is a busy thread that has just given it back, and not one that has to
- * wake up. So who is no call goes by a gate: it is seen there by the next call of each thread, which waits until it has the lock. */
+ * Queries are counted, and share the record. Who changes it, or the fields beside it, has the mutex. A change of the record is told where the
+ * queries are counted, and waits until there are none: none passes it, as who finds it there waits for the mutex. pthread has such locks too,
+ * but those of glibc 2.34 and later ask for that version.
+ *
+ * A mutex is for whoever comes first when it is free, which is a busy thread that has just given it back, and not one that has to
+ * wake up. So who is no call, ask or stat goes by a gate: it is seen there by the next one of each thread, which waits until it has the
+ * mutex. */
 #include "pidtab_shared.h"
 
 #include <string.h>
@@ -11,6 +16,19 @@
 
 /* So many are a second. */
 #define NANOSECONDS 1000000000
+
+/* Beside the number of queries: a change waits for them, or is under way. */
+#define CHANGE 0x80000000u
+
+/* So often somebody looks again before he sleeps: most changes and queries take less than a sleep. */
+#define LOOKS 100
+
+static void look_again(void)
+{
+#if defined(__x86_64__) || defined(__i386__)
+	__builtin_ia32_pause();
+#endif
+}
 
 static void lock_before_calls(struct pidtab_shared *shared)
 {
@@ -36,17 +54,111 @@ static uint32_t unlocked(struct pidtab_shared *shared, uint32_t status)
 	return status;
 }
 
+static bool is_drained(const struct pidtab_shared *shared)
+{
+	return __atomic_load_n(&shared->queries, __ATOMIC_ACQUIRE) == CHANGE;
+}
+
+static void wait_for_queries(struct pidtab_shared *shared)
+{
+	for (int i = 0; i < LOOKS && !is_drained(shared); i++)
+		look_again();
+	if (is_drained(shared))
+		return;
+	pthread_mutex_lock(&shared->drain);
+	while (!is_drained(shared))
+		pthread_cond_wait(&shared->drained, &shared->drain);
+	pthread_mutex_unlock(&shared->drain);
+}
+
+/* This thread has the mutex, and so is the only one that changes. */
+static inline void begin_change(struct pidtab_shared *shared)
+{
+	if (__atomic_add_fetch(&shared->queries, CHANGE, __ATOMIC_ACQUIRE) != CHANGE)
+		wait_for_queries(shared);
+}
+
+static void end_change(struct pidtab_shared *shared)
+{
+	__atomic_store_n(&shared->queries, 0, __ATOMIC_RELEASE);
+}
+
+static uint32_t changed(struct pidtab_shared *shared, uint32_t status)
+{
+	end_change(shared);
+	return unlocked(shared, status);
+}
+
+/* Counts a query more, unless there is a change. */
+static bool joins_queries(struct pidtab_shared *shared)
+{
+	uint32_t queries = __atomic_load_n(&shared->queries, __ATOMIC_RELAXED);
+
+	while ((queries & CHANGE) == 0)
+		if (__atomic_compare_exchange_n(&shared->queries, &queries, queries + 1, true, __ATOMIC_ACQUIRE, __ATOMIC_RELAXED))
+			return true;
+	return false;
+}
+
+static bool joins_soon(struct pidtab_shared *shared)
+{
+	for (int i = 0; i < LOOKS; i++) {
+		if (joins_queries(shared))
+			return true;
+		look_again();
+	}
+	return false;
+}
+
+/* While this thread has the mutex, there is no change. */
+static void join_behind_change(struct pidtab_shared *shared)
+{
+	__atomic_fetch_add(&shared->queries, 1, __ATOMIC_ACQUIRE);
+	pthread_mutex_unlock(&shared->lock);
+}
+
+/* A query that waits for a change lets those go before that a call lets go. */
+static void share_as_call(struct pidtab_shared *shared)
+{
+	if (joins_soon(shared))
+		return;
+	lock_for_call(shared);
+	join_behind_change(shared);
+}
+
+static void share_before_calls(struct pidtab_shared *shared)
+{
+	if (joins_soon(shared))
+		return;
+	lock_before_calls(shared);
+	join_behind_change(shared);
+}
+
+/* The last query wakes the change that waits. */
+static uint32_t answered(struct pidtab_shared *shared, uint32_t status)
+{
+	if (__atomic_sub_fetch(&shared->queries, 1, __ATOMIC_RELEASE) == CHANGE) {
+		pthread_mutex_lock(&shared->drain);
+		pthread_cond_signal(&shared->drained);
+		pthread_mutex_unlock(&shared->drain);
+	}
+	return status;
+}
+
 /* What is there before the record is open. */
 static void begin(struct pidtab_shared *shared, uint32_t workers, uint64_t keep)
 {
 	*shared = (struct pidtab_shared){
 		.lock = PTHREAD_MUTEX_INITIALIZER, .record = PIDTAB_RECORD_INIT, .keep = keep, .workers = workers,
-		.gate = PTHREAD_MUTEX_INITIALIZER, .told = PTHREAD_COND_INITIALIZER, .recorded = PTHREAD_COND_INITIALIZER
+		.gate = PTHREAD_MUTEX_INITIALIZER, .told = PTHREAD_COND_INITIALIZER, .recorded = PTHREAD_COND_INITIALIZER,
+		.drain = PTHREAD_MUTEX_INITIALIZER, .drained = PTHREAD_COND_INITIALIZER
 	};
 }
 
 static void end(struct pidtab_shared *shared)
 {
+	pthread_cond_destroy(&shared->drained);
+	pthread_mutex_destroy(&shared->drain);
 	pthread_cond_destroy(&shared->recorded);
 	pthread_cond_destroy(&shared->told);
 	pthread_mutex_destroy(&shared->gate);
@@ -84,6 +196,7 @@ void pidtab_shared_close(struct pidtab_shared *shared)
 struct pidtab_record *pidtab_shared_lock(struct pidtab_shared *shared)
 {
 	lock_before_calls(shared);
+	begin_change(shared);
 	return &shared->record;
 }
 
@@ -99,7 +212,16 @@ static void wake_sleepers(struct pidtab_shared *shared)
 void pidtab_shared_unlock(struct pidtab_shared *shared)
 {
 	wake_sleepers(shared);
-	pthread_mutex_unlock(&shared->lock);
+	changed(shared, PIDTAB_DONE);
+}
+
+/* For saved_file.c: sleeps until it is told, without the lock, which this thread has. */
+void sleep_in_pidtab_shared(struct pidtab_shared *shared, pthread_cond_t *told);
+void sleep_in_pidtab_shared(struct pidtab_shared *shared, pthread_cond_t *told)
+{
+	end_change(shared);
+	pthread_cond_wait(told, &shared->lock);
+	begin_change(shared);
 }
 
 uint32_t pidtab_shared_seat(struct pidtab_shared *shared, uint32_t *worker)
@@ -146,7 +268,8 @@ void pidtab_shared_end(struct pidtab_shared *shared)
 {
 	lock_before_calls(shared);
 	shared->is_over = true;
-	pidtab_shared_unlock(shared);
+	wake_sleepers(shared);
+	pthread_mutex_unlock(&shared->lock);
 }
 
 /* Waits until the saver is near enough. A saver that cannot save lets no call go on. */
@@ -164,101 +287,109 @@ static uint32_t wait_for_saver(struct pidtab_shared *shared)
 	return PIDTAB_DONE;
 }
 
-/* The lock for a call; where that is not to be made, the status. */
-static uint32_t begin_call(struct pidtab_shared *shared)
+/* The locks for a call; where that is not to be made, the status, and no lock. */
+static inline uint32_t begin_call(struct pidtab_shared *shared)
 {
+	uint32_t status;
+
 	lock_for_call(shared);
-	return shared->most == 0 ? (uint32_t)PIDTAB_DONE : wait_for_saver(shared);
+	status = shared->most == 0 ? (uint32_t)PIDTAB_DONE : wait_for_saver(shared);
+	if (status != PIDTAB_DONE)
+		return unlocked(shared, status);
+	begin_change(shared);
+	return status;
 }
 
-static uint32_t end_call(struct pidtab_shared *shared, uint32_t status)
+static inline uint32_t end_call(struct pidtab_shared *shared, uint32_t status)
 {
 	if (status == PIDTAB_DONE) {
 		if (shared->keep != 0)
 			pidtab_record_keep(&shared->record, shared->keep);
 		wake_sleepers(shared);
 	}
-	return unlocked(shared, status);
+	return changed(shared, status);
 }
 
 uint32_t pidtab_shared_call(struct pidtab_shared *shared, uint32_t worker, const struct pidtab_call *call, struct pidtab_reply *reply, uint64_t *ordinal)
 {
 	uint32_t status = begin_call(shared);
 
-	if (status == PIDTAB_DONE)
-		status = pidtab_record_call(&shared->record, worker, call, reply, ordinal);
-	return end_call(shared, status);
+	if (status != PIDTAB_DONE)
+		return status;
+	return end_call(shared, pidtab_record_call(&shared->record, worker, call, reply, ordinal));
 }
 
 uint32_t pidtab_shared_line(struct pidtab_shared *shared, uint32_t worker, const void *line, size_t length, void *answer, size_t room, size_t *size, uint64_t *ordinal)
 {
 	uint32_t status = begin_call(shared);
 
-	if (status == PIDTAB_DONE)
-		status = pidtab_record_line(&shared->record, worker, line, length, answer, room, size, ordinal);
-	return end_call(shared, status);
+	if (status != PIDTAB_DONE)
+		return status;
+	return end_call(shared, pidtab_record_line(&shared->record, worker, line, length, answer, room, size, ordinal));
 }
 
 /* Written by tools/interface: forwards. */
 
 uint32_t pidtab_shared_ask(struct pidtab_shared *shared, const struct pidtab_call *call, struct pidtab_reply *reply)
 {
-	lock_for_call(shared);
-	return unlocked(shared, pidtab_record_ask(&shared->record, call, reply));
+	share_as_call(shared);
+	return answered(shared, pidtab_record_ask(&shared->record, call, reply));
 }
 
 uint32_t pidtab_shared_stat(struct pidtab_shared *shared, uint32_t caller, uint32_t number, struct pidtab_task *task)
 {
-	lock_for_call(shared);
-	return unlocked(shared, pidtab_record_stat(&shared->record, caller, number, task));
+	share_as_call(shared);
+	return answered(shared, pidtab_record_stat(&shared->record, caller, number, task));
 }
 
 uint32_t pidtab_shared_counts(struct pidtab_shared *shared, uint64_t *first_kept, uint64_t *recorded)
 {
-	lock_before_calls(shared);
-	return unlocked(shared, pidtab_record_counts(&shared->record, first_kept, recorded));
+	share_before_calls(shared);
+	return answered(shared, pidtab_record_counts(&shared->record, first_kept, recorded));
 }
 
 uint32_t pidtab_shared_worker(struct pidtab_shared *shared, uint32_t worker, uint64_t *calls)
 {
-	lock_before_calls(shared);
-	return unlocked(shared, pidtab_record_worker(&shared->record, worker, calls));
+	share_before_calls(shared);
+	return answered(shared, pidtab_record_worker(&shared->record, worker, calls));
 }
 
 uint32_t pidtab_shared_entry(struct pidtab_shared *shared, uint64_t ordinal, uint64_t *worker, struct pidtab_call *call, struct pidtab_reply *reply)
 {
-	lock_before_calls(shared);
-	return unlocked(shared, pidtab_record_entry(&shared->record, ordinal, worker, call, reply));
+	share_before_calls(shared);
+	return answered(shared, pidtab_record_entry(&shared->record, ordinal, worker, call, reply));
 }
 
 uint32_t pidtab_shared_read(struct pidtab_shared *shared, uint64_t from, struct pidtab_entry *entries, size_t room, size_t *count)
 {
-	lock_before_calls(shared);
-	return unlocked(shared, pidtab_record_read(&shared->record, from, entries, room, count));
+	share_before_calls(shared);
+	return answered(shared, pidtab_record_read(&shared->record, from, entries, room, count));
 }
 
 uint32_t pidtab_shared_checkpoint(struct pidtab_shared *shared)
 {
 	lock_before_calls(shared);
-	return unlocked(shared, pidtab_record_checkpoint(&shared->record));
+	begin_change(shared);
+	return changed(shared, pidtab_record_checkpoint(&shared->record));
 }
 
 uint32_t pidtab_shared_checkpoint_at(struct pidtab_shared *shared, uint64_t seen)
 {
 	lock_before_calls(shared);
-	return unlocked(shared, pidtab_record_checkpoint_at(&shared->record, seen));
+	begin_change(shared);
+	return changed(shared, pidtab_record_checkpoint_at(&shared->record, seen));
 }
 
 uint32_t pidtab_shared_list(struct pidtab_shared *shared, void *bytes, size_t room, size_t *size)
 {
-	lock_before_calls(shared);
-	return unlocked(shared, pidtab_record_list(&shared->record, bytes, room, size));
+	share_before_calls(shared);
+	return answered(shared, pidtab_record_list(&shared->record, bytes, room, size));
 }
 
 uint32_t pidtab_shared_dump(struct pidtab_shared *shared, void *bytes, size_t room, size_t *size)
 {
-	lock_before_calls(shared);
-	return unlocked(shared, pidtab_record_dump(&shared->record, bytes, room, size));
+	share_before_calls(shared);
+	return answered(shared, pidtab_record_dump(&shared->record, bytes, room, size));
 }
 /* The end of forwards. */
 

@@ -8,7 +8,7 @@
 
 /* The header against the archive, as far as a compiler can see it. */
 _Static_assert(sizeof(struct pidtab) == 16, "pidtab");
-_Static_assert(offsetof(struct pidtab, is_open) == 8 && offsetof(struct pidtab, in_call) == 9, "is_open");
+_Static_assert(offsetof(struct pidtab, is_open) == 8 && offsetof(struct pidtab, in_use) == 9, "is_open");
 _Static_assert(sizeof(struct pidtab_call) == 32, "pidtab_call");
 _Static_assert(offsetof(struct pidtab_call, id) == 8 && offsetof(struct pidtab_call, pgid) == 28, "pidtab_call");
 _Static_assert(sizeof(struct pidtab_reply) == 168, "pidtab_reply");
@@ -57,7 +57,7 @@ static void each_function(void)
 	char *text = listed(&table);
 	CHECK(strncmp(text, "task 1 space 0 parent 0 ", 24) == 0 && text[strlen(text) - 1] == '\n');
 	free(text);
-	CHECK(pidtab_close(&table) == PIDTAB_DONE && table.at == NULL && !table.is_open && !table.in_call);
+	CHECK(pidtab_close(&table) == PIDTAB_DONE && table.at == NULL && !table.is_open && !table.in_use);
 	CHECK(pidtab_close(&table) == PIDTAB_DONE);
 	CHECK(ask(&table, "getpid 1", answer) == PIDTAB_CLOSED);
 }

@@ -44,7 +44,7 @@ static void each_status(void)
 	fault = UNTOLD;
 	CHECK(pidtab_load(&table, room, size, &fault) == PIDTAB_DONE && fault_is(fault, 0, 0) && pidtab_count(&table, 0) == 1);
 	CHECK(pidtab_load(&table, room, size, &fault) == PIDTAB_BUSY && pidtab_open(&table, 32768) == PIDTAB_BUSY);
-	CHECK(pidtab_close(&table) == PIDTAB_DONE && table.at == NULL && !table.is_open && !table.in_call);
+	CHECK(pidtab_close(&table) == PIDTAB_DONE && table.at == NULL && !table.is_open && !table.in_use);
 	CHECK(strcmp(pidtab_text(PIDTAB_BAD_TEXT), "the text is that of no table") == 0);
 	CHECK(strcmp(pidtab_fault_text(0), "no fault") == 0 && strcmp(pidtab_fault_text(13), "no fault") == 0);
 }
@@ -181,7 +181,7 @@ static void want_of_memory(void)
 	refuse_at = 0;
 	CHECK(at > 5 && size == text.size && same_text(text, again));
 	for (at = 1; refuse_at = at, pidtab_load(&other, text.bytes, text.size, &fault) == PIDTAB_NO_MEMORY; at++) {
-		CHECK(fault_is(fault, 0, 0) && other.at == NULL && !other.is_open && !other.in_call);
+		CHECK(fault_is(fault, 0, 0) && other.at == NULL && !other.is_open && !other.in_use);
 		fault = UNTOLD;
 	}
 	refuse_at = 0;

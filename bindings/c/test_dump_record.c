@@ -98,12 +98,12 @@ static void statuses_of_a_load(void)
 	CHECK(loaded_behind(&record, none, 0) == PIDTAB_OUT_OF_RANGE);
 	CHECK(loaded_behind(&record, none, PIDTAB_MOST_WORKERS + 1) == PIDTAB_OUT_OF_RANGE);
 	CHECK(loaded_behind(&record, seven, 2) == PIDTAB_OUT_OF_RANGE && loaded_behind(&record, past, 2) == PIDTAB_OUT_OF_RANGE);
-	CHECK(loaded_behind(&record, more, 3) == PIDTAB_OUT_OF_RANGE && record.at == NULL && !record.is_open && !record.in_call);
+	CHECK(loaded_behind(&record, more, 3) == PIDTAB_OUT_OF_RANGE && record.at == NULL && !record.is_open && !record.in_use);
 
 	/* The workers are looked at before the text, and the text before what they have made. */
 	CHECK(pidtab_record_load(&record, "?\n", 2, none, 0, &fault) == PIDTAB_OUT_OF_RANGE && fault_is(fault, 0, 0));
 	CHECK(pidtab_record_load(&record, "?\n", 2, past, 2, &fault) == PIDTAB_BAD_TEXT && fault_is(fault, PIDTAB_FAULT_BAD_LINE, 1));
-	CHECK(record.at == NULL && !record.is_open && !record.in_call);
+	CHECK(record.at == NULL && !record.is_open && !record.in_use);
 
 	CHECK(loaded_behind(&record, six, 2) == PIDTAB_DONE && calls_of(&record, 0) == 3 && calls_of(&record, 1) == 3);
 	counts_are(&record, 6, 6);
@@ -245,7 +245,7 @@ static void want_of_memory(void)
 	refuse_at = 0;
 	CHECK(at > 5 && size == text.size && same_text(text, again));
 	for (at = 1; refuse_at = at, pidtab_record_load(&loaded, text.bytes, text.size, counts, WORKERS, &fault) == PIDTAB_NO_MEMORY; at++) {
-		CHECK(fault_is(fault, 0, 0) && loaded.at == NULL && !loaded.is_open && !loaded.in_call);
+		CHECK(fault_is(fault, 0, 0) && loaded.at == NULL && !loaded.is_open && !loaded.in_use);
 		fault = UNTOLD;
 	}
 	refuse_at = 0;

@@ -6,7 +6,7 @@
 
 _Static_assert(PIDTAB_NOT_KEPT == ENOENT && PIDTAB_AGAIN == EAGAIN && PIDTAB_DIFFERS == EBADMSG, "status");
 _Static_assert(sizeof(struct pidtab_record) == 16 && offsetof(struct pidtab_record, is_open) == 8, "pidtab_record");
-_Static_assert(offsetof(struct pidtab_record, in_call) == 9, "pidtab_record");
+_Static_assert(offsetof(struct pidtab_record, in_use) == 9, "pidtab_record");
 
 static const struct pidtab_call getpid_1 = { .operation = PIDTAB_GETPID, .caller = 1 };
 static const struct pidtab_call fork_1 = { .operation = PIDTAB_FORK, .caller = 1 };
@@ -81,7 +81,7 @@ static void out_of_range(void)
 	CHECK(pidtab_record_line(&record, 2, "getpid 1", 8, room, sizeof room, &size, &one) == PIDTAB_OUT_OF_RANGE);
 	CHECK(one == 7 && reply.kind == 77 && strcmp(room, "kept") == 0);
 	counts_are(&record, 0, 0);
-	CHECK(pidtab_record_close(&record) == PIDTAB_DONE && record.at == NULL && !record.is_open && !record.in_call);
+	CHECK(pidtab_record_close(&record) == PIDTAB_DONE && record.at == NULL && !record.is_open && !record.in_use);
 }
 
 /* What each function tells is in interface/cases. What is behind an answer, or behind the entries that are read, stays. */

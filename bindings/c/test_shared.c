@@ -13,9 +13,9 @@ static struct pidtab_shared shared;
 /* The layout that the proved functions have. */
 _Static_assert(sizeof(struct pidtab_entry) == 208 && offsetof(struct pidtab_entry, call) == 8 && offsetof(struct pidtab_entry, reply) == 40, "an entry");
 _Static_assert(offsetof(struct pidtab_shared, record) == sizeof(pthread_mutex_t), "pidtab_shared");
-_Static_assert(offsetof(struct pidtab_shared, workers) == sizeof(pthread_mutex_t) + 24, "pidtab_shared");
-_Static_assert(offsetof(struct pidtab_shared, gate) == sizeof(pthread_mutex_t) + 32, "pidtab_shared");
-_Static_assert(offsetof(struct pidtab_shared, saved) == 2 * sizeof(pthread_mutex_t) + 2 * sizeof(pthread_cond_t) + 32, "pidtab_shared");
+_Static_assert(offsetof(struct pidtab_shared, queries) == sizeof(pthread_mutex_t) + 16, "pidtab_shared");
+_Static_assert(offsetof(struct pidtab_shared, gate) == sizeof(pthread_mutex_t) + 40, "pidtab_shared");
+_Static_assert(offsetof(struct pidtab_shared, saved) == 3 * sizeof(pthread_mutex_t) + 3 * sizeof(pthread_cond_t) + 40, "pidtab_shared");
 _Static_assert(offsetof(struct pidtab_record, at) == 0 && offsetof(struct pidtab_record, is_open) == sizeof(void *), "a record");
 
 struct receipt {

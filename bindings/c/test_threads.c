@@ -1,5 +1,5 @@
-/* Tests of threads that take turns under no lock: while one is in a function, each other function is PIDTAB_BUSY. Built with
- * the sanitizer for threads. */
+/* Tests of threads that take turns under no lock: while one is in a function, each other function is PIDTAB_BUSY, but a query beside a
+ * query (test_readers.c). Built with the sanitizer for threads. */
 #include "test.h"
 
 #include <pthread.h>
@@ -93,7 +93,7 @@ static void *closes(void *unused)
 	return unused;
 }
 
-static void each_function_is_busy(void)
+static void each_call_is_busy(void)
 {
 	char room[PIDTAB_LONGEST_ANSWER] = "kept";
 	size_t size = 7;
@@ -103,13 +103,27 @@ static void each_function_is_busy(void)
 
 	CHECK(pidtab_open(&table, 32768) == PIDTAB_BUSY && pidtab_open(&table, 0) == PIDTAB_BUSY);
 	CHECK(pidtab_line(&table, "getpid 1", 8, room, sizeof room, &size) == PIDTAB_BUSY);
-	CHECK(pidtab_list(&table, room, sizeof room, &size) == PIDTAB_BUSY);
-	CHECK(pidtab_dump(&table, room, sizeof room, &size) == PIDTAB_BUSY);
 	CHECK(pidtab_load(&table, room, sizeof room, &fault) == PIDTAB_BUSY && fault.kind == 0 && fault.line == 0);
 	CHECK(size == 7 && strcmp(room, "kept") == 0);
 	CHECK(pidtab_call(&table, &call, &reply) == PIDTAB_BUSY && reply.kind == 77);
 	CHECK(pidtab_fork(&table, 1, false, NULL) == -PIDTAB_BUSY);
 	CHECK(pidtab_close(&table) == PIDTAB_BUSY);
+}
+
+static void each_function_is_busy(void)
+{
+	char room[PIDTAB_LONGEST_ANSWER] = "kept";
+	size_t size = 7;
+	struct pidtab_call call = { PIDTAB_GETPID, 1, 0, 0, 0, 0, 0 };
+	struct pidtab_reply reply = { .kind = 77 };
+	struct pidtab_task task = { .count = 77 };
+
+	each_call_is_busy();
+	CHECK(pidtab_list(&table, room, sizeof room, &size) == PIDTAB_BUSY);
+	CHECK(pidtab_dump(&table, room, sizeof room, &size) == PIDTAB_BUSY);
+	CHECK(size == 7 && strcmp(room, "kept") == 0);
+	CHECK(pidtab_ask(&table, &call, &reply) == PIDTAB_BUSY && reply.kind == 77);
+	CHECK(pidtab_stat(&table, 1, 0, &task) == PIDTAB_BUSY && task.count == 77);
 }
 
 static struct pidtab_record record = PIDTAB_RECORD_INIT;
@@ -219,6 +233,26 @@ static void *closes_record(void *unused)
 	return unused;
 }
 
+static void each_call_of_a_record_is_busy(void)
+{
+	char room[PIDTAB_LONGEST_ANSWER] = "kept";
+	size_t size = 7;
+	uint64_t one = 7;
+	struct pidtab_call call = { .operation = PIDTAB_GETPID, .caller = 1 };
+	struct pidtab_reply reply = { .kind = 77 };
+	struct pidtab_fault fault = { 77, 77 };
+
+	CHECK(pidtab_record_open(&record, 32768, 1, 2) == PIDTAB_BUSY && pidtab_record_open(&record, 0, 0, 0) == PIDTAB_BUSY);
+	CHECK(pidtab_record_call(&record, 0, &call, &reply, &one) == PIDTAB_BUSY);
+	CHECK(pidtab_record_call_keeping(&record, 0, &call, 1, &reply, &one) == PIDTAB_BUSY && pidtab_record_keep(&record, 0) == PIDTAB_BUSY);
+	CHECK(pidtab_record_line(&record, 0, "getpid 1", 8, room, sizeof room, &size, &one) == PIDTAB_BUSY);
+	CHECK(pidtab_record_replay(&record, &saved, 1, &size) == PIDTAB_BUSY);
+	CHECK(pidtab_record_checkpoint(&record) == PIDTAB_BUSY && pidtab_record_checkpoint_at(&record, 0) == PIDTAB_BUSY);
+	CHECK(pidtab_record_load(&record, room, sizeof room, &one, 1, &fault) == PIDTAB_BUSY && fault.kind == 0 && fault.line == 0);
+	CHECK(pidtab_record_close(&record) == PIDTAB_BUSY);
+	CHECK(one == 7 && size == 7 && strcmp(room, "kept") == 0 && reply.kind == 77);
+}
+
 static void each_function_of_a_record_is_busy(void)
 {
 	char room[PIDTAB_LONGEST_ANSWER] = "kept";
@@ -226,25 +260,18 @@ static void each_function_of_a_record_is_busy(void)
 	uint64_t one = 7, other = 7;
 	struct pidtab_call call = { .operation = PIDTAB_GETPID, .caller = 1 };
 	struct pidtab_reply reply = { .kind = 77 };
+	struct pidtab_task task = { .count = 77 };
 	struct pidtab_entry entry = { .worker = 77 };
-	struct pidtab_fault fault = { 77, 77 };
 
-	CHECK(pidtab_record_open(&record, 32768, 1, 2) == PIDTAB_BUSY && pidtab_record_open(&record, 0, 0, 0) == PIDTAB_BUSY);
-	CHECK(pidtab_record_call(&record, 0, &call, &reply, &one) == PIDTAB_BUSY);
-	CHECK(pidtab_record_call_keeping(&record, 0, &call, 1, &reply, &one) == PIDTAB_BUSY && pidtab_record_keep(&record, 0) == PIDTAB_BUSY);
-	CHECK(pidtab_record_line(&record, 0, "getpid 1", 8, room, sizeof room, &size, &one) == PIDTAB_BUSY);
-	CHECK(pidtab_record_ask(&record, &call, &reply) == PIDTAB_BUSY);
+	each_call_of_a_record_is_busy();
+	CHECK(pidtab_record_ask(&record, &call, &reply) == PIDTAB_BUSY && pidtab_record_stat(&record, 1, 0, &task) == PIDTAB_BUSY);
 	CHECK(pidtab_record_counts(&record, &one, &other) == PIDTAB_BUSY && pidtab_record_worker(&record, 0, &one) == PIDTAB_BUSY);
 	CHECK(pidtab_record_entry(&record, 0, &one, &call, &reply) == PIDTAB_BUSY);
 	CHECK(pidtab_record_read(&record, 0, &entry, 1, &size) == PIDTAB_BUSY);
-	CHECK(pidtab_record_replay(&record, &saved, 1, &size) == PIDTAB_BUSY);
-	CHECK(pidtab_record_checkpoint(&record) == PIDTAB_BUSY && pidtab_record_checkpoint_at(&record, 0) == PIDTAB_BUSY);
 	CHECK(pidtab_record_list(&record, room, sizeof room, &size) == PIDTAB_BUSY);
 	CHECK(pidtab_record_opening(&record, room, sizeof room, &size) == PIDTAB_BUSY);
 	CHECK(pidtab_record_dump(&record, room, sizeof room, &size) == PIDTAB_BUSY);
-	CHECK(pidtab_record_load(&record, room, sizeof room, &one, 1, &fault) == PIDTAB_BUSY && fault.kind == 0 && fault.line == 0);
-	CHECK(pidtab_record_close(&record) == PIDTAB_BUSY);
-	CHECK(one == 7 && other == 7 && size == 7 && strcmp(room, "kept") == 0 && reply.kind == 77 && entry.worker == 77);
+	CHECK(one == 7 && other == 7 && size == 7 && strcmp(room, "kept") == 0 && reply.kind == 77 && entry.worker == 77 && task.count == 77);
 }
 
 static void while_another(void *(*works)(void *), void (*each_is_busy)(void))
@@ -266,15 +293,15 @@ static void in_the_middle_of_each(void)
 	CHECK(pidtab_getpid(&table, 1) == 1 && pidtab_open(&table, 32768) == PIDTAB_BUSY);
 	while_another(asks_lines, each_function_is_busy);
 	while_another(forks_on, each_function_is_busy);
-	while_another(lists, each_function_is_busy);
+	while_another(lists, each_call_is_busy);
 	int64_t tasks = pidtab_count(&table, 0);
 	CHECK(tasks > 1 && pidtab_fork(&table, 1, false, NULL) > 1 && pidtab_count(&table, 0) == tasks + 1);
-	while_another(dumps, each_function_is_busy);
+	while_another(dumps, each_call_is_busy);
 	while_another(closes, each_function_is_busy);
 	while_another(loads, each_function_is_busy);
 	CHECK(pidtab_fork(&table, 1, false, NULL) > 1 && pidtab_count(&table, 0) == tasks + 2);
 	while_another(closes, each_function_is_busy);
-	CHECK(pidtab_getpid(&table, 1) == -PIDTAB_CLOSED && table.at == NULL && !table.is_open && !table.in_call);
+	CHECK(pidtab_getpid(&table, 1) == -PIDTAB_CLOSED && table.at == NULL && !table.is_open && !table.in_use);
 }
 
 /* A call that a replay may make at any time, with its reply. */
@@ -291,14 +318,16 @@ static void save_a_call(void)
 
 static void in_the_middle_of_each_of_a_record(void)
 {
-	void *(*const others[])(void *) = { calls, writes_lines, replays, lists_record, lists_opening, dumps_record, cuts, cuts_at, closes_record,
-		loads_record, closes_record };
+	void *(*const queries[])(void *) = { lists_record, lists_opening, dumps_record };
+	void *(*const others[])(void *) = { calls, writes_lines, replays, cuts, cuts_at, closes_record, loads_record, closes_record };
 
 	while_another(opens_record, each_function_of_a_record_is_busy);
 	save_a_call();
+	for (size_t i = 0; i < sizeof queries / sizeof queries[0]; i++)
+		while_another(queries[i], each_call_of_a_record_is_busy);
 	for (size_t i = 0; i < sizeof others / sizeof others[0]; i++)
 		while_another(others[i], each_function_of_a_record_is_busy);
-	CHECK(record.at == NULL && !record.is_open && !record.in_call);
+	CHECK(record.at == NULL && !record.is_open && !record.in_use);
 }
 
 #define THREADS 8

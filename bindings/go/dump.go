@@ -83,8 +83,8 @@ func FromDump(text string) (*Table, error) {
 // of the whole table, and two where it is longer than 4,096 bytes. ErrClosed, ErrNoMemory, ErrBusy.
 func (table *Table) Dump() (string, error) {
 	held := table.held()
-	held.lock.Lock()
-	defer held.lock.Unlock()
+	held.lock.RLock()
+	defer held.lock.RUnlock()
 	return wholeText(func(room unsafe.Pointer, most C.size_t, size *C.size_t) C.uint32_t {
 		return C.pidtab_dump(&held.raw, room, most, size)
 	})
@@ -128,8 +128,8 @@ func SharedFromDump(text string, counts []uint64, keep uint64) (*Shared, error) 
 // ErrNoMemory.
 func (shared *Shared) Dump() (string, error) {
 	held := shared.held()
-	held.lock.Lock()
-	defer held.lock.Unlock()
+	held.lock.RLock()
+	defer held.lock.RUnlock()
 	return wholeText(func(room unsafe.Pointer, most C.size_t, size *C.size_t) C.uint32_t {
 		return C.pidtab_record_dump(held.raw, room, most, size)
 	})

@@ -179,8 +179,8 @@ func (shared *Shared) save(to io.Writer, saved *Saved) error {
 		return err
 	}
 	return saved.writeUpTo(counts.Recorded, to, func(from uint64, room []C.struct_pidtab_entry) (int, error) {
-		held.lock.Lock()
-		defer held.lock.Unlock()
+		held.lock.RLock()
+		defer held.lock.RUnlock()
 		return held.read(from, room)
 	})
 }

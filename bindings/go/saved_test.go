@@ -612,9 +612,9 @@ func TestASaveOfAClosedTable(t *testing.T) {
 // As in a forked child, where the thread whose call was under way is not.
 func TestASaveAmidACallThatDoesNotEnd(t *testing.T) {
 	shared, file := example(t), new(bytes.Buffer)
-	shared.own.raw.in_call = true
+	shared.own.raw.in_use = 255
 	want(t, "busy", only(shared.Save(file, new(Saved))), nil, SavedError{0, 0, ErrBusy})
-	shared.own.raw.in_call = false
+	shared.own.raw.in_use = 0
 	if file.Len() != 0 {
 		t.Error(file.Len())
 	}

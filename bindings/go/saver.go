@@ -9,11 +9,13 @@ import (
 	"sync/atomic"
 )
 
-// A turnLock is a mutex of which whoever calls Lock is before those that call LockForCall: each of these has it once more at most. A sync.Mutex alone
-// is for whoever comes first when it is free, which is a goroutine that has just given it back; only after a millisecond it is for one that waits.
+// A turnLock is a lock for readers and writers of which whoever calls Lock is before those that call LockForCall: each of these has it once more at
+// most. A sync.RWMutex alone is for the writer who comes first when it is free, which is a goroutine that has just given it back; only after a
+// millisecond it is for one that waits. It lets no reader pass a writer that waits, and has those that wait in before the next writer.
 type turnLock struct {
-	lock, gate sync.Mutex
-	isAwaited  atomic.Bool // somebody at the gate waits for the lock
+	lock      sync.RWMutex
+	gate      sync.Mutex
+	isAwaited atomic.Bool // somebody at the gate waits for the lock
 }
 
 // Lock locks before the calls.
@@ -37,6 +39,16 @@ func (it *turnLock) LockForCall() {
 // Unlock unlocks.
 func (it *turnLock) Unlock() {
 	it.lock.Unlock()
+}
+
+// RLock locks for a query, beside others.
+func (it *turnLock) RLock() {
+	it.lock.RLock()
+}
+
+// RUnlock unlocks behind a query.
+func (it *turnLock) RUnlock() {
+	it.lock.RUnlock()
 }
 
 // A saving is how far the saver of a table is, as it has told. The lock of the record guards it.

@@ -17,14 +17,15 @@ type Settings struct {
 	Keep       uint64 // how many entries are kept at most, a call that makes more cuts the first; 0: any number
 }
 
-// Shared is a table of processes for many goroutines at once, with its history. One lock guards it, and each method waits for its turn. So each
-// goroutine has the answer that one sequential table would give, and the ordinal of a call is its place in that sequence.
+// Shared is a table of processes for many goroutines at once, with its history. One lock guards it: queries, and what else changes nothing, share it,
+// and each other method has it alone. So each goroutine has the answer that one sequential table would give, and the ordinal of a call is its place
+// in that sequence.
 //
 // A goroutine makes its calls by a Seat; all other methods are any goroutine's. A copy is the same table. Each method may answer ErrClosed and
 // ErrBusy, beside what it names.
 //
 // The kept history replays, reply for reply, as one thread's, from its opening to the present state, and the calls of all workers add up to
-// Counts.Recorded. That is proved of the library. The lock is trusted: it is a sync.Mutex, so that a goroutine that waits holds no thread.
+// Counts.Recorded. That is proved of the library. The lock is trusted: it is a sync.RWMutex, so that a goroutine that waits holds no thread.
 //
 // The history has 184 bytes a call until it is cut. With Settings.Keep, a call behind which there are more entries cuts the first, and makes its
 // call once more on a second table. Where that finds no memory, later calls make up for it.
@@ -100,8 +101,8 @@ func (shared *Shared) Seat() (*Seat, error) {
 // which are queries; ErrOutOfRange for each other call.
 func (shared *Shared) Ask(query Call) (Reply, error) {
 	numbers, reply, held := query.numbers(), new(C.struct_pidtab_reply), shared.held()
-	held.lock.LockForCall()
-	defer held.lock.Unlock()
+	held.lock.RLock()
+	defer held.lock.RUnlock()
 	if err := faultOf(uint32(C.pidtab_record_ask(held.raw, &numbers, reply))); err != nil {
 		return Reply{}, err
 	}
@@ -117,8 +118,8 @@ type Counts struct {
 // Counts is how far the history goes.
 func (shared *Shared) Counts() (Counts, error) {
 	held := shared.held()
-	held.lock.Lock()
-	defer held.lock.Unlock()
+	held.lock.RLock()
+	defer held.lock.RUnlock()
 	return held.counts()
 }
 
@@ -126,7 +127,7 @@ func (shared *Shared) Counts() (Counts, error) {
 // from 0 on.
 func (shared *Shared) Worker(worker uint32) (uint64, error) {
 	var made C.uint64_t
-	err := shared.alone(func(raw *C.struct_pidtab_record) C.uint32_t {
+	err := shared.beside(func(raw *C.struct_pidtab_record) C.uint32_t {
 		return C.pidtab_record_worker(raw, C.uint32_t(worker), &made)
 	})
 	return uint64(made), err
@@ -143,7 +144,7 @@ type Entry struct {
 // Entry is the kept entry with the ordinal. ErrNotKept where it was cut away or is not reached yet.
 func (shared *Shared) Entry(ordinal uint64) (Entry, error) {
 	numbers := new(C.struct_pidtab_entry)
-	err := shared.alone(func(raw *C.struct_pidtab_record) C.uint32_t {
+	err := shared.beside(func(raw *C.struct_pidtab_record) C.uint32_t {
 		return C.pidtab_record_entry(raw, C.uint64_t(ordinal), &numbers.worker, &numbers.call, &numbers.reply)
 	})
 	if err != nil {
@@ -156,15 +157,15 @@ func (shared *Shared) Entry(ordinal uint64) (Entry, error) {
 const batch = 64
 
 // Entries are the kept entries from the ordinal on: as many as there are, and at most so many. None where from is the ordinal of the next call.
-// It costs a copy of each, and all others wait meanwhile: whoever ships a long history takes some thousands at a time. ErrNotKept where from
+// It costs a copy of each, and calls wait meanwhile: whoever ships a long history takes some thousands at a time. ErrNotKept where from
 // is neither a kept entry nor the next call, ErrOutOfRange where most is negative.
 func (shared *Shared) Entries(from uint64, most int) ([]Entry, error) {
 	if most < 0 {
 		return nil, ErrOutOfRange
 	}
 	held := shared.held()
-	held.lock.Lock()
-	defer held.lock.Unlock()
+	held.lock.RLock()
+	defer held.lock.RUnlock()
 	counts, err := held.counts()
 	if err != nil {
 		return nil, err
@@ -293,16 +294,16 @@ func (shared *Shared) CheckpointAt(seen uint64) error {
 // ErrNoMemory.
 func (shared *Shared) List() (string, error) {
 	held := shared.held()
-	held.lock.Lock()
-	defer held.lock.Unlock()
+	held.lock.RLock()
+	defer held.lock.RUnlock()
 	return held.list()
 }
 
 // Listing is the same list, read: the tasks with their labels, the namespaces and the control groups. ErrNoMemory.
 func (shared *Shared) Listing() (Listing, error) {
 	held := shared.held()
-	held.lock.Lock()
-	defer held.lock.Unlock()
+	held.lock.RLock()
+	defer held.lock.RUnlock()
 	return held.labels.listing(held.list())
 }
 
@@ -310,8 +311,8 @@ func (shared *Shared) Listing() (Listing, error) {
 // ErrNoMemory.
 func (shared *Shared) Opening() (string, error) {
 	held := shared.held()
-	held.lock.Lock()
-	defer held.lock.Unlock()
+	held.lock.RLock()
+	defer held.lock.RUnlock()
 	return wholeText(func(room unsafe.Pointer, most C.size_t, size *C.size_t) C.uint32_t {
 		return C.pidtab_record_opening(held.raw, room, most, size)
 	})
@@ -356,6 +357,14 @@ func (shared *Shared) held() *heldRecord {
 		return newRecord()
 	}
 	return shared.own
+}
+
+// beside does one query of the library, beside others.
+func (shared *Shared) beside(do func(*C.struct_pidtab_record) C.uint32_t) error {
+	held := shared.held()
+	held.lock.RLock()
+	defer held.lock.RUnlock()
+	return faultOf(uint32(do(held.raw)))
 }
 
 // alone does one function of the library, under the lock.

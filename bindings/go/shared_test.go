@@ -322,14 +322,14 @@ func TestACloseWhileOthersCall(t *testing.T) {
 func TestASharedCallThatDoesNotEnd(t *testing.T) {
 	shared := openShared(t, Settings{PidMax: 32768, Workers: 1, Keep: 1})
 	seat := seatOf(t, shared)
-	shared.own.raw.in_call = true
+	shared.own.raw.in_use = 255
 	want(t, "counts", of(shared.Counts()), Counts{}, ErrBusy)
 	want(t, "getpid", of(seat.Getpid(1)), uint32(0), ErrBusy)
 	want(t, "line", of(seat.Line("getpid 1")), "", ErrBusy)
 	want(t, "list", of(shared.List()), "", ErrBusy)
 	want(t, "stat", of(shared.Stat(1, 0)), Stat{}, ErrBusy)
 	shared.Close()
-	shared.own.raw.in_call = false
+	shared.own.raw.in_use = 0
 	want(t, "getpid", of(seat.Getpid(1)), uint32(1), nil)
 }
 
@@ -395,4 +395,45 @@ func TestWhatTheCollectorCloses(t *testing.T) {
 		t.Errorf("%d bytes more, of some 184 million", grown)
 	}
 	want(t, "getpid", of(seat.Getpid(1)), uint32(1), nil)
+}
+
+// While a query is under way another one is answered, and a call waits. Then a query waits behind the call, and sees what it has done.
+func TestQueriesAtOnce(t *testing.T) {
+	shared := openShared(t, Settings{PidMax: 32768, Workers: 1})
+	seat, all, held := seatOf(t, shared), Call{Operation: OpCount}, shared.held()
+	ask := func(to chan<- Reply) {
+		reply, err := shared.Ask(all)
+		if err != nil {
+			t.Error(err)
+		}
+		to <- reply
+	}
+	first, second, made := make(chan Reply), make(chan Reply), make(chan error)
+	held.lock.RLock()
+	go ask(first)
+	want(t, "beside a query", of((<-first).First, nil), uint64(1), nil)
+	if _, err := shared.List(); err != nil {
+		t.Error(err)
+	}
+	go func() {
+		_, err := seat.Fork(1, false)
+		made <- err
+	}()
+	for held.lock.lock.TryRLock() {
+		held.lock.RUnlock()
+		runtime.Gosched()
+	}
+	go ask(second)
+	select {
+	case <-second:
+		t.Error("a query has passed a call")
+	case <-made:
+		t.Error("a call was made beside a query")
+	case <-time.After(50 * time.Millisecond):
+	}
+	held.lock.RUnlock()
+	if err := <-made; err != nil {
+		t.Error(err)
+	}
+	want(t, "behind a call", of((<-second).First, nil), uint64(2), nil)
 }

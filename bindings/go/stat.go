@@ -24,16 +24,16 @@ type Stat struct {
 // Refused as no-caller, no-task; ErrClosed, ErrBusy.
 func (table *Table) Stat(caller, pid uint32) (Stat, error) {
 	held, task := table.held(), new(C.struct_pidtab_task)
-	held.lock.Lock()
-	defer held.lock.Unlock()
+	held.lock.RLock()
+	defer held.lock.RUnlock()
 	return statOf(C.pidtab_stat(&held.raw, C.uint32_t(caller), C.uint32_t(pid), task), task)
 }
 
 // Stat reads the task pid, as that of a Table does; it is not recorded. Refused as no-caller, no-task.
 func (shared *Shared) Stat(caller, pid uint32) (Stat, error) {
 	held, task := shared.held(), new(C.struct_pidtab_task)
-	held.lock.LockForCall()
-	defer held.lock.Unlock()
+	held.lock.RLock()
+	defer held.lock.RUnlock()
 	return statOf(C.pidtab_record_stat(held.raw, C.uint32_t(caller), C.uint32_t(pid), task), task)
 }
 

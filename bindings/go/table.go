@@ -16,8 +16,8 @@ import (
 	"unsafe"
 )
 
-// Table is a table of processes, without a history. Goroutines may share it: one call is made at a time. A copy is the same table. Each call
-// may answer ErrClosed, ErrSpent and ErrBusy, beside what its method names.
+// Table is a table of processes, without a history. Goroutines may share it: one call is made at a time, and queries side by side. A copy is the
+// same table. Each call may answer ErrClosed, ErrSpent and ErrBusy, beside what its method names.
 type Table struct {
 	calls
 	own *heldTable
@@ -25,7 +25,7 @@ type Table struct {
 
 // A heldTable is a table of the library, with its lock. It stays where it is, and is never copied.
 type heldTable struct {
-	lock   sync.Mutex
+	lock   sync.RWMutex
 	raw    C.struct_pidtab
 	labels labels
 }
@@ -62,8 +62,8 @@ func (table *Table) Close() {
 // which are queries; ErrOutOfRange for each other call. ErrClosed, ErrBusy.
 func (table *Table) Ask(query Call) (Reply, error) {
 	held, numbers, reply := table.held(), query.numbers(), new(C.struct_pidtab_reply)
-	held.lock.Lock()
-	defer held.lock.Unlock()
+	held.lock.RLock()
+	defer held.lock.RUnlock()
 	if err := faultOf(uint32(C.pidtab_ask(&held.raw, &numbers, reply))); err != nil {
 		return Reply{}, err
 	}
@@ -87,16 +87,16 @@ func (table *Table) Line(line string) (string, error) {
 // ErrClosed, ErrNoMemory, ErrBusy.
 func (table *Table) List() (string, error) {
 	held := table.held()
-	held.lock.Lock()
-	defer held.lock.Unlock()
+	held.lock.RLock()
+	defer held.lock.RUnlock()
 	return held.list()
 }
 
 // Listing is the same list, read: the tasks with their labels, the namespaces and the control groups. ErrClosed, ErrNoMemory, ErrBusy.
 func (table *Table) Listing() (Listing, error) {
 	held := table.held()
-	held.lock.Lock()
-	defer held.lock.Unlock()
+	held.lock.RLock()
+	defer held.lock.RUnlock()
 	return held.labels.listing(held.list())
 }
 

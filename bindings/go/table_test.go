@@ -120,12 +120,12 @@ func TestAClosedTable(t *testing.T) {
 // As in a forked child, where the thread whose call was under way is not.
 func TestACallThatDoesNotEnd(t *testing.T) {
 	table := open(t, 32768)
-	table.own.raw.in_call = true
+	table.own.raw.in_use = 255
 	want(t, "getpid", of(table.Getpid(1)), uint32(0), ErrBusy)
 	want(t, "line", of(table.Line("getpid 1")), "", ErrBusy)
 	want(t, "list", of(table.List()), "", ErrBusy)
 	want(t, "stat", of(table.Stat(1, 0)), Stat{}, ErrBusy)
-	table.own.raw.in_call = false
+	table.own.raw.in_use = 0
 	want(t, "getpid", of(table.Getpid(1)), uint32(1), nil)
 }
 

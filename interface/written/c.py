@@ -124,10 +124,11 @@ def forwards(tables):
         if ending in BY_HAND or f"record_{ending}" not in known:
             continue
         passed = "".join(f", {argument.name}" for argument in it.arguments[1:])
+        is_query = of.function(f"record_{ending}").arguments[0].kind.startswith("const ")
         lines += [
             "", f"uint32_t pidtab_{it.name}({', '.join(str(argument) for argument in it.arguments)})", "{",
-            f"\tlock_{'for_call' if ending in AS_CALLS else 'before_calls'}(shared);",
-            f"\treturn unlocked(shared, pidtab_record_{ending}(&shared->record{passed}));", "}",
+            *([f"\tshare_{'as_call' if ending in AS_CALLS else 'before_calls'}(shared);"] if is_query else ["\tlock_before_calls(shared);", "\tbegin_change(shared);"]),
+            f"\treturn {'answered' if is_query else 'changed'}(shared, pidtab_record_{ending}(&shared->record{passed}));", "}",
         ]  # fmt: skip
     return lines
 

@@ -98,16 +98,18 @@ def methods(tables, prefix):
     for it in tables["headers"].of("pidtab.h", prefix):
         owner, *arguments = it.arguments or [None]
         ending = it.name[len(prefix) :]
-        if owner is None or owner.kind != f"struct pidtab{'_record' if prefix else ''} *" or ending in BY_HAND:
+        if owner is None or owner.kind.replace("const ", "") != f"struct pidtab{'_record' if prefix else ''} *" or ending in BY_HAND:
             continue
+        is_query = owner.kind.startswith("const ")
         taken, passed = lent(arguments)
         if ending in MAKES:
             lines += maker(it, "Record" if prefix else "Table", ending, taken, passed)
             continue
-        call = broken("            ", f"pidtab_{it.name}", ["&mut *self.held", *passed], "", 60)
+        call = broken("            ", f"pidtab_{it.name}", [f"&{'' if is_query else 'mut '}*self.held", *passed], "", 60)
         one = f"        unsafe {{ {call[0].strip()} }}"
-        lines += ["", *broken("    ", f"pub(crate) fn {ending}", ["&mut self", *taken], " -> u32 {")]
-        lines += ["        // SAFETY: it is open and lent to this call alone; each pointer is that of a reference or of a slice with that length."]
+        lines += ["", *broken("    ", f"pub(crate) fn {ending}", [f"&{'' if is_query else 'mut '}self", *taken], " -> u32 {")]
+        lent_as = "to queries alone" if is_query else "to this call alone"
+        lines += [f"        // SAFETY: it is open and lent {lent_as}; each pointer is that of a reference or of a slice with that length."]
         lines += [one, "    }"] if len(call) == 1 and len(one) <= 100 else ["        unsafe {", *call, "        }", "    }"]
     return lines[1:]
 

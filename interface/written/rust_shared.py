@@ -9,18 +9,18 @@ AS_CALLS = ("ask", "stat")
 
 
 def methods_of(text):
-    """The public methods of a record: each with its errors, its name, its arguments, and what it answers."""
+    """The public methods of a record: each with its errors, its name, whether it is a query, its arguments, and what it answers."""
     body = re.search(r"^impl Record \{\n(.*?)^\}", text, re.MULTILINE | re.DOTALL).group(1)
-    found = re.finditer(r"((?:^    ///.*\n)+)    pub fn (\w+)\(&mut self(?:, ([^)]*))?\) -> (.*) \{\n", body, re.MULTILINE)
-    return [(comment.partition("    /// # Errors\n")[2], name, taken or "", answer) for comment, name, taken, answer in (it.groups() for it in found)]
+    found = re.finditer(r"((?:^    ///.*\n)+)    pub fn (\w+)\(&(mut )?self(?:, ([^)]*))?\) -> (.*) \{\n", body, re.MULTILINE)
+    return [(comment.partition("    /// # Errors\n")[2], name, not changes, taken or "", answer) for comment, name, changes, taken, answer in (it.groups() for it in found)]
 
 
 def forwards(tables):
     """A function of the shared table for each of the record."""
     lines = []
-    for errors, name, taken, answer in methods_of((tables["top"] / PATH).read_text(encoding="utf-8")):
+    for errors, name, is_query, taken, answer in methods_of((tables["top"] / PATH).read_text(encoding="utf-8")):
         passed = ", ".join(it.split(":")[0] for it in taken.split(", ") if it)
-        lock = "lock_for_call" if name in AS_CALLS else "lock"
+        lock = "lock" if not is_query else "look" if name in AS_CALLS else "look_first"
         arguments = f"&self, {taken}" if taken else "&self"
         lines += ["", f"    /// As [`Record::{name}`].", "    ///", "    /// # Errors", *errors.splitlines(), f"    pub fn {name}({arguments}) -> {answer} {{"]
         lines += [f"        self.{lock}().{name}({passed})", "    }"]

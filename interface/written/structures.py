@@ -6,10 +6,10 @@ from written.foreign import STRUCTS
 PYTHON = "bindings/python/pidtab/raw.py"
 SCRIPT = "bindings/js/src/header.js"
 
-CTYPES = {"uint32_t": "c_uint32", "uint64_t": "c_uint64", "int32_t": "c_int32", "size_t": "c_size_t", "bool": "c_bool", "int": "c_int", "void *": "c_void_p"}
+CTYPES = {"uint8_t": "c_uint8", "uint32_t": "c_uint32", "uint64_t": "c_uint64", "int32_t": "c_int32", "size_t": "c_size_t", "bool": "c_bool", "int": "c_int", "void *": "c_void_p"}
 POINTERS = {
     "const struct pidtab_call *": "CALL_BYTES", "const void *": "ctypes.c_char_p", "void *": "BYTES", "size_t *": "SIZE", "uint32_t *": "NUMBER_32",
-    "uint64_t *": "NUMBER_64", "const uint64_t *": "NUMBER_64", "struct pidtab *": "TABLE", "struct pidtab_entry *": "ENTRIES", "uint32_t": "U32",
+    "uint64_t *": "NUMBER_64", "const uint64_t *": "NUMBER_64", "struct pidtab *": "TABLE", "const struct pidtab *": "TABLE", "struct pidtab_entry *": "ENTRIES", "uint32_t": "U32",
     "const struct timespec *": "ctypes.c_void_p", "uint64_t": "U64", "size_t": "SIZE_T", "void": "None", "bool": "ctypes.c_bool", "int": "ctypes.c_int",
 }  # fmt: skip
 

@@ -6,6 +6,9 @@
 
 typedef Z_pidtab_instance_t instance;
 
+/* A query writes what it takes into the memory of the instance, so two take turns. */
+#define PIDTAB_MOST_QUERIES 1
+
 enum place { CALL, REPLY, TASK, FAULT, NUMBERS, SIZE, LINE, ANSWER };
 enum { LINE_ROOM = 208 };
 

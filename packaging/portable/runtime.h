@@ -30,8 +30,11 @@
 #define LIKELY(x) (x)
 #define UNLIKELY(x) (x)
 /* Without operations that are atomic. So a second thread is not seen: threads take turns under a lock. */
-#define __atomic_test_and_set(at, order) (*(at) ? 1 : (*(at) = 1, 0))
-#define __atomic_clear(at, order) (*(at) = 0)
+#define __atomic_load_n(at, order) (*(at))
+#define __atomic_store_n(at, value, order) (*(at) = (value))
+#define __atomic_sub_fetch(at, less, order) (*(at) -= (less))
+#define __atomic_compare_exchange_n(at, seen, value, weak, order, other) (*(at) == *(seen) ? (*(at) = (value), true) : (*(seen) = *(at), false))
+#define __ATOMIC_RELAXED 0
 #define __ATOMIC_ACQUIRE 0
 #define __ATOMIC_RELEASE 0
 #define __builtin_clz(x) ((int)plain_clz(x, 32))

@@ -60,12 +60,12 @@ class Pidtab(ctypes.Structure):
 
     at: int | None
     is_open: bool
-    in_call: bool
+    in_use: int
 
     _fields_ = [
         ("at", ctypes.c_void_p),
         ("is_open", ctypes.c_bool),
-        ("in_call", ctypes.c_bool),
+        ("in_use", ctypes.c_uint8),
     ]
 
 
@@ -215,7 +215,7 @@ class PidtabSaved(ctypes.Structure):
 
 
 class PidtabShared(ctypes.Structure):
-    """Room for a table behind a lock, whose size is the platform's: it has some 250 bytes. While it is open it is never copied."""
+    """Room for a table behind a lock, whose size is the platform's: it has some 350 bytes. While it is open it is never copied."""
 
     _fields_ = [("room", ctypes.c_uint64 * 64)]
 

@@ -45,7 +45,7 @@ GREATEST_NUMBER = 2**64 - 1
 # No call has this ordinal.
 NO_ORDINAL = GREATEST_NUMBER
 
-# How many entries are read in one go, while all other threads wait.
+# How many entries are read in one go, while calls wait.
 BLOCK = 1024
 
 # What a call answers that the bound does not let be made: the status of the saver.

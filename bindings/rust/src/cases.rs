@@ -74,7 +74,7 @@ impl World {
         let loaded = World::load(&text, &counts, self.keep).expect("a table");
         assert_eq!(loaded.shared.dump().as_ref(), Ok(&text));
         let at = self.at;
-        let tables = std::mem::take(&mut self.tables).into_iter().map(|mut it| {
+        let tables = std::mem::take(&mut self.tables).into_iter().map(|it| {
             let again = it.dump().expect("a text");
             assert_eq!(again, text);
             Table::from_dump(again).expect("a table")

@@ -164,8 +164,9 @@ struct MoreMayCome;
 
 /// A table of processes, without a history. It is closed when it is dropped. Its calls are those of [`Calls`].
 ///
-/// It may be sent to another thread, and not shared: one call at a time works on a table, so each takes it by `&mut`. Threads that take turns
-/// hold it in a `Mutex`, or have a [`Shared`] instead. There is no second owner, so nothing can close it twice:
+/// Queries take it by `&`, so any number of threads may ask one table at once. One call at a time works on it, and no query beside that, so each
+/// takes it by `&mut`. Threads that do both hold it in an `RwLock`, or have a [`Shared`] instead. There is no second owner, so nothing can
+/// close it twice:
 ///
 /// ```compile_fail,E0382
 /// let table = pidtab::Table::open(32768).unwrap();
@@ -178,9 +179,11 @@ struct MoreMayCome;
 /// let other = table.clone();
 /// ```
 ///
-/// ```compile_fail,E0277
-/// fn shared<T: Sync>() {}
-/// shared::<pidtab::Table>();
+/// ```compile_fail,E0596
+/// use pidtab::Calls;
+/// let table = pidtab::Table::open(32768).unwrap();
+/// let shared = &table;
+/// let _ = shared.fork(1, false);
 /// ```
 pub struct Table {
     raw: raw::Table,
@@ -241,7 +244,7 @@ impl Table {
     ///
     /// # Errors
     /// `NoMemory`, `Busy`.
-    pub fn dump(&mut self) -> Result<String, Error> {
+    pub fn dump(&self) -> Result<String, Error> {
         texts::whole(|room, size| self.raw.dump(room, size))
     }
 
@@ -251,7 +254,7 @@ impl Table {
     ///
     /// # Errors
     /// `OutOfRange` for each other call, `Busy`.
-    pub fn ask(&mut self, query: Call) -> Result<Reply, Error> {
+    pub fn ask(&self, query: Call) -> Result<Reply, Error> {
         let mut reply = raw::Reply::BLANK;
         Error::unless_done(self.raw.ask(&query.numbers(), &mut reply))?;
         Ok(Reply::of(&reply))
@@ -271,7 +274,7 @@ impl Table {
     ///
     /// # Errors
     /// `NoMemory`, `Busy`.
-    pub fn list(&mut self) -> Result<String, Error> {
+    pub fn list(&self) -> Result<String, Error> {
         texts::whole(|room, size| self.raw.list(room, size))
     }
 
@@ -279,7 +282,7 @@ impl Table {
     ///
     /// # Errors
     /// `NoMemory`, `Busy`.
-    pub fn listing(&mut self) -> Result<Listing, Error> {
+    pub fn listing(&self) -> Result<Listing, Error> {
         Ok(Listing::of(&self.list()?).with_labels(self.labels.iter()))
     }
 }

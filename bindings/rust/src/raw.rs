@@ -5,6 +5,9 @@
 use std::ffi::c_void;
 use std::mem::size_of;
 use std::ptr;
+use std::sync::atomic::AtomicU8;
+#[cfg(test)]
+use std::sync::atomic::Ordering;
 
 // Written by tools/interface: statuses.
 /// What the functions answer.
@@ -108,7 +111,8 @@ pub(crate) use bounds::*;
 struct Held {
     at: *mut c_void,
     is_open: bool,
-    in_call: bool,
+    /// The mark, which a query changes too.
+    in_use: AtomicU8,
 }
 
 impl Held {
@@ -117,7 +121,7 @@ impl Held {
         Box::new(Held {
             at: ptr::null_mut(),
             is_open: false,
-            in_call: false,
+            in_use: AtomicU8::new(0),
         })
     }
 }
@@ -285,12 +289,12 @@ extern "C" {
         room: usize,
         size: *mut usize,
     ) -> u32;
-    fn pidtab_list(table: *mut Held, bytes: *mut c_void, room: usize, size: *mut usize) -> u32;
-    fn pidtab_dump(table: *mut Held, bytes: *mut c_void, room: usize, size: *mut usize) -> u32;
+    fn pidtab_list(table: *const Held, bytes: *mut c_void, room: usize, size: *mut usize) -> u32;
+    fn pidtab_dump(table: *const Held, bytes: *mut c_void, room: usize, size: *mut usize) -> u32;
     fn pidtab_load(table: *mut Held, text: *const c_void, length: usize, fault: *mut Fault) -> u32;
     fn pidtab_call(table: *mut Held, call: *const Call, reply: *mut Reply) -> u32;
-    fn pidtab_ask(table: *mut Held, call: *const Call, reply: *mut Reply) -> u32;
-    fn pidtab_stat(table: *mut Held, caller: u32, number: u32, task: *mut Task) -> u32;
+    fn pidtab_ask(table: *const Held, call: *const Call, reply: *mut Reply) -> u32;
+    fn pidtab_stat(table: *const Held, caller: u32, number: u32, task: *mut Task) -> u32;
     fn pidtab_call_line(call: *const Call, line: *mut c_void, room: usize, size: *mut usize)
         -> u32;
     fn pidtab_record_open(record: *mut Held, pid_max: u32, first_stamp: u64, workers: u32) -> u32;
@@ -320,19 +324,19 @@ extern "C" {
         size: *mut usize,
         ordinal: *mut u64,
     ) -> u32;
-    fn pidtab_record_ask(record: *mut Held, call: *const Call, reply: *mut Reply) -> u32;
-    fn pidtab_record_stat(record: *mut Held, caller: u32, number: u32, task: *mut Task) -> u32;
-    fn pidtab_record_counts(record: *mut Held, first_kept: *mut u64, recorded: *mut u64) -> u32;
-    fn pidtab_record_worker(record: *mut Held, worker: u32, calls: *mut u64) -> u32;
+    fn pidtab_record_ask(record: *const Held, call: *const Call, reply: *mut Reply) -> u32;
+    fn pidtab_record_stat(record: *const Held, caller: u32, number: u32, task: *mut Task) -> u32;
+    fn pidtab_record_counts(record: *const Held, first_kept: *mut u64, recorded: *mut u64) -> u32;
+    fn pidtab_record_worker(record: *const Held, worker: u32, calls: *mut u64) -> u32;
     fn pidtab_record_entry(
-        record: *mut Held,
+        record: *const Held,
         ordinal: u64,
         worker: *mut u64,
         call: *mut Call,
         reply: *mut Reply,
     ) -> u32;
     fn pidtab_record_read(
-        record: *mut Held,
+        record: *const Held,
         from: u64,
         entries: *mut Entry,
         room: usize,
@@ -348,19 +352,19 @@ extern "C" {
     fn pidtab_record_checkpoint(record: *mut Held) -> u32;
     fn pidtab_record_checkpoint_at(record: *mut Held, seen: u64) -> u32;
     fn pidtab_record_list(
-        record: *mut Held,
+        record: *const Held,
         bytes: *mut c_void,
         room: usize,
         size: *mut usize,
     ) -> u32;
     fn pidtab_record_opening(
-        record: *mut Held,
+        record: *const Held,
         bytes: *mut c_void,
         room: usize,
         size: *mut usize,
     ) -> u32;
     fn pidtab_record_dump(
-        record: *mut Held,
+        record: *const Held,
         bytes: *mut c_void,
         room: usize,
         size: *mut usize,
@@ -442,9 +446,12 @@ pub(crate) struct Table {
 }
 
 // SAFETY: the table's memory is reached by this owner alone, the library has no state beside it, and it comes from malloc, which any
-// thread may free. That the handle may go to another thread is proved: crates/foreign_calls/proofs/handle/Handle/TheSendSync. It
-// is not `Sync`: what is proved is of one function at a time, and no call is proved to leave the table unwritten.
+// thread may free. That the handle may go to another thread is proved: crates/foreign_calls/proofs/handle/Handle/TheSendSync.
 unsafe impl Send for Table {}
+
+// SAFETY: a `&` reaches queries alone. Each works on a copy of the handle, which guard.c makes, and proved code has the table there by a `&`.
+// That such functions may overlap is not proved, and tested: docs/PROVED.md.
+unsafe impl Sync for Table {}
 
 impl Table {
     // Written by tools/interface: methods of a table.
@@ -470,28 +477,14 @@ impl Table {
         }
     }
 
-    pub(crate) fn list(&mut self, bytes: &mut [u8], size: &mut usize) -> u32 {
-        // SAFETY: it is open and lent to this call alone; each pointer is that of a reference or of a slice with that length.
-        unsafe {
-            pidtab_list(
-                &mut *self.held,
-                bytes.as_mut_ptr().cast(),
-                bytes.len(),
-                size,
-            )
-        }
+    pub(crate) fn list(&self, bytes: &mut [u8], size: &mut usize) -> u32 {
+        // SAFETY: it is open and lent to queries alone; each pointer is that of a reference or of a slice with that length.
+        unsafe { pidtab_list(&*self.held, bytes.as_mut_ptr().cast(), bytes.len(), size) }
     }
 
-    pub(crate) fn dump(&mut self, bytes: &mut [u8], size: &mut usize) -> u32 {
-        // SAFETY: it is open and lent to this call alone; each pointer is that of a reference or of a slice with that length.
-        unsafe {
-            pidtab_dump(
-                &mut *self.held,
-                bytes.as_mut_ptr().cast(),
-                bytes.len(),
-                size,
-            )
-        }
+    pub(crate) fn dump(&self, bytes: &mut [u8], size: &mut usize) -> u32 {
+        // SAFETY: it is open and lent to queries alone; each pointer is that of a reference or of a slice with that length.
+        unsafe { pidtab_dump(&*self.held, bytes.as_mut_ptr().cast(), bytes.len(), size) }
     }
 
     pub(crate) fn load(text: &[u8], fault: &mut Fault) -> Result<Table, u32> {
@@ -507,21 +500,22 @@ impl Table {
         unsafe { pidtab_call(&mut *self.held, call, reply) }
     }
 
-    pub(crate) fn ask(&mut self, call: &Call, reply: &mut Reply) -> u32 {
-        // SAFETY: it is open and lent to this call alone; each pointer is that of a reference or of a slice with that length.
-        unsafe { pidtab_ask(&mut *self.held, call, reply) }
+    pub(crate) fn ask(&self, call: &Call, reply: &mut Reply) -> u32 {
+        // SAFETY: it is open and lent to queries alone; each pointer is that of a reference or of a slice with that length.
+        unsafe { pidtab_ask(&*self.held, call, reply) }
     }
 
-    pub(crate) fn stat(&mut self, caller: u32, number: u32, task: &mut Task) -> u32 {
-        // SAFETY: it is open and lent to this call alone; each pointer is that of a reference or of a slice with that length.
-        unsafe { pidtab_stat(&mut *self.held, caller, number, task) }
+    pub(crate) fn stat(&self, caller: u32, number: u32, task: &mut Task) -> u32 {
+        // SAFETY: it is open and lent to queries alone; each pointer is that of a reference or of a slice with that length.
+        unsafe { pidtab_stat(&*self.held, caller, number, task) }
     }
     // The end of methods of a table.
 
     /// As in a forked child, where the thread whose call was under way is not.
     #[cfg(test)]
-    pub(crate) fn mark(&mut self, in_call: bool) {
-        self.held.in_call = in_call;
+    pub(crate) fn mark(&self, in_call: bool) {
+        let mark = if in_call { u8::MAX } else { 0 };
+        self.held.in_use.store(mark, Ordering::Relaxed);
     }
 }
 
@@ -544,9 +538,11 @@ pub(crate) struct Record {
     held: Box<Held>,
 }
 
-// SAFETY: as a table. That the handle may go to another thread is proved: crates/foreign_calls/proofs/record_handle. It is not
-// `Sync`: a lock is around it.
+// SAFETY: as a table. That the handle may go to another thread is proved: crates/foreign_calls/proofs/record_handle.
 unsafe impl Send for Record {}
+
+// SAFETY: as a table.
+unsafe impl Sync for Record {}
 
 impl Record {
     // Written by tools/interface: methods of a record.
@@ -592,42 +588,42 @@ impl Record {
         }
     }
 
-    pub(crate) fn ask(&mut self, call: &Call, reply: &mut Reply) -> u32 {
-        // SAFETY: it is open and lent to this call alone; each pointer is that of a reference or of a slice with that length.
-        unsafe { pidtab_record_ask(&mut *self.held, call, reply) }
+    pub(crate) fn ask(&self, call: &Call, reply: &mut Reply) -> u32 {
+        // SAFETY: it is open and lent to queries alone; each pointer is that of a reference or of a slice with that length.
+        unsafe { pidtab_record_ask(&*self.held, call, reply) }
     }
 
-    pub(crate) fn stat(&mut self, caller: u32, number: u32, task: &mut Task) -> u32 {
-        // SAFETY: it is open and lent to this call alone; each pointer is that of a reference or of a slice with that length.
-        unsafe { pidtab_record_stat(&mut *self.held, caller, number, task) }
+    pub(crate) fn stat(&self, caller: u32, number: u32, task: &mut Task) -> u32 {
+        // SAFETY: it is open and lent to queries alone; each pointer is that of a reference or of a slice with that length.
+        unsafe { pidtab_record_stat(&*self.held, caller, number, task) }
     }
 
-    pub(crate) fn counts(&mut self, first_kept: &mut u64, recorded: &mut u64) -> u32 {
-        // SAFETY: it is open and lent to this call alone; each pointer is that of a reference or of a slice with that length.
-        unsafe { pidtab_record_counts(&mut *self.held, first_kept, recorded) }
+    pub(crate) fn counts(&self, first_kept: &mut u64, recorded: &mut u64) -> u32 {
+        // SAFETY: it is open and lent to queries alone; each pointer is that of a reference or of a slice with that length.
+        unsafe { pidtab_record_counts(&*self.held, first_kept, recorded) }
     }
 
-    pub(crate) fn worker(&mut self, worker: u32, calls: &mut u64) -> u32 {
-        // SAFETY: it is open and lent to this call alone; each pointer is that of a reference or of a slice with that length.
-        unsafe { pidtab_record_worker(&mut *self.held, worker, calls) }
+    pub(crate) fn worker(&self, worker: u32, calls: &mut u64) -> u32 {
+        // SAFETY: it is open and lent to queries alone; each pointer is that of a reference or of a slice with that length.
+        unsafe { pidtab_record_worker(&*self.held, worker, calls) }
     }
 
     pub(crate) fn entry(
-        &mut self,
+        &self,
         ordinal: u64,
         worker: &mut u64,
         call: &mut Call,
         reply: &mut Reply,
     ) -> u32 {
-        // SAFETY: it is open and lent to this call alone; each pointer is that of a reference or of a slice with that length.
-        unsafe { pidtab_record_entry(&mut *self.held, ordinal, worker, call, reply) }
+        // SAFETY: it is open and lent to queries alone; each pointer is that of a reference or of a slice with that length.
+        unsafe { pidtab_record_entry(&*self.held, ordinal, worker, call, reply) }
     }
 
-    pub(crate) fn read(&mut self, from: u64, entries: &mut [Entry], count: &mut usize) -> u32 {
-        // SAFETY: it is open and lent to this call alone; each pointer is that of a reference or of a slice with that length.
+    pub(crate) fn read(&self, from: u64, entries: &mut [Entry], count: &mut usize) -> u32 {
+        // SAFETY: it is open and lent to queries alone; each pointer is that of a reference or of a slice with that length.
         unsafe {
             pidtab_record_read(
-                &mut *self.held,
+                &*self.held,
                 from,
                 entries.as_mut_ptr(),
                 entries.len(),
@@ -656,40 +652,19 @@ impl Record {
         unsafe { pidtab_record_checkpoint_at(&mut *self.held, seen) }
     }
 
-    pub(crate) fn list(&mut self, bytes: &mut [u8], size: &mut usize) -> u32 {
-        // SAFETY: it is open and lent to this call alone; each pointer is that of a reference or of a slice with that length.
-        unsafe {
-            pidtab_record_list(
-                &mut *self.held,
-                bytes.as_mut_ptr().cast(),
-                bytes.len(),
-                size,
-            )
-        }
+    pub(crate) fn list(&self, bytes: &mut [u8], size: &mut usize) -> u32 {
+        // SAFETY: it is open and lent to queries alone; each pointer is that of a reference or of a slice with that length.
+        unsafe { pidtab_record_list(&*self.held, bytes.as_mut_ptr().cast(), bytes.len(), size) }
     }
 
-    pub(crate) fn opening(&mut self, bytes: &mut [u8], size: &mut usize) -> u32 {
-        // SAFETY: it is open and lent to this call alone; each pointer is that of a reference or of a slice with that length.
-        unsafe {
-            pidtab_record_opening(
-                &mut *self.held,
-                bytes.as_mut_ptr().cast(),
-                bytes.len(),
-                size,
-            )
-        }
+    pub(crate) fn opening(&self, bytes: &mut [u8], size: &mut usize) -> u32 {
+        // SAFETY: it is open and lent to queries alone; each pointer is that of a reference or of a slice with that length.
+        unsafe { pidtab_record_opening(&*self.held, bytes.as_mut_ptr().cast(), bytes.len(), size) }
     }
 
-    pub(crate) fn dump(&mut self, bytes: &mut [u8], size: &mut usize) -> u32 {
-        // SAFETY: it is open and lent to this call alone; each pointer is that of a reference or of a slice with that length.
-        unsafe {
-            pidtab_record_dump(
-                &mut *self.held,
-                bytes.as_mut_ptr().cast(),
-                bytes.len(),
-                size,
-            )
-        }
+    pub(crate) fn dump(&self, bytes: &mut [u8], size: &mut usize) -> u32 {
+        // SAFETY: it is open and lent to queries alone; each pointer is that of a reference or of a slice with that length.
+        unsafe { pidtab_record_dump(&*self.held, bytes.as_mut_ptr().cast(), bytes.len(), size) }
     }
 
     pub(crate) fn load(text: &[u8], counts: &[u64], fault: &mut Fault) -> Result<Record, u32> {
@@ -712,8 +687,9 @@ impl Record {
 
     /// As in a forked child, where the thread whose call was under way is not.
     #[cfg(test)]
-    pub(crate) fn mark(&mut self, in_call: bool) {
-        self.held.in_call = in_call;
+    pub(crate) fn mark(&self, in_call: bool) {
+        let mark = if in_call { u8::MAX } else { 0 };
+        self.held.in_use.store(mark, Ordering::Relaxed);
     }
 }
 

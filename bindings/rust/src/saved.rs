@@ -291,7 +291,7 @@ impl Shared {
         if saved.bytes == 0 {
             saved.write_head(&self.head, to)?;
         }
-        let read = |from, room: &mut [raw::Entry]| self.lock().read_numbers(from, room);
+        let read = |from, room: &mut [raw::Entry]| self.look_first().read_numbers(from, room);
         saved.write_up_to(counts.recorded, to, read)
     }
 

@@ -10,7 +10,9 @@ use crate::{
 };
 use std::ops::{Deref, DerefMut};
 use std::sync::atomic::{AtomicBool, AtomicU32, AtomicU64, Ordering};
-use std::sync::{Condvar, LockResult, Mutex, MutexGuard, PoisonError};
+use std::sync::{
+    Condvar, LockResult, Mutex, MutexGuard, PoisonError, RwLock, RwLockReadGuard, RwLockWriteGuard,
+};
 use std::time::{Duration, Instant};
 use std::{fmt, mem};
 
@@ -88,8 +90,9 @@ static NEXT_NUMBER: AtomicU64 = AtomicU64::new(1);
 
 /// A table of processes for many threads at once, with its history. It is closed when it is dropped.
 ///
-/// One lock guards it, and each function waits for its turn. So each thread has the answer that one sequential table would give, and the ordinal
-/// of a call is its place in that sequence. A thread makes its calls by a [`Seat`]; all other functions are any thread's:
+/// One lock guards it: queries, and what else changes nothing, share it, and each other function has it alone. So each thread has the answer
+/// that one sequential table would give, and the ordinal of a call is its place in that sequence. A thread makes its calls by a [`Seat`]; all
+/// other functions are any thread's:
 ///
 /// ```
 /// use pidtab::{Call, Calls, Error, Reply, Shared};
@@ -108,13 +111,16 @@ static NEXT_NUMBER: AtomicU64 = AtomicU64::new(1);
 /// ```
 ///
 /// The kept history replays, reply for reply, as one thread's, from its opening to the present state, and the calls of all workers add up to
-/// [`Counts::recorded`]. That is proved of the library. The lock is trusted: it is a `Mutex` of std.
+/// [`Counts::recorded`]. That is proved of the library. The lock is trusted: it is an `RwLock` of std.
 ///
 /// The history has 184 bytes a call until it is cut, by [`Options::keep`], [`Shared::checkpoint`] or [`Shared::checkpoint_at`].
 ///
 /// A thread that panics harms no other: each function of the record ends first, and the lock is given back.
 pub struct Shared {
-    record: Mutex<Record>,
+    /// Queries share it. On Linux none of them passes a change that waits: std's lock has it so.
+    record: RwLock<Record>,
+    /// Whose turn it is to change the record: so one change at a time waits for the queries. Who sleeps has it.
+    turn: Mutex<()>,
     /// Who goes before the calls of other threads, and whether that waits for the lock: std's lock is for whoever comes first when it is free,
     /// which is a busy thread that has just given it back. So each thread makes one more call at most before it waits here too.
     gate: Mutex<()>,
@@ -134,7 +140,8 @@ impl Shared {
     /// The record behind a lock, before any seat is given.
     fn of(record: Record, head: raw::SavedHead, goes_on: bool) -> Shared {
         Shared {
-            record: Mutex::new(record),
+            record: RwLock::new(record),
+            turn: Mutex::new(()),
             gate: Mutex::new(()),
             is_awaited: AtomicBool::new(false),
             told: Condvar::new(),
@@ -250,24 +257,46 @@ impl Shared {
     pub fn lock(&self) -> Locked<'_> {
         let _first = whole(self.gate.lock());
         self.is_awaited.store(true, Ordering::Relaxed);
-        let record = whole(self.record.lock());
+        let locked = self.take_turn();
         self.is_awaited.store(false, Ordering::Relaxed);
-        self.locked(record)
+        locked
     }
 
-    /// The lock for a call or a query, which lets those go before that are no calls.
+    /// The lock for a call, which lets those go before that are none.
     fn lock_for_call(&self) -> Locked<'_> {
         if self.is_awaited.load(Ordering::Relaxed) {
             drop(whole(self.gate.lock()));
         }
-        self.locked(whole(self.record.lock()))
+        self.take_turn()
     }
 
-    fn locked<'a>(&'a self, record: MutexGuard<'a, Record>) -> Locked<'a> {
+    fn take_turn(&self) -> Locked<'_> {
+        let turn = whole(self.turn.lock());
         Locked {
-            record: Some(record),
+            record: Some(whole(self.record.write())),
+            turn: Some(turn),
             shared: self,
         }
+    }
+
+    /// The record for a query, beside others. It lets those go before that are no calls, where they wait.
+    fn look(&self) -> RwLockReadGuard<'_, Record> {
+        if self.is_awaited.load(Ordering::Relaxed) {
+            drop(whole(self.gate.lock()));
+        }
+        whole(self.record.read())
+    }
+
+    /// The same, but before the calls and their like where it has to wait.
+    pub(crate) fn look_first(&self) -> RwLockReadGuard<'_, Record> {
+        if let Ok(record) = self.record.try_read() {
+            return record;
+        }
+        let _first = whole(self.gate.lock());
+        self.is_awaited.store(true, Ordering::Relaxed);
+        let record = whole(self.record.read());
+        self.is_awaited.store(false, Ordering::Relaxed);
+        record
     }
 
     /// The lock for a call that keeps the bound: it waits until the saver is near enough.
@@ -324,7 +353,7 @@ impl Shared {
     /// # Errors
     /// `OutOfRange` for each other call, `Busy`.
     pub fn ask(&self, query: Call) -> Result<Reply, Error> {
-        self.lock_for_call().ask(query)
+        self.look().ask(query)
     }
 
     /// As [`Record::stat`].
@@ -332,7 +361,7 @@ impl Shared {
     /// # Errors
     /// `Refused` as `NoCaller`, `NoTask`; `Busy`.
     pub fn stat(&self, caller: u32, number: u32) -> Result<Stat, Error> {
-        self.lock_for_call().stat(caller, number)
+        self.look().stat(caller, number)
     }
 
     /// As [`Record::counts`].
@@ -340,7 +369,7 @@ impl Shared {
     /// # Errors
     /// `Busy`.
     pub fn counts(&self) -> Result<Counts, Error> {
-        self.lock().counts()
+        self.look_first().counts()
     }
 
     /// As [`Record::worker`].
@@ -348,7 +377,7 @@ impl Shared {
     /// # Errors
     /// `OutOfRange` where there are not so many workers: they are numbered from 0 on. `Busy`.
     pub fn worker(&self, worker: u32) -> Result<u64, Error> {
-        self.lock().worker(worker)
+        self.look_first().worker(worker)
     }
 
     /// As [`Record::entry`].
@@ -356,7 +385,7 @@ impl Shared {
     /// # Errors
     /// `NotKept` where it was cut away or is not reached yet, `Busy`.
     pub fn entry(&self, ordinal: u64) -> Result<Entry, Error> {
-        self.lock().entry(ordinal)
+        self.look_first().entry(ordinal)
     }
 
     /// As [`Record::entries`].
@@ -364,7 +393,7 @@ impl Shared {
     /// # Errors
     /// `NotKept` where `from` is neither a kept entry nor the next call; `NoMemory`, `Busy`.
     pub fn entries(&self, from: u64, most: usize) -> Result<Vec<Entry>, Error> {
-        self.lock().entries(from, most)
+        self.look_first().entries(from, most)
     }
 
     /// As [`Record::checkpoint`].
@@ -388,7 +417,7 @@ impl Shared {
     /// # Errors
     /// `NoMemory`, `Busy`.
     pub fn list(&self) -> Result<String, Error> {
-        self.lock().list()
+        self.look_first().list()
     }
 
     /// As [`Record::dump`].
@@ -396,7 +425,7 @@ impl Shared {
     /// # Errors
     /// `NoMemory`, `Busy`.
     pub fn dump(&self) -> Result<String, Error> {
-        self.lock().dump()
+        self.look_first().dump()
     }
 
     /// As [`Record::listing`].
@@ -404,7 +433,7 @@ impl Shared {
     /// # Errors
     /// `NoMemory`, `Busy`.
     pub fn listing(&self) -> Result<Listing, Error> {
-        self.lock().listing()
+        self.look_first().listing()
     }
 
     /// As [`Record::opening`].
@@ -412,7 +441,7 @@ impl Shared {
     /// # Errors
     /// `NoMemory`, `Busy`.
     pub fn opening(&self) -> Result<String, Error> {
-        self.lock().opening()
+        self.look_first().opening()
     }
 
     /// As [`Record::replay`].
@@ -569,7 +598,7 @@ impl Record {
     }
 
     /// Whether as many calls are recorded and not saved as the bound lets there be.
-    fn is_too_far(&mut self) -> Result<bool, Error> {
+    fn is_too_far(&self) -> Result<bool, Error> {
         let most = self.saving.most;
         Ok(most != 0 && self.counts()?.recorded.saturating_sub(self.saving.saved) >= most)
     }
@@ -580,7 +609,7 @@ impl Record {
     ///
     /// # Errors
     /// `OutOfRange` for each other call, `Busy`.
-    pub fn ask(&mut self, query: Call) -> Result<Reply, Error> {
+    pub fn ask(&self, query: Call) -> Result<Reply, Error> {
         let mut reply = raw::Reply::BLANK;
         Error::unless_done(self.raw.ask(&query.numbers(), &mut reply))?;
         Ok(Reply::of(&reply))
@@ -601,7 +630,7 @@ impl Record {
     ///
     /// # Errors
     /// `Refused` as `NoCaller`, `NoTask`; `Busy`.
-    pub fn stat(&mut self, caller: u32, number: u32) -> Result<Stat, Error> {
+    pub fn stat(&self, caller: u32, number: u32) -> Result<Stat, Error> {
         let mut task = raw::Task::BLANK;
         Stat::of(self.raw.stat(caller, number, &mut task), task)
     }
@@ -610,7 +639,7 @@ impl Record {
     ///
     /// # Errors
     /// `Busy`.
-    pub fn counts(&mut self) -> Result<Counts, Error> {
+    pub fn counts(&self) -> Result<Counts, Error> {
         let (mut first_kept, mut recorded) = (0, 0);
         Error::unless_done(self.raw.counts(&mut first_kept, &mut recorded))?;
         Ok(Counts {
@@ -623,7 +652,7 @@ impl Record {
     ///
     /// # Errors
     /// `OutOfRange` where there are not so many workers: they are numbered from 0 on. `Busy`.
-    pub fn worker(&mut self, worker: u32) -> Result<u64, Error> {
+    pub fn worker(&self, worker: u32) -> Result<u64, Error> {
         let mut calls = 0;
         Error::unless_done(self.raw.worker(worker, &mut calls))?;
         Ok(calls)
@@ -633,7 +662,7 @@ impl Record {
     ///
     /// # Errors
     /// `NotKept` where it was cut away or is not reached yet, `Busy`.
-    pub fn entry(&mut self, ordinal: u64) -> Result<Entry, Error> {
+    pub fn entry(&self, ordinal: u64) -> Result<Entry, Error> {
         let mut entry = raw::Entry::BLANK;
         let (worker, call, reply) = (&mut entry.worker, &mut entry.call, &mut entry.reply);
         Error::unless_done(self.raw.entry(ordinal, worker, call, reply))?;
@@ -642,11 +671,11 @@ impl Record {
 
     /// The kept entries from the ordinal on: as many as there are, and at most `most`. None where `from` is the ordinal of the next call.
     ///
-    /// It costs a copy of each, and all others wait meanwhile. Whoever ships a long history takes some thousands at a time.
+    /// It costs a copy of each, and calls wait meanwhile. Whoever ships a long history takes some thousands at a time.
     ///
     /// # Errors
     /// `NotKept` where `from` is neither a kept entry nor the next call; `NoMemory`, `Busy`.
-    pub fn entries(&mut self, from: u64, most: usize) -> Result<Vec<Entry>, Error> {
+    pub fn entries(&self, from: u64, most: usize) -> Result<Vec<Entry>, Error> {
         let counts = self.counts()?;
         let there = counts.recorded.saturating_sub(from.max(counts.first_kept));
         let there = usize::try_from(there).unwrap_or(usize::MAX);
@@ -667,11 +696,7 @@ impl Record {
     }
 
     /// Reads the kept entries from the ordinal on, as numbers: how many.
-    pub(crate) fn read_numbers(
-        &mut self,
-        from: u64,
-        room: &mut [raw::Entry],
-    ) -> Result<usize, Error> {
+    pub(crate) fn read_numbers(&self, from: u64, room: &mut [raw::Entry]) -> Result<usize, Error> {
         let mut count = 0;
         Error::unless_done(self.raw.read(from, room, &mut count))?;
         Ok(count)
@@ -697,7 +722,7 @@ impl Record {
     ///
     /// # Errors
     /// `NoMemory`, `Busy`.
-    pub fn list(&mut self) -> Result<String, Error> {
+    pub fn list(&self) -> Result<String, Error> {
         texts::whole(|room, size| self.raw.list(room, size))
     }
 
@@ -706,7 +731,7 @@ impl Record {
     ///
     /// # Errors
     /// `NoMemory`, `Busy`.
-    pub fn dump(&mut self) -> Result<String, Error> {
+    pub fn dump(&self) -> Result<String, Error> {
         texts::whole(|room, size| self.raw.dump(room, size))
     }
 
@@ -714,7 +739,7 @@ impl Record {
     ///
     /// # Errors
     /// `NoMemory`, `Busy`.
-    pub fn listing(&mut self) -> Result<Listing, Error> {
+    pub fn listing(&self) -> Result<Listing, Error> {
         Ok(Listing::of(&self.list()?).with_labels(self.labels.iter()))
     }
 
@@ -722,7 +747,7 @@ impl Record {
     ///
     /// # Errors
     /// `NoMemory`, `Busy`.
-    pub fn opening(&mut self) -> Result<String, Error> {
+    pub fn opening(&self) -> Result<String, Error> {
         texts::whole(|room, size| self.raw.opening(room, size))
     }
 
@@ -815,7 +840,8 @@ impl fmt::Debug for Record {
 #[derive(Debug)]
 pub struct Locked<'a> {
     // None only while this thread waits, and amid the drop.
-    record: Option<MutexGuard<'a, Record>>,
+    record: Option<RwLockWriteGuard<'a, Record>>,
+    turn: Option<MutexGuard<'a, ()>>,
     shared: &'a Shared,
 }
 
@@ -827,17 +853,21 @@ impl Locked<'_> {
 
     /// The same, or until the time is over.
     fn wait_at_most(&mut self, until: &Condvar, time: Option<Duration>) {
-        self.record = self.record.take().map(|it| match time {
+        self.record = None;
+        self.turn = self.turn.take().map(|it| match time {
             Some(time) => whole(until.wait_timeout(it, time)).0,
             None => whole(until.wait(it)),
         });
+        self.record = Some(whole(self.shared.record.write()));
     }
 }
 
 impl Drop for Locked<'_> {
     fn drop(&mut self) {
         let wakes = mem::take(&mut self.saving.wakes);
+        // Queries that wait are let in before the next change has its turn.
         self.record = None;
+        self.turn = None;
         if wakes {
             self.shared.wake_sleepers();
         }
@@ -1003,6 +1033,7 @@ fn head_of(text: &[u8]) -> (u32, u64) {
 mod tests {
     use super::*;
     use crate::{Saved, SavedFault};
+    use std::thread;
 
     /// As in a forked child, where the thread whose call was under way is not.
     #[test]
@@ -1028,5 +1059,34 @@ mod tests {
         assert!(matches!(busy, SavedFault::Table(Error::Busy)) && bytes.is_empty());
         shared.lock().raw.mark(false);
         assert_eq!((seat.ordinal(), seat.getpid(1)), (None, Ok(1)));
+    }
+
+    /// While a query is under way another one is answered, and a call waits. Then a query waits behind the call, and sees what it has done.
+    #[test]
+    fn queries_at_once() {
+        let shared = Shared::open(32768, 1).expect("a table");
+        let all = Call::Count { id: 0 };
+        let is_made = AtomicBool::new(false);
+        thread::scope(|scope| {
+            let query = shared.look();
+            let other = scope.spawn(|| (shared.ask(all), shared.stat(1, 0).is_ok(), shared.list()));
+            let (counted, is_found, list) = other.join().expect("no panic");
+            assert_eq!((counted, is_found), (Ok(Reply::Counted(1)), true));
+            assert_eq!(list, query.list());
+            scope.spawn(|| {
+                let made = shared.seat().expect("a seat").fork(1, false);
+                assert_eq!(made.map(|it| it.number), Ok(2));
+                is_made.store(true, Ordering::SeqCst);
+            });
+            while shared.record.try_read().is_ok() {
+                thread::yield_now();
+            }
+            let behind = scope.spawn(|| shared.ask(all));
+            thread::sleep(Duration::from_millis(50));
+            assert!(!is_made.load(Ordering::SeqCst) && !behind.is_finished());
+            assert_eq!(query.ask(all), Ok(Reply::Counted(1)));
+            drop(query);
+            assert_eq!(behind.join().expect("no panic"), Ok(Reply::Counted(2)));
+        });
     }
 }

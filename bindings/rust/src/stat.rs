@@ -103,7 +103,7 @@ impl Table {
     ///
     /// # Errors
     /// `Refused` as `NoCaller`, `NoTask`; `Busy`.
-    pub fn stat(&mut self, caller: u32, number: u32) -> Result<Stat, Error> {
+    pub fn stat(&self, caller: u32, number: u32) -> Result<Stat, Error> {
         let mut task = raw::Task::BLANK;
         Stat::of(self.raw.stat(caller, number, &mut task), task)
     }

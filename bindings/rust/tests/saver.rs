@@ -206,7 +206,7 @@ fn wait_until(holds: impl Fn() -> bool) {
 fn calls_before_the_count(shared: &Shared, busy: &[AtomicU32]) -> u64 {
     let counting = AtomicU32::new(0);
     thread::scope(|scope| {
-        let mut record = shared.lock();
+        let record = shared.lock();
         wait_until(|| busy.iter().all(is_asleep));
         let before = record.counts().expect("counts").recorded;
         let counter = scope.spawn(|| {

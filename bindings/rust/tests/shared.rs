@@ -4,8 +4,10 @@ use pidtab::{
     Call, Calls, Child, Counts, Ended, Entry, Error, Reaped, ReplayError, Reply, Seat, Shared,
     Table, Which,
 };
+use std::sync::atomic::{AtomicBool, Ordering};
 use std::sync::Arc;
 use std::thread;
+use std::time::Duration;
 
 const WORKERS: u32 = 16;
 const EACH: usize = 20_000;
@@ -324,4 +326,37 @@ fn a_thread_that_panics_gives_the_lock_back() {
     assert!(panicked.join().is_err());
     assert_eq!(counts(&shared), (0, 1));
     assert_eq!(shared.seat().expect("a seat").getpid(2), Ok(2));
+}
+
+/// Readers beside a writer, whose child ends and is waited for: each sees one task or two, and histories that only grow. The writer comes to its end.
+#[test]
+fn readers_beside_a_writer() {
+    let (shared, is_over) = (open(1), AtomicBool::new(false));
+    let read = || {
+        let mut before = 0;
+        while !is_over.load(Ordering::SeqCst) {
+            let counted = shared.ask(Call::Count { id: 0 }).expect("a reply");
+            assert!(matches!(counted, Reply::Counted(1 | 2)), "{counted:?}");
+            assert_eq!(shared.stat(1, 0).expect("a task").numbers(), [1]);
+            let (_, recorded) = counts(&shared);
+            assert!(recorded >= before);
+            before = recorded;
+            let listed = shared.listing().expect("a list").tasks.len();
+            assert!(listed == 1 || listed == 2, "{listed}");
+            thread::sleep(Duration::from_millis(1));
+        }
+    };
+    thread::scope(|scope| {
+        for _ in 0..WORKERS {
+            scope.spawn(read);
+        }
+        let mut seat = shared.seat().expect("a seat");
+        for _ in 0..200 {
+            let child = seat.fork(1, false).expect("a child");
+            seat.exit(child.root, 7).expect("an exit");
+            seat.wait(1, Which::Any).expect("a child that ended");
+        }
+        is_over.store(true, Ordering::SeqCst);
+    });
+    assert_eq!(counts(&shared), (0, 600));
 }

@@ -1,5 +1,5 @@
 //! What errors say, what is a line, and threads. What each call answers is in interface/cases.
-use pidtab::{Calls, Child, Error, LineError, Refusal, Table};
+use pidtab::{Call, Calls, Child, Error, LineError, Refusal, Reply, Table};
 use std::sync::Mutex;
 use std::thread;
 
@@ -70,4 +70,23 @@ fn eight_threads_take_turns() {
     assert_eq!(given, (2..=1601).collect::<Vec<_>>());
     let mut table = table.into_inner().expect("the table");
     assert_eq!(table.count(0), Ok(1601));
+}
+
+/// Threads ask one table that none of them owns.
+#[test]
+fn threads_that_ask() {
+    let mut table = open();
+    table.fork(1, false).expect("a child");
+    let (table, list) = (&table, table.list());
+    thread::scope(|scope| {
+        for _ in 0..8 {
+            scope.spawn(|| {
+                for _ in 0..1000 {
+                    assert_eq!(table.ask(Call::Count { id: 0 }), Ok(Reply::Counted(2)));
+                    assert_eq!(table.stat(1, 2).expect("a task").numbers(), [2]);
+                }
+                assert_eq!(table.list(), list);
+            });
+        }
+    });
 }

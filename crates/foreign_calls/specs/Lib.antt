@@ -1,5 +1,7 @@
 pub mod Made
 pub mod Owned
+pub mod Lending
+pub mod RecordLending
 pub mod Numbers
 pub mod CallNumbers
 pub mod Lines

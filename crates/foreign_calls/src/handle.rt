@@ -27,6 +27,9 @@ impl Model for Handle {
 }
 
 impl Handle {
+    ghost use Rattle.std.specs.Borrow.{sem};
+    ghost use Rattle.foreign_calls.specs.Lending.{LendsTable, RestsHandle};
+
     /// No table.
     pub fn empty(_alloc: Global, at: *mut u8) -> Handle
         ensures { result.held ≡ None }
@@ -39,6 +42,24 @@ impl Handle {
     {
         let Loose { at, alloc: _ } = loose;
         Handle { at: at as *mut u8 }
+    }
+
+    /// The table, in place: the handle ends with the table's last value.
+    fn lend(&mut self) -> &mut StampedTable
+        requires { IsSome self.old.held }
+        ensures* writes_back { sem 𝓛 (LendsTable self.entry result) }
+        ensures value { Some result.now ≡ self.old.held }
+    {
+        unsafe { &mut *(self.at as *mut StampedTable) }
+    }
+
+    /// The table, to be read in place: nothing is taken out, and the handle ends as it was.
+    pub fn look(&mut self) -> &StampedTable
+        requires { IsSome self.old.held }
+        ensures* rests { sem 𝓛 (RestsHandle self.entry) }
+        ensures value { Some result.now ≡ self.old.held }
+    {
+        self.lend()
     }
 
     pub fn into_loose(self, alloc: Global) -> Loose<StampedTable, Global>

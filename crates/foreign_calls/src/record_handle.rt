@@ -26,6 +26,9 @@ impl Model for RecordHandle {
 }
 
 impl RecordHandle {
+    ghost use Rattle.std.specs.Borrow.{sem};
+    ghost use Rattle.foreign_calls.specs.RecordLending.{LendsRecord, RestsRecordHandle};
+
     /// No record.
     pub fn empty(_alloc: Global, at: *mut u8) -> RecordHandle
         ensures { result.held ≡ None }
@@ -38,6 +41,24 @@ impl RecordHandle {
     {
         let Loose { at, alloc: _ } = loose;
         RecordHandle { at: at as *mut u8 }
+    }
+
+    /// The record, in place: the handle ends with the record's last value.
+    fn lend(&mut self) -> &mut Kept
+        requires { IsSome self.old.held }
+        ensures* writes_back { sem 𝓛 (LendsRecord self.entry result) }
+        ensures value { Some result.now ≡ self.old.held }
+    {
+        unsafe { &mut *(self.at as *mut Kept) }
+    }
+
+    /// The record, to be read in place: nothing is taken out, and the handle ends as it was.
+    pub fn look(&mut self) -> &Kept
+        requires { IsSome self.old.held }
+        ensures* rests { sem 𝓛 (RestsRecordHandle self.entry) }
+        ensures value { Some result.now ≡ self.old.held }
+    {
+        self.lend()
     }
 
     pub fn into_loose(self, alloc: Global) -> Loose<Kept, Global>

@@ -14,7 +14,6 @@ use foreign_calls::numbers::{CallNumbers, ReplyNumbers};
 use foreign_calls::record::PidtabRecord;
 use foreign_calls::status::{CLOSED, DONE, OUT_OF_RANGE};
 use foreign_calls::table::Pidtab;
-use std::alloc::Global;
 
 /// Answers the query that the numbers say, as the table's next call would be answered. It is no call: it uses no stamp,
 /// and changes nothing.
@@ -24,7 +23,6 @@ use std::alloc::Global;
 /// refuses is `DONE`: its reply says so.
 #[unsafe(no_mangle)]
 pub extern "C" fn pidtab_ask(
-    alloc: Global,
     table: &mut Pidtab,
     call: &CallNumbers,
     reply: &mut ReplyNumbers,
@@ -37,12 +35,10 @@ pub extern "C" fn pidtab_ask(
     ensures out_of_range { (result ≡ OUT_OF_RANGE) ↔ IsSome table.old.handle.held × (query_of call.now ≡ None) }
     ensures statuses { (result ≡ DONE) ⊎ ((result ≡ CLOSED) ⊎ (result ≡ OUT_OF_RANGE)) }
 {
-    let Some(held) = table.take(alloc) else {
+    if !table.is_open {
         return CLOSED;
-    };
-    let status = ask_table(&held, call, reply);
-    table.put(held);
-    status
+    }
+    ask_table(table.handle.look(), call, reply)
 }
 
 /// Answers the query that the numbers say, as [`pidtab_ask`] does, on a record: it is neither recorded nor counted for
@@ -51,7 +47,6 @@ pub extern "C" fn pidtab_ask(
 /// `CLOSED` where there is no open record; then `OUT_OF_RANGE` as [`pidtab_ask`] has it.
 #[unsafe(no_mangle)]
 pub extern "C" fn pidtab_record_ask(
-    alloc: Global,
     table: &mut PidtabRecord,
     call: &CallNumbers,
     reply: &mut ReplyNumbers,
@@ -64,10 +59,8 @@ pub extern "C" fn pidtab_record_ask(
     ensures out_of_range { (result ≡ OUT_OF_RANGE) ↔ IsSome table.old.handle.held × (query_of call.now ≡ None) }
     ensures statuses { (result ≡ DONE) ⊎ ((result ≡ CLOSED) ⊎ (result ≡ OUT_OF_RANGE)) }
 {
-    let Some(held) = table.take(alloc) else {
+    if !table.is_open {
         return CLOSED;
-    };
-    let status = ask_record(&held, call, reply);
-    table.put(held);
-    status
+    }
+    ask_record(table.handle.look(), call, reply)
 }

@@ -21,7 +21,6 @@ use std::alloc::Global;
 /// record between any two functions, whatever they were.
 #[unsafe(no_mangle)]
 pub extern "C" fn pidtab_record_counts(
-    alloc: Global,
     table: &mut PidtabRecord,
     first_kept: &mut u64,
     recorded: &mut u64,
@@ -35,12 +34,12 @@ pub extern "C" fn pidtab_record_counts(
     ensures closed { (result ≡ CLOSED) ↔ (table.old.handle.held ≡ None) }
     ensures statuses { (result ≡ DONE) ⊎ (result ≡ CLOSED) }
 {
-    let Some(held) = table.take(alloc) else {
+    if !table.is_open {
         return CLOSED;
-    };
+    }
+    let held = table.handle.look();
     *recorded = held.total();
     *first_kept = held.first_kept();
-    table.put(held);
     DONE
 }
 
@@ -49,7 +48,6 @@ pub extern "C" fn pidtab_record_counts(
 /// `CLOSED` where there is no open record; then `OUT_OF_RANGE` where there is no such worker. It costs nothing.
 #[unsafe(no_mangle)]
 pub extern "C" fn pidtab_record_worker(
-    alloc: Global,
     table: &mut PidtabRecord,
     worker: u32,
     calls: &mut u64,
@@ -62,16 +60,15 @@ pub extern "C" fn pidtab_record_worker(
         ↔ Has table.old.handle.held (λ c. length c.cut ≤ worker) }
     ensures statuses { (result ≡ DONE) ⊎ ((result ≡ CLOSED) ⊎ (result ≡ OUT_OF_RANGE)) }
 {
-    let Some(held) = table.take(alloc) else {
+    if !table.is_open {
         return CLOSED;
-    };
+    }
+    let held = table.handle.look();
     let worker = worker as usize;
     if worker >= held.workers() {
-        table.put(held);
         return OUT_OF_RANGE;
     }
     *calls = held.recorded(worker);
-    table.put(held);
     DONE
 }
 
@@ -82,7 +79,6 @@ pub extern "C" fn pidtab_record_worker(
 /// costs the same for each ordinal.
 #[unsafe(no_mangle)]
 pub extern "C" fn pidtab_record_entry(
-    alloc: Global,
     table: &mut PidtabRecord,
     ordinal: u64,
     worker: &mut u64,
@@ -99,12 +95,10 @@ pub extern "C" fn pidtab_record_entry(
         ↔ Has table.old.handle.held (λ c. kept_entry c ordinal ≡ None) }
     ensures statuses { (result ≡ DONE) ⊎ ((result ≡ CLOSED) ⊎ (result ≡ NOT_KEPT)) }
 {
-    let Some(held) = table.take(alloc) else {
+    if !table.is_open {
         return CLOSED;
-    };
-    let status = tell_entry(&held, ordinal, worker, call, reply);
-    table.put(held);
-    status
+    }
+    tell_entry(table.handle.look(), ordinal, worker, call, reply)
 }
 
 /// Cuts the history: the present state becomes the opening, and no entry is kept. Stamps and ordinals go on.
@@ -199,12 +193,10 @@ pub extern "C" fn pidtab_record_list(
     ensures no_room { result ≡ NO_ROOM → length room.old < size.new }
     ensures statuses { (result ≡ DONE) ⊎ ((result ≡ CLOSED) ⊎ ((result ≡ NO_ROOM) ⊎ (result ≡ NO_MEMORY))) }
 {
-    let Some(held) = table.take(alloc) else {
+    if !table.is_open {
         return CLOSED;
-    };
-    let text = present_text(alloc, &held);
-    table.put(held);
-    match text {
+    }
+    match present_text(alloc, table.handle.look()) {
         Ok(text) => write_text(text.as_slice(), room, size),
         Err(_) => NO_MEMORY,
     }
@@ -233,12 +225,10 @@ pub extern "C" fn pidtab_record_opening(
     ensures no_room { result ≡ NO_ROOM → length room.old < size.new }
     ensures statuses { (result ≡ DONE) ⊎ ((result ≡ CLOSED) ⊎ ((result ≡ NO_ROOM) ⊎ (result ≡ NO_MEMORY))) }
 {
-    let Some(held) = table.take(alloc) else {
+    if !table.is_open {
         return CLOSED;
-    };
-    let text = opening_text(alloc, &held);
-    table.put(held);
-    match text {
+    }
+    match opening_text(alloc, table.handle.look()) {
         Ok(text) => write_text(text.as_slice(), room, size),
         Err(_) => NO_MEMORY,
     }

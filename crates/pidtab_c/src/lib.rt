@@ -172,12 +172,10 @@ pub extern "C" fn pidtab_list(
     ensures no_room { result ≡ NO_ROOM → length room.old < size.new }
     ensures statuses { (result ≡ DONE) ⊎ ((result ≡ CLOSED) ⊎ ((result ≡ NO_ROOM) ⊎ (result ≡ NO_MEMORY))) }
 {
-    let Some(held) = table.take(alloc) else {
+    if !table.is_open {
         return CLOSED;
-    };
-    let text = list_of(alloc, &held);
-    table.put(held);
-    match text {
+    }
+    match list_of(alloc, table.handle.look()) {
         Ok(text) => write_text(text.as_slice(), room, size),
         Err(_) => NO_MEMORY,
     }

@@ -7,7 +7,6 @@ ghost use Rattle.foreign_calls.specs.Records.{Has};
 use foreign_calls::read::{EntryNumbers, read_on};
 use foreign_calls::record::PidtabRecord;
 use foreign_calls::status::{CLOSED, DONE, NOT_KEPT};
-use std::alloc::Global;
 
 /// Writes the kept entries from the ordinal `from` on at the front of the room, in order: as many as there are, and as
 /// there is room for. `count` is how many. Entries of the room behind them stay as they are.
@@ -17,7 +16,6 @@ use std::alloc::Global;
 /// entry.
 #[unsafe(no_mangle)]
 pub extern "C" fn pidtab_record_read(
-    alloc: Global,
     table: &mut PidtabRecord,
     from: u64,
     entries: &mut [EntryNumbers],
@@ -34,14 +32,13 @@ pub extern "C" fn pidtab_record_read(
     ensures not_kept { (result ≡ NOT_KEPT) ↔ Has table.old.handle.held (λ c. IsWithin from c → ⊥) }
     ensures statuses { (result ≡ DONE) ⊎ ((result ≡ CLOSED) ⊎ (result ≡ NOT_KEPT)) }
 {
-    let Some(held) = table.take(alloc) else {
+    if !table.is_open {
         return CLOSED;
-    };
+    }
+    let held = table.handle.look();
     if from < held.first_kept() || held.total() < from {
-        table.put(held);
         return NOT_KEPT;
     }
-    *count = read_on(&held, from, entries);
-    table.put(held);
+    *count = read_on(held, from, entries);
     DONE
 }

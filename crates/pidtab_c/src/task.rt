@@ -8,7 +8,6 @@ use foreign_calls::record::PidtabRecord;
 use foreign_calls::status::{CLOSED, DONE};
 use foreign_calls::table::Pidtab;
 use foreign_calls::task::{TaskNumbers, tell_task};
-use std::alloc::Global;
 
 /// Reads the task with the number in the caller's namespace, where 0 is the caller: a zombie too, as `getpgid(2)` finds
 /// it.
@@ -18,7 +17,6 @@ use std::alloc::Global;
 /// each level.
 #[unsafe(no_mangle)]
 pub extern "C" fn pidtab_stat(
-    alloc: Global,
     table: &mut Pidtab,
     caller: u32,
     number: u32,
@@ -31,11 +29,11 @@ pub extern "C" fn pidtab_stat(
     ensures closed { (result ≡ CLOSED) ↔ (table.old.handle.held ≡ None) }
     ensures statuses { (result ≡ DONE) ⊎ (result ≡ CLOSED) }
 {
-    let Some(held) = table.take(alloc) else {
+    if !table.is_open {
         return CLOSED;
-    };
+    }
+    let held = table.handle.look();
     let read = held.stat(caller, number);
-    table.put(held);
     *task = tell_task(read);
     DONE
 }
@@ -45,7 +43,6 @@ pub extern "C" fn pidtab_stat(
 /// `CLOSED` where there is no open record.
 #[unsafe(no_mangle)]
 pub extern "C" fn pidtab_record_stat(
-    alloc: Global,
     table: &mut PidtabRecord,
     caller: u32,
     number: u32,
@@ -58,10 +55,10 @@ pub extern "C" fn pidtab_record_stat(
     ensures closed { (result ≡ CLOSED) ↔ (table.old.handle.held ≡ None) }
     ensures statuses { (result ≡ DONE) ⊎ (result ≡ CLOSED) }
 {
-    let Some(held) = table.take(alloc) else {
+    if !table.is_open {
         return CLOSED;
-    };
+    }
+    let held = table.handle.look();
     *task = tell_task(held.stat(caller, number));
-    table.put(held);
     DONE
 }
