@@ -8,7 +8,6 @@ use pid_types::reply::{CallFault, Reply};
 use script_session::session::{Table, run_dialogue};
 use script_session::tally::{RunScriptFault, Tally};
 use std::process::Abort;
-use std::test::Fail;
 
 /// A table that finds no memory for any call.
 #[derive(Drop)]

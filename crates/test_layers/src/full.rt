@@ -1,136 +1,86 @@
 //! Tables that leave little room: with all numbers in use, with many namespaces that are gone, and with all levels.
 
-use crate::running::{Running, Wrong};
+use crate::running::Running;
 use pid_types::call::{Call, Which};
 use pid_types::config::Config;
 use pid_types::keys::Pid;
-use pid_types::reply::Reply;
-use std::alloc::Global;
-use std::test::Fail;
+use std::process::Abort;
 
-/// A table whose greatest number is 300.
-fn small(alloc: Global) -> Result<Running, Wrong> {
-    match Config::new(301, 1) {
-        Ok(config) => Ok(Running::new(alloc, &config)?),
-        Err(_) => Err(Wrong::Spent),
+/// A table whose greatest number is 300, with so many children of the root init.
+fn small(rt: &(impl AllocGlobal + Abort), children: u32) -> Running {
+    let config = Config::new(301, 1).expect(rt, "bad settings");
+    let mut table = Running::new(rt, &config);
+    for _child in 0..children {
+        let _root = fork(rt, &mut table, 1, false);
     }
+    table
 }
 
-/// Forks a child: its number in the caller's namespace, and its root number.
-fn fork(table: &mut Running, caller: Pid, new_space: bool) -> Result<(Pid, Pid), Wrong> {
-    match table.call(Call::Fork { caller, new_space })? {
-        Reply::Forked { child, root } => Ok((child, root)),
-        _ => Err(Wrong::Spent),
-    }
+fn fork(rt: &impl Abort, table: &mut Running, caller: Pid, new_space: bool) -> Pid {
+    table.make(rt, Call::Fork { caller, new_space })
 }
 
-/// The child of the root init ends, and is reaped.
-fn end(table: &mut Running, caller: Pid) -> Result<(), Wrong> {
-    let _done = table.call(Call::Exit { caller, status: 0 })?;
-    let which = Which::Any;
-    let _reaped = table.call(Call::Wait { caller: 1, which })?;
-    Ok(())
-}
-
-/// All 300 numbers are in use, and a task's children go into a namespace that is gone.
-fn fill(table: &mut Running) -> Result<(), Wrong> {
-    for _number in 2..299u32 {
-        let _child = fork(table, 1, false)?;
-    }
-    let (_, outer) = fork(table, 1, true)?;
-    let (_, inner) = fork(table, outer, true)?;
-    let _joined = table.call(Call::Join {
-        caller: 2,
-        target: inner,
-    })?;
-    let _fell = table.call(Call::Exit {
+/// The last two numbers are taken, and a task's children go into a namespace that is gone.
+fn fill(rt: &impl Abort, table: &mut Running) {
+    let outer = fork(rt, table, 1, true);
+    let target = fork(rt, table, outer, true);
+    let _joined = table.make(rt, Call::Join { caller: 2, target });
+    let exit = Call::Exit {
         caller: outer,
         status: 0,
-    })?;
-    let _last = fork(table, 1, false)?;
-    Ok(())
+    };
+    let _fell = table.make(rt, exit);
+    let _last = fork(rt, table, 1, false);
 }
 
-/// Such a table comes back.
-fn keeps_full(alloc: Global) -> Result<(), Wrong> {
-    let mut table = small(alloc)?;
-    fill(&mut table)?;
-    table.comes_back(alloc)
-}
-
+/// All 300 numbers are in use.
 #[test]
-fn loads_a_full_table(rt: HostRuntime) -> Result<(), Fail> {
-    keeps_full(rt.alloc())?;
-    Ok(())
-}
-
-/// Half of the numbers are free, and the children of 150 tasks go into as many namespaces that are gone.
-fn lose_namespaces(table: &mut Running) -> Result<(), Wrong> {
-    for _number in 2..152u32 {
-        let _child = fork(table, 1, false)?;
-    }
-    for caller in 2..152u32 {
-        lose_namespace(table, caller)?;
-    }
-    Ok(())
+fn loads_a_full_table(rt: HostRuntime) {
+    let mut table = small(&rt, 297);
+    fill(&rt, &mut table);
+    let _loaded = table.reloaded(&rt);
 }
 
 /// The children of the task go into a namespace, which then is gone.
-fn lose_namespace(table: &mut Running, caller: Pid) -> Result<(), Wrong> {
-    let (target, init) = fork(table, 1, true)?;
-    let _joined = table.call(Call::Join { caller, target })?;
-    end(table, init)
+fn lose_namespace(rt: &impl Abort, table: &mut Running, caller: Pid) {
+    let target = fork(rt, table, 1, true);
+    let _joined = table.make(rt, Call::Join { caller, target });
+    let exit = Call::Exit {
+        caller: target,
+        status: 0,
+    };
+    let _done = table.make(rt, exit);
+    let which = Which::Any;
+    let _reaped = table.make(rt, Call::Wait { caller: 1, which });
 }
 
-/// Such a table comes back.
-fn keeps_lost(alloc: Global) -> Result<(), Wrong> {
-    let mut table = small(alloc)?;
-    lose_namespaces(&mut table)?;
-    table.comes_back(alloc)
-}
-
+/// Half of the numbers are free, and the children of 150 tasks go into as many namespaces that are gone.
 #[test]
-fn loads_many_lost_namespaces(rt: HostRuntime) -> Result<(), Fail> {
-    keeps_lost(rt.alloc())?;
-    Ok(())
-}
-
-/// Namespaces down to the deepest, each with a session of its own. It answers the init of the tenth.
-fn make_levels(table: &mut Running) -> Result<Pid, Wrong> {
-    let mut caller = 1;
-    let mut tenth = 1;
-    for level in 1..33u32 {
-        caller = make_level(table, caller)?;
-        if level == 10 {
-            tenth = caller;
-        }
+fn loads_many_lost_namespaces(rt: HostRuntime) {
+    let mut table = small(&rt, 150);
+    for caller in 2..152 {
+        lose_namespace(&rt, &mut table, caller);
     }
-    Ok(tenth)
+    let _loaded = table.reloaded(&rt);
 }
 
-/// Makes a namespace with a session of its own, and answers its init.
-fn make_level(table: &mut Running, caller: Pid) -> Result<Pid, Wrong> {
-    let (_, init) = fork(table, caller, true)?;
-    let _session = table.call(Call::SetSid { caller: init })?;
-    Ok(init)
+/// Namespaces from that of the caller down, so many, each with a session of its own. It answers the last init.
+fn make_levels(rt: &impl Abort, table: &mut Running, first: Pid, count: u32) -> Pid {
+    let mut caller = first;
+    for _level in 0..count {
+        caller = fork(rt, table, caller, true);
+        let _session = table.make(rt, Call::SetSid { caller });
+    }
+    caller
 }
 
 /// All levels stand; then those from the tenth on have fallen.
-fn keeps_levels(alloc: Global) -> Result<(), Wrong> {
-    let mut table = small(alloc)?;
-    keep_levels(alloc, &mut table)
-}
-
-/// The table comes back with all levels, and when those from the tenth on have fallen.
-fn keep_levels(alloc: Global, table: &mut Running) -> Result<(), Wrong> {
-    let caller = make_levels(table)?;
-    table.comes_back(alloc)?;
-    let _fell = table.call(Call::Exit { caller, status: 3 })?;
-    table.comes_back(alloc)
-}
-
 #[test]
-fn loads_all_levels(rt: HostRuntime) -> Result<(), Fail> {
-    keeps_levels(rt.alloc())?;
-    Ok(())
+fn loads_all_levels(rt: HostRuntime) {
+    let mut table = small(&rt, 0);
+    let caller = make_levels(&rt, &mut table, 1, 10);
+    let _deepest = make_levels(&rt, &mut table, caller, 22);
+    let _standing = table.reloaded(&rt);
+    let _fell = table.make(&rt, Call::Exit { caller, status: 3 });
+    let _fallen = table.reloaded(&rt);
 }

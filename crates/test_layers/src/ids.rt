@@ -1,9 +1,29 @@
 //! `CyclicIds`: worked draws.
 
-ghost use Rattle.std.specs.Prelude.{◌<◌};
+ghost use Rattle.std.specs.Prelude.{◌<◌, ◌≤◌};
 
 use cyclic_ids::{CyclicIds, GROUP_MARK, SESSION_MARK, TASK_MARK};
 use std::process::Abort;
+
+/// A call on the ids, and what it answers.
+#[derive(Drop)]
+enum Step {
+    /// The next number is given to itself.
+    Draw(Option<u32>),
+    /// A number goes, whose entry is itself.
+    Release(u32),
+    /// The next number is given to the entry, with the marks.
+    Give(u32, [bool; 3]),
+    /// A mark is set, where there is an entry to have it.
+    Set(u32, usize, bool),
+    Clear(u32, usize),
+    Entry(u32, u32),
+    HasMark(u32, usize, bool),
+    Marked(usize, Option<u32>),
+    Next(u32, Option<u32>),
+    Cursor(u32),
+    IsEmpty(bool),
+}
 
 /// Draws a number, again where there was no memory.
 fn draw(ids: &mut CyclicIds) -> Option<u32> {
@@ -15,155 +35,151 @@ fn draw(ids: &mut CyclicIds) -> Option<u32> {
     None
 }
 
-// What the ids answer, of which the tests know nothing more.
-
-fn expect_draw(rt: &impl Abort, ids: &mut CyclicIds, drawn: Option<u32>) {
-    assert!(rt; draw(ids) == drawn);
-}
-
-/// Releases a number that was drawn, whose entry is itself.
-fn expect_release(rt: &impl Abort, ids: &mut CyclicIds, n: u32) {
-    assert!(rt; ids.release(n) == Some(n));
-}
-
-fn expect_entry(rt: &impl Abort, ids: &CyclicIds, n: u32, entry: u32) {
-    assert!(rt; ids.find(n).copied() == Some(entry));
-}
-
-fn expect_marked(rt: &impl Abort, ids: &CyclicIds, mark: usize, next: Option<u32>)
-    requires { mark < 3 }
-{
-    assert!(rt; ids.next_marked(0, mark) == next);
-}
-
-fn expect_next(rt: &impl Abort, ids: &CyclicIds, from: u32, next: Option<u32>) {
-    assert!(rt; ids.next(from) == next);
-}
-
-fn expect_cursor(rt: &impl Abort, ids: &CyclicIds, cursor: u32) {
-    assert!(rt; ids.cursor() == cursor);
-}
-
-fn expect_has_mark(rt: &impl Abort, ids: &CyclicIds, n: u32, mark: usize, has: bool)
-    requires { mark < 3 }
-{
-    assert!(rt; ids.has_mark(n, mark) == has);
-}
-
 /// Gives the planned number with marks, again where there was no memory.
-fn give_marked(ids: &mut CyclicIds, entry: u32, marks: [bool; 3]) {
+fn give_marked(ids: &mut CyclicIds, entry: u32, marks: [bool; 3]) -> bool {
     if let Some(n) = ids.plan() {
         if ids.prepare(n).is_ok() || ids.prepare(n).is_ok() {
             ids.commit_marked(n, entry, marks);
+            return true;
         }
+    }
+    false
+}
+
+/// Whether the ids show what the step says.
+fn is_shown(ids: &CyclicIds, step: &Step) -> bool {
+    match step {
+        Step::Entry(n, entry) => ids.find(*n).copied() == Some(*entry),
+        Step::HasMark(n, mark, told) => *mark < 3 && ids.has_mark(*n, *mark) == *told,
+        Step::Marked(mark, told) => *mark < 3 && ids.next_marked(0, *mark) == *told,
+        Step::Next(from, told) => ids.next(*from) == *told,
+        Step::Cursor(told) => ids.cursor() == *told,
+        Step::IsEmpty(told) => ids.is_empty() == *told,
+        _ => false,
     }
 }
 
-/// Sets a mark, where there is an entry to have it.
-fn expect_set(rt: &impl Abort, ids: &mut CyclicIds, n: u32, mark: usize, is_set: bool)
-    requires { mark < 3 }
-{
-    assert!(rt; ids.set_mark(n, mark) == is_set);
+/// Whether the ids answer what the step says.
+fn is_answered(ids: &mut CyclicIds, step: &Step) -> bool {
+    match step {
+        Step::Draw(told) => draw(ids) == *told,
+        Step::Release(n) => ids.release(*n) == Some(*n),
+        Step::Give(entry, marks) => give_marked(ids, *entry, *marks),
+        Step::Set(n, mark, told) => *mark < 3 && ids.set_mark(*n, *mark) == *told,
+        Step::Clear(n, mark) => *mark < 3 && ids.clear_mark(*n, *mark),
+        look => is_shown(ids, look),
+    }
 }
 
-fn expect_cleared(rt: &impl Abort, ids: &mut CyclicIds, n: u32, mark: usize)
-    requires { mark < 3 }
+/// Draws the numbers from 1 to the one given, makes the calls then, and compares what they answer.
+fn play(rt: &(impl AllocGlobal + Abort), pid_max: u32, drawn: u32, steps: &[Step])
+    requires least { 301 ≤ pid_max }
+    requires most { pid_max ≤ 4194304 }
 {
-    assert!(rt; ids.clear_mark(n, mark));
+    let mut ids = CyclicIds::new(rt.alloc(), pid_max);
+    for n in 0..drawn {
+        assert!(rt; draw(&mut ids) == n.checked_add(1));
+    }
+    for step in steps {
+        assert!(rt; is_answered(&mut ids, step));
+    }
 }
 
-fn expect_empty(rt: &impl Abort, ids: &CyclicIds, is_empty: bool) {
-    assert!(rt; ids.is_empty() == is_empty);
-}
+static EMPTY: [Step; 5] = [
+    Step::IsEmpty(true),
+    Step::Draw(Some(1)),
+    Step::IsEmpty(false),
+    Step::Release(1),
+    Step::IsEmpty(true),
+];
 
 /// No number is in use, then one, then none again.
 #[test]
 fn tells_whether_a_number_is_in_use(rt: HostRuntime) {
-    let mut ids = CyclicIds::new(rt.alloc(), 301);
-    expect_empty(&rt, &ids, true);
-    expect_draw(&rt, &mut ids, Some(1));
-    expect_empty(&rt, &ids, false);
-    expect_release(&rt, &mut ids, 1);
-    expect_empty(&rt, &ids, true);
+    play(&rt, 301, 0, &EMPTY);
 }
+
+static TURNS: [Step; 8] = [
+    Step::Cursor(301),
+    Step::Draw(None),
+    Step::Release(7),
+    Step::Draw(None),
+    Step::Release(300),
+    Step::Cursor(301),
+    Step::Draw(Some(300)),
+    Step::Entry(300, 300),
+];
 
 /// 1 to 300, and then only what is freed from 300 on.
 #[test]
 fn draws_in_turn(rt: HostRuntime) {
-    let mut ids = CyclicIds::new(rt.alloc(), 301);
-    for n in 1..=300 {
-        expect_draw(&rt, &mut ids, Some(n));
-    }
-    expect_cursor(&rt, &ids, 301);
-    expect_draw(&rt, &mut ids, None);
-    expect_release(&rt, &mut ids, 7);
-    expect_draw(&rt, &mut ids, None);
-    expect_release(&rt, &mut ids, 300);
-    expect_cursor(&rt, &ids, 301);
-    expect_draw(&rt, &mut ids, Some(300));
-    expect_entry(&rt, &ids, 300, 300);
+    play(&rt, 301, 300, &TURNS);
 }
+
+static RESTARTS: [Step; 8] = [
+    Step::Release(5),
+    Step::Release(301),
+    Step::Release(302),
+    Step::Draw(Some(301)),
+    Step::Release(300),
+    Step::Draw(Some(302)),
+    Step::Draw(Some(300)),
+    Step::Draw(None),
+];
 
 /// Past the bound a draw starts again at 300: 5, which is free, is not drawn.
 #[test]
 fn restarts_at_300(rt: HostRuntime) {
-    let mut ids = CyclicIds::new(rt.alloc(), 303);
-    for n in 1..=302 {
-        expect_draw(&rt, &mut ids, Some(n));
-    }
-    expect_release(&rt, &mut ids, 5);
-    expect_release(&rt, &mut ids, 301);
-    expect_release(&rt, &mut ids, 302);
-    expect_draw(&rt, &mut ids, Some(301));
-    expect_release(&rt, &mut ids, 300);
-    expect_draw(&rt, &mut ids, Some(302));
-    expect_draw(&rt, &mut ids, Some(300));
-    expect_draw(&rt, &mut ids, None);
+    play(&rt, 303, 302, &RESTARTS);
 }
+
+static GIVEN: [Step; 6] = [
+    Step::Give(9, [true, false, true]),
+    Step::Entry(1, 9),
+    Step::Marked(TASK_MARK, Some(1)),
+    Step::HasMark(1, GROUP_MARK, false),
+    Step::HasMark(1, SESSION_MARK, true),
+    Step::Cursor(2),
+];
 
 /// A number that is given with marks has those, and no other.
 #[test]
 fn gives_with_marks(rt: HostRuntime) {
-    let mut ids = CyclicIds::new(rt.alloc(), 301);
-    give_marked(&mut ids, 9, [true, false, true]);
-    expect_entry(&rt, &ids, 1, 9);
-    expect_marked(&rt, &ids, TASK_MARK, Some(1));
-    expect_has_mark(&rt, &ids, 1, GROUP_MARK, false);
-    expect_has_mark(&rt, &ids, 1, SESSION_MARK, true);
-    expect_cursor(&rt, &ids, 2);
+    play(&rt, 301, 0, &GIVEN);
 }
+
+static MARKS: [Step; 7] = [
+    Step::Marked(TASK_MARK, None),
+    Step::Set(2, GROUP_MARK, true),
+    Step::Set(3, GROUP_MARK, false),
+    Step::Marked(GROUP_MARK, Some(2)),
+    Step::HasMark(2, SESSION_MARK, false),
+    Step::Clear(2, GROUP_MARK),
+    Step::Marked(GROUP_MARK, None),
+];
 
 /// A mark is on a number that is in use, and on no other.
 #[test]
 fn marks_numbers(rt: HostRuntime) {
-    let mut ids = CyclicIds::new(rt.alloc(), 301);
-    expect_draw(&rt, &mut ids, Some(1));
-    expect_draw(&rt, &mut ids, Some(2));
-    expect_marked(&rt, &ids, TASK_MARK, None);
-    expect_set(&rt, &mut ids, 2, GROUP_MARK, true);
-    expect_set(&rt, &mut ids, 3, GROUP_MARK, false);
-    expect_marked(&rt, &ids, GROUP_MARK, Some(2));
-    expect_has_mark(&rt, &ids, 2, SESSION_MARK, false);
-    expect_cleared(&rt, &mut ids, 2, GROUP_MARK);
-    expect_marked(&rt, &ids, GROUP_MARK, None);
+    play(&rt, 301, 2, &MARKS);
 }
+
+static BLOCKS: [Step; 11] = [
+    Step::Set(70, TASK_MARK, true),
+    Step::Set(129, TASK_MARK, true),
+    Step::Marked(TASK_MARK, Some(70)),
+    Step::Release(70),
+    Step::Marked(TASK_MARK, Some(129)),
+    Step::Entry(5, 5),
+    Step::Entry(130, 130),
+    Step::Next(70, Some(71)),
+    Step::Next(131, None),
+    Step::Release(129),
+    Step::Next(129, Some(130)),
+];
 
 /// 130 numbers are in three blocks of 64, of which one at a time stands beside the tree.
 #[test]
 fn draws_across_blocks(rt: HostRuntime) {
-    let mut ids = CyclicIds::new(rt.alloc(), 301);
-    for n in 1..=130 {
-        expect_draw(&rt, &mut ids, Some(n));
-    }
-    expect_set(&rt, &mut ids, 70, TASK_MARK, true);
-    expect_set(&rt, &mut ids, 129, TASK_MARK, true);
-    expect_marked(&rt, &ids, TASK_MARK, Some(70));
-    expect_release(&rt, &mut ids, 70);
-    expect_marked(&rt, &ids, TASK_MARK, Some(129));
-    expect_entry(&rt, &ids, 5, 5);
-    expect_entry(&rt, &ids, 130, 130);
-    expect_next(&rt, &ids, 70, Some(71));
-    expect_next(&rt, &ids, 131, None);
-    expect_release(&rt, &mut ids, 129);
-    expect_next(&rt, &ids, 129, Some(130));
+    play(&rt, 301, 130, &BLOCKS);
 }

@@ -1,37 +1,35 @@
 //! Worked lists, ranks and ids.
 
-ghost use Rattle.std.specs.Prelude.{◌≡◌, ◌<◌, ℕ, [], ◌∷◌, length, Some, None, IfOk};
+ghost use Rattle.std.specs.Prelude.{◌≡◌, ◌<◌, ℕ, [], ◌∷◌, length, Some, None};
 
 use id_slab::RisingIds;
 use member_lists::MemberLists;
 use member_queues::MemberQueues;
-use std::alloc::Global;
 use std::process::Abort;
-use std::test::Fail;
 
-/// The members of an owner in rising order, at most three; 9 where there are fewer.
-fn three(rt: &impl Abort, lists: &MemberLists, owner: u32) -> [u32; 3] {
-    assert!(rt; (owner as usize) < lists.keys());
-    let mut members = lists.members(owner);
-    let mut found = [9; 3];
-    for place in found.iter_mut() {
-        if let Some(key) = members.next() {
-            *place = key;
-        }
-    }
-    assert!(rt; members.next() == None);
+/// The members of owner 1 in rising order, behind `None` for each of four that is not there.
+fn members_of_1(lists: &MemberLists) -> [Option<u32>; 4]
+    requires { 1 < length lists.now }
+{
+    let mut members = lists.members(1);
+    let mut found = [
+        members.next(),
+        members.next(),
+        members.next(),
+        members.next(),
+    ];
     found.sort_unstable();
     found
 }
 
 /// Three keys without an owner.
-fn three_keys(alloc: Global) -> Result<MemberLists, Fail>
-    ensures { IfOk result (λ lists. lists ≡ None ∷ None ∷ None ∷ []) }
+fn three_keys(rt: &(impl AllocGlobal + Abort)) -> MemberLists
+    ensures { result ≡ None ∷ None ∷ None ∷ [] }
 {
-    let mut lists = MemberLists::new(alloc);
-    lists.grow(1)?;
-    lists.grow(2)?;
-    Ok(lists)
+    let mut lists = MemberLists::new(rt.alloc());
+    lists.grow(1).expect(rt, "no memory");
+    lists.grow(2).expect(rt, "no memory");
+    lists
 }
 
 /// All three come to owner 1.
@@ -44,111 +42,97 @@ fn add_three(lists: &mut MemberLists)
     lists.add(2, 1);
 }
 
-fn expect_first(rt: &impl Abort, lists: &MemberLists, owner: u32, first: Option<u32>) {
-    assert!(rt; (owner as usize) < lists.keys());
-    assert!(rt; lists.first(owner) == first);
-}
-
-fn expect_owner(rt: &impl Abort, lists: &MemberLists, key: u32, owner: Option<u32>) {
-    assert!(rt; (key as usize) < lists.keys());
-    assert!(rt; lists.owner(key) == owner);
-}
-
-fn expect_three(rt: &impl Abort, lists: &MemberLists, told: [u32; 3]) {
-    assert!(rt; three(rt, lists, 1) == told);
-}
-
 /// One key moves on to owner 2 and one goes.
-fn move_and_remove(rt: &impl Abort, lists: &mut MemberLists)
+fn move_and_remove(lists: &mut MemberLists)
     requires { lists.old ≡ Some 1 ∷ Some 1 ∷ Some 1 ∷ [] }
+    ensures { lists.new ≡ None ∷ Some 2 ∷ Some 1 ∷ [] }
 {
     lists.move_to(1, 2);
-    expect_owner(rt, lists, 1, Some(2));
-    expect_first(rt, lists, 2, Some(1));
     lists.remove(0);
-    expect_owner(rt, lists, 0, None);
-    expect_three(rt, lists, [2, 9, 9]);
+}
+
+/// The owners of keys 0 and 1, and the first members of owners 1 and 2.
+fn looks(lists: &MemberLists) -> [Option<u32>; 4]
+    requires { 2 < length lists.now }
+{
+    [
+        lists.owner(0),
+        lists.owner(1),
+        lists.first(1),
+        lists.first(2),
+    ]
 }
 
 /// Three keys come to owner 1, one moves on and one goes.
 #[test]
-fn moves_members(rt: HostRuntime) -> Result<(), Fail> {
-    let mut lists = three_keys(rt.alloc())?;
+fn moves_members(rt: HostRuntime) {
+    let mut lists = three_keys(&rt);
     assert!(rt; lists.keys() == 3);
-    expect_first(&rt, &lists, 1, None);
+    assert!(rt; looks(&lists) == [None; 4]);
     add_three(&mut lists);
-    expect_three(&rt, &lists, [0, 1, 2]);
-    move_and_remove(&rt, &mut lists);
-    Ok(())
+    assert!(rt; members_of_1(&lists) == [None, Some(0), Some(1), Some(2)]);
+    move_and_remove(&mut lists);
+    assert!(rt; looks(&lists) == [None, Some(2), Some(2), Some(1)]);
+    assert!(rt; members_of_1(&lists) == [None, None, None, Some(2)]);
 }
 
 /// Keys 0 to 2 as members of owner 2, of which key 1 came second and ranks least.
-fn three_members(alloc: Global) -> Result<MemberQueues, Fail>
-    ensures { IfOk result (λ members. members ≡ Some (2, 50) ∷ Some (2, 40) ∷ Some (2, 60) ∷ []) }
+fn three_members(rt: &(impl AllocGlobal + Abort)) -> MemberQueues
+    ensures { result ≡ Some (2, 50) ∷ Some (2, 40) ∷ Some (2, 60) ∷ [] }
 {
-    let mut members = MemberQueues::new(alloc);
-    members.grow(1)?;
-    members.grow(2)?;
+    let mut members = MemberQueues::new(rt.alloc());
+    members.grow(1).expect(rt, "no memory");
+    members.grow(2).expect(rt, "no memory");
     members.insert(0, 2, 50);
     members.insert(1, 2, 40);
     members.insert(2, 2, 60);
-    Ok(members)
+    members
 }
 
-fn expect_least(rt: &impl Abort, members: &MemberQueues, least: Option<u32>)
+/// The least member of owner 2, and the ranks of keys 0 and 1.
+fn ranks(members: &MemberQueues) -> [Option<u32>; 3]
     requires { 2 < length members.now }
 {
-    assert!(rt; members.least(2) == least);
+    [members.least(2), members.rank(0), members.rank(1)]
 }
 
 /// The least of an owner, whatever the order in which they came.
 #[test]
-fn answers_least(rt: HostRuntime) -> Result<(), Fail> {
-    let mut members = three_members(rt.alloc())?;
+fn answers_least(rt: HostRuntime) {
+    let mut members = three_members(&rt);
     assert!(rt; members.keys() == 3);
-    assert!(rt; members.rank(1) == Some(40));
-    expect_least(&rt, &members, Some(1));
+    assert!(rt; ranks(&members) == [Some(1), Some(50), Some(40)]);
     members.remove(1);
-    expect_least(&rt, &members, Some(0));
+    assert!(rt; ranks(&members) == [Some(0), Some(50), None]);
     members.remove(2);
-    expect_least(&rt, &members, Some(0));
+    assert!(rt; ranks(&members) == [Some(0), Some(50), None]);
     members.remove(0);
-    expect_least(&rt, &members, None);
-    assert!(rt; members.rank(0) == None);
-    Ok(())
+    assert!(rt; ranks(&members) == [None; 3]);
 }
 
-fn expect_key(rt: &impl Abort, ids: &RisingIds, id: u64, key: Option<u32>) {
-    assert!(rt; ids.find(id) == key);
-}
-
-/// The ids with their keys are these three, in this order.
-fn expect_all(rt: &impl Abort, ids: &RisingIds, told: &[(u64, u32); 3]) {
-    let mut all = ids.iter();
-    for entry in told {
-        assert!(rt; all.next() == Some(*entry));
-    }
-    assert!(rt; all.next() == None);
-}
-
-/// Three ids, of which one goes and another comes.
-fn change_ids(rt: &impl Abort, ids: &mut RisingIds) -> Result<(), Fail>
-    requires { ids.old ≡ [] }
+/// The ids 3, 5 and 9.
+fn three_ids(rt: &(impl AllocGlobal + Abort)) -> RisingIds
+    ensures { result ≡ (3, 7) ∷ (5, 8) ∷ (9, 6) ∷ [] }
 {
-    ids.push(3, 7)?;
-    ids.push(5, 8)?;
-    ids.push(9, 6)?;
-    expect_key(rt, ids, 5, Some(8));
-    expect_key(rt, ids, 4, None);
-    assert!(rt; ids.remove(9) == Some(6));
-    assert!(rt; ids.remove(9) == None);
-    ids.push(6, 6)?;
-    expect_all(rt, ids, &[(3, 7), (5, 8), (6, 6)]);
-    Ok(())
+    let mut ids = RisingIds::new(rt.alloc());
+    ids.push(3, 7).expect(rt, "no memory");
+    ids.push(5, 8).expect(rt, "no memory");
+    ids.push(9, 6).expect(rt, "no memory");
+    ids
+}
+
+/// The first ids with their keys, in order.
+fn all_of(ids: &RisingIds) -> [Option<(u64, u32)>; 4] {
+    let mut all = ids.iter();
+    [all.next(), all.next(), all.next(), all.next()]
 }
 
 /// Ids in their order, one of them removed.
 #[test]
-fn keeps_rising_ids(rt: HostRuntime) -> Result<(), Fail> {
-    change_ids(&rt, &mut RisingIds::new(rt.alloc()))
+fn keeps_rising_ids(rt: HostRuntime) {
+    let mut ids = three_ids(&rt);
+    assert!(rt; [ids.find(5), ids.find(4)] == [Some(8), None]);
+    assert!(rt; [ids.remove(9), ids.remove(9)] == [Some(6), None]);
+    ids.push(6, 6).expect(&rt, "no memory");
+    assert!(rt; all_of(&ids) == [Some((3, 7)), Some((5, 8)), Some((6, 6)), None]);
 }

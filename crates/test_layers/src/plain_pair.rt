@@ -16,22 +16,17 @@ use pid_types::reply::Reply;
 use plain_table::table::PlainTable;
 use std::alloc::{AllocError, Global};
 use std::marker::Model;
-use thiserror::Error;
 
 /// Why a call on both tables has no reply, or why they are not one.
-#[derive(Debug, Drop, Error)]
+#[derive(Debug, Drop)]
 pub enum Fault {
     /// The tables answer a call otherwise than one another.
-    #[error("the fast table answers {fast:?}, the plain one {plain:?}")]
     Replies { fast: Reply, plain: Reply },
     /// Each answered as many calls alike, and yet what they show is not the same.
-    #[error("the fast table shows another state than the plain one")]
     States,
     /// The stamps are used up.
-    #[error("no stamp is left")]
     Spent,
     /// There was no memory.
-    #[error("no memory")]
     NoMemory,
 }
 

@@ -8,12 +8,11 @@
 use crate::plain_openings::{ask_below_deepest, build_controls, build_spaces};
 use crate::plain_pair::{Fault, Pair};
 use crate::plain_tally::Tally;
-use anyhow::{Result, bail};
 use pid_types::config::Config;
+use pid_types::plain::Plain;
 use pid_types::reply::Refusal;
 use random_calls::draft::Theme;
 use random_calls::generator::{Aims, Generator};
-use std::alloc::Global;
 use std::process::Abort;
 
 /// How many calls a run has.
@@ -58,18 +57,12 @@ fn from_root(seed: u64, theme: Theme, pid_max: u32, most_tasks: usize) -> Settin
 }
 
 /// Makes both runs, which are to meet these refusals.
-fn run_two(alloc: Global, settings: &[Setting; 2], wanted: &[Refusal]) -> Result<()> {
+fn expect_same(rt: &(impl AllocGlobal + Abort), settings: &[Setting; 2], wanted: &[Refusal]) {
     let mut tally = Tally::new();
     for setting in settings {
-        run(alloc, setting, &mut tally)?;
+        run(rt, setting, &mut tally);
     }
-    tally.check(wanted)
-}
-
-fn expect_same(rt: &(impl AllocGlobal + Abort), settings: &[Setting; 2], wanted: &[Refusal]) {
-    if let Err(fault) = run_two(rt.alloc(), settings, wanted) {
-        assert!(rt; false, "{fault}");
-    }
+    tally.check(rt, wanted);
 }
 
 #[test]
@@ -165,58 +158,48 @@ fn deep_controls() -> Setting {
 }
 
 /// Makes one run on tables of its own.
-fn run(alloc: Global, setting: &Setting, tally: &mut Tally) -> Result<()> {
-    let config = Config::new(setting.pid_max, 1)?;
-    let mut pair = Pair::new(alloc, &config)?;
-    act(&mut pair, setting, tally)
-}
-
-/// Makes one run on new tables.
-fn act(pair: &mut Pair, setting: &Setting, tally: &mut Tally) -> Result<()> {
-    open(pair, setting.opening, tally)?;
-    let before = tally.calls();
-    let Err(fault) = play(pair, setting, tally) else {
-        return Ok(());
-    };
-    let call = tally.calls().saturating_sub(before);
-    bail!("seed {}, call {call}: {fault}", setting.seed)
+fn run(rt: &(impl AllocGlobal + Abort), setting: &Setting, tally: &mut Tally) {
+    let config = Config::new(setting.pid_max, 1).expect(rt, "bad settings");
+    let mut pair = Pair::new(rt.alloc(), &config).expect(rt, "no memory");
+    open(rt, &mut pair, setting.opening, tally);
+    play(rt, &mut pair, setting, tally);
 }
 
 /// Makes what a run begins with.
-fn open(pair: &mut Pair, opening: Opening, tally: &mut Tally) -> Result<()> {
+fn open(rt: &impl Abort, pair: &mut Pair, opening: Opening, tally: &mut Tally) {
     match opening {
-        Opening::Root => Ok(()),
+        Opening::Root => {}
         Opening::Spaces => {
-            build_spaces(pair)?;
+            build_spaces(rt, pair);
             // Random callers seldom stand at the deepest level when they ask for one more.
-            ask_below_deepest(pair)?;
+            ask_below_deepest(rt, pair);
             tally.meet(Refusal::TooDeep);
-            Ok(())
         }
-        Opening::Controls => build_controls(pair),
+        Opening::Controls => build_controls(rt, pair),
     }
 }
 
 /// Makes the calls of a run, and compares what they leave.
-fn play(pair: &mut Pair, setting: &Setting, tally: &mut Tally) -> Result<(), Fault> {
-    let mut generator = Generator::new(setting.seed, setting.aims, pair.snapshot()?);
+fn play(rt: &impl Abort, pair: &mut Pair, setting: &Setting, tally: &mut Tally) {
+    let mut generator = Generator::new(setting.seed, setting.aims, look(rt, pair));
     for ordinal in 0..CALLS {
         if ordinal % BETWEEN_PICTURES == 0 {
-            look(&mut generator, pair)?;
+            generator.look(look(rt, pair));
         }
-        make(&mut generator, pair, tally)?;
+        match pair.make(generator.call()) {
+            Ok(reply) => tally.count(&reply),
+            Err(fault) => tell(rt, setting.seed, ordinal, &fault),
+        }
     }
-    look(&mut generator, pair)
+    let _last = look(rt, pair);
 }
 
-/// Shows the generator the table that both have. The error is that they have two.
-fn look(generator: &mut Generator, pair: &Pair) -> Result<(), Fault> {
-    generator.look(pair.snapshot()?);
-    Ok(())
+/// A call was answered otherwise by one table than by the other.
+fn tell(rt: &impl Abort, seed: u64, ordinal: u32, fault: &Fault) {
+    assert!(rt; false, "seed {seed}, call {ordinal}: {fault:?}");
 }
 
-/// Makes the next call. The error is that the tables answer otherwise than one another.
-fn make(generator: &mut Generator, pair: &mut Pair, tally: &mut Tally) -> Result<(), Fault> {
-    tally.count(&pair.make(generator.call())?);
-    Ok(())
+/// What both tables show, which is to be the same.
+fn look(rt: &impl Abort, pair: &Pair) -> Plain {
+    pair.snapshot().expect(rt, "two states")
 }

@@ -1,97 +1,97 @@
 //! Tables that few scripts leave: namespaces that have gone or fallen, and groups and sessions that no task bears the
 //! name of.
 
-use crate::running::{Running, Wrong};
+use crate::running::Running;
 use pid_script::line::{Line, parse_line};
 use pid_types::config::Config;
-use std::alloc::Global;
-use std::test::Fail;
+use std::process::Abort;
 
-/// Makes the calls of the lines.
-fn play(table: &mut Running, lines: &[&[u8]]) -> Result<(), Wrong> {
-    for line in lines {
-        if let Line::Call(call) = parse_line(line) {
-            let _reply = table.call(call)?;
+/// Makes the calls of the script, whatever they answer.
+fn play(rt: &impl Abort, table: &mut Running, script: &str) {
+    for line in script.lines() {
+        if let Line::Call(call) = parse_line(line.as_bytes()) {
+            let _reply = table.call(rt, call);
         }
     }
-    Ok(())
 }
 
-/// Makes the calls of the lines, and then saves and loads the table, which is to be as it was.
-fn keeps(alloc: Global, lines: &[&[u8]]) -> Result<(), Wrong> {
-    let mut table = Running::new(alloc, &Config::default_values())?;
-    play(&mut table, lines)?;
-    table.comes_back(alloc)
+/// What the script leaves of a new table.
+pub fn left_by(rt: &(impl AllocGlobal + Abort), config: &Config, script: &str) -> Running {
+    let mut table = Running::new(rt, config);
+    play(rt, &mut table, script);
+    table
 }
+
+/// What the script leaves of a table with the usual settings is saved and loaded, and is as it was.
+fn keeps(rt: &(impl AllocGlobal + Abort), script: &str) {
+    let _loaded = left_by(rt, &Config::default_values(), script).reloaded(rt);
+}
+
+const ONE_INSIDE_THE_OTHER: &str = "fork 1 new
+fork 1
+join 1 2
+fork 2 new
+join 2 2
+join 3 4
+exit 4 0
+wait 2 any
+join 1 1
+";
+
+const ONE_DEEPER: &str = "fork 1 new
+fork 2 new
+join 1 3
+exit 2 3
+wait 1 any
+fork 1
+";
 
 /// Children that go into namespaces which have gone, one inside the other.
 #[test]
-fn loads_lost_namespaces(rt: HostRuntime) -> Result<(), Fail> {
-    let lines: [&[u8]; 9] = [
-        b"fork 1 new",
-        b"fork 1",
-        b"join 1 2",
-        b"fork 2 new",
-        b"join 2 2",
-        b"join 3 4",
-        b"exit 4 0",
-        b"wait 2 any",
-        b"join 1 1",
-    ];
-    keeps(rt.alloc(), &lines)?;
-    let deeper: [&[u8]; 6] = [
-        b"fork 1 new",
-        b"fork 2 new",
-        b"join 1 3",
-        b"exit 2 3",
-        b"wait 1 any",
-        b"fork 1",
-    ];
-    keeps(rt.alloc(), &deeper)?;
-    Ok(())
+fn loads_lost_namespaces(rt: HostRuntime) {
+    keeps(&rt, ONE_INSIDE_THE_OTHER);
+    keeps(&rt, ONE_DEEPER);
 }
+
+const A_BARE_GROUP: &str = "fork 1
+fork 2 new
+setpgid 3 0 0
+setpgid 2 0 3
+exit 3 0
+wait 2 any
+";
+
+const A_BARE_SESSION: &str = "fork 1
+setsid 2
+fork 2
+setpgid 3 0 0
+fork 3
+exit 3 0
+wait 2 any
+exit 2 0
+";
 
 /// A group in a fallen namespace that no task bears the name of, not even its init.
 #[test]
-fn loads_bare_groups_and_sessions(rt: HostRuntime) -> Result<(), Fail> {
-    let fallen: [&[u8]; 6] = [
-        b"fork 1",
-        b"fork 2 new",
-        b"setpgid 3 0 0",
-        b"setpgid 2 0 3",
-        b"exit 3 0",
-        b"wait 2 any",
-    ];
-    keeps(rt.alloc(), &fallen)?;
-    let session: [&[u8]; 8] = [
-        b"fork 1",
-        b"setsid 2",
-        b"fork 2",
-        b"setpgid 3 0 0",
-        b"fork 3",
-        b"exit 3 0",
-        b"wait 2 any",
-        b"exit 2 0",
-    ];
-    keeps(rt.alloc(), &session)?;
-    Ok(())
+fn loads_bare_groups_and_sessions(rt: HostRuntime) {
+    keeps(&rt, A_BARE_GROUP);
+    keeps(&rt, A_BARE_SESSION);
 }
+
+const A_FALLEN_NAMESPACE: &str = "fork 1
+fork 2 new
+join 2 3
+fork 2
+fork 2
+fork 2
+exit 4 7
+setsid 5
+exit 3 9
+fork 1
+";
 
 /// Tasks of a fallen namespace whose parent is outside: one that exited before, and two that were killed.
 #[test]
-fn loads_fallen_namespaces(rt: HostRuntime) -> Result<(), Fail> {
-    let lines: [&[u8]; 10] = [
-        b"fork 1",
-        b"fork 2 new",
-        b"join 2 3",
-        b"fork 2",
-        b"fork 2",
-        b"fork 2",
-        b"exit 4 7",
-        b"setsid 5",
-        b"exit 3 9",
-        b"fork 1",
-    ];
-    keeps(rt.alloc(), &lines)?;
-    Ok(())
+fn loads_fallen_namespaces(rt: HostRuntime) {
+    keeps(&rt, A_FALLEN_NAMESPACE);
 }

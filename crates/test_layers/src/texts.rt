@@ -1,62 +1,20 @@
 //! What texts read like.
 
+use crate::running::Running;
+use crate::scripts::left_by;
 use arrayvec::ArrayVec;
-use pid_script::line::{Line, parse_line};
 use pid_script::list::list_text;
 use pid_types::config::Config;
 use pid_types::plain::{Control, ControlRow, Life, Name, Plain, Row};
-use plain_table::table::PlainTable;
-use std::alloc::{AllocError, Global};
 use std::process::Abort;
-use std::test::Fail;
-use table_text::dump::dump_text;
 use table_text::laws::what_is_written_is_read;
 use table_text::read::{Saved, read_text};
 use table_text::rows::Rows;
 
-/// A table that a script left, and the stamp of its next call.
-#[derive(Drop)]
-struct Left {
-    plain: Plain,
-    stamp: u64,
-}
-
-/// Makes the calls of the script, from a stamp on, and answers the stamp of the next call.
-fn play(table: &mut PlainTable, first: u64, script: &str) -> Result<u64, AllocError> {
-    let mut stamp = first;
-    for line in script.lines() {
-        if let Line::Call(call) = parse_line(line.as_bytes()) {
-            table.step(stamp, call)?;
-            stamp = stamp.saturating_add(1);
-        }
-    }
-    Ok(stamp)
-}
-
-/// Makes the calls of the script on a new table.
-fn left_by(alloc: Global, config: &Config, script: &str) -> Result<Left, AllocError> {
-    let mut table = PlainTable::new(alloc, config)?;
-    let stamp = play(&mut table, config.first_stamp(), script)?;
-    let plain = table.snapshot()?;
-    Ok(Left { plain, stamp })
-}
-
-/// What the script leaves of a table with the usual settings.
-fn leave(rt: &(impl AllocGlobal + Abort), script: &str) -> Left {
-    left_by(rt.alloc(), &Config::default_values(), script).expect(rt, "no memory")
-}
-
-fn text_of(rt: &(impl AllocGlobal + Abort), left: &Left) -> Vec<u8> {
-    dump_text(rt.alloc(), &left.plain, left.stamp).expect(rt, "no memory")
-}
-
-fn list_of(rt: &(impl AllocGlobal + Abort), left: &Left) -> Vec<u8> {
-    list_text(rt.alloc(), &left.plain).expect(rt, "no memory")
-}
-
 /// The script leaves a table with the text, which is read.
 fn expect_text(rt: &(impl AllocGlobal + Abort), script: &str, text: &str) {
-    assert!(rt; text_of(rt, &leave(rt, script)).as_slice() == text.as_bytes());
+    let left = left_by(rt, &Config::default_values(), script);
+    assert!(rt; left.text(rt).as_slice() == text.as_bytes());
     assert!(rt; read_text(rt.alloc(), text.as_bytes()).is_ok());
 }
 
@@ -98,33 +56,14 @@ fn are_rows(read: &Rows, shown: &[Row]) -> bool {
     true
 }
 
-/// Whether what was read is what the table shows.
-fn is_as_shown(saved: &Saved, left: &Left) -> bool {
-    let plain = &left.plain;
-    saved.stamp == left.stamp
-        && saved.pid_max == plain.pid_max
-        && are_rows(&saved.rows, &plain.rows)
-        && saved.spaces == plain.spaces
-        && are_as_shown(&saved.controls, &plain.controls)
-}
-
 /// Whether these are the control groups that are shown.
-fn are_as_shown(saved: &[Control], shown: &[ControlRow]) -> bool {
-    for (a, b) in saved.iter().zip(shown) {
-        if (a.id, a.parent, a.limit) != (b.id, b.parent, b.limit) {
+fn are_controls(read: &[Control], shown: &[ControlRow]) -> bool {
+    for (a, b) in read.iter().zip(shown) {
+        if a.id != b.id || a.parent != b.parent || a.limit != b.limit {
             return false;
         }
     }
-    saved.len() == shown.len()
-}
-
-/// Whether what the script leaves is written and read back as it is.
-fn is_read_as_written(alloc: Global, config: &Config, script: &str) -> Result<bool, AllocError> {
-    let left = left_by(alloc, config, script)?;
-    match what_is_written_is_read(alloc, &left.plain, left.stamp) {
-        Ok(saved) => Ok(is_as_shown(&saved, &left)),
-        Err(_) => Ok(false),
-    }
+    read.len() == shown.len()
 }
 
 /// The state that each table begins in.
@@ -271,21 +210,18 @@ exit 4 0
 wait 2 pid 3
 ";
 
-fn expect_one_list(rt: &(impl AllocGlobal + Abort), one: &Left, other: &Left) {
-    assert!(rt; list_of(rt, one).as_slice() == list_of(rt, other).as_slice());
-}
-
-fn expect_two_texts(rt: &(impl AllocGlobal + Abort), one: &Left, other: &Left) {
-    assert!(rt; text_of(rt, one).as_slice() != text_of(rt, other).as_slice());
+fn list_of(rt: &(impl AllocGlobal + Abort), left: &Running) -> Vec<u8> {
+    list_text(rt.alloc(), &left.look(rt)).expect(rt, "no memory")
 }
 
 /// Two tables with one list.
 #[test]
 fn tells_tables_with_one_list_apart(rt: HostRuntime) {
-    let one = leave(&rt, FIRST);
-    let other = leave(&rt, SECOND);
-    expect_one_list(&rt, &one, &other);
-    expect_two_texts(&rt, &one, &other);
+    let usual = Config::default_values();
+    let one = left_by(&rt, &usual, FIRST);
+    let other = left_by(&rt, &usual, SECOND);
+    assert!(rt; list_of(&rt, &one).as_slice() == list_of(&rt, &other).as_slice());
+    assert!(rt; one.text(&rt).as_slice() != other.text(&rt).as_slice());
 }
 
 const LAW_ENDS: &str = "fork 1
@@ -309,16 +245,29 @@ setsid 2
 exit 2 255
 ";
 
+/// What was read is what the table shows.
+fn expect_shown(rt: &impl Abort, read: &Saved, shown: &Plain) {
+    assert!(rt; read.pid_max == shown.pid_max);
+    assert!(rt; are_rows(&read.rows, &shown.rows));
+    assert!(rt; read.spaces == shown.spaces);
+    assert!(rt; are_controls(&read.controls, &shown.controls));
+}
+
+/// What the script leaves is written and read back as it is.
 fn expect_read_as_written(rt: &(impl AllocGlobal + Abort), config: &Config, script: &str) {
-    assert!(rt; is_read_as_written(rt.alloc(), config, script) == Ok(true));
+    let left = left_by(rt, config, script);
+    let shown = left.look(rt);
+    let read = what_is_written_is_read(rt.alloc(), &shown, left.stamp()).expect(rt, "a fault");
+    assert!(rt; read.stamp == left.stamp());
+    expect_shown(rt, &read, &shown);
 }
 
 /// Tables with each part of the form: what the law of the crate answers is what they show.
 #[test]
-fn reads_what_the_law_says(rt: HostRuntime) -> Result<(), Fail> {
+fn reads_what_the_law_says(rt: HostRuntime) {
     let usual = Config::default_values();
     expect_read_as_written(&rt, &usual, "");
     expect_read_as_written(&rt, &usual, LAW_ENDS);
-    expect_read_as_written(&rt, &Config::new(4_194_304, u64::MAX - 9)?, LAW_MARKS);
-    Ok(())
+    let last = Config::new(4_194_304, u64::MAX - 9).expect(&rt, "bad settings");
+    expect_read_as_written(&rt, &last, LAW_MARKS);
 }

@@ -8,13 +8,12 @@ use pid_types::entry::Receipt;
 use pid_types::plain::Plain;
 use pid_types::reply::{CallFault, Refusal, Reply};
 use pid_workers::{Desk, Finished, Gate, OpenGate, Work, audit, run_workers, work};
-use std::alloc::{AllocError, Global};
+use std::alloc::Global;
 use std::marker::Brand;
 use std::process::Abort;
 use std::sync::Wait;
 use std::sync::atomic::{AtomicBool, AtomicU64, Ordering};
 use std::sync::ledger::{Blank, Ledger};
-use std::test::Fail;
 use std::thread;
 use std::thread::Threads;
 use std::time::{Clock, Duration};
@@ -326,8 +325,8 @@ fn jobs_of_forks(rt: &impl Abort, alloc: Global) -> Vec<Vec<Call>> {
 }
 
 #[test]
-fn sixteen_share_the_numbers(rt: HostRuntime) -> Result<(), Fail> {
-    let config = Config::new(301, 1)?;
+fn sixteen_share_the_numbers(rt: HostRuntime) {
+    let config = Config::new(301, 1).expect(&rt, "bad settings");
     let jobs = jobs_of_forks(&rt, rt.alloc());
     let gate = MeetingGate {
         here: AtomicU64::new(0),
@@ -336,7 +335,6 @@ fn sixteen_share_the_numbers(rt: HostRuntime) -> Result<(), Fail> {
     let ran = run_sixteen::<Brand, _, _>(&rt, rt.alloc(), Blank::new(16), &config, &jobs, &gate);
     assert_met(&rt, &gate.gave_up);
     assert_numbers_are_given(&rt, rt.alloc(), &ran);
-    Ok(())
 }
 
 /// Asserts that each of the 299 numbers was given once, and that the other forks were refused.
@@ -452,25 +450,24 @@ impl Desk for CountingDesk {
 }
 
 /// What comes of the calls at the desk. The callers know nothing more of it.
-fn work_at<D: Desk, R: Wait + Clock>(
+fn work_at<D: Desk, R: Wait + Clock + Abort>(
     rt: &R,
     alloc: Global,
     desk: &mut D,
     calls: &[Call],
-) -> Result<Work, AllocError> {
-    work(rt, alloc, desk, &OpenGate, 0, calls)
+) -> Work {
+    work(rt, alloc, desk, &OpenGate, 0, calls).expect(rt, "no memory")
 }
 
 #[test]
-fn keeps_answers_in_order(rt: HostRuntime) -> Result<(), Fail> {
+fn keeps_answers_in_order(rt: HostRuntime) {
     let mut desk = CountingDesk {
         calls: 0,
-        answers: Vec::with_capacity(rt.alloc(), 2)?,
+        answers: Vec::new(rt.alloc()),
     };
     let calls = [FORK, Call::SetSid { caller: 2 }, Call::Exec { caller: 2 }];
-    let done = work_at(&rt, rt.alloc(), &mut desk, &calls)?;
+    let done = work_at(&rt, rt.alloc(), &mut desk, &calls);
     assert_in_order(&rt, &desk, &done);
-    Ok(())
 }
 
 /// Asserts that the first and the third call were answered, in this order.
