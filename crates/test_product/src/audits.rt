@@ -11,6 +11,7 @@ use std::alloc::Global;
 use std::marker::Brand;
 use std::process::Abort;
 use std::sync::ledger::{Blank, Ledger};
+use std::test::Fail;
 
 const FORK: Call = Call::Fork {
     caller: 1,
@@ -88,17 +89,21 @@ fn audit_receipts<L: Ledger>(
     expect_audit(rt, kept, &short, Err(fault));
 }
 
-fn audit_after_checkpoint<L: Ledger>(rt: &impl Abort, alloc: Global, blank: Blank)
+fn audit_after_checkpoint<L: Ledger>(
+    rt: &impl Abort,
+    alloc: Global,
+    blank: Blank,
+) -> Result<(), Fail>
     requires name { blank.name ≡ L.name }
     requires parts { blank.parts ≡ L.parts }
     requires two { blank.parts ≡ 2 }
 {
     let config = Config::default_values();
-    let made = Record::<L, 2>::new(alloc, blank, &config);
-    let (mut record, mut seats) = made.expect(rt, "no memory");
+    let (mut record, mut seats) = Record::<L, 2>::new(alloc, blank, &config)?;
     let receipts = call_twice(rt, &mut record, &mut seats);
     expect_cut(rt, &record);
     audit_receipts(rt, alloc, &record, receipts);
+    Ok(())
 }
 
 /// A work with one receipt.
@@ -121,6 +126,6 @@ fn none(alloc: Global) -> Work {
 }
 
 #[test]
-fn audits_what_is_kept(rt: HostRuntime) {
-    audit_after_checkpoint::<Brand>(&rt, rt.alloc(), Blank::new(2));
+fn audits_what_is_kept(rt: HostRuntime) -> Result<(), Fail> {
+    audit_after_checkpoint::<Brand>(&rt, rt.alloc(), Blank::new(2))
 }

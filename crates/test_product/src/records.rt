@@ -12,6 +12,7 @@ use std::marker::Brand;
 use std::process::Abort;
 use std::sync::Wait;
 use std::sync::ledger::{Blank, Ledger};
+use std::test::Fail;
 
 pub(crate) const FORK: Call = Call::Fork {
     caller: 1,
@@ -182,28 +183,47 @@ fn act_around_checkpoint<L: Ledger>(
     assert_opening(rt, record, 2, &[2, 0]);
 }
 
+fn checkpoint_of_record<L: Ledger>(rt: &impl Abort, alloc: Global, blank: Blank) -> Result<(), Fail>
+    requires name { blank.name ≡ L.name }
+    requires parts { (blank.parts ≡ L.parts) × (L.parts ≡ 1) }
+{
+    let config = Config::default_values();
+    let (mut record, mut seats) = Record::<L, 1>::new(alloc, blank, &config)?;
+    act_around_checkpoint(rt, &mut record, &mut seats);
+    Ok(())
+}
+
+#[test]
+fn checkpoints_a_record(rt: HostRuntime) -> Result<(), Fail> {
+    checkpoint_of_record::<Brand>(&rt, rt.alloc(), Blank::new(1))
+}
+
 /// Cuts what was recorded away, under the lock.
 fn cut_shared<L: Ledger, R: Wait + Abort>(rt: &R, shared: &Shared<L, 1>) {
     shared.lock(rt).checkpoint().expect(rt, "no memory");
 }
 
-fn checkpoint_under_lock<L: Ledger, R: Wait + Abort>(rt: &R, alloc: Global, blank: Blank)
+fn checkpoint_under_lock<L: Ledger, R: Wait + Abort>(
+    rt: &R,
+    alloc: Global,
+    blank: Blank,
+) -> Result<(), Fail>
     requires name { blank.name ≡ L.name }
     requires parts { (blank.parts ≡ L.parts) × (L.parts ≡ 1) }
 {
     let config = Config::default_values();
-    let opened = Shared::<L, 1>::open(alloc, blank, &config);
-    let (shared, mut seats) = opened.expect(rt, "no memory");
+    let (shared, mut seats) = Shared::<L, 1>::open(alloc, blank, &config)?;
     call_all(rt, &shared, &mut seats, &before_checkpoint());
     cut_shared(rt, &shared);
     call_all(rt, &shared, &mut seats, &after_checkpoint());
     assert!(rt; are_in_order(seats.as_slice()));
     assert_cut(rt, &shared.close(seats), 5);
+    Ok(())
 }
 
 #[test]
-fn checkpoints_under_the_lock(rt: HostRuntime) {
-    checkpoint_under_lock::<Brand, HostRuntime>(&rt, rt.alloc(), Blank::new(1));
+fn checkpoints_under_the_lock(rt: HostRuntime) -> Result<(), Fail> {
+    checkpoint_under_lock::<Brand, HostRuntime>(&rt, rt.alloc(), Blank::new(1))
 }
 
 /// What is at the shared table after four calls, two by each seat.
@@ -244,21 +264,21 @@ fn call_by_both<L: Ledger, R: Wait + Abort>(
     assert_calls(rt, seats);
 }
 
-fn two_seats<L: Ledger, R: Wait + Abort>(rt: &R, alloc: Global, blank: Blank)
+fn two_seats<L: Ledger, R: Wait + Abort>(rt: &R, alloc: Global, blank: Blank) -> Result<(), Fail>
     requires name { blank.name ≡ L.name }
     requires parts { (blank.parts ≡ L.parts) × (L.parts ≡ 2) }
 {
     let config = Config::default_values();
-    let opened = Shared::<L, 2>::open(alloc, blank, &config);
-    let (shared, mut seats) = opened.expect(rt, "no memory");
+    let (shared, mut seats) = Shared::<L, 2>::open(alloc, blank, &config)?;
     call_by_both(rt, &shared, &mut seats);
     assert!(rt; are_in_order(seats.as_slice()));
     assert_four(rt, &shared.close(seats));
+    Ok(())
 }
 
 #[test]
-fn two_share_a_table(rt: HostRuntime) {
-    two_seats::<Brand, HostRuntime>(&rt, rt.alloc(), Blank::new(2));
+fn two_share_a_table(rt: HostRuntime) -> Result<(), Fail> {
+    two_seats::<Brand, HostRuntime>(&rt, rt.alloc(), Blank::new(2))
 }
 
 /// Makes a call, and compares the reply that is lent.
@@ -300,6 +320,21 @@ fn lend_around_checkpoint<L: Ledger>(
     assert_cut(rt, record, 5);
 }
 
+fn lending_record<L: Ledger>(rt: &impl Abort, alloc: Global, blank: Blank) -> Result<(), Fail>
+    requires name { blank.name ≡ L.name }
+    requires parts { (blank.parts ≡ L.parts) × (L.parts ≡ 1) }
+{
+    let config = Config::default_values();
+    let (mut record, mut seats) = Record::<L, 1>::new(alloc, blank, &config)?;
+    lend_around_checkpoint(rt, &mut record, &mut seats);
+    Ok(())
+}
+
+#[test]
+fn lends_the_last_reply(rt: HostRuntime) -> Result<(), Fail> {
+    lending_record::<Brand>(&rt, rt.alloc(), Blank::new(1))
+}
+
 /// Makes room for two calls.
 fn reserve<L: Ledger>(rt: &impl Abort, record: &mut Record<L, 1>) {
     record.reserve_calls(2).expect(rt, "no memory");
@@ -316,6 +351,44 @@ fn act_in_room<L: Ledger>(
     reserve(rt, record);
     act_all(rt, record, seats, others);
     assert!(rt; counts_of(record) == [0, 3, 3]);
+}
+
+/// Makes the calls at a new record.
+fn reserve_two<L: Ledger>(
+    rt: &impl Abort,
+    alloc: Global,
+    blank: Blank,
+    others: &[Receipt; 2],
+) -> Result<(), Fail>
+    requires name { blank.name ≡ L.name }
+    requires parts { (blank.parts ≡ L.parts) × (L.parts ≡ 1) }
+{
+    let config = Config::default_values();
+    let (mut record, mut seats) = Record::<L, 1>::new(alloc, blank, &config)?;
+    act_in_room(rt, &mut record, &mut seats, others);
+    Ok(())
+}
+
+#[test]
+fn ends_a_task_in_reserved_room(rt: HostRuntime) -> Result<(), Fail> {
+    let exit = Call::Exit {
+        caller: 2,
+        status: 0,
+    };
+    let others = [
+        want(1, 0, Call::SetSid { caller: 2 }, Reply::Number(2)),
+        want(2, 0, exit, Reply::Done),
+    ];
+    reserve_two::<Brand>(&rt, rt.alloc(), Blank::new(1), &others)
+}
+
+#[test]
+fn forks_in_reserved_room(rt: HostRuntime) -> Result<(), Fail> {
+    let others = [
+        want_child(1, 0, 3),
+        want(2, 0, Call::GetPid { caller: 3 }, Reply::Number(3)),
+    ];
+    reserve_two::<Brand>(&rt, rt.alloc(), Blank::new(1), &others)
 }
 
 /// The last stamp that there is.
@@ -346,97 +419,19 @@ fn spend<L: Ledger>(rt: &impl Abort, record: &mut Record<L, 1>, seats: &mut [Sea
     assert!(rt; counts_of(record) == [0, 1, 1]);
 }
 
-/// What one worker does at a new record.
-#[derive(Clone, Copy)]
-enum Play {
-    AroundCheckpoint,
-    LendAroundCheckpoint,
-    EndInRoom,
-    ForkInRoom,
-    SpendStamps,
-}
-
-fn play_here<L: Ledger>(
-    rt: &impl Abort,
-    record: &mut Record<L, 1>,
-    seats: &mut [Seat<L, 1>],
-    what: Play,
-) {
-    match what {
-        Play::AroundCheckpoint => act_around_checkpoint(rt, record, seats),
-        Play::LendAroundCheckpoint => lend_around_checkpoint(rt, record, seats),
-        Play::EndInRoom => act_in_room(rt, record, seats, &end_after_session()),
-        Play::ForkInRoom => act_in_room(rt, record, seats, &fork_and_look()),
-        Play::SpendStamps => spend(rt, record, seats),
-    }
-}
-
-/// Does so at a new record, whose first stamp is the one given.
-fn play_new<L: Ledger>(rt: &impl Abort, alloc: Global, blank: Blank, first_stamp: u64, what: Play)
+fn spent_record<L: Ledger>(rt: &impl Abort, alloc: Global, blank: Blank) -> Result<(), Fail>
     requires name { blank.name ≡ L.name }
     requires parts { (blank.parts ≡ L.parts) × (L.parts ≡ 1) }
 {
-    let config = Config::new(32768, first_stamp).expect(rt, "bad settings");
-    let made = Record::<L, 1>::new(alloc, blank, &config);
-    let (mut record, mut seats) = made.expect(rt, "no memory");
-    play_here(rt, &mut record, &mut seats, what);
+    let config = Config::new(32768, LAST_STAMP)?;
+    let (mut record, mut seats) = Record::<L, 1>::new(alloc, blank, &config)?;
+    spend(rt, &mut record, &mut seats);
+    Ok(())
 }
 
 #[test]
-fn checkpoints_a_record(rt: HostRuntime) {
-    play_new::<Brand>(&rt, rt.alloc(), Blank::new(1), 1, Play::AroundCheckpoint);
-}
-
-#[test]
-fn lends_the_last_reply(rt: HostRuntime) {
-    play_new::<Brand>(
-        &rt,
-        rt.alloc(),
-        Blank::new(1),
-        1,
-        Play::LendAroundCheckpoint,
-    );
-}
-
-/// A session, and the end of its task.
-fn end_after_session() -> [Receipt; 2] {
-    let exit = Call::Exit {
-        caller: 2,
-        status: 0,
-    };
-    [
-        want(1, 0, Call::SetSid { caller: 2 }, Reply::Number(2)),
-        want(2, 0, exit, Reply::Done),
-    ]
-}
-
-#[test]
-fn ends_a_task_in_reserved_room(rt: HostRuntime) {
-    play_new::<Brand>(&rt, rt.alloc(), Blank::new(1), 1, Play::EndInRoom);
-}
-
-/// A fork, and a look at the child.
-fn fork_and_look() -> [Receipt; 2] {
-    [
-        want_child(1, 0, 3),
-        want(2, 0, Call::GetPid { caller: 3 }, Reply::Number(3)),
-    ]
-}
-
-#[test]
-fn forks_in_reserved_room(rt: HostRuntime) {
-    play_new::<Brand>(&rt, rt.alloc(), Blank::new(1), 1, Play::ForkInRoom);
-}
-
-#[test]
-fn spends_its_last_stamp(rt: HostRuntime) {
-    play_new::<Brand>(
-        &rt,
-        rt.alloc(),
-        Blank::new(1),
-        LAST_STAMP,
-        Play::SpendStamps,
-    );
+fn spends_its_last_stamp(rt: HostRuntime) -> Result<(), Fail> {
+    spent_record::<Brand>(&rt, rt.alloc(), Blank::new(1))
 }
 
 #[test]

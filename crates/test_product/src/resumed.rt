@@ -13,6 +13,7 @@ use std::marker::Brand;
 use std::process::Abort;
 use std::sync::Wait;
 use std::sync::ledger::{Blank, Ledger};
+use std::test::Fail;
 use table_load::load::load;
 
 /// The text of `docs/SCRIPT.md`, after six calls.
@@ -64,30 +65,41 @@ fn goes_on<L: Ledger>(record: &Record<L, 2>) -> bool {
 }
 
 /// The record goes on with calls that are told from the ordinal on.
-fn go_on<L: Ledger>(rt: &impl Abort, alloc: Global, blank: Blank, counts: &[u64; 2], first: u64)
+fn go_on<L: Ledger>(
+    rt: &impl Abort,
+    alloc: Global,
+    blank: Blank,
+    counts: &[u64; 2],
+    first: u64,
+) -> Result<(), Fail>
     requires name { blank.name ≡ L.name }
     requires parts { (blank.parts ≡ L.parts) × (L.parts ≡ 2) }
 {
     let loaded = load(alloc, TEXT).expect(rt, "a table");
     assert!(rt; Kept::can_resume(loaded.stamp, counts));
     let resumed = Record::<L, 2>::resume(alloc, blank, loaded.table, loaded.stamp, counts);
-    let (mut record, mut seats) = resumed.expect(rt, "no memory");
+    let (mut record, mut seats) = resumed?;
     assert_resumed(rt, &record, &seats, counts);
     act_all(rt, &mut record, &mut seats, &behind(first));
+    Ok(())
 }
 
 #[test]
-fn goes_on_with_ordinals(rt: HostRuntime) {
-    go_on::<Brand>(&rt, rt.alloc(), Blank::new(2), &[4, 2], 6);
+fn goes_on_with_ordinals(rt: HostRuntime) -> Result<(), Fail> {
+    go_on::<Brand>(&rt, rt.alloc(), Blank::new(2), &[4, 2], 6)
 }
 
 #[test]
-fn begins_to_count(rt: HostRuntime) {
-    go_on::<Brand>(&rt, rt.alloc(), Blank::new(2), &[0, 0], 0);
+fn begins_to_count(rt: HostRuntime) -> Result<(), Fail> {
+    go_on::<Brand>(&rt, rt.alloc(), Blank::new(2), &[0, 0], 0)
 }
 
 /// The table goes on under the lock, and is closed.
-fn go_on_under_lock<L: Ledger, R: Wait + Abort>(rt: &R, alloc: Global, blank: Blank)
+fn go_on_under_lock<L: Ledger, R: Wait + Abort>(
+    rt: &R,
+    alloc: Global,
+    blank: Blank,
+) -> Result<(), Fail>
     requires name { blank.name ≡ L.name }
     requires parts { (blank.parts ≡ L.parts) × (L.parts ≡ 2) }
 {
@@ -95,7 +107,7 @@ fn go_on_under_lock<L: Ledger, R: Wait + Abort>(rt: &R, alloc: Global, blank: Bl
     let counts = [4, 2];
     assert!(rt; Kept::can_resume(loaded.stamp, &counts));
     let resumed = Record::<L, 2>::resume(alloc, blank, loaded.table, loaded.stamp, &counts);
-    let (record, mut seats) = resumed.expect(rt, "no memory");
+    let (record, mut seats) = resumed?;
     let shared = Shared::of(record);
     assert_resumed(rt, &shared.lock(rt), seats.as_slice(), &counts);
     call_all(rt, &shared, &mut seats, &behind(6));
@@ -103,26 +115,26 @@ fn go_on_under_lock<L: Ledger, R: Wait + Abort>(rt: &R, alloc: Global, blank: Bl
     let record = shared.close(seats);
     assert!(rt; counts_of(&record) == [6, 9, 5]);
     assert!(rt; recorded_of_second(&record) == 4);
+    Ok(())
 }
 
 #[test]
-fn goes_on_under_the_lock(rt: HostRuntime) {
-    go_on_under_lock::<Brand, HostRuntime>(&rt, rt.alloc(), Blank::new(2));
+fn goes_on_under_the_lock(rt: HostRuntime) -> Result<(), Fail> {
+    go_on_under_lock::<Brand, HostRuntime>(&rt, rt.alloc(), Blank::new(2))
 }
-
-static COUNTS: [(u64, &[u64], bool); 7] = [
-    (7, &[6, 0], true),
-    (7, &[0, 6], true),
-    (7, &[6, 1], false),
-    (7, &[7, 0], false),
-    (7, &[u64::MAX, u64::MAX], false),
-    (0, &[], false),
-    (1, &[], true),
-];
 
 #[test]
 fn refuses_counts_without_a_stamp(rt: HostRuntime) {
-    for (stamp, counts, can) in &COUNTS {
-        assert!(rt; Kept::can_resume(*stamp, counts) == *can);
+    let counts = [
+        ([6, 0], true),
+        ([0, 6], true),
+        ([6, 1], false),
+        ([7, 0], false),
+        ([u64::MAX, u64::MAX], false),
+    ];
+    for (count, can) in counts {
+        assert!(rt; Kept::can_resume(7, &count) == can);
     }
+    assert!(rt; !Kept::can_resume(0, &[]));
+    assert!(rt; Kept::can_resume(1, &[]));
 }

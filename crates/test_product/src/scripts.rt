@@ -7,6 +7,7 @@ use pid_types::device::{DeviceFault, Sink, Source};
 use pid_workers::{RunScriptFault, Tally, run_limited};
 use std::alloc::Global;
 use std::process::Abort;
+use std::test::Fail;
 
 /// A source that gives so many bytes a read, and may fail at its end.
 #[derive(Drop)]
@@ -154,44 +155,23 @@ fn expect_held(rt: &impl Abort, sink: &Paper, text: &[u8]) {
     assert!(rt; sink.held.as_slice() == text);
 }
 
-/// Runs a script that comes in pieces of so many bytes.
-fn expect_pieces(
-    rt: &(impl AllocGlobal + Abort),
-    script: &[u8],
-    most: usize,
-    turns: u32,
-    told: Result<Tally, RunScriptFault>,
-    text: &[u8],
-) {
-    let mut source = whole(script);
-    source.most = most;
-    expect_run(
-        rt,
-        &mut source,
-        &mut make_paper(512, false),
-        turns,
-        told,
-        text,
-    );
-}
-
-const BAD_LINES: &[u8] =
-    b"\nfork\nfork 01\nfork 4294967296\nexit 2 256\naaaaaaaaaaaaaaaaaaaaaaaaaaaaaaaaaaaaaaaaaaaaaaaaaaaaaaaaaaaaaaaaaaaaaaaaaaaaaaaaaaaaaaaaaaaaaaaaaaaaaaaaaaaaaaaaaaaaaaaaaaaaaaaaaaaaaaaaaaaaaaaaaaaaaaaaaaaaaaaaaaaaaaaaaaaaaaaaaaaaaaaaaaaaaaaaaaaaaaaaa\nfork 1\r\nfo\0rk 1\nfork 1";
-
-const SEVEN_BAD: &[u8] =
-    b"bad line\nbad line\nbad line\nbad line\nbad line\nbad line\nbad line\nchild 2 root 2\n";
-
-const OF_NINE: Tally = Tally {
-    lines: 9,
-    recorded: 1,
-    bad: 7,
-    starved: 0,
-};
-
 #[test]
 fn answers_calls_and_bad_lines(rt: HostRuntime) {
+    let script =
+        b"\nfork\nfork 01\nfork 4294967296\nexit 2 256\naaaaaaaaaaaaaaaaaaaaaaaaaaaaaaaaaaaaaaaaaaaaaaaaaaaaaaaaaaaaaaaaaaaaaaaaaaaaaaaaaaaaaaaaaaaaaaaaaaaaaaaaaaaaaaaaaaaaaaaaaaaaaaaaaaaaaaaaaaaaaaaaaaaaaaaaaaaaaaaaaaaaaaaaaaaaaaaaaaaaaaaaaaaaaaaaaaaaaaaaa\nfork 1\r\nfo\0rk 1\nfork 1";
+    let text: &[u8] =
+        b"bad line\nbad line\nbad line\nbad line\nbad line\nbad line\nbad line\nchild 2 root 2\n";
     for most in [1, 7, 4096] {
-        expect_pieces(&rt, BAD_LINES, most, 1000, Ok(OF_NINE), SEVEN_BAD);
+        let mut source = whole(script);
+        source.most = most;
+        let mut sink = make_paper(512, false);
+        let tally = Tally {
+            lines: 9,
+            recorded: 1,
+            bad: 7,
+            starved: 0,
+        };
+        expect_run(&rt, &mut source, &mut sink, 1000, Ok(tally), text);
     }
 }
 
@@ -229,27 +209,27 @@ fn stops_at_faults(rt: HostRuntime) {
     }
 }
 
-const ONE: Tally = Tally {
-    lines: 1,
-    recorded: 1,
-    bad: 0,
-    starved: 0,
-};
-
-const LATE: Result<Tally, RunScriptFault> = Err(RunScriptFault::TooManyTurns);
-
-/// In how many turns a fork is run that comes byte by byte, what comes of it and what is written.
-static TURNS: [(u32, Result<Tally, RunScriptFault>, &[u8]); 4] = [
-    (8, Ok(ONE), b"child 2 root 2\n"),
-    (7, LATE, b"child 2 root 2\n"),
-    (3, LATE, b""),
-    (0, LATE, b""),
-];
-
 #[test]
 fn stops_at_its_last_turn(rt: HostRuntime) {
-    for (turns, told, text) in &TURNS {
-        expect_pieces(&rt, b"fork 1\n", 1, *turns, *told, text);
+    let one = Tally {
+        lines: 1,
+        recorded: 1,
+        bad: 0,
+        starved: 0,
+    };
+    let late = Err(RunScriptFault::TooManyTurns);
+    let answer: &[u8] = b"child 2 root 2\n";
+    let runs: [(u32, Result<Tally, RunScriptFault>, &[u8]); 4] = [
+        (8, Ok(one), answer),
+        (7, late, answer),
+        (3, late, b""),
+        (0, late, b""),
+    ];
+    for (turns, expected, text) in runs {
+        let mut source = whole(b"fork 1\n");
+        source.most = 1;
+        let mut sink = make_paper(512, false);
+        expect_run(&rt, &mut source, &mut sink, turns, expected, text);
     }
 }
 
@@ -262,17 +242,20 @@ fn tally_of(rt: &(impl AllocGlobal + Abort), script: &[u8], config: &Config, tex
 }
 
 #[test]
-fn answers_a_very_long_line_once(rt: HostRuntime) {
-    let letters = vec![in rt.alloc(); b'a'; 1_000_000].expect(&rt, "no memory");
+fn answers_a_very_long_line_once(rt: HostRuntime) -> Result<(), Fail> {
+    let letters = vec![in rt.alloc(); b'a'; 1_000_000]?;
     let usual = Config::default_values();
     let tally = tally_of(&rt, letters.as_slice(), &usual, b"bad line\n");
-    assert!(rt; (tally.lines, tally.bad) == (1, 1));
+    assert!(rt; tally.lines == 1);
+    assert!(rt; tally.bad == 1);
+    Ok(())
 }
 
 #[test]
-fn spends_its_stamps(rt: HostRuntime) {
-    let last = Config::new(32768, 18_446_744_073_709_551_614).expect(&rt, "bad settings");
+fn spends_its_stamps(rt: HostRuntime) -> Result<(), Fail> {
+    let last = Config::new(32768, 18_446_744_073_709_551_614)?;
     let script = b"fork 1\ngetpid 1\n";
     let tally = tally_of(&rt, script, &last, b"child 2 root 2\nspent\n");
     assert!(rt; tally.recorded == 1);
+    Ok(())
 }

@@ -8,12 +8,13 @@ use pid_types::entry::Receipt;
 use pid_types::plain::Plain;
 use pid_types::reply::{CallFault, Refusal, Reply};
 use pid_workers::{Desk, Finished, Gate, OpenGate, Work, audit, run_workers, work};
-use std::alloc::Global;
+use std::alloc::{AllocError, Global};
 use std::marker::Brand;
 use std::process::Abort;
 use std::sync::Wait;
 use std::sync::atomic::{AtomicBool, AtomicU64, Ordering};
 use std::sync::ledger::{Blank, Ledger};
+use std::test::Fail;
 use std::thread;
 use std::thread::Threads;
 use std::time::{Clock, Duration};
@@ -325,8 +326,8 @@ fn jobs_of_forks(rt: &impl Abort, alloc: Global) -> Vec<Vec<Call>> {
 }
 
 #[test]
-fn sixteen_share_the_numbers(rt: HostRuntime) {
-    let config = Config::new(301, 1).expect(&rt, "bad settings");
+fn sixteen_share_the_numbers(rt: HostRuntime) -> Result<(), Fail> {
+    let config = Config::new(301, 1)?;
     let jobs = jobs_of_forks(&rt, rt.alloc());
     let gate = MeetingGate {
         here: AtomicU64::new(0),
@@ -335,6 +336,7 @@ fn sixteen_share_the_numbers(rt: HostRuntime) {
     let ran = run_sixteen::<Brand, _, _>(&rt, rt.alloc(), Blank::new(16), &config, &jobs, &gate);
     assert_met(&rt, &gate.gave_up);
     assert_numbers_are_given(&rt, rt.alloc(), &ran);
+    Ok(())
 }
 
 /// Asserts that each of the 299 numbers was given once, and that the other forks were refused.
@@ -450,24 +452,25 @@ impl Desk for CountingDesk {
 }
 
 /// What comes of the calls at the desk. The callers know nothing more of it.
-fn work_at<D: Desk, R: Wait + Clock + Abort>(
+fn work_at<D: Desk, R: Wait + Clock>(
     rt: &R,
     alloc: Global,
     desk: &mut D,
     calls: &[Call],
-) -> Work {
-    work(rt, alloc, desk, &OpenGate, 0, calls).expect(rt, "no memory")
+) -> Result<Work, AllocError> {
+    work(rt, alloc, desk, &OpenGate, 0, calls)
 }
 
 #[test]
-fn keeps_answers_in_order(rt: HostRuntime) {
+fn keeps_answers_in_order(rt: HostRuntime) -> Result<(), Fail> {
     let mut desk = CountingDesk {
         calls: 0,
-        answers: Vec::new(rt.alloc()),
+        answers: Vec::with_capacity(rt.alloc(), 2)?,
     };
     let calls = [FORK, Call::SetSid { caller: 2 }, Call::Exec { caller: 2 }];
-    let done = work_at(&rt, rt.alloc(), &mut desk, &calls);
+    let done = work_at(&rt, rt.alloc(), &mut desk, &calls)?;
     assert_in_order(&rt, &desk, &done);
+    Ok(())
 }
 
 /// Asserts that the first and the third call were answered, in this order.

@@ -1,4 +1,4 @@
 use Rattle.test_product.proofs.records.checkpoints_a_record.Given as goal
 
-abbrev pub ghosts-play : goal.ghosts-play
-ghosts-play g a = record { name = a.blank.name; parts = a.blank.parts }
+abbrev pub ghosts-checkpoint_of_record : goal.ghosts-checkpoint_of_record
+ghosts-checkpoint_of_record g a = record { name = a.blank.name; parts = a.blank.parts }

@@ -1,4 +1,4 @@
 use Rattle.test_product.proofs.records.lends_the_last_reply.Given as goal
 
-abbrev pub ghosts-play : goal.ghosts-play
-ghosts-play g a = record { name = a.blank.name; parts = a.blank.parts }
+abbrev pub ghosts-lending_record : goal.ghosts-lending_record
+ghosts-lending_record g a = record { name = a.blank.name; parts = a.blank.parts }
