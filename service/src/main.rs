@@ -7,6 +7,7 @@ mod conn;
 mod directory;
 mod engine;
 mod events;
+mod haste;
 mod info;
 mod leader;
 mod leases;

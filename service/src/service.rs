@@ -2,6 +2,7 @@
 use crate::conn::{Conn, Pause, MUCH_OUTPUT};
 use crate::directory::Fault;
 use crate::engine::{Engine, Text};
+use crate::haste::{Haste, LOOK};
 use crate::leader::Leader;
 use crate::leases::Leases;
 use crate::options::{Options, Rights};
@@ -62,6 +63,7 @@ pub struct Service {
     pub is_ending: bool,
     pub now: u64,
     started: Instant,
+    haste: Haste,
     poll: Poll,
     waker: Arc<Waker>,
     signals: UnixStream,
@@ -128,6 +130,7 @@ impl Service {
             is_ending: false,
             now: 0,
             started: Instant::now(),
+            haste: Haste::default(),
             poll,
             waker,
             signals,
@@ -174,13 +177,7 @@ impl Service {
     fn turn(&mut self, events: &mut Events) -> Result<(), Fault> {
         let is_busy = !self.is_stuck && (self.is_calling || !self.ready.is_empty());
         let wait = if is_busy { 0 } else { self.wait() };
-        match self.poll.poll(events, Some(Duration::from_millis(wait))) {
-            Err(error) if error.kind() != io::ErrorKind::Interrupted => {
-                return Err(format!("the loop cannot wait: {error}"))
-            }
-            _ => {}
-        }
-        self.now = self.started.elapsed().as_millis() as u64;
+        self.await_events(events, wait)?;
         for event in events.iter() {
             self.take_event(event);
         }
@@ -194,6 +191,39 @@ impl Service {
         }
         self.free.append(&mut self.freed);
         Ok(())
+    }
+
+    /// Waits for events, up to so many ms, and looks at the clock.
+    fn await_events(&mut self, events: &mut Events, wait: u64) -> Result<(), Fault> {
+        let began = self.started.elapsed();
+        let mut now = began;
+        let looks = wait > 0 && self.haste.is_worth();
+        while looks && now - began < LOOK {
+            self.poll_for(events, 0)?;
+            now = self.started.elapsed();
+            if !events.is_empty() {
+                break;
+            }
+        }
+        if looks {
+            self.haste.looked(now - began, !events.is_empty());
+        }
+        if !looks || events.is_empty() {
+            self.poll_for(events, wait)?;
+            now = self.started.elapsed();
+        }
+        if wait > 0 && !looks {
+            self.haste.slept(now - began);
+        }
+        self.now = now.as_millis() as u64;
+        Ok(())
+    }
+
+    fn poll_for(&mut self, events: &mut Events, wait: u64) -> Result<(), Fault> {
+        match self.poll.poll(events, Some(Duration::from_millis(wait))) {
+            Err(error) if error.kind() != io::ErrorKind::Interrupted => Err(format!("the loop cannot wait: {error}")),
+            _ => Ok(()),
+        }
     }
 
     /// How long nothing is due, in ms.
