@@ -312,12 +312,16 @@ mod tests {
         bytes
     }
 
-    /// A fifth of a million inputs, or as many as there are in PARSER_SECONDS: no request is longer than its bytes, each word is within it, and each
-    /// front of a whole request is not whole, so that pieces make no difference.
+    fn given(name: &str, usual: u64) -> u64 {
+        std::env::var(name).ok().and_then(|it| it.parse().ok()).unwrap_or(usual)
+    }
+
+    /// A fifth of a million inputs, or as many as there are in PARSER_SECONDS, from PARSER_SEED on: no request is longer than its bytes, each word is
+    /// within it, and each front of a whole request is not whole, so that pieces make no difference.
     #[test]
     fn mutated_requests() {
-        let seconds = std::env::var("PARSER_SECONDS").ok().and_then(|it| it.parse().ok()).unwrap_or(0);
-        let (began, mut seed, mut count, mut whole) = (std::time::Instant::now(), 0x9e37_79b9_7f4a_7c15, 0u64, 0u64);
+        let (seconds, mut seed) = (given("PARSER_SECONDS", 0), given("PARSER_SEED", 0x9e37_79b9_7f4a_7c15));
+        let (began, mut count, mut whole) = (std::time::Instant::now(), 0u64, 0u64);
         let mut reader = Reader::default();
         while count < 200_000 || began.elapsed().as_secs() < seconds {
             let bytes = mutated(&mut seed);
