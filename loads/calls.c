@@ -1,7 +1,8 @@
 /* Calls of the library for C by numbers, for callgrind: calls TABLE LOAD N.
  *
- * TABLE is plain, record or shared (with its lock taken for each call); LOAD is getpid, or cycle: a fork, an exit and a wait. The
- * difference of the instructions at two lengths, divided by that of the lengths, is the cost; the loop is in it.
+ * TABLE is plain, record or shared (with its lock taken for each call); LOAD is getpid, the same as a query that is no call (ask), or
+ * cycle: a fork, an exit and a wait. The difference of the instructions at two lengths, divided by that of the lengths, is the cost; the
+ * loop is in it.
  *
  *   cc -O2 -Iout loads/calls.c out/libpidtab.a -pthread -o out/calls
  *   valgrind --tool=callgrind --callgrind-out-file=/dev/null out/calls record getpid 12000
@@ -35,15 +36,30 @@ static uint32_t on_shared(const struct pidtab_call *call, struct pidtab_reply *r
 	return pidtab_shared_call(&shared, 0, call, reply, &ordinal);
 }
 
+static uint32_t ask_plain(const struct pidtab_call *call, struct pidtab_reply *reply)
+{
+	return pidtab_ask(&plain, call, reply);
+}
+
+static uint32_t ask_record(const struct pidtab_call *call, struct pidtab_reply *reply)
+{
+	return pidtab_record_ask(&record, call, reply);
+}
+
+static uint32_t ask_shared(const struct pidtab_call *call, struct pidtab_reply *reply)
+{
+	return pidtab_shared_ask(&shared, call, reply);
+}
+
 /* Opens the table that the word names, with 16 workers and the whole history. */
-static make_call *opened(const char *table)
+static make_call *opened(const char *table, bool asks)
 {
 	if (strcmp(table, "plain") == 0)
-		return pidtab_open(&plain, 32768) == PIDTAB_DONE ? on_plain : NULL;
+		return pidtab_open(&plain, 32768) != PIDTAB_DONE ? NULL : asks ? ask_plain : on_plain;
 	if (strcmp(table, "record") == 0)
-		return pidtab_record_open(&record, 32768, 1, 16) == PIDTAB_DONE ? on_record : NULL;
+		return pidtab_record_open(&record, 32768, 1, 16) != PIDTAB_DONE ? NULL : asks ? ask_record : on_record;
 	if (strcmp(table, "shared") == 0)
-		return pidtab_shared_open(&shared, 32768, 1, 16, 0) == PIDTAB_DONE ? on_shared : NULL;
+		return pidtab_shared_open(&shared, 32768, 1, 16, 0) != PIDTAB_DONE ? NULL : asks ? ask_shared : on_shared;
 	return NULL;
 }
 
@@ -68,11 +84,11 @@ static uint32_t cycle_once(make_call *make)
 
 int main(int count, char **words)
 {
-	make_call *make = count == 4 ? opened(words[1]) : NULL;
+	make_call *make = count == 4 ? opened(words[1], strcmp(words[2], "ask") == 0) : NULL;
 	uint32_t status = 0;
 
 	if (!make) {
-		fprintf(stderr, "calls plain|record|shared getpid|cycle N\n");
+		fprintf(stderr, "calls plain|record|shared getpid|ask|cycle N\n");
 		return 2;
 	}
 	for (long left = atol(words[3]); left > 0; left--)

@@ -2,10 +2,9 @@
  * waits for them, and none passes it; many beside a writer see whole states; and none writes to the memory of a table. Built with and
  * without the sanitizer for threads. */
 #include "test.h"
+#include "test_hold.h"
 #include "pidtab_shared.h"
 
-#include <semaphore.h>
-#include <stdatomic.h>
 #include <sys/mman.h>
 #include <time.h>
 #include <unistd.h>
@@ -15,16 +14,7 @@
 #define PART ((size_t)64 << 20)
 static char *parts[2];
 static _Atomic size_t used[2];
-static atomic_bool hold, sealed, is_plain;
-static sem_t is_held, go_on;
-
-static void hold_once(void)
-{
-	if (!atomic_exchange(&hold, false))
-		return;
-	sem_post(&is_held);
-	sem_wait(&go_on);
-}
+static atomic_bool sealed, is_plain;
 
 static void *take_of_part(size_t size)
 {

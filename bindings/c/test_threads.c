@@ -1,23 +1,11 @@
 /* Tests of threads that take turns under no lock: while one is in a function, each other function is PIDTAB_BUSY, but a query beside a
  * query (test_readers.c). Built with the sanitizer for threads. */
 #include "test.h"
+#include "test_hold.h"
 
 #include <pthread.h>
-#include <semaphore.h>
-#include <stdatomic.h>
 
-/* The heap that heap.c is built with here: one use of it waits, in the middle of a function, until it is told to go on. */
-static atomic_bool hold;
-static sem_t is_held, go_on;
-
-static void hold_once(void)
-{
-	if (!atomic_exchange(&hold, false))
-		return;
-	sem_post(&is_held);
-	sem_wait(&go_on);
-}
-
+/* The heap that heap.c is built with here: one use of it waits. */
 void *test_malloc(size_t size)
 {
 	hold_once();
