@@ -276,7 +276,7 @@ impl Engine {
         if !self.commit()? {
             return Err("the log cannot be written: ending, with unsaved calls unanswered".to_owned());
         }
-        self.log.as_ref().map_or(Ok(()), Log::close)
+        self.log.as_mut().map_or(Ok(()), Log::close)
     }
 
     /// The checksum behind all that was recorded, which a follower goes on from.

@@ -1,14 +1,25 @@
 //! The log: one file that grows, and goes on in a new one when it is long enough. A second thread syncs it each second, where that is wanted.
+//!
+//! Where each batch is synced, small ones are written over zeroes that are on the disk already: so a sync has their bytes to write, and neither a
+//! new length of the file nor a new block. At most [`BATCH`] bytes are written between two syncs then, by which the recovery knows a batch that a
+//! loss of power has cut.
 use crate::directory::{fault_at, Directory, Fault, SEATS};
 use crate::recover::End;
 use pidtab::{Blocks, Head};
 use std::fs::{self, File, OpenOptions};
-use std::io::{self, Write};
-use std::os::unix::fs::OpenOptionsExt;
+use std::io;
+use std::os::unix::fs::{FileExt, OpenOptionsExt};
 use std::sync::mpsc::{channel, Receiver, Sender};
 use std::sync::Arc;
 use std::thread;
 use std::time::{Duration, Instant};
+
+/// So many bytes are written between two syncs, where each batch is synced.
+pub const BATCH: usize = 1 << 20;
+/// A batch that is longer makes the file grow as it is written: its own bytes are what it waits for.
+const SMALL: usize = 1 << 14;
+/// So many zeroes are written ahead.
+const AHEAD: u64 = 1 << 20;
 
 /// When what was written is brought to the disk.
 #[derive(Clone, Copy, Debug, PartialEq)]
@@ -46,6 +57,8 @@ pub struct Log {
     pub bytes: u64,
     /// So many bytes of the batch are in the file already, as a write has failed behind them.
     written: usize,
+    /// How long the file is, with the zeroes that were written ahead.
+    length: u64,
     turn: Turn,
     unsynced: Option<Instant>,
     is_syncing: bool,
@@ -104,6 +117,7 @@ impl Log {
             base,
             bytes,
             written: 0,
+            length: bytes,
             turn: Turn::Goes,
             unsynced: None,
             is_syncing: false,
@@ -119,27 +133,53 @@ impl Log {
     /// Writes the batch, and syncs it where that is always done. Behind a write that failed, the same batch goes on where that one stopped.
     /// `Ok(false)`: it cannot be written now.
     pub fn commit(&mut self, batch: &[u8]) -> Result<bool, Fault> {
+        if self.sync == Sync::Always && batch.len() <= SMALL {
+            self.write_ahead(self.bytes + batch.len() as u64);
+        }
         while self.written < batch.len() {
-            match (&*self.file).write(&batch[self.written..]) {
+            match self.write_piece(batch) {
                 Ok(0) => return Ok(self.complain(&io::ErrorKind::WriteZero.into())),
                 Ok(count) => self.written += count,
-                Err(error) if error.kind() == io::ErrorKind::Interrupted => {}
+                Err(error) if error.kind() == io::ErrorKind::Interrupted => continue,
                 Err(error) => return Ok(self.complain(&error)),
             }
+            if self.sync == Sync::Always {
+                self.sync_here()?;
+            }
         }
-        if self.sync == Sync::Always {
-            self.sync_here()?;
-        } else if self.unsynced.is_none() {
+        if self.sync != Sync::Always && self.unsynced.is_none() {
             self.unsynced = Some(Instant::now());
         }
+        self.count(batch.len());
+        Ok(true)
+    }
+
+    /// Writes what is left of the batch, or as much as may be written before a sync.
+    fn write_piece(&self, batch: &[u8]) -> io::Result<usize> {
+        let end = batch.len().min(self.written + BATCH);
+        self.file.write_at(&batch[self.written..end], self.bytes + self.written as u64)
+    }
+
+    /// Has zeroes in the file to that place at least. Without room for them the batch is written all the same, or has no room either.
+    fn write_ahead(&mut self, end: u64) {
+        if end <= self.length {
+            return;
+        }
+        let zeroes = vec![0; (end - self.length + AHEAD) as usize];
+        let _ = self.file.write_all_at(&zeroes, self.length);
+        self.length = self.file.metadata().map_or(self.length, |it| it.len());
+    }
+
+    /// A batch is written, with all that it waits for.
+    fn count(&mut self, size: usize) {
         self.written = 0;
-        self.bytes += batch.len() as u64;
+        self.bytes += size as u64;
+        self.length = self.length.max(self.bytes);
         self.commits += 1;
-        self.largest = self.largest.max(batch.len() as u64);
+        self.largest = self.largest.max(size as u64);
         if self.bytes >= self.segment && self.turn == Turn::Goes {
             self.turn = Turn::Wanted;
         }
-        Ok(true)
     }
 
     /// Now and then, of a write that failed.
@@ -203,7 +243,7 @@ impl Log {
         if made == self.base {
             return Ok(None);
         }
-        self.sync_here()?;
+        self.close()?;
         let place = self.directory.log(made);
         let (file, blocks) = match begin(&self.directory, made, pid_max) {
             Ok(begun) => begun,
@@ -216,11 +256,16 @@ impl Log {
         let closed = Closed { base: self.base, bytes: self.bytes };
         self.file = Arc::new(file);
         (self.base, self.bytes, self.unsynced) = (made, Blocks::HEAD as u64, None);
+        self.length = self.bytes;
         Ok(Some((closed, blocks)))
     }
 
-    /// All is on the disk.
-    pub fn close(&self) -> Result<(), Fault> {
+    /// All is on the disk, and nothing behind it.
+    pub fn close(&mut self) -> Result<(), Fault> {
+        if self.length > self.bytes {
+            self.file.set_len(self.bytes).map_err(fault_at(&self.directory.log(self.base)))?;
+            self.length = self.bytes;
+        }
         self.sync_here()
     }
 }
@@ -238,8 +283,8 @@ fn begin(directory: &Directory, made: u64, pid_max: u32) -> io::Result<(File, Bl
     let mut bytes = Vec::new();
     let blocks = Blocks::begin(&head, &mut bytes)?;
     let mut options = OpenOptions::new();
-    let mut file = options.write(true).create(true).truncate(true).mode(0o600).open(directory.log(made))?;
-    file.write_all(&bytes)?;
+    let file = options.write(true).create(true).truncate(true).mode(0o600).open(directory.log(made))?;
+    file.write_all_at(&bytes, 0)?;
     file.sync_all()?;
     directory.sync()?;
     directory.set_current(made)?;
@@ -248,7 +293,7 @@ fn begin(directory: &Directory, made: u64, pid_max: u32) -> io::Result<(File, Bl
 
 /// The last file, without its torn end.
 fn go_on(directory: &Directory, end: &End) -> io::Result<(File, Blocks)> {
-    let file = OpenOptions::new().append(true).open(directory.log(end.base))?;
+    let file = OpenOptions::new().write(true).open(directory.log(end.base))?;
     file.set_len(end.bytes)?;
     file.sync_all()?;
     Ok((file, end.blocks))

@@ -1,5 +1,6 @@
 //! Reads a directory: the newest snapshot, and the logs behind it, in parts.
 use crate::directory::{fault_at, Directory, Fault, SEATS};
+use crate::log::BATCH;
 use pidtab::{Blocks, Call, Head, Replayed, Reply, SavedFault, Table};
 use std::collections::HashMap;
 use std::fs::{self, File};
@@ -8,6 +9,8 @@ use std::path::Path;
 
 /// How many bytes are read at a time.
 const PART: usize = 1 << 16;
+/// What a disk writes whole, or not at all.
+const SECTOR: u64 = 512;
 
 /// A log as far as it was read.
 struct Input {
@@ -44,17 +47,41 @@ impl Input {
         self.taken += size as u64;
     }
 
-    /// Whether all to the end of the file is 0, from the checksum of the wrong block on: a file may have its length before its bytes.
-    fn ends_in_zeroes(&mut self) -> io::Result<bool> {
-        self.file.seek(SeekFrom::Start(self.taken + self.blocks.wrong() as u64 + 40))?;
-        let mut part = vec![0; PART];
-        loop {
-            match self.file.read(&mut part)? {
-                0 => return Ok(true),
-                count if part[..count].iter().any(|it| *it != 0) => return Ok(false),
-                _ => {}
-            }
+    /// Whether the wrong block is where a write was cut off. Either all is 0 from its checksum on: a file may have its length before its bytes. Or a
+    /// loss of power has kept some sectors of one batch and not others: one with bytes of the block is all 0 from there, and no batch is longer than
+    /// what comes behind.
+    fn is_cut_off(&mut self) -> io::Result<bool> {
+        let block = self.taken + self.blocks.wrong() as u64;
+        let end = self.written_end(block)?;
+        if end <= block + 40 {
+            return Ok(true);
         }
+        let next = (block / SECTOR + 1) * SECTOR;
+        let is_lost = self.is_zero(block, next)? || next < block + 48 && self.is_zero(next, next + SECTOR)?;
+        Ok(is_lost && end <= block + BATCH as u64)
+    }
+
+    /// Where the last byte of the file that is not 0 ends, from a place on.
+    fn written_end(&mut self, from: u64) -> io::Result<u64> {
+        self.file.seek(SeekFrom::Start(from))?;
+        let (mut part, mut at, mut end) = (vec![0; PART], from, from);
+        loop {
+            let count = self.file.read(&mut part)?;
+            if count == 0 {
+                return Ok(end);
+            }
+            if let Some(last) = part[..count].iter().rposition(|it| *it != 0) {
+                end = at + last as u64 + 1;
+            }
+            at += count as u64;
+        }
+    }
+
+    fn is_zero(&mut self, from: u64, to: u64) -> io::Result<bool> {
+        self.file.seek(SeekFrom::Start(from))?;
+        let mut part = Vec::new();
+        self.file.by_ref().take(to - from).read_to_end(&mut part)?;
+        Ok(part.iter().all(|it| *it == 0))
     }
 }
 
@@ -79,7 +106,7 @@ pub struct End {
     pub base: u64,
     pub bytes: u64,
     pub blocks: Blocks,
-    /// So many bytes of a torn end are behind.
+    /// So many bytes of a torn end are behind, without zeroes at the end of the file.
     pub left_out: u64,
 }
 
@@ -148,9 +175,10 @@ impl Recovery {
             return Ok(None);
         }
         self.replay_all(true)?;
-        let Some(input) = self.input.as_ref() else { return Ok(None) };
+        let Some(input) = self.input.as_mut() else { return Ok(None) };
         let (base, bytes, blocks) = (input.base, input.taken, input.blocks);
-        Ok(Some(End { base, bytes, blocks, left_out: input.end - input.taken }))
+        let left_out = input.written_end(bytes).map_err(fault_at(&self.directory.log(base)))? - bytes;
+        Ok(Some(End { base, bytes, blocks, left_out }))
     }
 
     /// A directory that was copied while it was in use may lack its newest log.
@@ -235,7 +263,7 @@ impl Recovery {
             let made = self.table.replay(blocks, bytes);
             let is_torn = match &made {
                 Err(SavedFault::Torn) => true,
-                Err(SavedFault::WrongByte) => input.ends_in_zeroes().map_err(fault_at(&path))?,
+                Err(SavedFault::WrongByte) => input.is_cut_off().map_err(fault_at(&path))?,
                 _ => false,
             };
             if is_torn && may_be_torn {

@@ -75,7 +75,7 @@ class Killed(Case):
         synced.touch()
         variables = {"LD_PRELOAD": str(BUILT / "power.so"), "SYNCED": str(synced)} if loses_power else {}
         one = self.daemon("--fsync", mode, "--segment", "150000", "--archive", name=mode, variables=variables).start()
-        total = before = 0
+        total = before = lost = 0
         for number in range(rounds):
             callers = [Caller(one, seat, dice.random()) for seat in range(1, 7)]
             for caller in callers:
@@ -85,7 +85,7 @@ class Killed(Case):
             for caller in callers:
                 caller.join()
             if loses_power:
-                lose_power(one.kept, synced)
+                lost += lose_power(one.kept, synced, dice)
             tear(one.kept, dice)
             entries = self.compare(one.start())
             for caller in callers:
@@ -94,8 +94,10 @@ class Killed(Case):
             before = len(entries)
         self.assertEqual(one.end(), 0)
         self.assertGreater(total, 50 * rounds)
+        if loses_power and mode == "always":
+            self.assertGreater(lost, rounds, "few sectors were lost")
         snapshots = sum("snap-" in name for name in os.listdir(one.kept))
-        print(f"{mode}{', power lost' if loses_power else ''}: {rounds} kills, {total} answered calls, {before} in the log, {snapshots} snapshots")
+        print(f"{mode}{f', power and {lost} sectors lost' if loses_power else ''}: {rounds} kills, {total} answered calls, {before} in the log, {snapshots} snapshots")
 
     def compare(self, one):
         client = one.client()
@@ -145,13 +147,21 @@ class Killed(Case):
             self.play("everysec", 10, loses_power=True)
 
 
-def lose_power(kept, synced):
-    """The directory as it was when it was synced last, each file as long as it was when that was."""
-    names, sizes = {}, {}
+def lose_power(kept, synced, dice):
+    """The directory as it was when it was synced last, each file as long as it was when that was. What was written since, over bytes that were synced,
+    is kept or not by each sector, in any order."""
+    names, sizes, written = {}, {}, {}
     for line in synced.read_text(encoding="ascii").splitlines():
         kind, *rest = line.split(" ")
-        if kind == "file" and len(rest) == 2:
-            sizes[int(rest[0])] = int(rest[1])
+        if kind == "file" and len(rest) == 3:
+            inode, size, order = map(int, rest)
+            sizes[inode] = size
+            written[inode] = [it for it in written.get(inode, []) if it[2] > order]
+        elif kind == "lost":
+            written.clear()
+        elif kind == "write" and len(rest) == 4:
+            inode, at, size, order = map(int, rest)
+            written.setdefault(inode, []).append((at, size, order))
         elif kind == "dir":
             names = {int(pair.split("=")[0]): pair.split("=")[1] for pair in rest if "=" in pair}
     now = {path.stat().st_ino: path for path in kept.iterdir()}
@@ -161,18 +171,38 @@ def lose_power(kept, synced):
             path.unlink()
             continue
         moved[inode] = path.rename(kept / f"moved.{inode}")
+    lost = 0
     for inode, path in moved.items():
+        for at, size, _ in written.get(inode, []):
+            lost += lose_sectors(path, at, size, dice)
         os.truncate(path, min(path.stat().st_size, sizes.get(inode, 0)))
         path.rename(kept / names[inode])
+    with open(synced, "a", encoding="ascii") as file:
+        file.write("lost\n")
+    return lost
+
+
+SECTOR = 512
+
+
+def lose_sectors(path, at, size, dice):
+    """What was written there over zeroes: each sector of it is lost, or is not. It says how many were."""
+    ends = [at, *range((at // SECTOR + 1) * SECTOR, at + size, SECTOR), at + size]
+    lost = [pair for pair in zip(ends, ends[1:]) if dice.random() < 0.5]
+    with open(path, "r+b") as file:
+        for begin, end in lost:
+            file.seek(begin)
+            file.write(bytes(end - begin))
+    return len(lost)
 
 
 def tear(kept, dice):
-    """What a write that was cut off leaves behind the last whole entry, or a file whose length came before its bytes."""
+    """What a write that was cut off leaves behind the last whole entry, or a file whose length came before its bytes; or all as it is."""
     last = max((path for path in kept.iterdir() if path.name.startswith("log-")), default=None)
-    if last:
+    if last and dice.random() < 0.7:
         ends = [b"", dice.randbytes(dice.randrange(1, 48)), bytes(dice.randrange(48, 5000)), bytes(17)]
-        with open(last, "ab") as file:
-            file.write(dice.choice(ends))
+        whole = last.read_bytes().rstrip(b"\0")
+        last.write_bytes(whole + bytes(-len(whole) % 48) + dice.choice(ends))
 
 
 class Damaged(Case):
