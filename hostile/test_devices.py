@@ -128,6 +128,11 @@ class Reads(Devices):
             ran = run(program, "run", given=b"a" * 1_000_000 + b"\ngetpid 1")
             self.assert_ran(ran, 0, b"bad line\n1\n", b"")
 
+    def test_lines_with_other_bytes(self):
+        for program in self.programs:
+            ran = run(program, "run", given=b"\nfork 1\r\nfo\0rk 1\n\xff\nfork 1")
+            self.assert_ran(ran, 0, b"bad line\n" * 3 + b"child 2 root 2\n", b"")
+
 
 class Writes(Devices):
     def test_short_writes(self):

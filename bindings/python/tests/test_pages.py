@@ -88,8 +88,9 @@ class Examples(unittest.TestCase):
     def test_rattle(self) -> None:
         # The gate proves the example, and compares the answers. tools/pages sees that its file is there.
         text = section(read_page("bindings/rattle/README.md"), "## Example")
-        self.assertIn("crates/test_product/src/first.rt", text)
-        self.assertIn(f"`{next(line for line in read_page('crates.txt').splitlines() if line.startswith('test_product:'))}`", text)
+        self.assertIn("crates/test_public/src/first.rt", text)
+        used = re.findall(r"^use (\w+)::", read_page("crates/test_public/src/first.rt"), re.MULTILINE)
+        self.assertIn(f"`first: {' '.join(sorted({*used} - {'std'}))}`", text)
 
     def test_the_shell(self) -> None:
         need_program()

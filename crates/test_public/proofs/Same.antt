@@ -10,7 +10,7 @@ use Rattle.pid_types.specs.declared.reply.Reply.{Reply}
 use Rattle.pid_types.specs.Step.{step}
 use Rattle.model_laws.specs.StepLaws.{StepKeepsSoundness}
 use Rattle.pid_types.specs.Shown.{Shows, with_count}
-use Rattle.test_layers.specs.Two.{IsSame}
+use Rattle.test_public.specs.Two.{IsSame}
 
 -- a snapshot that shows the same as one of the state shows the state
 pub shown_by_both : (s : State) (a b : Plain) → IsSame a b → Shows s a → Shows s b

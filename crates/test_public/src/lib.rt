@@ -1,6 +1,6 @@
-//! Tests of the crates below the record, over their public calls alone, of what no command shows: arrays by index,
-//! numbers drawn in turn, lists, queues and ids by owner, the script language, the text of a table, tables that are
-//! loaded from texts, and that the fast table and the plain one agree.
+//! Tests over public calls alone, of what no command shows: arrays by index, numbers drawn in turn, lists, queues and ids
+//! by owner, the script language, the text of a table, tables that are loaded from texts, that the fast table and the
+//! plain one agree, the record and the table that workers share, and the workers.
 //!
 //! They have a crate of their own, since a crate with tests is proved twice. It is one, since a check of tests links
 //! all that they use. What a command shows is in `stored/`.
@@ -11,9 +11,17 @@ mod answers;
 #[cfg(test)]
 mod arrays;
 #[cfg(test)]
+mod audits;
+#[cfg(test)]
+mod commands;
+#[cfg(test)]
 mod dialogues;
 #[cfg(test)]
+mod ends;
+#[cfg(test)]
 mod faults;
+#[cfg(test)]
+mod first;
 #[cfg(test)]
 mod full;
 #[cfg(test)]
@@ -41,6 +49,10 @@ mod plain_tally;
 #[cfg(test)]
 mod reads;
 #[cfg(test)]
+mod records;
+#[cfg(test)]
+mod resumed;
+#[cfg(test)]
 mod running;
 #[cfg(test)]
 mod scripts;
@@ -50,3 +62,5 @@ mod seeds;
 mod texts;
 #[cfg(test)]
 mod tree;
+#[cfg(test)]
+mod workers;

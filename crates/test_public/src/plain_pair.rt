@@ -1,7 +1,7 @@
 //! The fast table and the plain one, which are told the same calls: each reply and each snapshot is compared.
 
 ghost use Rattle.std.specs.Prelude.{◌≡◌, ◌+◌, ◌↔◌, OnOk, IfOk, IsTrue, Err};
-ghost use Rattle.test_layers.specs.Two.{IsSame};
+ghost use Rattle.test_public.specs.Two.{IsSame};
 ghost use Rattle.pid_types.specs.declared.reply.Reply.{Reply};
 ghost use Rattle.pid_types.specs.Shown.{Shows};
 ghost use Rattle.pid_types.specs.State.{root_state};
@@ -32,7 +32,7 @@ pub enum Fault {
 
 impl From<AllocError> for Fault {
     ghost use Rattle.std.specs.Prelude.{◌≡◌};
-    ghost use Rattle.test_layers.specs.declared.plain_pair.Fault.TheVariants.{NoMemory};
+    ghost use Rattle.test_public.specs.declared.plain_pair.Fault.TheVariants.{NoMemory};
 
     ghost from_gives = { λ _ fault. fault ≡ NoMemory };
 
@@ -51,7 +51,7 @@ pub struct Pair {
 
 impl Model for Pair {
     ghost use Rattle.pid_types.specs.Sound.{IsSound, IsBelow};
-    ghost use Rattle.test_layers.specs.Two.{Two};
+    ghost use Rattle.test_public.specs.Two.{Two};
 
     ghost Value = { Two };
 

@@ -1,4 +1,4 @@
-use Rattle.test_product.proofs.first.makes_four_calls.Given as goal
+use Rattle.test_public.proofs.first.makes_four_calls.Given as goal
 
 -- the table's one ledger is the one that the blank names
 abbrev pub ghosts-play : goal.ghosts-play

@@ -1,6 +1,6 @@
 use Rattle.std.proofs.lemmas.Slice.Eq.{slice_eq-Decides}
 use Rattle.pid_types.proofs.Equal.{row_Decides}
-use Rattle.test_layers.proofs.plain_pair.have_same_rows.Goals as goal
+use Rattle.test_public.proofs.plain_pair.have_same_rows.Goals as goal
 
 pub returns : goal.returns
 returns c = slice_eq-Decides row_Decides _ _ _ c.eq.ensures

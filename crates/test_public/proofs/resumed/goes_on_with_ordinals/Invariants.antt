@@ -1,4 +1,4 @@
-use Rattle.test_product.proofs.resumed.goes_on_with_ordinals.Given as goal
+use Rattle.test_public.proofs.resumed.goes_on_with_ordinals.Given as goal
 
 abbrev pub ghosts-go_on : goal.ghosts-go_on
 ghosts-go_on g a = record { name = a.blank.name; parts = a.blank.parts }

@@ -1,4 +1,4 @@
-use Rattle.test_product.proofs.workers.two_run_at_once.Given as goal
+use Rattle.test_public.proofs.workers.two_run_at_once.Given as goal
 
 -- the table's one ledger is the one that the blank names
 abbrev pub ghosts-run_two : goal.ghosts-run_two

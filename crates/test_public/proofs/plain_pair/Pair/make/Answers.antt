@@ -1,8 +1,8 @@
 use Rattle.std.proofs.Common.{◌≡◌, ◌+◌, ap, ◌∙◌, arith}
 use Rattle.pid_types.specs.Step.{step}
-use Rattle.test_layers.specs.Two.{Two}
-use Rattle.test_layers.proofs.Same.{kept_by_step, answered_alike}
-use Rattle.test_layers.proofs.plain_pair.Pair.make.Goals as goal
+use Rattle.test_public.specs.Two.{Two}
+use Rattle.test_public.proofs.Same.{kept_by_step, answered_alike}
+use Rattle.test_public.proofs.plain_pair.Pair.make.Goals as goal
 
 pub invariant_of-self-then-not-is_one : goal.invariant_of-self-then-not-is_one
 invariant_of-self-then-not-is_one c =
