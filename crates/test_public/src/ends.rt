@@ -1,5 +1,5 @@
-//! Scripts that come to their last read, and to the last stamp. `make hostile` has the built program run the others: bad
-//! lines, long ones, and devices that fail.
+//! Scripts that come to their last read, and to the last stamp. `make hostile` has the built program run the others:
+//! bad lines, long ones, and devices that fail.
 
 use pid_types::config::Config;
 use pid_types::device::{FromReader, ToWriter};

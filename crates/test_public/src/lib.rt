@@ -1,6 +1,6 @@
-//! Tests over public calls alone, of what no command shows: arrays by index, numbers drawn in turn, lists, queues and ids
-//! by owner, the script language, the text of a table, tables that are loaded from texts, that the fast table and the
-//! plain one agree, the record and the table that workers share, and the workers.
+//! Tests over public calls alone, of what no command shows: arrays by index, numbers drawn in turn, lists, queues and
+//! ids by owner, the script language, the text of a table, tables that are loaded from texts, that the fast table and
+//! the plain one agree, the record and the table that workers share, and the workers.
 //!
 //! They have a crate of their own, since a crate with tests is proved twice. It is one, since a check of tests links
 //! all that they use. What a command shows is in `stored/`.
