@@ -14,8 +14,8 @@ use Rattle.model_laws.specs.StepLaws.{BoundStays, RootStateIsSound, RunsKeepSoun
 use Rattle.pid_types.specs.Sound.{IsSound, IsBelow}
 use Rattle.kept_table.specs.Calls.{resumed}
 use Rattle.kept_table.specs.Chronicle.{Chronicle, IsKept, by_worker, next_stamp, total, recorded}
-use Rattle.kept_table.specs.Past.{Past}
-use Rattle.kept_table.specs.Whole.{IsKeptCounted, IsKeptWhole, one_of, opening_of, room_of, told}
+use Rattle.kept_past.specs.Past.{Past, opening_of}
+use Rattle.kept_table.specs.Whole.{IsKeptCounted, IsKeptWhole, one_of, room_of, told}
 use Rattle.kept_table.proofs.Invariant.{kept-new, kept-resumed, kept-entry, kept-checkpoint}
 use Rattle.kept_table.proofs.Totals.{sum_of_noughts}
 

@@ -15,9 +15,9 @@ use Rattle.pid_types.specs.Step.{step}
 use Rattle.model_laws.specs.StepLaws.{BoundStays, RunsKeepSoundness}
 use Rattle.kept_table.specs.Calls.{after_call, counted, entry_of, outcome, IsWithoutFirst}
 use Rattle.kept_table.specs.Chronicle.{Chronicle, IsKept, by_worker, first_kept_stamp, next_stamp}
-use Rattle.kept_table.specs.Past.{IsCutOnce, Past}
-use Rattle.kept_table.specs.Whole.{IsKeptCounted, IsKeptWhole, is_fresh, moves_or, one_of, opening_of, room_of, told}
-use Rattle.kept_table.proofs.Along.{state_after-append}
+use Rattle.kept_table.specs.Whole.{IsKeptCounted, IsKeptWhole, is_fresh, one_of, room_of, told}
+use Rattle.kept_past.specs.Past.{IsCutOnce, Past, moves_or, opening_of}
+use Rattle.kept_past.proofs.Along.{state_after-append}
 use Rattle.kept_table.proofs.Counts.{counted-cut, counted-push, recorded-cut}
 use Rattle.kept_table.proofs.Invariant.{kept-once}
 

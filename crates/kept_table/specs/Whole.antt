@@ -1,18 +1,13 @@
 -- What a record keeps, and how contracts see it.
-use Rattle.std.specs.Prelude.{◌≡◌, ◌<◌, ℕ, Bool, true, false, not, List, length, sum, slice_index, if◌then◌else◌, ◌==◌, Option, None, Some, []}
+use Rattle.std.specs.Prelude.{◌≡◌, ◌<◌, ℕ, Bool, true, false, List, length, sum, slice_index, if◌then◌else◌, ◌==◌, Option, None, Some, []}
 use Rattle.pid_types.specs.Settings.{Settings}
 use Rattle.pid_types.specs.State.{State}
+use Rattle.kept_past.specs.Past.{Past, moves_or, opening_of}
 use Rattle.kept_table.specs.Chronicle.{Chronicle, IsKept, first_kept_stamp, recorded}
-use Rattle.kept_table.specs.Past.{Past}
 
 -- one where both are the same worker
 abbrev pub one_of : ℕ → ℕ → ℕ
 one_of worker w = if worker == w then 1 else 0
-
--- the opening: the state that is held, or else the present one
-abbrev pub opening_of : Option State → State → State
-opening_of None present = present
-opening_of (Some held) present = held
 
 -- room for entries counts only beside a state that is held, since the first entry needs one
 abbrev pub room_of : Option State → ℕ → ℕ
@@ -23,11 +18,6 @@ room_of (Some held) room = room
 abbrev pub is_fresh : Bool → ℕ → Bool
 is_fresh true first_kept = false
 is_fresh false first_kept = first_kept == 0
-
--- whether what is held moves on by calls, or what is to be held where nothing is
-abbrev pub moves_or : Option State → Bool → Bool → Bool
-moves_or None is_fixed otherwise = otherwise
-moves_or (Some held) is_fixed otherwise = not is_fixed
 
 -- the record, by what is kept of it: its past, and a count of calls for each worker
 abbrev pub told : Settings → Bool → Past → ℕ → List ℕ → State → List ℕ → Chronicle

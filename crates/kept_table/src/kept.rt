@@ -20,7 +20,7 @@ ghost use Rattle.kept_table.specs.Promise.{IsSubtreeCount, KeepsPromise};
 ghost use Rattle.model_laws.specs.Refusals.{is_query};
 ghost use Rattle.kept_table.specs.Whole.{one_of, is_fresh};
 
-use crate::history::History;
+use kept_past::History;
 use model_laws::laws::{forks_keep_limits, no_reuse, numbers_are_apart};
 use model_laws::meanings::count_is_of_subtree;
 use model_laws::soundness::{bound_stays, root_state_is_sound, soundness_is_kept};

@@ -6,9 +6,7 @@
 //! crate above adds the ledger, of which each worker has a share, and the lock.
 #![tactic(auto)]
 
-mod history;
 mod kept;
-mod opening;
 mod replicas;
 
 pub use kept::{Kept, copy_reply};

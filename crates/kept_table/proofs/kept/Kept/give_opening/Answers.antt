@@ -1,6 +1,7 @@
 use Rattle.std.proofs.Common.{◌≡◌, ◌∙◌, ap, sym, true}
 use Rattle.kept_table.specs.Chronicle.{Chronicle}
-use Rattle.kept_table.specs.Whole.{opening_of, room_of}
+use Rattle.kept_past.specs.Past.{opening_of}
+use Rattle.kept_table.specs.Whole.{room_of}
 use Rattle.kept_table.proofs.Cuts.{none_or_same, whole-given}
 use Rattle.kept_table.proofs.kept.Kept.give_opening.Goals as goal
 

@@ -3,7 +3,7 @@ use Rattle.pid_types.specs.declared.entry.Entry.{Entry}
 use Rattle.pid_types.specs.Sound.{IsBelow}
 use Rattle.pid_types.specs.Step.{step}
 use Rattle.kept_table.specs.Chronicle.{Chronicle, next_stamp}
-use Rattle.kept_table.specs.Past.{Past}
+use Rattle.kept_past.specs.Past.{Past}
 use Rattle.kept_table.proofs.Counts.{some_of_room, whole-push}
 use Rattle.kept_table.proofs.Totals.{last_reply_pushed}
 use Rattle.kept_table.proofs.Invariant.{outcome-of, present-sound}

@@ -1,0 +1,4 @@
+pub mod Along
+pub mod Entered
+pub mod Past
+pub mod Shown

@@ -1,0 +1,446 @@
+//! The kept history: its entries, and the state that they begin in.
+//!
+//! That state is held in a table of its own, which lags behind the present one by the kept calls. An entry is cut away
+//! in two steps. From the first on it is no longer kept, and it waits at the front of the ring. In the second its call
+//! is made on what is held, and it is dropped. Contracts see the state that the calls which wait will lead to. So
+//! nothing is seen of the second step, which may find no memory.
+ghost use Rattle.std.specs.Prelude.{◌≡◌, ◌≢◌, ◌+◌, ◌-◌, ◌<◌, ◌≤◌, ◌^◌, ◌↔◌, ℕ, IsTrue, IsSome, IfOk, IfSome};
+ghost use Rattle.std.specs.Prelude.{OnOk, OnErr, ◌⊎◌, true, false, not};
+ghost use Rattle.std.specs.Prelude.{[], ◌∷◌, ◌++◌, length, slice_get, Some, None, vec_len};
+ghost use Rattle.std.specs.VecDeque.{deque_len, deque_capacity};
+ghost use Rattle.std.specs.Option.{option_copied, option_map};
+ghost use Rattle.pid_types.specs.declared.entry.Entry.{Entry};
+ghost use Rattle.pid_types.specs.Replay.{state_after, calls_of};
+ghost use Rattle.pid_types.specs.Shown.{Shows};
+ghost use Rattle.pid_types.specs.Sound.{IsBelow};
+ghost use Rattle.pid_types.specs.State.{State, root_state};
+ghost use Rattle.pid_types.specs.Step.{step, may_grow};
+ghost use Rattle.kept_past.specs.Past.{held_fixed, moves_or, opening_of, IsCutOnce};
+
+use crate::opening::Opening;
+use model_laws::soundness::soundness_is_kept;
+use pid_table::PidTable;
+use pid_types::call::Call;
+use pid_types::config::Config;
+use pid_types::entry::Entry;
+use pid_types::plain::Plain;
+use pid_types::reply::Reply;
+use std::alloc::{AllocError, Global};
+use std::collections::VecDeque;
+use std::marker::Model;
+
+/// How many calls that wait a recorded call makes: one more than it can add.
+const STEPS: usize = 2;
+
+/// The kept entries, and the state that they begin in. Contracts see that state, the kept entries, the stamp of the
+/// first of them, how many entries wait, and for how many more there is room.
+pub struct History {
+    // What the entries of the ring begin in. There is none while that is the present state, and the ring is empty.
+    held: Option<Opening>,
+    // First the entries that wait, and then the kept ones.
+    ring: VecDeque<Entry>,
+    lag: usize,
+    // The stamp of the first entry of the ring.
+    stamp: u64,
+}
+
+// Written out, and not derived: so the crate above cites this drop, and does not prove it anew.
+impl Drop for History {
+    fn drop(self) {
+        let History {
+            held: _,
+            ring: _,
+            lag: _,
+            stamp: _,
+        } = self;
+    }
+}
+
+impl Model for History {
+    ghost use Rattle.std.specs.Prelude.{◌-◌};
+    ghost use Rattle.std.specs.VecDeque.{deque_len, deque_capacity};
+    ghost use Rattle.kept_past.specs.Past.{Past, past_of, IsPast};
+
+    ghost Value = { Past };
+
+    ghost view = { λ a. past_of a.held a.ring.items a.lag a.stamp (deque_capacity a.ring - deque_len a.ring) };
+
+    ghost invariant = { λ a. IsPast a.held a.ring.items a.lag a.stamp };
+}
+
+impl History {
+    /// No entry, and the present state as the opening. The next call has the stamp.
+    pub fn new(alloc: Global, stamp: u64) -> History
+        ensures { result ≡ record {
+          opening = None;
+          is_fixed = false;
+          entries = [];
+          stamp = stamp;
+          lag = 0;
+          room = result.room;
+        } }
+    {
+        History {
+            held: None,
+            ring: VecDeque::new(alloc),
+            lag: 0,
+            stamp,
+        }
+    }
+
+    /// How many entries are kept.
+    #[inline(always)]
+    pub fn len(&self) -> usize
+        ensures { result ≡ length self.now.entries }
+    {
+        self.ring.len() - self.lag
+    }
+
+    /// Whether the opening is the present state as it is.
+    #[inline(always)]
+    pub fn is_bare(&self) -> bool
+        ensures { IsTrue result ↔ (self.now.opening ≡ None) }
+    {
+        self.held.is_none()
+    }
+
+    /// The kept entry at a place.
+    pub fn entry(&self, place: u64) -> Option<&Entry>
+        ensures { option_copied result ≡ slice_get self.now.entries place }
+    {
+        if place >= self.len() as u64 {
+            return None;
+        }
+        self.ring.get(self.lag + place as usize)
+    }
+
+    /// The reply of the last kept entry.
+    #[inline(always)]
+    pub fn last_reply(&self) -> Option<&Reply>
+        ensures { option_copied result
+            ≡ option_map (λ (e : Entry). e.reply) (slice_get self.now.entries (length self.now.entries - 1)) }
+    {
+        if self.len() == 0 {
+            return None;
+        }
+        let last = self.ring.back()?;
+        Some(&last.reply)
+    }
+
+    /// The state that the kept entries begin in: where there are none, the present one. The error is want of memory,
+    /// here or before: where calls wait, they found none.
+    pub fn snapshot(&self, present: &PidTable) -> Result<Plain, AllocError>
+        requires { self.now.entries ≡ [] → opening_of self.now.opening present.now ≡ present.now }
+        ensures { IfOk result (Shows (opening_of self.now.opening present.now)) }
+    {
+        if self.len() == 0 {
+            return present.snapshot();
+        }
+        let Some(held) = &self.held else {
+            unreachable!()
+        };
+        if self.lag > 0 {
+            return Err(AllocError);
+        }
+        held.snapshot(*self.ring.allocator())
+    }
+
+    /// Where the opening is the present state, holds that from now on. The root init's state, where it is that of the
+    /// settings, takes no memory. The error is want of memory.
+    #[inline(always)]
+    pub fn begin(
+        &mut self,
+        table: &PidTable,
+        config: &Config,
+        is_root: bool,
+    ) -> Result<(), AllocError>
+        requires below { self.old.opening ≡ None → IsBelow self.old.stamp table.now }
+        requires root { IsTrue is_root → self.old.opening ≡ None → table.now ≡ root_state config.now.pid_max }
+        ensures ok { OnOk result (self.new ≡ record self.old {
+          opening = Some (opening_of self.old.opening table.now);
+          is_fixed = self.new.is_fixed;
+        }) }
+        ensures moves { OnOk result (not self.new.is_fixed ≡ moves_or self.old.opening self.old.is_fixed is_root) }
+        ensures err { OnErr result (self.new ≡ self.old) }
+        ensures none { OnErr result (self.old.opening ≡ None) }
+    {
+        if self.is_bare() {
+            return self.hold(table, config, is_root);
+        }
+        Ok(())
+    }
+
+    /// Holds the present state, which is the opening. It is not inlined, since a call rarely comes here.
+    #[inline(never)]
+    fn hold(&mut self, table: &PidTable, config: &Config, is_root: bool) -> Result<(), AllocError>
+        requires bare { self.old.opening ≡ None }
+        requires below { IsBelow self.old.stamp table.now }
+        requires root { IsTrue is_root → table.now ≡ root_state config.now.pid_max }
+        ensures ok { OnOk result (self.new ≡ record self.old { opening = Some table.now; is_fixed = not is_root }) }
+        ensures err { OnErr result (self.new ≡ self.old) }
+    {
+        table.laws();
+        let opening = opening_at(table, config, is_root)?;
+        self.held = Some(opening);
+        Ok(())
+    }
+
+    /// Holds a table whose state is the opening, unless what is held moves on by calls already.
+    pub fn give(&mut self, table: PidTable)
+        requires below { self.old.opening ≡ None → IsBelow self.old.stamp table }
+        requires same { self.old.opening ≡ None ⊎ self.old.opening ≡ Some table }
+        ensures { self.new ≡ record self.old { opening = Some table; is_fixed = false } }
+    {
+        if self.is_bare() || is_fixed(&self.held) {
+            self.hold_table(table);
+        }
+    }
+
+    /// Holds a table whose state is the opening, in place of a snapshot or of nothing.
+    fn hold_table(&mut self, table: PidTable)
+        requires below { self.old.opening ≡ None → IsBelow self.old.stamp table }
+        requires same { self.old.opening ≡ None ⊎ (self.old.is_fixed ≡ true) × (self.old.opening ≡ Some table) }
+        ensures { self.new ≡ record self.old { opening = Some table; is_fixed = false } }
+    {
+        table.laws();
+        self.held = Some(Opening::table(table));
+    }
+
+    /// Makes room for n more entries. The error is want of memory.
+    #[inline(always)]
+    pub fn reserve(&mut self, n: usize) -> Result<(), AllocError>
+        ensures same { self.new ≡ record self.old { room = self.new.room } }
+        ensures ok { OnOk result (n ≤ self.new.room) }
+        ensures room { self.old.room ≤ self.new.room }
+        ensures enough { OnErr result (self.old.room < n) }
+    {
+        self.ring.reserve(n)
+    }
+
+    /// Makes a call, and enters it behind the others. The reply is written where the entry keeps it. The error is want
+    /// of memory, and then there is no entry.
+    #[inline(always)]
+    pub fn enter(
+        &mut self,
+        table: &mut PidTable,
+        stamp: u64,
+        worker: usize,
+        call: Call,
+    ) -> Result<(), AllocError>
+        requires below { IsBelow stamp table.old }
+        requires room { 0 < self.old.room }
+        requires begun { self.old.opening ≢ None }
+        requires fits { self.old.stamp < 2 ^ 64 }
+        ensures state { OnOk result (table.new ≡ (step table.old stamp call).state) }
+        ensures entry { OnOk result (self.new ≡ record self.old {
+          entries = self.old.entries
+              ++ record { worker = worker; call = call; reply = (step table.old stamp call).reply } ∷ [];
+          lag = self.new.lag;
+          room = self.new.room;
+        }) }
+        ensures room { self.old.room ≤ self.new.room + 1 }
+        ensures err { OnErr result (table.new ≡ table.old) }
+        ensures none { OnErr result (self.new ≡ self.old) }
+        ensures grows { OnErr result (IsTrue (may_grow call)) }
+    {
+        enter_call(table, &mut self.ring, stamp, worker, call)?;
+        if self.lag > 0 {
+            self.catch_up(STEPS);
+        }
+        Ok(())
+    }
+
+    /// Cuts the first kept entry away, and answers whose call it was; none where there is no entry, or no call can be
+    /// made on what is held.
+    pub fn cut_first(&mut self) -> Option<usize>
+        requires { self.old.stamp + length self.old.entries < 2 ^ 64 }
+        ensures cut { IfSome result (λ worker. IsCutOnce worker self.old self.new) }
+        ensures room { self.old.room ≤ self.new.room }
+        ensures none { result ≡ None → self.new ≡ self.old }
+        ensures some { (result ≡ None) ↔ ((self.old.is_fixed ≡ true) ⊎ (self.old.entries ≡ [])) }
+    {
+        if is_fixed(&self.held) {
+            return None;
+        }
+        let worker = self.ring.get(self.lag)?.worker;
+        self.lag += 1;
+        self.catch_up(STEPS);
+        Some(worker)
+    }
+
+    /// Cuts all kept entries away. What is held moves on by their calls; a snapshot is taken anew, and only then the
+    /// error comes: want of memory.
+    pub fn cut_all(&mut self, table: &PidTable) -> Result<(), AllocError>
+        requires ends { (opening : State) → self.old.opening ≡ Some opening
+            → table.now ≡ state_after opening self.old.stamp (calls_of self.old.entries) }
+        requires begun { self.old.opening ≢ None }
+        requires below { IsBelow (self.old.stamp + length self.old.entries) table.now }
+        requires fits { self.old.stamp + length self.old.entries < 2 ^ 64 }
+        ensures ok { OnOk result (self.new ≡ record {
+          opening = Some table.now;
+          is_fixed = self.old.is_fixed;
+          entries = [];
+          stamp = self.old.stamp + length self.old.entries;
+          lag = self.new.lag;
+          room = self.new.room;
+        }) }
+        ensures room { self.old.room ≤ self.new.room }
+        ensures err { OnErr result (self.new ≡ self.old) }
+    {
+        if is_fixed(&self.held) {
+            return self.copy(table);
+        }
+        let all = self.ring.len();
+        self.lag = all;
+        self.catch_up(all);
+        Ok(())
+    }
+
+    /// Forgets what is held, and all entries: the opening is the present state, whose next call has the stamp.
+    #[inline(always)]
+    pub fn forget(&mut self, stamp: u64)
+        ensures { self.new ≡ record {
+          opening = None;
+          is_fixed = false;
+          entries = [];
+          stamp = stamp;
+          lag = 0;
+          room = self.new.room;
+        } }
+    {
+        empty(&mut self.held, &mut self.ring, &mut self.lag);
+        self.stamp = stamp;
+    }
+
+    /// Makes at most so many calls that wait. It stops where there is no memory.
+    #[inline(never)]
+    fn catch_up(&mut self, most: usize)
+        requires { self.old.stamp < 2 ^ 64 }
+        ensures same { self.new ≡ record self.old { lag = self.new.lag; room = self.new.room } }
+        ensures room { self.old.room ≤ self.new.room }
+    {
+        for _ in 0..most {
+            if self.lag == 0 || self.move_on().is_err() {
+                return;
+            }
+        }
+    }
+
+    /// Makes the first call that waits on what is held, and drops its entry. The error is want of memory, and then it
+    /// waits on.
+    fn move_on(&mut self) -> Result<(), AllocError>
+        requires waits { 0 < self.old.lag }
+        requires fits { self.old.stamp < 2 ^ 64 }
+        ensures ok { OnOk result (self.new ≡ record self.old { lag = self.old.lag - 1; room = self.old.room + 1 }) }
+        ensures err { OnErr result (self.new ≡ self.old) }
+    {
+        soundness_is_kept();
+        let alloc = *self.ring.allocator();
+        let Some(held) = &mut self.held else {
+            unreachable!()
+        };
+        let Some(first) = self.ring.front() else {
+            unreachable!()
+        };
+        held.make(alloc, self.stamp, first.call)?;
+        let _made = self.ring.pop_front();
+        self.lag -= 1;
+        self.stamp += 1;
+        Ok(())
+    }
+
+    /// Holds a snapshot of the present state in place of another, and drops all entries. The error is want of memory.
+    fn copy(&mut self, table: &PidTable) -> Result<(), AllocError>
+        requires none_waits { self.old.lag ≡ 0 }
+        requires below { IsBelow (self.old.stamp + length self.old.entries) table.now }
+        requires fits { self.old.stamp + length self.old.entries < 2 ^ 64 }
+        ensures ok { OnOk result (self.new ≡ record {
+          opening = Some table.now;
+          is_fixed = true;
+          entries = [];
+          stamp = self.old.stamp + length self.old.entries;
+          lag = 0;
+          room = self.new.room;
+        }) }
+        ensures room { self.old.room ≤ self.new.room }
+        ensures err { OnErr result (self.new ≡ self.old) }
+    {
+        table.laws();
+        let anew = Opening::copy(table)?;
+        self.stamp += self.ring.len() as u64;
+        self.ring.clear();
+        self.held = Some(anew);
+        Ok(())
+    }
+}
+
+/// Whether a state is held on which no call can be made.
+#[inline(always)]
+fn is_fixed(held: &Option<Opening>) -> bool
+    ensures { result ≡ held_fixed held.now }
+{
+    match held {
+        Some(held) => held.is_fixed(),
+        None => false,
+    }
+}
+
+/// The table's state, which may be the root init's, to be held. The error is want of memory.
+fn opening_at(table: &PidTable, config: &Config, is_root: bool) -> Result<Opening, AllocError>
+    requires { IsTrue is_root → table.now ≡ root_state config.now.pid_max }
+    ensures { IfOk result (λ opening. opening ≡ record { state = table.now; is_fixed = not is_root }) }
+{
+    if is_root {
+        return Ok(Opening::root(*config));
+    }
+    Opening::copy(table)
+}
+
+/// Lets go of what is held, of which there mostly is none.
+#[inline(always)]
+fn empty(held: &mut Option<Opening>, ring: &mut VecDeque<Entry>, lag: &mut usize)
+    requires bare { held.old ≡ None → (ring.old.items ≡ []) × (lag.old ≡ 0) }
+    ensures held { held.new ≡ None }
+    ensures ring { ring.new.items ≡ [] }
+    ensures lag { lag.new ≡ 0 }
+{
+    if held.is_some() {
+        *held = None;
+        ring.clear();
+        *lag = 0;
+    }
+}
+
+/// Makes a call, and enters it behind the ring's entries, for which there is room. The reply is written where the entry
+/// keeps it. The error is want of memory, and then there is no entry.
+#[inline(always)]
+fn enter_call(
+    table: &mut PidTable,
+    ring: &mut VecDeque<Entry>,
+    stamp: u64,
+    worker: usize,
+    call: Call,
+) -> Result<(), AllocError>
+    requires below { IsBelow stamp table.old }
+    requires room { deque_len ring.old < deque_capacity ring.old }
+    ensures state { OnOk result (table.new ≡ (step table.old stamp call).state) }
+    ensures ring { OnOk result (ring.new.items ≡ ring.old.items
+        ++ record { worker = worker; call = call; reply = (step table.old stamp call).reply } ∷ []) }
+    ensures len { OnOk result (deque_len ring.new ≡ deque_len ring.old + 1) }
+    ensures err { OnErr result (table.new ≡ table.old) }
+    ensures none { OnErr result ((ring.new.items ≡ ring.old.items) × (deque_len ring.new ≡ deque_len ring.old)) }
+    ensures grows { OnErr result (IsTrue (may_grow call)) }
+    ensures capacity { deque_capacity ring.new ≡ deque_capacity ring.old }
+{
+    let place = ring.len();
+    ring.push_back_reserved(Entry {
+        worker,
+        call,
+        reply: Reply::Done,
+    });
+    let made = table.step(stamp, call, &mut ring[place].reply);
+    if made.is_err() {
+        ring.truncate(place);
+    }
+    made
+}
