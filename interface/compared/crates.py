@@ -12,13 +12,13 @@ REPLY = "crates/pid_types/src/reply.rt"
 CALL = "crates/pid_types/src/call.rt"
 LAWS = "crates/model_laws/specs/Refusals.antt"
 LINE = "crates/pid_script/src/line.rt"
-NUMBERS = "crates/foreign_calls/src/numbers.rt"
+NUMBERS = "crates/foreign_numbers/src/numbers.rt"
 SAVED_NUMBERS = "crates/saved_form/src/numbers.rt"
 FAULT_WORDS = "crates/table_load/src/fault.rt"
 FORM_WORDS = "crates/table_text/src/fault.rt"
 OF_CALLS = (REPLY, CALL, LAWS, LINE, SAVED_NUMBERS)
 OF_FAULTS = (FAULT_WORDS, FORM_WORDS)
-OF_BOUNDS = [f"crates/{path}.rt" for path in ("foreign_calls/src/kinds", "foreign_calls/src/record", "pid_script/src/answer", "pid_script/src/call", "pid_types/src/config", "pid_types/src/plain",
+OF_BOUNDS = [f"crates/{path}.rt" for path in ("foreign_numbers/src/kinds", "foreign_calls/src/record", "pid_script/src/answer", "pid_script/src/call", "pid_types/src/config", "pid_types/src/plain",
                                               "pidtab_c/src/lib", "saved_form/src/block", "saved_form/src/layout")]  # fmt: skip
 PATHS = (*OF_CALLS, NUMBERS, *OF_FAULTS, *OF_BOUNDS)
 

@@ -4,7 +4,7 @@ from model import fields, of
 from names import FIELDS, capitals, sentence, takes
 from places import arms
 
-FOLDER = "crates/foreign_calls/src"
+FOLDER = "crates/foreign_numbers/src"
 TOLD = {name: f"`{name}`" for name in ("first", "second", "count", "levels", "error", "refusal")}
 
 # The statuses of a saved history that the functions of its bytes answer. The others are those of its file, which is C's.
@@ -58,4 +58,4 @@ PARTS = {
     (f"{FOLDER}/kinds.rt", "kinds"): kinds,
     (f"{FOLDER}/status.rt", "statuses"): statuses,
 }
-ROWS = {(f"{FOLDER}/ask.rt", "asks"): (arms("asks("), asks)}
+ROWS = {("crates/foreign_calls/src/ask.rt", "asks"): (arms("asks("), asks)}

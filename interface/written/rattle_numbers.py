@@ -4,8 +4,8 @@ from model import call, caller_of, code, fields, imported, is_numbered, named, o
 from names import capitals, wrapped
 from places import arms, definition, imports
 
-TELLS = "crates/foreign_calls/src/call_numbers.rt"
-TELLS_MODEL = "crates/foreign_calls/specs/CallNumbers.antt"
+TELLS = "crates/foreign_numbers/src/call_numbers.rt"
+TELLS_MODEL = "crates/foreign_numbers/specs/CallNumbers.antt"
 
 # What an argument is as a number in the model.
 NUMBERS = {"new": "switch_number {}", "on": "switch_number {}", "use": "kind_number {}"}

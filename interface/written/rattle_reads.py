@@ -5,8 +5,8 @@ from places import arms, definition, imports
 from written.rattle_lines import all_calls
 from written.rattle_numbers import arm, operation
 
-READS = "crates/foreign_calls/src/numbers.rt"
-READS_MODEL = "crates/foreign_calls/specs/Numbers.antt"
+READS = "crates/foreign_numbers/src/numbers.rt"
+READS_MODEL = "crates/foreign_numbers/specs/Numbers.antt"
 
 # What reads an argument of a kind: behind read_ in code, and before _of in the model. And the fields that say it.
 FROM = {

@@ -446,7 +446,7 @@ pub(crate) struct Table {
 }
 
 // SAFETY: the table's memory is reached by this owner alone, the library has no state beside it, and it comes from malloc, which any
-// thread may free. That the handle may go to another thread is proved: crates/foreign_calls/proofs/handle/Handle/TheSendSync.
+// thread may free. That the handle may go to another thread is proved: crates/foreign_handles/proofs/handle/Handle/TheSendSync.
 unsafe impl Send for Table {}
 
 // SAFETY: a `&` reaches queries alone. Each works on a copy of the handle, which guard.c makes, and proved code has the table there by a `&`.
@@ -538,7 +538,7 @@ pub(crate) struct Record {
     held: Box<Held>,
 }
 
-// SAFETY: as a table. That the handle may go to another thread is proved: crates/foreign_calls/proofs/record_handle.
+// SAFETY: as a table. That the handle may go to another thread is proved: crates/foreign_handles/proofs/record_handle.
 unsafe impl Send for Record {}
 
 // SAFETY: as a table.

@@ -3,7 +3,7 @@ use Rattle.std.specs.Prelude.{Option, Some, None, if◌then◌else◌}
 use Rattle.pid_types.specs.declared.call.Call.{Call}
 use Rattle.model_laws.specs.Refusals.{is_query}
 use Rattle.saved_form.specs.declared.numbers.CallNumbers.{CallNumbers}
-use Rattle.foreign_calls.specs.Numbers.{call_of}
+use Rattle.foreign_numbers.specs.Numbers.{call_of}
 
 -- the call, if it is a query
 abbrev pub only_query : Option Call → Option Call

@@ -5,8 +5,8 @@ use Rattle.kept_table.specs.Chronicle.{Chronicle, total, kept_entry}
 use Rattle.saved_form.specs.declared.numbers.CallNumbers.{CallNumbers}
 use Rattle.saved_form.specs.declared.numbers.ReplyNumbers.{ReplyNumbers}
 use Rattle.saved_form.specs.declared.numbers.EntryNumbers.{EntryNumbers}
-use Rattle.foreign_calls.specs.CallNumbers.{call_numbers}
-use Rattle.foreign_calls.specs.Numbers.{call_of, numbers_of}
+use Rattle.foreign_numbers.specs.CallNumbers.{call_numbers}
+use Rattle.foreign_numbers.specs.Numbers.{call_of, numbers_of}
 
 -- the numbers are those of the kept entry with the ordinal, whose call can be read from them again
 pub record IsEntry (c : Chronicle) (ordinal : ℕ) (worker : ℕ) (call : CallNumbers) (reply : ReplyNumbers) : Type 0 where

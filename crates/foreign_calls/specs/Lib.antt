@@ -1,14 +1,8 @@
 pub mod Made
-pub mod Owned
-pub mod Lending
-pub mod RecordLending
-pub mod Numbers
-pub mod CallNumbers
 pub mod Lines
 pub mod Records
 pub mod Entries
 pub mod Asked
 pub mod Replays
-pub mod Tasks
 pub mod Saved
 pub mod SavedBytes

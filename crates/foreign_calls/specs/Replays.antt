@@ -5,7 +5,7 @@ use Rattle.kept_table.specs.Calls.{after_call, outcome}
 use Rattle.kept_table.specs.Chronicle.{Chronicle}
 use Rattle.saved_form.specs.declared.numbers.ReplyNumbers.{ReplyNumbers}
 use Rattle.saved_form.specs.declared.numbers.EntryNumbers.{EntryNumbers}
-use Rattle.foreign_calls.specs.Numbers.{call_of, numbers_of}
+use Rattle.foreign_numbers.specs.Numbers.{call_of, numbers_of}
 use Rattle.foreign_calls.specs.Records.{Has, roomless}
 
 -- the saved entry's call was made for its worker and recorded, once; the reply is this one

@@ -6,11 +6,11 @@ ghost use Rattle.pid_types.specs.declared.call.Call.{Call};
 ghost use Rattle.kept_table.specs.Calls.{outcome};
 ghost use Rattle.model_laws.specs.Refusals.{is_query};
 ghost use Rattle.foreign_calls.specs.Asked.{query_of};
-ghost use Rattle.foreign_calls.specs.Numbers.{numbers_of};
+ghost use Rattle.foreign_numbers.specs.Numbers.{numbers_of};
 ghost use Rattle.stamped_table.specs.Stamped.{reply_to};
 
-use crate::numbers::{CallNumbers, ReplyNumbers, put_reply, read_call};
-use crate::status::{DONE, OUT_OF_RANGE};
+use foreign_numbers::numbers::{CallNumbers, ReplyNumbers, put_reply, read_call};
+use foreign_numbers::status::{DONE, OUT_OF_RANGE};
 use kept_table::Kept;
 use pid_types::call::Call;
 use pid_types::reply::Reply;

@@ -5,9 +5,9 @@ ghost use Rattle.foreign_calls.specs.Entries.{IsEntry};
 ghost use Rattle.table_lines.specs.Listed.{list_of_state};
 ghost use Rattle.foreign_calls.specs.Records.{IsCut};
 
-use crate::call_numbers::tell_call;
-use crate::numbers::{CallNumbers, ReplyNumbers, put_reply};
-use crate::status::{AGAIN, DONE, NO_MEMORY, NOT_KEPT};
+use foreign_numbers::call_numbers::tell_call;
+use foreign_numbers::numbers::{CallNumbers, ReplyNumbers, put_reply};
+use foreign_numbers::status::{AGAIN, DONE, NO_MEMORY, NOT_KEPT};
 use kept_table::Kept;
 use pid_script::list::list_text;
 use std::alloc::{AllocError, Global};

@@ -3,8 +3,8 @@ ghost use Rattle.std.specs.Prelude.{◌≡◌, ◌+◌, ◌-◌, ◌<◌, ◌≤
 ghost use Rattle.kept_table.specs.Chronicle.{total};
 ghost use Rattle.foreign_calls.specs.Entries.{TellsEntry};
 
-use crate::call_numbers::tell_call;
-use crate::numbers::tell_reply;
+use foreign_numbers::call_numbers::tell_call;
+use foreign_numbers::numbers::tell_reply;
 use kept_table::Kept;
 pub use saved_form::numbers::EntryNumbers;
 

@@ -2,9 +2,9 @@
 ghost use Rattle.std.specs.Prelude.{◌≡◌, Some, None, IfOk, IfSome, is_some};
 ghost use Rattle.foreign_calls.specs.Records.{roomless, opened};
 
-use crate::handle::null;
-use crate::loose::Loose;
-use crate::record_handle::RecordHandle;
+use foreign_handles::handle::null;
+use foreign_handles::loose::Loose;
+use foreign_handles::record_handle::RecordHandle;
 use kept_table::Kept;
 use pid_types::config::Config;
 use std::alloc::{AllocError, Global};

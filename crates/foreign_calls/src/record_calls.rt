@@ -4,12 +4,12 @@ ghost use Rattle.pid_types.specs.Step.{may_grow};
 ghost use Rattle.pid_script.specs.Answers.{reply_text};
 ghost use Rattle.kept_table.specs.Calls.{outcome};
 ghost use Rattle.kept_table.specs.Chronicle.{total, next_stamp, last_reply};
-ghost use Rattle.foreign_calls.specs.Numbers.{numbers_of};
+ghost use Rattle.foreign_numbers.specs.Numbers.{numbers_of};
 ghost use Rattle.foreign_calls.specs.Records.{roomless, IsRecorded, IsRecordedKeeping};
 
-use crate::numbers::{ReplyNumbers, put_reply};
-use crate::status::{DONE, NO_MEMORY, OUT_OF_RANGE, SPENT, status_of};
 use crate::texts::write_reply;
+use foreign_numbers::numbers::{ReplyNumbers, put_reply};
+use foreign_numbers::status::{DONE, NO_MEMORY, OUT_OF_RANGE, SPENT, status_of};
 use kept_table::{Kept, copy_reply};
 use pid_script::answer::LONGEST_ANSWER;
 use pid_types::call::Call;

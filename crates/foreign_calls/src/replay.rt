@@ -4,10 +4,10 @@ ghost use Rattle.kept_table.specs.Chronicle.{next_stamp};
 ghost use Rattle.foreign_calls.specs.Records.{Has, roomless};
 ghost use Rattle.foreign_calls.specs.Replays.{IsSameAgain, IsOtherNow, Replays, CannotMake, StopsBefore, StopsAt};
 
-use crate::numbers::{ReplyNumbers, read_call, tell_reply};
 use crate::read::EntryNumbers;
 use crate::record_calls::make_on;
-use crate::status::{DIFFERS, DONE, NO_MEMORY, OUT_OF_RANGE, SPENT};
+use foreign_numbers::numbers::{ReplyNumbers, read_call, tell_reply};
+use foreign_numbers::status::{DIFFERS, DONE, NO_MEMORY, OUT_OF_RANGE, SPENT};
 use kept_table::Kept;
 
 /// Whether the replies are the same.

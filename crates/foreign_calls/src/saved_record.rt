@@ -1,5 +1,5 @@
 //! A record as a text: the text of its present state is made, and a record goes on from such a text.
-ghost use Rattle.std.specs.Prelude.{◌≡◌, ◌≢◌, ◌<◌, ◌≤◌, ◌↔◌, ◌⊎◌, IsSome, None, IfOk, sum, true};
+ghost use Rattle.std.specs.Prelude.{◌≡◌, ◌≢◌, ◌<◌, ◌≤◌, ◌↔◌, ◌⊎◌, IsSome, None, IfOk, IfErr, OnOk, sum, true};
 ghost use Rattle.pid_types.specs.Sound.{IsBelow};
 ghost use Rattle.table_load.specs.Texts.{IsTextOfNoTable};
 ghost use Rattle.table_text.specs.Reading.{saved_state, IsNoText};
@@ -11,7 +11,7 @@ ghost use Rattle.foreign_calls.specs.Saved.{no_fault, HasWorkers, HasTooManyCall
 
 use crate::record::{MOST_WORKERS, PidtabRecord};
 use crate::saved_table::{FaultNumbers, put_fault};
-use crate::status::{BAD_TEXT, BUSY, DONE, NO_MEMORY, OUT_OF_RANGE};
+use foreign_numbers::status::{BAD_TEXT, BUSY, DONE, NO_MEMORY, OUT_OF_RANGE};
 use kept_table::Kept;
 use std::alloc::{AllocError, Global};
 use table_lines::dump::dump_table;
@@ -63,6 +63,49 @@ fn boxed_resume(
     }
 }
 
+/// A record on the heap that goes on as the text says, behind so many recorded calls of each worker. The error is the
+/// status: `BAD_TEXT` for the form, and `fault` says why; `OUT_OF_RANGE` for the sum of the counts; `BAD_TEXT` for the
+/// table; `NO_MEMORY`.
+fn resumed_from(
+    alloc: Global,
+    text: &[u8],
+    counts: &[u64],
+    fault: &mut FaultNumbers,
+) -> Result<Box<Kept>, u32>
+    requires { fault.old ≡ no_fault }
+    ensures done { IfOk result (λ held. IsResumed text.now counts.now held.value) }
+    ensures out_of_range { IfErr result (λ status. status ≡ OUT_OF_RANGE → HasTooManyCalls text.now counts.now) }
+    ensures few { OnOk result (TellsTooManyCalls text.now counts.now → ⊥) }
+    ensures too_many { IfErr result (λ status. TellsTooManyCalls text.now counts.now
+        → (status ≡ OUT_OF_RANGE) ⊎ (status ≡ NO_MEMORY)) }
+    ensures bad_text { IfErr result (λ status. status ≡ BAD_TEXT
+        → (1 ≤ fault.new.kind) × (fault.new.kind ≤ 12)) }
+    ensures refused { IfErr result (λ status. status ≡ BAD_TEXT → IsTextOfNoTable text.now) }
+    ensures form { IfErr result (λ status. status ≡ BAD_TEXT → fault.new.kind ≤ 2 → IsNoText text.now) }
+    ensures no_fault { OnOk result (fault.new ≡ no_fault) }
+    ensures err_fault { IfErr result (λ status. status ≢ BAD_TEXT → fault.new ≡ no_fault) }
+    ensures statuses { IfErr result (λ status. (status ≡ OUT_OF_RANGE)
+        ⊎ ((status ≡ BAD_TEXT) ⊎ (status ≡ NO_MEMORY))) }
+{
+    texts_tell_states();
+    what_fits_is_of_words();
+    let saved = match read_text(alloc, text) {
+        Ok(saved) => saved,
+        Err(found) => return Err(put_fault(RestoreFault::from(found), fault)),
+    };
+    if !Kept::can_resume(saved.stamp, counts) {
+        return Err(OUT_OF_RANGE);
+    }
+    let loaded = match table_of(alloc, &saved) {
+        Ok(loaded) => loaded,
+        Err(found) => return Err(put_fault(found, fault)),
+    };
+    match boxed_resume(alloc, loaded, &saved, counts) {
+        Ok(held) => Ok(held),
+        Err(_) => Err(NO_MEMORY),
+    }
+}
+
 impl PidtabRecord {
     /// Opens a record that goes on as the text says, behind so many recorded calls of each worker. The result is the
     /// status: `BUSY`; `OUT_OF_RANGE` for the number of workers; `BAD_TEXT` for the form, and `fault` says why;
@@ -97,23 +140,12 @@ impl PidtabRecord {
         if counts.is_empty() || counts.len() > MOST_WORKERS as usize {
             return OUT_OF_RANGE;
         }
-        texts_tell_states();
-        what_fits_is_of_words();
-        let saved = match read_text(alloc, text) {
-            Ok(saved) => saved,
-            Err(found) => return put_fault(RestoreFault::from(found), fault),
-        };
-        if !Kept::can_resume(saved.stamp, counts) {
-            return OUT_OF_RANGE;
+        match resumed_from(alloc, text, counts, fault) {
+            Ok(held) => {
+                self.put(held);
+                DONE
+            }
+            Err(status) => status,
         }
-        let loaded = match table_of(alloc, &saved) {
-            Ok(loaded) => loaded,
-            Err(found) => return put_fault(found, fault),
-        };
-        let Ok(held) = boxed_resume(alloc, loaded, &saved, counts) else {
-            return NO_MEMORY;
-        };
-        self.put(held);
-        DONE
     }
 }

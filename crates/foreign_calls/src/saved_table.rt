@@ -10,9 +10,9 @@ ghost use Rattle.foreign_calls.specs.Records.{Has};
 ghost use Rattle.foreign_calls.specs.Saved.{no_fault, fault_numbers};
 ghost use Rattle.stamped_table.specs.Stamped.{IsInOrder};
 
-use crate::status::{BAD_TEXT, BUSY, DONE, NO_MEMORY};
 use crate::table::Pidtab;
 use crate::table_texts::of_loaded;
+use foreign_numbers::status::{BAD_TEXT, BUSY, DONE, NO_MEMORY};
 use stamped_table::StampedTable;
 use std::alloc::Global;
 use table_load::fault::RestoreFault;

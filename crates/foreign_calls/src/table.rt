@@ -3,9 +3,9 @@ ghost use Rattle.std.specs.Prelude.{◌≡◌, ◌↔◌, ◌⊎◌, Some, None,
 ghost use Rattle.pid_types.specs.Settings.{HasGoodPidMax};
 ghost use Rattle.pid_types.specs.State.{root_state};
 
-use crate::handle::{Handle, null};
-use crate::loose::Loose;
-use crate::status::{NO_MEMORY, OUT_OF_RANGE};
+use foreign_handles::handle::{Handle, null};
+use foreign_handles::loose::Loose;
+use foreign_numbers::status::{NO_MEMORY, OUT_OF_RANGE};
 use pid_types::config::Config;
 use stamped_table::StampedTable;
 use std::alloc::{AllocError, Global};

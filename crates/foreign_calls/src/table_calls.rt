@@ -2,12 +2,12 @@
 ghost use Rattle.std.specs.Prelude.{◌≡◌, ◌≢◌, ◌≤◌, ◌↔◌, ◌⊎◌, IsTrue, length, take, drop};
 ghost use Rattle.pid_types.specs.Step.{may_grow};
 ghost use Rattle.pid_script.specs.Answers.{reply_text};
-ghost use Rattle.foreign_calls.specs.Numbers.{numbers_of};
+ghost use Rattle.foreign_numbers.specs.Numbers.{numbers_of};
 ghost use Rattle.stamped_table.specs.Stamped.{after_call, reply_to};
 
-use crate::numbers::{ReplyNumbers, put_reply};
-use crate::status::{DONE, NO_MEMORY, SPENT, status_of};
 use crate::texts::write_reply;
+use foreign_numbers::numbers::{ReplyNumbers, put_reply};
+use foreign_numbers::status::{DONE, NO_MEMORY, SPENT, status_of};
 use pid_script::answer::LONGEST_ANSWER;
 use pid_types::call::Call;
 use pid_types::reply::Reply;

@@ -4,10 +4,10 @@ ghost use Rattle.std.specs.Prelude.{Some, None};
 ghost use Rattle.pid_types.specs.declared.call.Call.{Call};
 ghost use Rattle.pid_script.specs.Answers.{reply_text};
 ghost use Rattle.pid_script.specs.Lines.{line_of};
-ghost use Rattle.foreign_calls.specs.Numbers.{call_of};
+ghost use Rattle.foreign_numbers.specs.Numbers.{call_of};
 
-use crate::numbers::{CallNumbers, read_call};
-use crate::status::{DONE, NO_ROOM, OUT_OF_RANGE};
+use foreign_numbers::numbers::{CallNumbers, read_call};
+use foreign_numbers::status::{DONE, NO_ROOM, OUT_OF_RANGE};
 use pid_script::answer::{LONGEST_ANSWER, answer_text};
 use pid_script::call::line_text;
 use pid_types::call::Call;

@@ -5,15 +5,15 @@ ghost use Rattle.std.specs.Prelude.{◌≡◌, ◌≢◌, ◌↔◌, ◌⊎◌, 
 ghost use Rattle.pid_types.specs.declared.call.Call.{Call};
 ghost use Rattle.kept_table.specs.Calls.{outcome};
 ghost use Rattle.foreign_calls.specs.Asked.{query_of};
-ghost use Rattle.foreign_calls.specs.Numbers.{numbers_of};
+ghost use Rattle.foreign_numbers.specs.Numbers.{numbers_of};
 ghost use Rattle.foreign_calls.specs.Records.{Has};
 ghost use Rattle.stamped_table.specs.Stamped.{reply_to};
 
 use foreign_calls::ask::{ask_record, ask_table};
-use foreign_calls::numbers::{CallNumbers, ReplyNumbers};
 use foreign_calls::record::PidtabRecord;
-use foreign_calls::status::{CLOSED, DONE, OUT_OF_RANGE};
 use foreign_calls::table::Pidtab;
+use foreign_numbers::numbers::{CallNumbers, ReplyNumbers};
+use foreign_numbers::status::{CLOSED, DONE, OUT_OF_RANGE};
 
 /// Answers the query that the numbers say, as the table's next call would be answered. It is no call: it uses no stamp,
 /// and changes nothing.

@@ -8,10 +8,10 @@ ghost use Rattle.table_lines.specs.Listed.{list_of_state};
 ghost use Rattle.foreign_calls.specs.Records.{Has, Cuts};
 
 use foreign_calls::history::{cut_at, cut_on, opening_text, present_text, tell_entry};
-use foreign_calls::numbers::{CallNumbers, ReplyNumbers};
 use foreign_calls::record::PidtabRecord;
-use foreign_calls::status::{AGAIN, CLOSED, DONE, NO_MEMORY, NO_ROOM, NOT_KEPT, OUT_OF_RANGE};
 use foreign_calls::texts::write_text;
+use foreign_numbers::numbers::{CallNumbers, ReplyNumbers};
+use foreign_numbers::status::{AGAIN, CLOSED, DONE, NO_MEMORY, NO_ROOM, NOT_KEPT, OUT_OF_RANGE};
 use std::alloc::Global;
 
 /// Tells the ordinal of the first kept entry, and how many calls were recorded, the cut ones among them: so the kept
@@ -107,18 +107,16 @@ pub extern "C" fn pidtab_record_entry(
 /// opening. A record that has no such table pays for a copy of the whole table, and only there is there want of
 /// memory: no function of this library makes one.
 #[unsafe(no_mangle)]
-pub extern "C" fn pidtab_record_checkpoint(alloc: Global, table: &mut PidtabRecord) -> u32
+pub extern "C" fn pidtab_record_checkpoint(table: &mut PidtabRecord) -> u32
     ensures done { result ≡ DONE → Cuts table.old.handle.held table.new.handle.held }
     ensures not_done { result ≢ DONE → table.new.handle.held ≡ table.old.handle.held }
     ensures closed { (result ≡ CLOSED) ↔ (table.old.handle.held ≡ None) }
     ensures statuses { (result ≡ DONE) ⊎ ((result ≡ CLOSED) ⊎ (result ≡ NO_MEMORY)) }
 {
-    let Some(mut held) = table.take(alloc) else {
+    if !table.is_open {
         return CLOSED;
-    };
-    let status = cut_on(&mut held);
-    table.put(held);
-    status
+    }
+    cut_on(table.handle.lend())
 }
 
 /// Cuts the history as [`pidtab_record_checkpoint`] does, but only where exactly so many calls were recorded: so no
@@ -126,11 +124,7 @@ pub extern "C" fn pidtab_record_checkpoint(alloc: Global, table: &mut PidtabReco
 ///
 /// `CLOSED` where there is no open record; then `AGAIN` where more calls, or fewer, were recorded by now; `NO_MEMORY`.
 #[unsafe(no_mangle)]
-pub extern "C" fn pidtab_record_checkpoint_at(
-    alloc: Global,
-    table: &mut PidtabRecord,
-    seen: u64,
-) -> u32
+pub extern "C" fn pidtab_record_checkpoint_at(table: &mut PidtabRecord, seen: u64) -> u32
     ensures done { result ≡ DONE → Cuts table.old.handle.held table.new.handle.held }
     ensures seen { result ≡ DONE → Has table.old.handle.held (λ c. total c ≡ seen) }
     ensures not_done { result ≢ DONE → table.new.handle.held ≡ table.old.handle.held }
@@ -138,12 +132,10 @@ pub extern "C" fn pidtab_record_checkpoint_at(
     ensures again { (result ≡ AGAIN) ↔ Has table.old.handle.held (λ c. total c ≢ seen) }
     ensures statuses { (result ≡ DONE) ⊎ ((result ≡ CLOSED) ⊎ ((result ≡ AGAIN) ⊎ (result ≡ NO_MEMORY))) }
 {
-    let Some(mut held) = table.take(alloc) else {
+    if !table.is_open {
         return CLOSED;
-    };
-    let status = cut_at(&mut held, seen);
-    table.put(held);
-    status
+    }
+    cut_at(table.handle.lend(), seen)
 }
 
 /// Cuts first entries away where more than so many are kept: two at most, so that no caller waits long. Behind each
@@ -151,7 +143,7 @@ pub extern "C" fn pidtab_record_checkpoint_at(
 ///
 /// `CLOSED` where there is no open record. It costs the calls that are cut away, once more.
 #[unsafe(no_mangle)]
-pub extern "C" fn pidtab_record_keep(alloc: Global, table: &mut PidtabRecord, keep: u64) -> u32
+pub extern "C" fn pidtab_record_keep(table: &mut PidtabRecord, keep: u64) -> u32
     ensures done { result ≡ DONE → Has table.old.handle.held (λ c. Has table.new.handle.held (λ d.
         IsWithoutFirst (to_cut c keep) c d)) }
     ensures bound { result ≡ DONE → Has table.old.handle.held (λ c. Has table.new.handle.held (λ d.
@@ -160,11 +152,10 @@ pub extern "C" fn pidtab_record_keep(alloc: Global, table: &mut PidtabRecord, ke
     ensures closed { (result ≡ CLOSED) ↔ (table.old.handle.held ≡ None) }
     ensures statuses { (result ≡ DONE) ⊎ (result ≡ CLOSED) }
 {
-    let Some(mut held) = table.take(alloc) else {
+    if !table.is_open {
         return CLOSED;
-    };
-    held.keep_at_most(keep);
-    table.put(held);
+    }
+    table.handle.lend().keep_at_most(keep);
     DONE
 }
 

@@ -20,7 +20,7 @@ ghost use Rattle.pid_script.specs.Answers.{reply_text};
 ghost use Rattle.pid_script.specs.Reading.{parsed};
 ghost use Rattle.pid_script.specs.declared.line.Line.TheVariants as says;
 ghost use Rattle.table_lines.specs.Listed.{list_of_state};
-ghost use Rattle.foreign_calls.specs.Numbers.{call_of, numbers_of};
+ghost use Rattle.foreign_numbers.specs.Numbers.{call_of, numbers_of};
 ghost use Rattle.foreign_calls.specs.Lines.{IsCall};
 ghost use Rattle.foreign_calls.specs.Records.{Has};
 ghost use Rattle.foreign_calls.specs.Made.{Makes};
@@ -38,14 +38,14 @@ mod saved_table;
 mod task;
 mod texts;
 
-use foreign_calls::numbers::{CallNumbers, ReplyNumbers, read_call};
-use foreign_calls::status::{
-    BAD_LINE, BUSY, CLOSED, DONE, EMPTY_LINE, NO_MEMORY, NO_ROOM, OUT_OF_RANGE, SPENT,
-};
 use foreign_calls::table::{Pidtab, new_table};
 use foreign_calls::table_calls::{call_table, line_table};
 use foreign_calls::table_texts::list_of;
 use foreign_calls::texts::write_text;
+use foreign_numbers::numbers::{CallNumbers, ReplyNumbers, read_call};
+use foreign_numbers::status::{
+    BAD_LINE, BUSY, CLOSED, DONE, EMPTY_LINE, NO_MEMORY, NO_ROOM, OUT_OF_RANGE, SPENT,
+};
 use pid_script::answer::LONGEST_ANSWER;
 use pid_script::line::{Line, parse_line};
 use std::alloc::Global;
@@ -102,7 +102,6 @@ pub extern "C" fn pidtab_close(alloc: Global, table: &mut Pidtab)
 /// `NO_MEMORY` for a `fork` or a `mk` that finds none. A call that the table refuses is `DONE`: its answer says so.
 #[unsafe(no_mangle)]
 pub extern "C" fn pidtab_line(
-    alloc: Global,
     table: &mut Pidtab,
     line: &[u8],
     answer: &mut [u8],
@@ -139,12 +138,7 @@ pub extern "C" fn pidtab_line(
         *size = LONGEST_ANSWER;
         return NO_ROOM;
     }
-    let Some(mut held) = table.take(alloc) else {
-        unreachable!()
-    };
-    let status = line_table(&mut held, call, answer, size);
-    table.put(held);
-    status
+    line_table(table.handle.lend(), call, answer, size)
 }
 
 /// Puts the list of the table at the front of the room, each line with its newline; `size` is the list's length.
@@ -188,7 +182,6 @@ pub extern "C" fn pidtab_list(
 /// that finds none. A call that the table refuses is `DONE`: its reply says so.
 #[unsafe(no_mangle)]
 pub extern "C" fn pidtab_call(
-    alloc: Global,
     table: &mut Pidtab,
     call: &CallNumbers,
     reply: &mut ReplyNumbers,
@@ -204,14 +197,11 @@ pub extern "C" fn pidtab_call(
     ensures statuses { (result ≡ DONE) ⊎ ((result ≡ CLOSED) ⊎ ((result ≡ OUT_OF_RANGE)
         ⊎ ((result ≡ SPENT) ⊎ (result ≡ NO_MEMORY)))) }
 {
-    let Some(mut held) = table.take(alloc) else {
+    if !table.is_open {
         return CLOSED;
-    };
+    }
     let Some(made) = read_call(call) else {
-        table.put(held);
         return OUT_OF_RANGE;
     };
-    let status = call_table(&mut held, made, reply);
-    table.put(held);
-    status
+    call_table(table.handle.lend(), made, reply)
 }

@@ -6,7 +6,7 @@ ghost use Rattle.foreign_calls.specs.Records.{Has};
 
 use foreign_calls::read::{EntryNumbers, read_on};
 use foreign_calls::record::PidtabRecord;
-use foreign_calls::status::{CLOSED, DONE, NOT_KEPT};
+use foreign_numbers::status::{CLOSED, DONE, NOT_KEPT};
 
 /// Writes the kept entries from the ordinal `from` on at the front of the room, in order: as many as there are, and as
 /// there is room for. `count` is how many. Entries of the room behind them stay as they are.

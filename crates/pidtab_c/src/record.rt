@@ -10,7 +10,7 @@ ghost use Rattle.std.specs.Prelude.{◌≡◌, ◌≢◌, ◌↔◌, ◌⊎◌, 
 ghost use Rattle.foreign_calls.specs.Records.{without_room, CanOpen, opened};
 
 use foreign_calls::record::{MOST_WORKERS, PidtabRecord, boxed_record};
-use foreign_calls::status::{BUSY, DONE, NO_MEMORY, OUT_OF_RANGE};
+use foreign_numbers::status::{BUSY, DONE, NO_MEMORY, OUT_OF_RANGE};
 use pid_types::config::Config;
 use std::alloc::Global;
 

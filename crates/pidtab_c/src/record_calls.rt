@@ -8,18 +8,17 @@ ghost use Rattle.pid_script.specs.declared.line.Line.TheVariants as says;
 ghost use Rattle.kept_table.specs.Calls.{outcome};
 ghost use Rattle.kept_table.specs.Chronicle.{next_stamp};
 ghost use Rattle.foreign_calls.specs.Lines.{IsCall};
-ghost use Rattle.foreign_calls.specs.Numbers.{call_of, numbers_of};
+ghost use Rattle.foreign_numbers.specs.Numbers.{call_of, numbers_of};
 ghost use Rattle.foreign_calls.specs.Records.{Has, without_room, IsRecorded, IsRecordedKeeping};
 
-use foreign_calls::numbers::{CallNumbers, ReplyNumbers, read_call};
 use foreign_calls::record::PidtabRecord;
 use foreign_calls::record_calls::{call_keeping_on, call_on, line_on};
-use foreign_calls::status::{
+use foreign_numbers::numbers::{CallNumbers, ReplyNumbers, read_call};
+use foreign_numbers::status::{
     BAD_LINE, CLOSED, DONE, EMPTY_LINE, NO_MEMORY, NO_ROOM, OUT_OF_RANGE, SPENT,
 };
 use pid_script::answer::LONGEST_ANSWER;
 use pid_script::line::{Line, parse_line};
-use std::alloc::Global;
 
 /// Makes the call that the numbers say for the worker, records it with its reply, and tells the reply as numbers, and
 /// the call's place in the history, counted from 0.
@@ -32,7 +31,6 @@ use std::alloc::Global;
 /// It costs what the call costs, and an entry of 184 bytes.
 #[unsafe(no_mangle)]
 pub extern "C" fn pidtab_record_call(
-    alloc: Global,
     table: &mut PidtabRecord,
     worker: u32,
     call: &CallNumbers,
@@ -55,16 +53,13 @@ pub extern "C" fn pidtab_record_call(
     ensures statuses { (result ≡ DONE) ⊎ ((result ≡ CLOSED) ⊎ ((result ≡ OUT_OF_RANGE)
         ⊎ ((result ≡ SPENT) ⊎ (result ≡ NO_MEMORY)))) }
 {
-    let Some(mut held) = table.take(alloc) else {
+    if !table.is_open {
         return CLOSED;
-    };
+    }
     let Some(made) = read_call(call) else {
-        table.put(held);
         return OUT_OF_RANGE;
     };
-    let status = call_on(&mut held, worker, made, reply, ordinal);
-    table.put(held);
-    status
+    call_on(table.handle.lend(), worker, made, reply, ordinal)
 }
 
 /// Makes the call as [`pidtab_record_call`] does, with the same statuses, and then keeps at most so many entries, the
@@ -75,7 +70,6 @@ pub extern "C" fn pidtab_record_call(
 /// Where the table of the opening finds no memory, the call's answer is as it was, and later calls make up for it.
 #[unsafe(no_mangle)]
 pub extern "C" fn pidtab_record_call_keeping(
-    alloc: Global,
     table: &mut PidtabRecord,
     worker: u32,
     call: &CallNumbers,
@@ -99,16 +93,13 @@ pub extern "C" fn pidtab_record_call_keeping(
     ensures statuses { (result ≡ DONE) ⊎ ((result ≡ CLOSED) ⊎ ((result ≡ OUT_OF_RANGE)
         ⊎ ((result ≡ SPENT) ⊎ (result ≡ NO_MEMORY)))) }
 {
-    let Some(mut held) = table.take(alloc) else {
+    if !table.is_open {
         return CLOSED;
-    };
+    }
     let Some(made) = read_call(call) else {
-        table.put(held);
         return OUT_OF_RANGE;
     };
-    let status = call_keeping_on(&mut held, worker, made, keep, reply, ordinal);
-    table.put(held);
-    status
+    call_keeping_on(table.handle.lend(), worker, made, keep, reply, ordinal)
 }
 
 /// Makes the call that is written on the line for the worker, records it with its reply, and puts its answer at the
@@ -122,7 +113,6 @@ pub extern "C" fn pidtab_record_call_keeping(
 /// [`pidtab_record_call`] has them. A call that the table refuses is `DONE`, and recorded.
 #[unsafe(no_mangle)]
 pub extern "C" fn pidtab_record_line(
-    alloc: Global,
     table: &mut PidtabRecord,
     worker: u32,
     line: &[u8],
@@ -168,10 +158,5 @@ pub extern "C" fn pidtab_record_line(
         *size = LONGEST_ANSWER;
         return NO_ROOM;
     }
-    let Some(mut held) = table.take(alloc) else {
-        unreachable!()
-    };
-    let status = line_on(&mut held, worker, made, answer, size, ordinal);
-    table.put(held);
-    status
+    line_on(table.handle.lend(), worker, made, answer, size, ordinal)
 }

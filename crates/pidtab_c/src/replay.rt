@@ -7,8 +7,7 @@ ghost use Rattle.foreign_calls.specs.Replays.{Replays, CannotMake, StopsBefore, 
 use foreign_calls::read::EntryNumbers;
 use foreign_calls::record::PidtabRecord;
 use foreign_calls::replay::replay_on;
-use foreign_calls::status::{CLOSED, DIFFERS, DONE, NO_MEMORY, OUT_OF_RANGE, SPENT};
-use std::alloc::Global;
+use foreign_numbers::status::{CLOSED, DIFFERS, DONE, NO_MEMORY, OUT_OF_RANGE, SPENT};
 
 /// Makes the calls of the saved entries, in order, and compares their replies with the saved ones. `place` is then the
 /// number of entries.
@@ -20,7 +19,6 @@ use std::alloc::Global;
 /// calls cost.
 #[unsafe(no_mangle)]
 pub extern "C" fn pidtab_record_replay(
-    alloc: Global,
     table: &mut PidtabRecord,
     saved: &[EntryNumbers],
     place: &mut usize,
@@ -40,10 +38,8 @@ pub extern "C" fn pidtab_record_replay(
     ensures statuses { (result ≡ DONE) ⊎ ((result ≡ CLOSED) ⊎ ((result ≡ DIFFERS) ⊎ ((result ≡ OUT_OF_RANGE)
         ⊎ ((result ≡ SPENT) ⊎ (result ≡ NO_MEMORY))))) }
 {
-    let Some(mut held) = table.take(alloc) else {
+    if !table.is_open {
         return CLOSED;
-    };
-    let status = replay_on(&mut held, saved, place);
-    table.put(held);
-    status
+    }
+    replay_on(table.handle.lend(), saved, place)
 }

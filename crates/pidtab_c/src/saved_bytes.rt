@@ -2,7 +2,8 @@
 //!
 //! `sum` is the running checksum: the head's functions begin it, and each entry's goes on with it. No function but the
 //! last changes anything unless it is `DONE`, but `size`. None of them needs a table or memory.
-ghost use Rattle.std.specs.Prelude.{◌≡◌, ◌≢◌, ◌<◌, ◌↔◌, ◌⊎◌, ◌++◌, ℕ, List, [], ◌∷◌, true, false, length, drop};
+ghost use Rattle.std.specs.Prelude.{◌≡◌, ◌≢◌, ◌<◌, ◌↔◌, ◌⊎◌, ◌++◌, ℕ, List, [], ◌∷◌};
+ghost use Rattle.std.specs.Prelude.{IsTrue, true, false, length, drop};
 ghost use Rattle.saved_form.specs.Crc.{crc64};
 ghost use Rattle.saved_form.specs.Form.{head_block, head_bytes, entry_blocks, entry_bytes, entry_size, sum_behind};
 ghost use Rattle.saved_form.specs.Places.{HeadFits, HasPlaces, FitsTypes};
@@ -11,14 +12,31 @@ ghost use Rattle.saved_form.specs.Taking.{IsTorn, IsWrongAt, IsTaken};
 ghost use Rattle.saved_form.specs.Ends.{StaysOpen, EndsHere, IsWrongHere, IsPassed, IsTornEnd};
 ghost use Rattle.saved_form.specs.declared.numbers.Head.{Head};
 ghost use Rattle.saved_form.specs.declared.numbers.EntryNumbers.{EntryNumbers};
+ghost use Rattle.foreign_calls.specs.Records.{CanOpen};
 ghost use Rattle.foreign_calls.specs.SavedBytes.{CanOpenBy};
 
-use foreign_calls::saved_bytes::{read_entry, read_head, read_next, write_entry, write_head};
-use foreign_calls::status::{
+use foreign_calls::record::MOST_WORKERS;
+use foreign_numbers::status::{
     DONE, NO_ROOM, NOT_SAVED, OTHER_VERSION, OUT_OF_RANGE, TORN, WRONG_BYTE,
 };
+use pid_types::config::Config;
+use saved_form::BLOCK;
 use saved_form::crc::sum_of;
+use saved_form::entry::{has_places, put_entry, size_of};
+use saved_form::head::{HeadFault, put_head, take_head};
+use saved_form::next::{Next, read_on};
 use saved_form::numbers::{EntryNumbers, Head};
+use saved_form::take::{EntryFault, take_entry};
+
+/// Whether a record can be opened with the settings.
+fn can_open(head: &Head) -> bool
+    ensures { IsTrue result ↔ CanOpenBy head.now }
+{
+    if head.workers == 0 || head.workers > MOST_WORKERS {
+        return false;
+    }
+    Config::new(head.pid_max, head.first_stamp).is_ok()
+}
 
 /// The CRC-64/XZ of bytes behind those whose CRC is `sum`, which is 0 for none.
 #[unsafe(no_mangle)]
@@ -49,7 +67,15 @@ pub extern "C" fn pidtab_saved_put_head(
     ensures no_room { (result ≡ NO_ROOM) ↔ CanOpenBy head.now × (length room.old < 48) }
     ensures statuses { (result ≡ DONE) ⊎ ((result ≡ OUT_OF_RANGE) ⊎ (result ≡ NO_ROOM)) }
 {
-    write_head(head, room, size, sum)
+    if !can_open(head) {
+        return OUT_OF_RANGE;
+    }
+    *size = BLOCK;
+    if room.len() < BLOCK {
+        return NO_ROOM;
+    }
+    *sum = put_head(head, room);
+    DONE
 }
 
 /// Writes the entry at the front of the room; `size` is its length, at most 192 bytes. Each kept entry of a record can
@@ -74,7 +100,30 @@ pub extern "C" fn pidtab_saved_put(
     ensures no_room { (result ≡ NO_ROOM) ↔ HasPlaces entry.now × (length room.old < entry_size entry.now) }
     ensures statuses { (result ≡ DONE) ⊎ ((result ≡ OUT_OF_RANGE) ⊎ (result ≡ NO_ROOM)) }
 {
-    write_entry(entry, room, size, sum)
+    if !has_places(entry) {
+        return OUT_OF_RANGE;
+    }
+    *size = size_of(entry);
+    if room.len() < *size {
+        return NO_ROOM;
+    }
+    *sum = put_entry(entry, room, *sum);
+    DONE
+}
+
+/// The status of a head that is not taken.
+fn head_status(fault: HeadFault) -> u32
+    ensures not_saved { (result ≡ NOT_SAVED) ↔ (fault ≡ HeadFault.NotSaved) }
+    ensures torn { (result ≡ TORN) ↔ (fault ≡ HeadFault.Torn) }
+    ensures other_version { (result ≡ OTHER_VERSION) ↔ (fault ≡ HeadFault.OtherVersion) }
+    ensures wrong_byte { (result ≡ WRONG_BYTE) ↔ (fault ≡ HeadFault.WrongByte) }
+{
+    match fault {
+        HeadFault::NotSaved => NOT_SAVED,
+        HeadFault::Torn => TORN,
+        HeadFault::OtherVersion => OTHER_VERSION,
+        HeadFault::WrongByte => WRONG_BYTE,
+    }
 }
 
 /// Reads the head from the front of the bytes; `size` is its length. Any bytes may be given.
@@ -103,7 +152,21 @@ pub extern "C" fn pidtab_saved_take_head(
     ensures statuses { (result ≡ DONE) ⊎ ((result ≡ NOT_SAVED) ⊎ ((result ≡ TORN) ⊎ ((result ≡ OTHER_VERSION)
         ⊎ ((result ≡ WRONG_BYTE) ⊎ (result ≡ OUT_OF_RANGE))))) }
 {
-    read_head(bytes, head, size, sum)
+    let taken = match take_head(bytes) {
+        Ok(taken) => taken,
+        Err(HeadFault::NotSaved) => return NOT_SAVED,
+        Err(fault) => {
+            *size = BLOCK;
+            return head_status(fault);
+        }
+    };
+    *size = BLOCK;
+    if !can_open(&taken.head) {
+        return OUT_OF_RANGE;
+    }
+    *head = taken.head;
+    *sum = taken.sum;
+    DONE
 }
 
 /// Reads an entry from the front of the bytes; `size` is its length. Any bytes may be given, and nothing is said of the
@@ -128,7 +191,22 @@ pub extern "C" fn pidtab_saved_take(
     ensures wrong_byte { result ≡ WRONG_BYTE → IsWrongAt sum.old bytes.now size.new }
     ensures statuses { (result ≡ DONE) ⊎ ((result ≡ TORN) ⊎ (result ≡ WRONG_BYTE)) }
 {
-    read_entry(bytes, entry, size, sum)
+    match take_entry(bytes, *sum) {
+        Ok(taken) => {
+            *entry = taken.entry;
+            *size = taken.size;
+            *sum = taken.sum;
+            DONE
+        }
+        Err(EntryFault::Torn { wanted }) => {
+            *size = wanted;
+            TORN
+        }
+        Err(EntryFault::WrongByte { place }) => {
+            *size = place;
+            WRONG_BYTE
+        }
+    }
 }
 
 /// Reads on behind the last whole entry, in bytes that are given in pieces; `is_end` says that none follow. `sum` is as
@@ -163,5 +241,23 @@ pub extern "C" fn pidtab_saved_next(
         → IsTornEnd sum.old (before ++ bytes.now) → result ≢ WRONG_BYTE }
     ensures statuses { (result ≡ DONE) ⊎ ((result ≡ TORN) ⊎ (result ≡ WRONG_BYTE)) }
 {
-    read_next(bytes, is_end, entry, size, sum, left_out)
+    match read_on(bytes, *sum, *left_out, is_end) {
+        Next::Entry(taken) => {
+            *entry = taken.entry;
+            *size = taken.size;
+            *sum = taken.sum;
+            DONE
+        }
+        Next::Open { passed } => {
+            *size = if passed == 0 { 0 } else { bytes.len() };
+            *left_out = passed;
+            TORN
+        }
+        Next::End { left_out: count } => {
+            *size = 0;
+            *left_out = count;
+            DONE
+        }
+        Next::WrongByte => WRONG_BYTE,
+    }
 }

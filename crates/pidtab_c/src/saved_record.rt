@@ -10,8 +10,8 @@ ghost use Rattle.foreign_calls.specs.Saved.{no_fault, HasWorkers, HasTooManyCall
 use foreign_calls::record::PidtabRecord;
 use foreign_calls::saved_record::present_dump;
 use foreign_calls::saved_table::FaultNumbers;
-use foreign_calls::status::{BAD_TEXT, BUSY, CLOSED, DONE, NO_MEMORY, NO_ROOM, OUT_OF_RANGE};
 use foreign_calls::texts::write_text;
+use foreign_numbers::status::{BAD_TEXT, BUSY, CLOSED, DONE, NO_MEMORY, NO_ROOM, OUT_OF_RANGE};
 use std::alloc::Global;
 
 /// Puts the text of the present state, with the stamp of the next call, at the front of the room; `size` is the text's

@@ -8,10 +8,10 @@ ghost use Rattle.foreign_calls.specs.Saved.{no_fault};
 ghost use Rattle.stamped_table.specs.Stamped.{IsInOrder};
 
 use foreign_calls::saved_table::FaultNumbers;
-use foreign_calls::status::{BAD_TEXT, BUSY, CLOSED, DONE, NO_MEMORY, NO_ROOM};
 use foreign_calls::table::Pidtab;
 use foreign_calls::table_texts::dump_of;
 use foreign_calls::texts::write_text;
+use foreign_numbers::status::{BAD_TEXT, BUSY, CLOSED, DONE, NO_MEMORY, NO_ROOM};
 use std::alloc::Global;
 
 /// Puts the text of the table, with the stamp of its next call, at the front of the room; `size` is the text's length.

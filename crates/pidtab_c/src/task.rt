@@ -2,12 +2,12 @@
 ghost use Rattle.std.specs.Prelude.{◌≡◌, ◌≢◌, ◌↔◌, ◌⊎◌, None};
 ghost use Rattle.translate.specs.Stat.{stat_at};
 ghost use Rattle.foreign_calls.specs.Records.{Has};
-ghost use Rattle.foreign_calls.specs.Tasks.{task_numbers};
+ghost use Rattle.foreign_numbers.specs.Tasks.{task_numbers};
 
 use foreign_calls::record::PidtabRecord;
-use foreign_calls::status::{CLOSED, DONE};
 use foreign_calls::table::Pidtab;
-use foreign_calls::task::{TaskNumbers, tell_task};
+use foreign_numbers::status::{CLOSED, DONE};
+use foreign_numbers::task::{TaskNumbers, tell_task};
 
 /// Reads the task with the number in the caller's namespace, where 0 is the caller: a zombie too, as `getpgid(2)` finds
 /// it.

@@ -2,11 +2,11 @@
 ghost use Rattle.std.specs.Prelude.{◌≡◌, ◌≢◌, ◌<◌, ◌≤◌, ◌↔◌, ◌⊎◌, Some, None, length, take, drop};
 ghost use Rattle.pid_types.specs.declared.call.Call.{Call};
 ghost use Rattle.pid_script.specs.Lines.{line_of};
-ghost use Rattle.foreign_calls.specs.Numbers.{call_of};
+ghost use Rattle.foreign_numbers.specs.Numbers.{call_of};
 
-use foreign_calls::numbers::CallNumbers;
-use foreign_calls::status::{DONE, NO_ROOM, OUT_OF_RANGE};
 use foreign_calls::texts::write_call_line;
+use foreign_numbers::numbers::CallNumbers;
+use foreign_numbers::status::{DONE, NO_ROOM, OUT_OF_RANGE};
 
 /// Puts the line of the script language that says the call at the front of the room, without a newline; `size` is the
 /// line's length.

@@ -1,5 +1,0 @@
-use Rattle.std.proofs.Common.{rules}
-use Rattle.foreign_calls.proofs.numbers.put_refusal.Goals as goal
-
-pub returns : goal.returns
-returns c = search rules

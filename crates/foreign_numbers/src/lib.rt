@@ -1,0 +1,12 @@
+//! Calls, replies and tasks as numbers, for callers of other languages: each call can be read again from its numbers.
+//!
+//! Numbers of operations, choices, kinds and statuses stay the same from release to release.
+#![tactic(auto)]
+
+pub mod call_numbers;
+pub mod choices;
+pub mod kinds;
+pub mod numbers;
+pub mod operations;
+pub mod status;
+pub mod task;
