@@ -40,3 +40,13 @@ returns-clause-reply c =
     last_reply_pushed c.self.inside.history.entries c.enter.new.self.entries _ _ (ap (λ (p : Past). p.entries) c.in_ok-enter.ensures.entry)
     (ap (λ n. (step c.self.inside.table n c.args.call).reply) c.in-Some.ensures.some
     ∙ ap (λ (t : Chronicle). (step t.present (next_stamp c.args.self.now) c.args.call).reply) (c.self.view_is ∙ c.in_ok-reserve_calls.ensures.others))
+
+-- where the call is not made, all is as it was
+pub invariant_of-self : goal.invariant_of-self
+invariant_of-self c = search rules
+
+pub returns-in_err-enter-clause-err : goal.returns-in_err-enter-clause-err
+returns-in_err-enter-clause-err c = search rules
+
+pub returns-clause-history : goal.returns-clause-history
+returns-clause-history c = search rules
