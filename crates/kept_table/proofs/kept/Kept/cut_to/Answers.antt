@@ -6,3 +6,9 @@ returns-then-not-cut_first-clause-cut c = search rules
 
 pub returns-else-not-cut_first-clause-cut : goal.returns-else-not-cut_first-clause-cut
 returns-else-not-cut_first-clause-cut c = search rules
+
+pub returns-then-len-keep-clause-cut : goal.returns-then-len-keep-clause-cut
+returns-then-len-keep-clause-cut c = search rules
+
+pub returns-then-len-keep-clause-bound : goal.returns-then-len-keep-clause-bound
+returns-then-len-keep-clause-bound c = search rules
