@@ -1,5 +1,4 @@
 pub mod Tasks
-pub mod Next
 pub mod Spaces
 pub mod Groups
 pub mod Ways

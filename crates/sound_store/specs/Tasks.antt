@@ -60,6 +60,10 @@ has_home s f = is_some (control_at s.charges.controls (home_id s.charges f.task.
 abbrev pub is_good_task : Store → ℕ → Found → Bool
 is_good_task s n f = has_good_parent s n f && has_good_children s f && is_led s f && may_live s f && has_home s f
 
+-- the task with the key passes, if there is one
+abbrev pub IsGoodAt : Store → ℕ → Type 0
+IsGoodAt s key = (n : ℕ) (f : Found) → IsTask s f → number_of s.numbering f.key 0 ≡ Some n → f.key ≡ key → is_good_task s n f ≡ true
+
 -- each task passes
 abbrev pub HasGoodTasks : Store → Type 0
 HasGoodTasks s = (n : ℕ) (f : Found) → IsTask s f → number_of s.numbering f.key 0 ≡ Some n → is_good_task s n f ≡ true

@@ -25,6 +25,10 @@ pub record AreMarked (s : Store) (known : List Bool) : Type 0 where
   pub first : (k : ℕ) → IsFirst s k → slice_index_or known k false ≡ true
   pub reach : (k : ℕ) → slice_index_or known k false ≡ true → Reaches s k
 
+-- the way of the task with the key does, if there is one
+abbrev pub HasWayAt : Store → ℕ → Type 0
+HasWayAt s key = (t : Task) → task_at s.tree key ≡ Some t → Reaches s key
+
 -- the way of each task leads to the first
 abbrev pub HasWays : Store → Type 0
 HasWays s = (k : ℕ) (t : Task) → task_at s.tree k ≡ Some t → Reaches s k

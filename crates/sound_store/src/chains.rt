@@ -1,18 +1,16 @@
 //! Whether the chains of parents end at the root init.
 
 ghost use Rattle.std.specs.Prelude.{◌≡◌, ◌≢◌, ℕ, ◌<◌, length, true, false, Some, OnOk, IfOk, IfErr};
-ghost use Rattle.pid_numbers.specs.Numbering.{number_of};
 ghost use Rattle.sound_store.specs.Flaws.{IsWayFlaw};
 ghost use Rattle.sound_store.specs.Spaces.{HasInit};
-ghost use Rattle.sound_store.specs.Tasks.{IsTask};
-ghost use Rattle.sound_store.specs.Ways.{LeadsUp, Reaches, AreMarked, HasWays};
+ghost use Rattle.sound_store.specs.Ways.{LeadsUp, Reaches, AreMarked, HasWayAt, HasWays};
 
 use crate::Flaw;
-use crate::walk::next_task;
-use pid_types::keys::{Pid, TaskKey};
+use crate::walk::task_with;
+use pid_types::keys::TaskKey;
 use std::alloc::{AllocError, Global};
 use task_table::Tasks;
-use task_table::view::{Found, find_task, laws};
+use task_table::view::{find_task, laws};
 
 /// Whether the way up from a key comes to a marked one, in as many steps as there are numbers.
 fn leads_up(store: &Tasks, known: &[bool], key: TaskKey) -> bool
@@ -56,19 +54,21 @@ fn mark_way(store: &Tasks, known: &mut [bool], key: TaskKey)
     }
 }
 
-/// Asks for the way of one task.
-fn check_way(store: &Tasks, known: &[bool], number: Pid, found: &Found) -> Result<(), Flaw>
-    requires marked { AreMarked store.now known.now }
-    requires task { IsTask store.now found.now }
-    requires number { number_of store.now.numbering found.now.key 0 ≡ Some number }
-    ensures ok { OnOk result (Reaches store.now found.now.key) }
+/// Asks for the way of the task with the key, if there is one, and marks it.
+fn check_way(store: &Tasks, known: &mut [bool], key: TaskKey) -> Result<(), Flaw>
+    requires { AreMarked store.now known.old }
+    ensures marked { OnOk result (AreMarked store.now known.new) }
+    ensures ok { OnOk result (HasWayAt store.now key) }
     ensures told { IfErr result (λ flaw. IsWayFlaw store.now flaw) }
 {
-    if leads_up(store, known, found.key) {
-        Ok(())
-    } else {
-        Err(Flaw::Parent(number))
+    let Some((number, found)) = task_with(store, key) else {
+        return Ok(());
+    };
+    if !leads_up(store, known, found.key) {
+        return Err(Flaw::Parent(number));
     }
+    mark_way(store, known, found.key);
+    Ok(())
 }
 
 /// Asks for the way of each task.
@@ -77,12 +77,10 @@ fn check_ways(store: &Tasks, known: &mut [bool]) -> Result<(), Flaw>
     ensures ok { OnOk result (HasWays store.now) }
     ensures told { IfErr result (λ flaw. IsWayFlaw store.now flaw) }
 {
-    laws(store);
-    let mut from = 0u32;
-    while let Some((number, found)) = next_task(store, from) {
-        check_way(store, known, number, &found)?;
-        mark_way(store, known, found.key);
-        from = number + 1;
+    let tree = store.tree();
+    tree.laws();
+    for place in 0..tree.keys() {
+        check_way(store, known, place as TaskKey)?;
     }
     Ok(())
 }

@@ -26,7 +26,7 @@ use tasks::check_tasks;
 
 /// Why a store's state is not sound. A task is told by its number in the root namespace, a namespace and a control
 /// group by their ids.
-#[derive(Clone, Copy, Debug, PartialEq, Eq)]
+#[derive(Clone, Copy)]
 pub enum Flaw {
     /// There was no memory to look at it.
     NoMemory,
@@ -54,13 +54,13 @@ pub enum Flaw {
 /// Says whether the store's state is sound, or the first flaw of it.
 ///
 /// First are the namespaces by their ids. Then come the control groups: the root, the order of their ids, and each by
-/// its id. Then come the tasks by their numbers in the root namespace, each asked for its parent, its children's
-/// namespace, its group, its own namespace and its control group in this order. Last are the chains of parents, in the
-/// order of the tasks: the flaw is `Parent` of the first whose chain does not end at the root init.
+/// its id. Then come the tasks by their keys, each asked for its parent, its children's namespace, its group, its own
+/// namespace and its control group in this order. Last are the chains of parents, in the order of the tasks: the flaw
+/// is `Parent` of the first whose chain does not end at the root init.
 ///
 /// It takes one byte for each key that the store has room for, and changes nothing. It costs a few searches for each
-/// namespace and each task, and a step for each level above a control group. The walks up from parent to parent are
-/// one step for each task in all, and where a chain does not end at most `pid_max` more.
+/// namespace, two searches by id for each task, and a step for each level above a control group. The walks up from
+/// parent to parent are one step for each task in all, and where a chain does not end at most `pid_max` more.
 pub fn check_sound(alloc: Global, store: &Tasks) -> Result<(), Flaw>
     ensures sound { OnOk result (IsWhole store.now) }
     ensures flaw { IfErr result (λ flaw. flaw ≢ Flaw.NoMemory → IsWhole store.now → ⊥) }

@@ -5,10 +5,10 @@ ghost use Rattle.groups_sessions.specs.Membership.{membership_at};
 ghost use Rattle.task_tree.specs.Tree.{task_at, parent_of};
 ghost use Rattle.sound_store.specs.Flaws.{IsFlaw, IsTaskFlaw};
 ghost use Rattle.sound_store.specs.Tasks.{IsTask, lives_at, is_init, is_around, may_be_parent, has_good_parent};
-ghost use Rattle.sound_store.specs.Tasks.{has_good_children, is_led, may_live, has_home, is_good_task, HasGoodTasks};
+ghost use Rattle.sound_store.specs.Tasks.{has_good_children, is_led, may_live, has_home, is_good_task, IsGoodAt, HasGoodTasks};
 
 use crate::Flaw;
-use crate::walk::next_task;
+use crate::walk::task_with;
 use pid_types::keys::{Pid, SpaceKey, TaskKey};
 use task_table::Tasks;
 use task_table::view::{Found, is_live, laws};
@@ -130,16 +130,27 @@ fn check_task(store: &Tasks, number: Pid, found: &Found) -> Result<(), Flaw>
     Ok(())
 }
 
+/// Asks the task with the key, if there is one.
+fn check_key(store: &Tasks, key: TaskKey) -> Result<(), Flaw>
+    ensures ok { OnOk result (IsGoodAt store.now key) }
+    ensures told { IfErr result (λ flaw. IsFlaw store.now flaw) }
+{
+    laws(store);
+    let Some((number, found)) = task_with(store, key) else {
+        return Ok(());
+    };
+    check_task(store, number, &found)
+}
+
 /// Asks all tasks.
 pub(crate) fn check_tasks(store: &Tasks) -> Result<(), Flaw>
     ensures ok { OnOk result (HasGoodTasks store.now) }
     ensures told { IfErr result (λ flaw. IsFlaw store.now flaw) }
 {
-    laws(store);
-    let mut from = 0u32;
-    while let Some((number, found)) = next_task(store, from) {
-        check_task(store, number, &found)?;
-        from = number + 1;
+    let tree = store.tree();
+    tree.laws();
+    for place in 0..tree.keys() {
+        check_key(store, place as TaskKey)?;
     }
     Ok(())
 }

@@ -1,26 +1,30 @@
-//! A walk over the tasks in the order of their numbers in the root namespace.
+//! The tasks of a store by their keys.
 
-ghost use Rattle.std.specs.Prelude.{◌≡◌, None, IfSome};
-ghost use Rattle.pid_types.specs.Settings.{HasGoodPidMax};
-ghost use Rattle.sound_store.specs.Next.{IsNextTask, AreAllBelow};
+ghost use Rattle.std.specs.Prelude.{◌≡◌, Some, None, IfSome};
+ghost use Rattle.pid_numbers.specs.Numbering.{number_of};
+ghost use Rattle.task_tree.specs.Tree.{task_at};
+ghost use Rattle.sound_store.specs.Tasks.{IsTask};
 
-use pid_types::call::Kind;
-use pid_types::keys::Pid;
+use pid_types::keys::{Pid, TaskKey};
 use task_table::Tasks;
-use task_table::view::{Found, find_task, laws};
+use task_table::view::{Found, laws};
 
-/// The first task from a number in the root namespace on, with its number there.
-pub(crate) fn next_task(store: &Tasks, from: Pid) -> Option<(Pid, Found)>
-    ensures next { IfSome result (λ p. IsNextTask store.now from p.0 p.1) }
-    ensures none { result ≡ None → AreAllBelow store.now from }
-    ensures good { HasGoodPidMax store.now.numbering.pid_max }
+/// The task with the key, and its number in the root namespace.
+pub(crate) fn task_with(store: &Tasks, key: TaskKey) -> Option<(Pid, Found)>
+    ensures key { IfSome result (λ p. p.1.key ≡ key) }
+    ensures task { IfSome result (λ p. IsTask store.now p.1) }
+    ensures number { IfSome result (λ p. number_of store.now.numbering p.1.key 0 ≡ Some p.0) }
+    ensures none { result ≡ None → task_at store.now.tree key ≡ None }
 {
     laws(store);
-    let Some(number) = store.numbers().next_used(0, Kind::Task, from) else {
+    let Some(task) = store.tree().task(key) else {
         return None;
     };
-    let Some(found) = find_task(store, 0, number) else {
+    let Some(space) = store.numbers().space_of(key) else {
         unreachable!()
     };
-    Some((number, found))
+    let Some(number) = store.numbers().number_in(key, 0) else {
+        unreachable!()
+    };
+    Some((number, Found { key, space, task }))
 }
