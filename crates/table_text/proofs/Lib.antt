@@ -1,6 +1,7 @@
 pub mod Fronts
 pub mod Words
 pub mod Lines
+pub mod Rests
 pub mod Told
 pub mod Scanned
 pub mod Each

@@ -8,7 +8,7 @@ use Rattle.pid_types.specs.declared.plain.Row.{Row}
 use Rattle.pid_types.specs.declared.plain.Space.{Space}
 use Rattle.pid_types.specs.declared.plain.Control.{Control}
 use Rattle.pid_script.specs.Lists.{marked, parent_text, limit_text, life_text, space_line}
-use Rattle.table_text.specs.Texts.{name_word, parent_word, names_text, places_text, marks_text, task_line, control_line, settings_text, head_line}
+use Rattle.table_text.specs.Texts.{name_word, parent_word, names_text, places_text, marks_text, task_line, rest_line, control_line, settings_text, head_line}
 use Rattle.table_text.specs.Ranges.{IsWord, Each, IsRowOfWords, IsSpaceOfWords, IsControlOfWords}
 use Rattle.table_text.specs.Reading.{Stops, IsNotAt}
 use Rattle.table_text.proofs.Fronts.{IsApart, GoesOnBut, apart, first_told, number_told, marked_told}
@@ -31,6 +31,21 @@ marks_flat r x = simp append_assoc
 pub task_flat : (r : Row) (x : List ℕ) → task_line r ++ x ≡ names_text r ++ (places_text r ++ (marks_text r ++ 10 ∷ x))
 unfolding task_line
 task_flat r x = simp append_assoc
+
+pub rest_flat : (r : Row) (x : List ℕ) → rest_line r ++ x
+    ≡ codes " parent " ++ (parent_word r.parent ++ (codes " group " ++ (name_word r.group ++ (codes " session " ++ (name_word r.session ++ (places_text r ++ (marks_text r ++ 10 ∷ x)))))))
+unfolding rest_line
+rest_flat r x = simp append_assoc
+
+-- the line is the task's name, and the rest
+pub line_rest : (r : Row) → task_line r ≡ (codes "task " ++ name_word r.name) ++ rest_line r
+unfolding task_line names_text rest_line
+line_rest r = simp append_assoc
+
+-- whatever the name is
+pub rest_same : (r : Row) (name : Name) → rest_line (record r { name = name }) ≡ rest_line r
+unfolding rest_line places_text marks_text
+rest_same r name = refl
 
 regrouped : (a b c d e f g h x : List ℕ) → ((((((a ++ b) ++ c) ++ d) ++ (e ++ f)) ++ g) ++ h) ++ x ≡ a ++ (b ++ (c ++ (d ++ (e ++ (f ++ (g ++ (h ++ x)))))))
 regrouped a b c d e f g h x = simp append_assoc

@@ -15,12 +15,13 @@ use Rattle.std.proofs.lemmas.Option.{none-some}
 use Rattle.pid_types.specs.declared.plain.Row.{Row}
 use Rattle.pid_script.specs.Answers.{joined}
 use Rattle.pid_script.specs.Lists.{field, marked, life_text}
-use Rattle.table_text.specs.Texts.{name_word, parent_word, names_text, places_text, marks_text, task_line, end_line}
+use Rattle.table_text.specs.Texts.{name_word, parent_word, places_text, marks_text, task_line, rest_line, end_line}
 use Rattle.pid_script.specs.Reading.{number_below}
 use Rattle.pid_script.proofs.Numbers.{number_below-Some, number_below-decimal}
 use Rattle.table_text.specs.Reading.{IsRead, Stops, Lacks, LacksField, LacksNumber, LacksAny}
 use Rattle.table_text.specs.Ranges.{IsWord}
 use Rattle.table_text.proofs.Fronts.{numerals, digits_told, number_told}
+use Rattle.table_text.proofs.Lines.{line_rest}
 
 -- the rest of a text, as a slice has it
 pub rest_is : (text : List ℕ) (at : ℕ) → take (length text - at) (drop at text) ≡ drop at text
@@ -58,39 +59,60 @@ numbers_more text a b c d ns n first second third some =
 pub IsRead-more : (text : List ℕ) (a b c : ℕ) (u v : List ℕ) → IsRead text a b u → IsRead text b c v → IsRead text a c (u ++ v)
 IsRead-more text a b c u v first second = second ∙ ap (λ t. t ++ v) first ∙ append_assoc (take a text) u v
 
--- the parts of a task's line, each as it is read
-abbrev in_parts : (t n p q g h s i c k j l b m x y z : List ℕ) → List ℕ
-in_parts t n p q g h s i c k j l b m x y z =
-    (((((((((t ++ n) ++ (p ++ q)) ++ (g ++ h)) ++ (s ++ i)) ++ (c ++ k)) ++ (j ++ l)) ++ (b ++ m)) ++ x) ++ y) ++ z
+-- the parts of the rest of a task's line, each as it is read
+abbrev in_parts : (p q g h s i c k j l b m x y z : List ℕ) → List ℕ
+in_parts p q g h s i c k j l b m x y z =
+    ((((((((p ++ q) ++ (g ++ h)) ++ (s ++ i)) ++ (c ++ k)) ++ (j ++ l)) ++ (b ++ m)) ++ x) ++ y) ++ z
 
-regrouped : (t n p q g h s i c k j l b m x y z : List ℕ) → in_parts t n p q g h s i c k j l b m x y z
-    ≡ (((((((((t ++ n) ++ p) ++ q) ++ g) ++ h) ++ s) ++ i) ++ ((c ++ k) ++ (j ++ l))) ++ (((b ++ m) ++ x) ++ y)) ++ z
-regrouped t n p q g h s i c k j l b m x y z = simp append_assoc
+regrouped : (p q g h s i c k j l b m x y z : List ℕ) → in_parts p q g h s i c k j l b m x y z
+    ≡ (p ++ q ++ g ++ h ++ s ++ i ++ ((c ++ k) ++ (j ++ l)) ++ (b ++ m ++ x ++ y)) ++ z
+regrouped p q g h s i c k j l b m x y z = simp append_assoc
 
-task_in_parts : (r : Row) → in_parts (codes "task ") (name_word r.name) (codes " parent ") (parent_word r.parent) (codes " group ") (name_word r.group)
+rest_in_parts : (r : Row) → in_parts (codes " parent ") (parent_word r.parent) (codes " group ") (name_word r.group)
     (codes " session ") (name_word r.session) (codes " control ") (decimal r.home) (codes " children ") (decimal r.children_space)
-    (codes " ") (life_text r.life) (marked r.executed (codes " executed")) (marked r.subreaper (codes " subreaper")) (10 ∷ []) ≡ task_line r
-unfolding task_line names_text places_text marks_text
-task_in_parts r = regrouped (codes "task ") (name_word r.name) (codes " parent ") (parent_word r.parent) (codes " group ") (name_word r.group)
+    (codes " ") (life_text r.life) (marked r.executed (codes " executed")) (marked r.subreaper (codes " subreaper")) (10 ∷ []) ≡ rest_line r
+unfolding rest_line places_text marks_text
+rest_in_parts r = regrouped (codes " parent ") (parent_word r.parent) (codes " group ") (name_word r.group)
     (codes " session ") (name_word r.session) (codes " control ") (decimal r.home) (codes " children ") (decimal r.children_space)
     (codes " ") (life_text r.life) (marked r.executed (codes " executed")) (marked r.subreaper (codes " subreaper")) (10 ∷ [])
 
--- the line of a task
-pub task_read : (text : List ℕ) (r : Row) (a0 a1 a2 a3 a4 a5 a6 a7 a8 a9 a10 : ℕ)
-    → IsRead text a0 a1 (codes "task " ++ name_word r.name) → IsRead text a1 a2 (codes " parent " ++ parent_word r.parent)
+-- the rest of a task's line
+pub rest_read : (text : List ℕ) (r : Row) (a1 a2 a3 a4 a5 a6 a7 a8 a9 a10 : ℕ)
+    → IsRead text a1 a2 (codes " parent " ++ parent_word r.parent)
     → IsRead text a2 a3 (codes " group " ++ name_word r.group) → IsRead text a3 a4 (codes " session " ++ name_word r.session)
     → IsRead text a4 a5 (field (codes " control ") r.home) → IsRead text a5 a6 (field (codes " children ") r.children_space)
     → IsRead text a6 a7 (codes " " ++ life_text r.life) → IsRead text a7 a8 (marked r.executed (codes " executed"))
-    → IsRead text a8 a9 (marked r.subreaper (codes " subreaper")) → IsRead text a9 a10 (10 ∷ []) → IsRead text a0 a10 (task_line r)
-task_read text r a0 a1 a2 a3 a4 a5 a6 a7 a8 a9 a10 e1 e2 e3 e4 e5 e6 e7 e8 e9 e10 =
-    subst (IsRead text a0 a10) (task_in_parts r)
-    (IsRead-more text a0 a9 a10 _ _ (IsRead-more text a0 a8 a9 _ _ (IsRead-more text a0 a7 a8 _ _ (IsRead-more text a0 a6 a7 _ _ (IsRead-more text a0 a5 a6 _ _
-    (IsRead-more text a0 a4 a5 _ _ (IsRead-more text a0 a3 a4 _ _ (IsRead-more text a0 a2 a3 _ _ (IsRead-more text a0 a1 a2 _ _ e1 e2) e3) e4) e5) e6) e7) e8) e9) e10)
+    → IsRead text a8 a9 (marked r.subreaper (codes " subreaper")) → IsRead text a9 a10 (10 ∷ []) → IsRead text a1 a10 (rest_line r)
+rest_read text r a1 a2 a3 a4 a5 a6 a7 a8 a9 a10 e2 e3 e4 e5 e6 e7 e8 e9 e10 =
+    subst (IsRead text a1 a10) (rest_in_parts r)
+    (IsRead-more text a1 a9 a10 _ _ (IsRead-more text a1 a8 a9 _ _ (IsRead-more text a1 a7 a8 _ _ (IsRead-more text a1 a6 a7 _ _ (IsRead-more text a1 a5 a6 _ _
+    (IsRead-more text a1 a4 a5 _ _ (IsRead-more text a1 a3 a4 _ _ (IsRead-more text a1 a2 a3 _ _ e2 e3) e4) e5) e6) e7) e8) e9) e10)
+
+-- the line of a task
+pub task_read : (text : List ℕ) (r : Row) (a0 a1 a2 : ℕ) → IsRead text a0 a1 (codes "task " ++ name_word r.name) → IsRead text a1 a2 (rest_line r) → IsRead text a0 a2 (task_line r)
+task_read text r a0 a1 a2 first second = subst (IsRead text a0 a2) (sym (line_rest r)) (IsRead-more text a0 a1 a2 _ _ first second)
+
+-- what stands at a second place again
+pub again_read : (text : List ℕ) (at start end : ℕ) (part : List ℕ) → start ≤ end → end ≤ length text
+    → true ≡ starts_with eqb (take (length text - at) (drop at text)) (take (end - start) (drop start text)) → IsRead text start end part → IsRead text at (at + (end - start)) part
+again_read text at start end part order within starts read =
+    let word = take (end - start) (drop start text) in
+    let whole : start + (end - start) ≡ end = omega (arith, order) in
+    let parts : take end text ≡ take start text ++ word = subst (λ e. take e text ≡ take start text ++ word) whole (take-add start (end - start) text) in
+    let same : word ≡ part = append_cancel_left (take start text) word part (sym parts ∙ read) in
+    let long : length word ≡ end - start = length-take-le (end - start) (drop start text) (let all = length-drop start text in omega (arith, within, all)) in
+    subst (λ n. IsRead text at (at + n) part) long (subst (IsRead text at (at + length word)) same (word_read text word at starts))
 
 -- where something was read, the place has moved on
 pub ahead : (text : List ℕ) (a b c : ℕ) (w cs : List ℕ) → a ≤ length text → b ≤ length text → IsRead text a b w → w ≡ c ∷ cs → a < b
 ahead text a b c w cs within_a within_b read begins =
     let long = ap length (read ∙ ap (λ l. take a text ++ l) begins) ∙ length-append (take a text) (c ∷ cs) in
+    omega (arith, long, length-take-le a text within_a, length-take-le b text within_b)
+
+-- what is read reaches no way back
+pub order_read : (text : List ℕ) (a b : ℕ) (w : List ℕ) → a ≤ length text → b ≤ length text → IsRead text a b w → a ≤ b
+order_read text a b w within_a within_b read =
+    let long = ap length read ∙ length-append (take a text) w in
     omega (arith, long, length-take-le a text within_a, length-take-le b text within_b)
 
 -- a text that ends as it should

@@ -1,12 +1,11 @@
 -- Names stay where they stand as numbers come behind them.
-use Rattle.std.proofs.Common.{◌≡◌, ℕ, zero, suc, ◌+◌, ◌<◌, ◌≤◌, List, [], ◌∷◌, ◌++◌, length, take, drop, map, refl, ap, sym, subst, ◌∙◌, inl, inr, Some, None, Option, option_map, slice_get, arith, append_assoc, length-append, length-drop}
+use Rattle.std.proofs.Common.{◌≡◌, ℕ, zero, suc, ◌+◌, ◌<◌, ◌≤◌, List, [], ◌∷◌, ◌++◌, length, take, drop, refl, ap, sym, subst, ◌∙◌, inl, inr, Some, None, Option, option_map, slice_get, arith, append_assoc, length-append, length-drop}
 use Rattle.std.specs.Prelude.{slice_index_or, IfSome}
 use Rattle.std.proofs.lemmas.List.{drop-append-le, take-append-le, length-map, map-append}
 use Rattle.std.proofs.lemmas.Option.{slice_get-map}
 use Rattle.pid_types.specs.declared.plain.Name.{Name}
 use Rattle.pid_types.specs.declared.plain.Row.{Row}
 use Rattle.pid_types.specs.Membership.{IsIn}
-use Rattle.table_text.specs.Ranges.{Each}
 use Rattle.table_text.specs.Rows.{name_in, row_in, rows_in, IsWithin, IsLineWithin, AreWithin, IsGrown}
 use Rattle.table_text.specs.declared.rows.Place.{Place}
 use Rattle.table_text.specs.declared.rows.Line.{Line}

@@ -3,3 +3,4 @@ pub mod Ranges
 pub mod Rows
 pub mod Laws
 pub mod Reading
+pub mod Rests

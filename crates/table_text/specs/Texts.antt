@@ -40,6 +40,12 @@ marks_text row = codes " " ++ life_text row.life ++ marked row.executed (codes "
 unfoldable pub task_line : Row → List ℕ
 task_line row = with_newline (names_text row ++ places_text row ++ marks_text row)
 
+-- the rest of a task's line, behind its own name
+unfoldable pub rest_line : Row → List ℕ
+rest_line row =
+    with_newline (codes " parent " ++ parent_word row.parent ++ codes " group " ++ name_word row.group
+    ++ codes " session " ++ name_word row.session ++ places_text row ++ marks_text row)
+
 -- the line of a control group. Its count is none of its own: it follows from the tasks
 unfoldable pub control_line : Control → List ℕ
 control_line control =

@@ -4,14 +4,15 @@ ghost use Rattle.std.specs.Prelude.{◌≡◌, ◌++◌, ◌<◌, ◌≤◌, len
 ghost use Rattle.std.specs.List.{flat_map};
 ghost use Rattle.pid_script.specs.Answers.{joined};
 ghost use Rattle.pid_script.specs.Lists.{space_line};
-ghost use Rattle.table_text.specs.Texts.{name_word, parent_word, task_line, control_line};
+ghost use Rattle.table_text.specs.Texts.{name_word, parent_word, rest_line, task_line, control_line};
 ghost use Rattle.table_text.specs.Texts.{settings_text, head_line, end_line, text_of};
 ghost use Rattle.table_text.specs.Ranges.{IsWord, Each, IsNameOfWords, IsRowOfWords, IsSpaceOfWords, IsControlOfWords};
 ghost use Rattle.table_text.specs.Ranges.{IsStateOfWords};
-ghost use Rattle.std.specs.Prelude.{IfNone, OnSome, IfErr, drop, true, false, ◌≢◌, [], ◌∷◌, ◌+◌};
+ghost use Rattle.std.specs.Prelude.{IfNone, OnSome, IfErr, drop, true, false, ◌≢◌, [], ◌∷◌, ◌+◌, ◌-◌, ℕ, List};
 ghost use Rattle.table_text.specs.Reading.{IsRead, saved_state, Stops, LacksLine, LacksSettings, LacksHead};
 ghost use Rattle.table_text.specs.Reading.{Lacks, LacksNumbers, LacksAny, LacksLines, IsNoText};
 ghost use Rattle.table_text.specs.Reading.{IsHeldName, IsHeldRow, IsHeldSpace, IsHeldControl};
+ghost use Rattle.table_text.specs.Rests.{IsRest};
 ghost use Rattle.table_text.specs.declared.fault.LoadFault.TheVariants.{NoMemory};
 
 use crate::dump::end_of;
@@ -27,7 +28,7 @@ use pid_types::plain::{Control, LEVELS, Life, Name, Row, Space};
 use std::alloc::Global;
 
 /// What a text says.
-#[derive(Debug, Drop)]
+#[derive(Drop)]
 pub struct Saved {
     /// One above the greatest number that a namespace gives.
     pub pid_max: u32,
@@ -134,16 +135,15 @@ fn read_parent_name(text: &[u8], at: &mut usize, parent: &mut Option<Name>) -> O
     Some(())
 }
 
-/// The line of a task, which is written over another row.
-#[tactic(auto, unfolding(crate::specs::Texts::task_line))]
-fn read_task(text: &[u8], at: &mut usize, row: &mut Row) -> Option<()>
+/// The rest of a task's line, behind its own name, which is written over that of another row.
+fn read_rest(text: &[u8], at: &mut usize, row: &mut Row) -> Option<()>
     requires { at.old ≤ length text.now }
     ensures within { at.new ≤ length text.now }
-    ensures read { OnSome result (IsRead text.now at.old at.new (task_line row.new)) }
-    ensures words { OnSome result (IsRowOfWords row.new) }
-    ensures missing { IfNone result (LacksLine IsHeldRow task_line text.now at.old) }
+    ensures read { OnSome result (IsRead text.now at.old at.new (rest_line row.new)) }
+    ensures words { IsNameOfWords row.old.name → OnSome result (IsRowOfWords row.new) }
+    ensures name { row.new.name ≡ row.old.name }
+    ensures missing { IfNone result (LacksLine IsHeldRow rest_line text.now at.old) }
 {
-    read_name(text, at, b"task ", &mut row.name)?;
     read_parent_name(text, at, &mut row.parent)?;
     read_name(text, at, b" group ", &mut row.group)?;
     read_name(text, at, b" session ", &mut row.session)?;
@@ -153,6 +153,51 @@ fn read_task(text: &[u8], at: &mut usize, row: &mut Row) -> Option<()>
     row.executed = read_mark(text, at, b" executed");
     row.subreaper = read_mark(text, at, b" subreaper");
     read_word(text, at, b"\n")?;
+    Some(())
+}
+
+/// Where the rest of the line before stands. It is empty where there is none.
+#[derive(Clone, Copy)]
+struct Rest {
+    start: usize,
+    end: usize,
+}
+
+/// Whether the rest of the line before stands at the place again.
+fn is_again(text: &[u8], at: usize, last: Rest) -> bool
+    requires at { at ≤ length text.now }
+    requires order { last.start ≤ last.end }
+    requires within { last.end ≤ length text.now }
+    ensures some { result ≡ true → last.start < last.end }
+    ensures within { result ≡ true → at + (last.end - last.start) ≤ length text.now }
+    ensures read { result ≡ true → (part : List ℕ) → IsRead text.now last.start last.end part
+        → IsRead text.now at (at + (last.end - last.start)) part }
+{
+    if last.start == last.end {
+        return false;
+    }
+    let rest = &text[last.start..last.end];
+    text[at..].starts_with(rest)
+}
+
+/// The line of a task, which is written over another row. Its rest is not read where it is that of the line before.
+fn read_task(text: &[u8], at: &mut usize, row: &mut Row, last: &mut Rest) -> Option<()>
+    requires at { at.old ≤ length text.now }
+    requires last { IsRest text.now last.old row.old }
+    ensures within { at.new ≤ length text.now }
+    ensures read { OnSome result (IsRead text.now at.old at.new (task_line row.new)) }
+    ensures words { OnSome result (IsRowOfWords row.new) }
+    ensures last { OnSome result (IsRest text.now last.new row.new) }
+    ensures missing { IfNone result (LacksLine IsHeldRow task_line text.now at.old) }
+{
+    read_name(text, at, b"task ", &mut row.name)?;
+    if is_again(text, *at, *last) {
+        *at += last.end - last.start;
+        return Some(());
+    }
+    let start = *at;
+    read_rest(text, at, row)?;
+    *last = Rest { start, end: *at };
     Some(())
 }
 
@@ -238,8 +283,9 @@ fn read_tasks(alloc: Global, text: &[u8], at: &mut usize, lines: u64) -> Result<
 {
     let mut rows = Rows::new(alloc);
     let mut row = no_row();
+    let mut last = Rest { start: 0, end: 0 };
     while begins_with(text, *at, b't') {
-        let Some(()) = read_task(text, at, &mut row) else {
+        let Some(()) = read_task(text, at, &mut row, &mut last) else {
             return Err(LoadFault::BadLine(line_behind(lines, rows.len())));
         };
         let Ok(()) = rows.add(&row) else {
@@ -328,7 +374,8 @@ fn check_end(alloc: Global, text: &[u8], at: usize, line: u64) -> Result<(), Loa
 ///
 /// The fault is the first that is met, reading forwards: a line that is none of those that the form has in that place,
 /// or want of memory; and at the end a digest of another text. A last line that something follows, or that is missing,
-/// is a bad line. Then nothing is kept. The cost grows with the text.
+/// is a bad line. Then nothing is kept. The cost grows with the text; of a task's line that is that of the line before
+/// behind its own name, that name alone is read.
 #[tactic(auto, unfolding(crate::specs::Texts::text_of, crate::specs::Texts::said))]
 pub fn read_text(alloc: Global, text: &[u8]) -> Result<Saved, LoadFault>
     ensures text { IfOk result (λ saved. text.now ≡ text_of saved.stamp (saved_state saved)) }

@@ -14,7 +14,7 @@ use std::alloc::{AllocError, Global};
 use std::marker::Model;
 
 /// Where the numbers of a name stand, and the id of its namespace.
-#[derive(Clone, Copy, Debug)]
+#[derive(Clone, Copy)]
 struct Place {
     space: u64,
     start: u32,
@@ -22,7 +22,7 @@ struct Place {
 }
 
 /// A row, with the places of its names.
-#[derive(Clone, Copy, Debug)]
+#[derive(Clone, Copy)]
 struct Line {
     name: Place,
     parent: Option<Place>,
@@ -37,7 +37,7 @@ struct Line {
 
 /// Rows in the order of their lines. Each takes some 100 bytes, and four for each number of its own name, and of a
 /// parent, a group or a session that the row before has not.
-#[derive(Debug, Drop)]
+#[derive(Drop)]
 pub struct Rows {
     lines: Vec<Line>,
     numbers: Vec<Pid>,

@@ -1,88 +1,53 @@
--- Where the reader of one part gives up, the parts before it are read: so the line is of no task
-use Rattle.table_text.proofs.Scanned.{task_read, if_none}
-use Rattle.table_text.proofs.Tasks.{no_task_name, no_task_parent, no_task_group, no_task_session, no_task_home, no_task_children, no_task_life, no_task_end}
+-- Where the reader of one part gives up, the name before it is read: so the line is of no task
+use Rattle.std.proofs.Common.{codes, ◌++◌, refl, sym, subst}
+use Rattle.pid_types.specs.declared.plain.Name.{Name}
+use Rattle.table_text.specs.Reading.{IsRead}
+use Rattle.table_text.specs.Texts.{name_word, rest_line}
+use Rattle.table_text.proofs.Rests.{rest_kept, rest_named, words_named}
+use Rattle.table_text.proofs.Scanned.{if_none, order_read, task_read}
+use Rattle.table_text.proofs.Tasks.{no_task_name, at_rest}
 use Rattle.table_text.proofs.read.read_task.Goals as goal
-
-pub returns-clause-read : goal.returns-clause-read
-returns-clause-read c =
-    task_read c.args.text.now _ c.args.at.now _ _ _ _ _ _ _ _ _ _ c.in_ok-read_name.ensures.read c.in_ok-read_parent_name.ensures.read c.in_ok-read_name-2.ensures.read
-    c.in_ok-read_name-3.ensures.read c.in_ok-row.ensures.read c.in_ok-row-2.ensures.read c.in_ok-row-3.ensures.read
-    c.read_mark-row.ensures.read c.read_mark-row-2.ensures.read c.in_ok-read_word.ensures.read
 
 pub returns-in_err-read_name-clause-missing : goal.returns-in_err-read_name-clause-missing
 returns-in_err-read_name-clause-missing c =
     if_none c.from_residual.result _ (λ r x held is.
-    no_task_name c.args.text.now r held x c.args.at.now c.requires is
+    no_task_name c.args.text.now r held x c.args.at.now c.requires.at is
     c.in_err-read_name.ensures.missing)
 
-pub returns-in_err-read_parent_name-clause-missing : goal.returns-in_err-read_parent_name-clause-missing
-returns-in_err-read_parent_name-clause-missing c =
-    if_none c.from_residual-in_err-read_parent_name.result _ (λ r x held is.
-    no_task_parent c.args.text.now r held x c.args.at.now c.requires is
-    c.read_name.new.at _ c.in_ok-read_name.ensures.within c.in_ok-read_name.ensures.read c.in_ok-read_name.ensures.words c.in_ok-read_name.ensures.stops
-    c.in_err-read_parent_name.ensures.missing)
+pub returns-then-is_again-clause-read : goal.returns-then-is_again-clause-read
+returns-then-is_again-clause-read c =
+    let last = c.args.last.now in
+    task_read c.args.text.now _ c.args.at.now c.read_name.new.at _ c.in_ok-read_name.ensures.read
+    (rest_named c.args.text.now c.read_name.new.at _ c.args.row.now c.read_name.new.name
+    (c.if-is_again.ensures.read refl (rest_line c.args.row.now) (c.requires.last.read (c.if-is_again.ensures.some refl))))
 
-pub returns-in_err-read_name-2-clause-missing : goal.returns-in_err-read_name-2-clause-missing
-returns-in_err-read_name-2-clause-missing c =
-    if_none c.from_residual-in_err-read_name-2.result _ (λ r x held is.
-    no_task_group c.args.text.now r held x c.args.at.now c.requires is
-    c.read_name.new.at _ c.in_ok-read_name.ensures.within c.in_ok-read_name.ensures.read c.in_ok-read_name.ensures.words c.in_ok-read_name.ensures.stops
-    c.read_parent_name.new.at _ c.in_ok-read_parent_name.ensures.within c.in_ok-read_parent_name.ensures.read c.in_ok-read_parent_name.ensures.words c.in_ok-read_parent_name.ensures.stops
-    c.in_err-read_name-2.ensures.missing)
+pub returns-then-is_again-clause-words : goal.returns-then-is_again-clause-words
+returns-then-is_again-clause-words c =
+    words_named c.args.row.now c.read_name.new.name (c.requires.last.words (c.if-is_again.ensures.some refl)) c.in_ok-read_name.ensures.words
 
-pub returns-in_err-read_name-3-clause-missing : goal.returns-in_err-read_name-3-clause-missing
-returns-in_err-read_name-3-clause-missing c =
-    if_none c.from_residual-in_err-read_name-3.result _ (λ r x held is.
-    no_task_session c.args.text.now r held x c.args.at.now c.requires is
-    c.read_name.new.at _ c.in_ok-read_name.ensures.within c.in_ok-read_name.ensures.read c.in_ok-read_name.ensures.words c.in_ok-read_name.ensures.stops
-    c.read_parent_name.new.at _ c.in_ok-read_parent_name.ensures.within c.in_ok-read_parent_name.ensures.read c.in_ok-read_parent_name.ensures.words c.in_ok-read_parent_name.ensures.stops
-    c.read_name-2.new.at _ c.in_ok-read_name-2.ensures.within c.in_ok-read_name-2.ensures.read c.in_ok-read_name-2.ensures.words c.in_ok-read_name-2.ensures.stops
-    c.in_err-read_name-3.ensures.missing)
+pub returns-then-is_again-clause-last : goal.returns-then-is_again-clause-last
+returns-then-is_again-clause-last c = rest_kept c.args.text.now c.args.last.now c.args.row.now c.read_name.new.name c.requires.last c.in_ok-read_name.ensures.words
 
-pub returns-in_err-row-clause-missing : goal.returns-in_err-row-clause-missing
-returns-in_err-row-clause-missing c =
-    if_none c.from_residual-in_err-row.result _ (λ r x held is.
-    no_task_home c.args.text.now r held x c.args.at.now c.requires is
-    c.read_name.new.at _ c.in_ok-read_name.ensures.within c.in_ok-read_name.ensures.read c.in_ok-read_name.ensures.words c.in_ok-read_name.ensures.stops
-    c.read_parent_name.new.at _ c.in_ok-read_parent_name.ensures.within c.in_ok-read_parent_name.ensures.read c.in_ok-read_parent_name.ensures.words c.in_ok-read_parent_name.ensures.stops
-    c.read_name-2.new.at _ c.in_ok-read_name-2.ensures.within c.in_ok-read_name-2.ensures.read c.in_ok-read_name-2.ensures.words c.in_ok-read_name-2.ensures.stops
-    c.read_name-3.new.at _ c.in_ok-read_name-3.ensures.within c.in_ok-read_name-3.ensures.read c.in_ok-read_name-3.ensures.words c.in_ok-read_name-3.ensures.stops
-    c.in_err-row.ensures.missing)
+pub returns-in_err-read_rest-clause-missing : goal.returns-in_err-read_rest-clause-missing
+returns-in_err-read_rest-clause-missing c =
+    if_none c.from_residual-in_err-read_rest.result _ (λ r x held is.
+    c.in_err-read_rest.ensures.missing r x held
+    (at_rest c.args.text.now r held x c.args.at.now c.requires.at is
+    c.read_name.new.at _ c.in_ok-read_name.ensures.within c.in_ok-read_name.ensures.read c.in_ok-read_name.ensures.words c.in_ok-read_name.ensures.stops))
 
-pub returns-in_err-row-2-clause-missing : goal.returns-in_err-row-2-clause-missing
-returns-in_err-row-2-clause-missing c =
-    if_none c.from_residual-in_err-row-2.result _ (λ r x held is.
-    no_task_children c.args.text.now r held x c.args.at.now c.requires is
-    c.read_name.new.at _ c.in_ok-read_name.ensures.within c.in_ok-read_name.ensures.read c.in_ok-read_name.ensures.words c.in_ok-read_name.ensures.stops
-    c.read_parent_name.new.at _ c.in_ok-read_parent_name.ensures.within c.in_ok-read_parent_name.ensures.read c.in_ok-read_parent_name.ensures.words c.in_ok-read_parent_name.ensures.stops
-    c.read_name-2.new.at _ c.in_ok-read_name-2.ensures.within c.in_ok-read_name-2.ensures.read c.in_ok-read_name-2.ensures.words c.in_ok-read_name-2.ensures.stops
-    c.read_name-3.new.at _ c.in_ok-read_name-3.ensures.within c.in_ok-read_name-3.ensures.read c.in_ok-read_name-3.ensures.words c.in_ok-read_name-3.ensures.stops
-    c.read_field.new.at _ c.in_ok-row.ensures.within c.in_ok-row.ensures.read c.in_ok-row.ensures.words c.in_ok-row.ensures.stops
-    c.in_err-row-2.ensures.missing)
+pub returns-clause-read : goal.returns-clause-read
+returns-clause-read c =
+    task_read c.args.text.now c.read_rest.new.row c.args.at.now c.read_name.new.at c.read_rest.new.at
+    (subst (λ (n : Name). IsRead c.args.text.now c.args.at.now c.read_name.new.at (codes "task " ++ name_word n)) (sym c.in_ok-read_rest.ensures.name) c.in_ok-read_name.ensures.read)
+    c.in_ok-read_rest.ensures.read
 
-pub returns-in_err-row-3-clause-missing : goal.returns-in_err-row-3-clause-missing
-returns-in_err-row-3-clause-missing c =
-    if_none c.from_residual-in_err-row-3.result _ (λ r x held is.
-    no_task_life c.args.text.now r held x c.args.at.now c.requires is
-    c.read_name.new.at _ c.in_ok-read_name.ensures.within c.in_ok-read_name.ensures.read c.in_ok-read_name.ensures.words c.in_ok-read_name.ensures.stops
-    c.read_parent_name.new.at _ c.in_ok-read_parent_name.ensures.within c.in_ok-read_parent_name.ensures.read c.in_ok-read_parent_name.ensures.words c.in_ok-read_parent_name.ensures.stops
-    c.read_name-2.new.at _ c.in_ok-read_name-2.ensures.within c.in_ok-read_name-2.ensures.read c.in_ok-read_name-2.ensures.words c.in_ok-read_name-2.ensures.stops
-    c.read_name-3.new.at _ c.in_ok-read_name-3.ensures.within c.in_ok-read_name-3.ensures.read c.in_ok-read_name-3.ensures.words c.in_ok-read_name-3.ensures.stops
-    c.read_field.new.at _ c.in_ok-row.ensures.within c.in_ok-row.ensures.read c.in_ok-row.ensures.words c.in_ok-row.ensures.stops
-    c.read_field-2.new.at _ c.in_ok-row-2.ensures.within c.in_ok-row-2.ensures.read c.in_ok-row-2.ensures.words c.in_ok-row-2.ensures.stops
-    c.in_err-row-3.ensures.missing)
+pub returns-clause-words : goal.returns-clause-words
+returns-clause-words c = c.in_ok-read_rest.ensures.words c.in_ok-read_name.ensures.words
 
-pub returns-in_err-read_word-clause-missing : goal.returns-in_err-read_word-clause-missing
-returns-in_err-read_word-clause-missing c =
-    if_none c.from_residual-in_err-read_word.result _ (λ r x held is.
-    no_task_end c.args.text.now r held x c.args.at.now c.requires is
-    c.read_name.new.at _ c.in_ok-read_name.ensures.within c.in_ok-read_name.ensures.read c.in_ok-read_name.ensures.words c.in_ok-read_name.ensures.stops
-    c.read_parent_name.new.at _ c.in_ok-read_parent_name.ensures.within c.in_ok-read_parent_name.ensures.read c.in_ok-read_parent_name.ensures.words c.in_ok-read_parent_name.ensures.stops
-    c.read_name-2.new.at _ c.in_ok-read_name-2.ensures.within c.in_ok-read_name-2.ensures.read c.in_ok-read_name-2.ensures.words c.in_ok-read_name-2.ensures.stops
-    c.read_name-3.new.at _ c.in_ok-read_name-3.ensures.within c.in_ok-read_name-3.ensures.read c.in_ok-read_name-3.ensures.words c.in_ok-read_name-3.ensures.stops
-    c.read_field.new.at _ c.in_ok-row.ensures.within c.in_ok-row.ensures.read c.in_ok-row.ensures.words c.in_ok-row.ensures.stops
-    c.read_field-2.new.at _ c.in_ok-row-2.ensures.within c.in_ok-row-2.ensures.read c.in_ok-row-2.ensures.words c.in_ok-row-2.ensures.stops
-    c.read_life.new.at _ c.in_ok-row-3.ensures.within c.in_ok-row-3.ensures.read c.in_ok-row-3.ensures.words c.in_ok-row-3.ensures.stops
-    c.read_mark-row.new.at _ c.read_mark-row.ensures.within c.read_mark-row.ensures.read c.read_mark-row.ensures.missing
-    c.read_mark-row-2.new.at _ c.read_mark-row-2.ensures.within c.read_mark-row-2.ensures.read c.read_mark-row-2.ensures.missing
-    c.in_err-read_word.ensures.missing)
+pub returns-clause-last : goal.returns-clause-last
+returns-clause-last c = record {
+  order = order_read c.args.text.now c.read_name.new.at c.read_rest.new.at _ c.in_ok-read_name.ensures.within c.in_ok-read_rest.ensures.within c.in_ok-read_rest.ensures.read;
+  within = c.in_ok-read_rest.ensures.within;
+  read = λ some. c.in_ok-read_rest.ensures.read;
+  words = λ some. c.in_ok-read_rest.ensures.words c.in_ok-read_name.ensures.words;
+}

@@ -1,6 +1,5 @@
-use Rattle.std.proofs.Common.{◌≡◌, ◌∙◌, refl, sym, ap, subst, length, ◌∷◌, [], ◌++◌, arith}
+use Rattle.std.proofs.Common.{◌≡◌, ◌∙◌, sym, ap, subst, length, ◌∷◌, [], ◌++◌, arith}
 use Rattle.table_text.specs.Rows.{rows_in, AreWithin}
-use Rattle.table_text.specs.declared.rows.Line.{Line}
 use Rattle.table_text.proofs.Standing.{all_within, rows_kept, rows_more, more_within}
 use Rattle.table_text.proofs.rows.Rows.add.Goals as goal
 

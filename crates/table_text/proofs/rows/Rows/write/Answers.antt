@@ -1,5 +1,4 @@
-use Rattle.std.proofs.Common.{◌≡◌, ◌∙◌, ◌<◌, sym, ap, subst, length, Some, arith}
-use Rattle.std.proofs.lemmas.List.{length-map}
+use Rattle.std.proofs.Common.{◌∙◌, sym, ap, subst, length, Some}
 use Rattle.std.specs.Prelude.{slice_get}
 use Rattle.table_text.specs.Rows.{IsLineWithin, row_in}
 use Rattle.table_text.proofs.Standing.{inside, line_at, row_at}
