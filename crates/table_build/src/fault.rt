@@ -3,7 +3,7 @@
 use std::alloc::AllocError;
 
 /// Why a store cannot be made as a text says. Each fault but want of memory names a line, counted from 1.
-#[derive(Clone, Copy, Debug, PartialEq, Eq)]
+#[derive(Clone, Copy)]
 pub enum BuildFault {
     /// There was no memory for the store.
     NoMemory,

@@ -1,4 +1,4 @@
-use Rattle.std.proofs.Common.{◌≡◌, inl, inr, subst, ℕ, ◌+◌, ◌<◌, Some, arith, [], ◌∷◌, Bool, List, length, ap, sym, ◌∙◌, is_some, length-append, option_map, slice_get}
+use Rattle.std.proofs.Common.{◌≡◌, inl, inr, subst, ℕ, ◌+◌, ◌<◌, Some, arith, [], ◌∷◌, Bool, List, length, ap, sym, ◌∙◌, is_some, length-append, option_map, slice_get, refl}
 use Rattle.std.specs.declared.vec.Vec.{Vec}
 use Rattle.std.specs.declared.alloc.Global.{Global}
 use Rattle.pid_numbers.specs.Restore.{is_flagged}
@@ -14,6 +14,7 @@ use Rattle.task_table.proofs.Results.{if_err}
 use Rattle.table_build.proofs.Parts.{may-bear}
 use Rattle.table_build.proofs.PartSteps.{part-set, unborne-next}
 use Rattle.table_build.proofs.Places.{at_place}
+use Rattle.table_build.specs.declared.fault.BuildFault.TheVariants.{NoMemory}
 use Rattle.table_build.proofs.begin.begin_tasks.Goals as goal
 
 pub loop-index-preserved : goal.loop-index-preserved
@@ -53,3 +54,6 @@ returns-in_err-key-clause-refused c =
     let there = ap is_some (ap (λ cs. control_at cs row.home) part.places.controls ∙ home.1) in
     let unborne = unborne-next c.loop-index.store c.loop-index.placed rows c.loop-index.index row i.lines i.keys i.placeholders here sound.coherent.rows_rise in
     c.in_err-key.ensures.refused not there (may-bear c.loop-index.store c.laws.ensures text sound part row.name (own_name_in_use rows row inside) i.ungrouped.borne unborne))
+
+pub returns-in_err-add_key-clause-refused : goal.returns-in_err-add_key-clause-refused
+returns-in_err-add_key-clause-refused c = if_err c.from_residual-in_err-add_key.result _ NoMemory c.from_residual-in_err-add_key.ensures.1 (λ not. absurd (not refl))

@@ -27,3 +27,11 @@ returns-in_err-put_tasks-clause-refused c =
     if_err c.from_residual-in_err-put_tasks.result _ c.in_err-put_tasks.field-0.0 c.from_residual-in_err-put_tasks.ensures.1 (λ not tables.
     c.in_err-put_tasks.ensures.refused not tables.sound
     (record { spaces = ap (map steady) p.spaces ∙ steady-bare c.args.saved.now.spaces.items; controls = p.controls; bound = p.bound }))
+
+pub returns-in_err-store-clause-refused : goal.returns-in_err-store-clause-refused
+returns-in_err-store-clause-refused c = if_err c.from_residual.result _ c.in_err-store.field-0.0 c.from_residual.ensures.1 c.in_err-store.ensures.refused
+
+pub returns-in_err-put_falls-clause-refused : goal.returns-in_err-put_falls-clause-refused
+returns-in_err-put_falls-clause-refused c =
+    if_err c.from_residual-in_err-put_falls.result _ c.in_err-put_falls.field-0.0 c.from_residual-in_err-put_falls.ensures.1 (λ not tables.
+    c.in_err-put_falls.ensures.refused not tables.sound c.in_ok-put_tasks.ensures.rows)

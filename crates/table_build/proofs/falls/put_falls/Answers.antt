@@ -42,3 +42,6 @@ set_fallen-requires-clause-may c =
     subst (λ (l : List Bool). MayFall c.args.store.now.numbering l) (sym c.deref-2.ensures.value)
     (may-fall c.args.store.now.numbering c.laws.ensures.numbering c.args.saved.now.spaces.items c.requires.listed flags c.in_ok-flags.ensures.flagged
     (subst (λ (l : List Bool). MayHaveFalls c.args.store.now.numbering l c.args.saved.now.spaces.items) c.deref.ensures.value c.in_ok-check_falls.ensures.may))
+
+pub returns-in_err-flags-clause-refused : goal.returns-in_err-flags-clause-refused
+returns-in_err-flags-clause-refused c = if_err c.from_residual.result _ c.in_err-flags.field-0.0 c.from_residual.ensures.1 (λ not sound rows. c.in_err-flags.ensures.refused not c.requires.listed)

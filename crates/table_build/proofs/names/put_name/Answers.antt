@@ -9,6 +9,8 @@ use Rattle.task_table.proofs.Newborn.{Comes, named_in}
 use Rattle.table_build.specs.Stages.{AddsRow, KeepsSpaces, lone_row}
 use Rattle.table_build.proofs.Steps.{added, added-behind, come-spaces, keeps-namespaces, same_ids, same_paths, ungrouped-come}
 use Rattle.table_build.proofs.Draws.{drawn-name}
+use Rattle.task_table.proofs.Results.{if_err}
+use Rattle.table_build.specs.declared.fault.BuildFault.TheVariants.{NoMemory}
 use Rattle.table_build.proofs.names.put_name.Goals as goal
 
 kept : (c : goal.After-laws-3) → KeepsSpaces c.put_cursors.new.store.numbering c.fork.new.self.numbering
@@ -77,3 +79,9 @@ returns-then-not-are_same-clause-refused c = λ _ may.
     let paths : path_at c.numbers-2.result.now c.in-Some.space ≡ path_at s0 c.in-Some.space = ap (λ n. path_at n c.in-Some.space) c.numbers-2.ensures ∙ same_paths s0 b m.spaces c.in-Some.space in
     let planned = ap (map (λ q. unwrap_or (draw_in c.numbers-2.result.now q) 0)) paths ∙ ap (λ n. map (λ q. unwrap_or (draw_in n q) 0) (path_at s0 c.in-Some.space)) c.numbers-2.ensures ∙ drawn.1 in
     c.if-not-are_same.ensures.1 refl (c.as_slice-2.ensures.value ∙ c.in_default-plan_into.ensures.ok.1 ∙ planned ∙ c.as_slice.ensures.value ∙ sym c.as_slice-3.ensures.value)
+
+pub returns-in_err-wanted-clause-refused : goal.returns-in_err-wanted-clause-refused
+returns-in_err-wanted-clause-refused c = if_err c.from_residual.result _ NoMemory c.from_residual.ensures.1 (λ not. absurd (not refl))
+
+pub returns-in_err-key-clause-refused : goal.returns-in_err-key-clause-refused
+returns-in_err-key-clause-refused c = if_err c.from_residual-in_err-key.result _ NoMemory c.from_residual-in_err-key.ensures.1 (λ not. absurd (not refl))

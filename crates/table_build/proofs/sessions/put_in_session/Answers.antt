@@ -11,6 +11,7 @@ use Rattle.task_table.proofs.Results.{if_err}
 use Rattle.table_build.specs.Lines.{is_held}
 use Rattle.table_build.specs.Parts.{IsPart}
 use Rattle.table_build.proofs.PartSteps.{part-entered, part-placeholder, part-seats}
+use Rattle.table_build.specs.declared.fault.BuildFault.TheVariants.{NoMemory}
 use Rattle.table_build.proofs.sessions.put_in_session.Goals as goal
 
 entered : (c : goal.In_ok-add_group) → SetsRow c.bearer.new.store c.enter_session.new.store c.args.key (seated c.args.row.now)
@@ -92,3 +93,6 @@ returns-in_err-group-clause-refused c =
     let line = a.lines.forth c.args.key (begun c.args.row.now) c.requires.begun in
     let entered = part-entered c.args.store.now c.bearer.new.store c.enter_session.new.store text c.args.placed.now c.bearer.new.placed c.args.key c.args.row.now _ part inside a.rows a.places (b.entered (begun c.args.row.now) line.shown) refl b.places in
     c.in_err-group.ensures.refused not text sound entered (group_in_use text.rows c.args.row.now inside))
+
+pub returns-in_err-add_group-clause-refused : goal.returns-in_err-add_group-clause-refused
+returns-in_err-add_group-clause-refused c = if_err c.from_residual-in_err-add_group.result _ NoMemory c.from_residual-in_err-add_group.ensures.1 (λ not. absurd (not refl))

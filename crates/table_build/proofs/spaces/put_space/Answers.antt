@@ -1,8 +1,10 @@
-use Rattle.std.proofs.Common.{◌≡◌, Some, false, [], ◌∷◌, ◌++◌, length, arith, ap, sym, ◌∙◌}
+use Rattle.std.proofs.Common.{◌≡◌, Some, false, [], ◌∷◌, ◌++◌, length, arith, ap, sym, ◌∙◌, refl}
 use Rattle.pid_numbers.specs.Numbering.{id_at, path_at}
 use Rattle.task_table.specs.View.{spaces_of}
 use Rattle.table_build.proofs.SpaceLists.{spaces-push}
 use Rattle.table_build.proofs.SpaceTrees.{key-there, order-below, path-long}
+use Rattle.task_table.proofs.Results.{if_err}
+use Rattle.table_build.specs.declared.fault.BuildFault.TheVariants.{NoMemory}
 use Rattle.table_build.proofs.spaces.put_space.Goals as goal
 
 pub returns-clause-put : goal.returns-clause-put
@@ -31,3 +33,6 @@ returns-then-level-ge-DEEPEST_SPACE-clause-refused c = λ _ may.
     let here = ap (λ b. length (path_at b c.in-Some-find_space.parent)) c.numbers-2.ensures in
     let deep = c.if-level-ge-DEEPEST_SPACE.true in
     omega (arith, long, most, level, here, deep)
+
+pub returns-in_err-add_space-clause-refused : goal.returns-in_err-add_space-clause-refused
+returns-in_err-add_space-clause-refused c = if_err c.from_residual.result _ NoMemory c.from_residual.ensures.1 (λ not. absurd (not refl))

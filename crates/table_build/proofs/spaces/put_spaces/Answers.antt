@@ -1,5 +1,6 @@
 use Rattle.std.proofs.Common.{refl, arith}
 use Rattle.table_build.proofs.SpaceTrees.{root-first}
+use Rattle.task_table.proofs.Results.{if_err}
 use Rattle.table_build.proofs.spaces.put_spaces.Goals as goal
 
 pub loop-index-init : goal.loop-index-init
@@ -7,3 +8,9 @@ loop-index-init c =
     let e = c.in_ok-check_root.ensures in
     let first = root-first c.args.saved.now.spaces.items _ e.some e.root c.requires.root in
     record { ungrouped = c.requires.ungrouped; below = first.1; put = first.0; names = refl; bound = refl; rest = refl; some = omega arith }
+
+pub returns-in_err-check_root-clause-refused : goal.returns-in_err-check_root-clause-refused
+returns-in_err-check_root-clause-refused c = if_err c.from_residual.result _ c.in_err-check_root.field-0.0 c.from_residual.ensures.1 c.in_err-check_root.ensures.refused
+
+pub returns-in_err-put_next-clause-refused : goal.returns-in_err-put_next-clause-refused
+returns-in_err-put_next-clause-refused c = if_err c.from_residual-in_err-put_next.result _ c.in_err-put_next.field-0.0 c.from_residual-in_err-put_next.ensures.1 c.in_err-put_next.ensures.refused
