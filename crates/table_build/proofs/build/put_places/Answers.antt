@@ -1,6 +1,9 @@
-use Rattle.std.proofs.Common.{refl}
+use Rattle.std.proofs.Common.{◌≡◌, ◌∙◌, None, Some, refl, sym, ap, option_map}
 use Rattle.table_build.specs.declared.fault.BuildFault.TheVariants.{NoMemory}
 use Rattle.task_table.proofs.Results.{if_err}
+use Rattle.task_tree.specs.Tree.{task_at}
+use Rattle.task_table.specs.Store.{Store}
+use Rattle.task_table.specs.View.{row_of}
 use Rattle.table_build.proofs.build.put_places.Goals as goal
 
 pub returns-in_err-store-clause-refused : goal.returns-in_err-store-clause-refused
@@ -15,3 +18,20 @@ pub returns-in_err-put_spaces-clause-refused : goal.returns-in_err-put_spaces-cl
 returns-in_err-put_spaces-clause-refused c =
     if_err c.from_residual-in_err-put_spaces.result _ c.in_err-put_spaces.field-0.0 c.from_residual-in_err-put_spaces.ensures.1 (λ not tables.
     c.in_err-put_spaces.ensures.refused not (record { tree = tables.sound.coherent.spaces; root = tables.sound.coherent.root }))
+
+pub returns-clause-ungrouped : goal.returns-clause-ungrouped
+returns-clause-ungrouped c = c.in_ok-put_spaces.ensures.ungrouped
+
+pub returns-clause-nobody : goal.returns-clause-nobody
+returns-clause-nobody c = λ k.
+    ap (option_map (row_of c.put_spaces.new.store k))
+    (ap (λ (s : Store). task_at s.tree k) c.in_ok-put_spaces.ensures.rest ∙ ap (λ (s : Store). task_at s.tree k) c.in_ok-put_controls.ensures.rest ∙ c.in_ok-store.ensures.tasks k)
+
+pub returns-clause-controls : goal.returns-clause-controls
+returns-clause-controls c = ap (λ (s : Store). s.charges.controls) c.in_ok-put_spaces.ensures.rest ∙ c.in_ok-put_controls.ensures.put
+
+pub returns-clause-spaces : goal.returns-clause-spaces
+returns-clause-spaces c = c.in_ok-put_spaces.ensures.put
+
+pub returns-clause-kin : goal.returns-clause-kin
+returns-clause-kin c = λ k p e. absurd (let z : None ≡ Some p = sym (c.in_ok-put_spaces.ensures.ungrouped.orphans k) ∙ e in cc)

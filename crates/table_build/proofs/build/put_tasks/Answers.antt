@@ -1,7 +1,8 @@
-use Rattle.std.proofs.Common.{slice_get, refl}
+use Rattle.std.proofs.Common.{◌≡◌, ◌∙◌, None, Some, slice_get, refl, sym}
 use Rattle.task_table.proofs.Results.{if_err}
 use Rattle.table_build.proofs.Gathered.{rows-are, rows-rise}
 use Rattle.table_build.proofs.LineSteps.{lines-same}
+use Rattle.table_build.proofs.Steps.{places-both}
 use Rattle.table_build.proofs.build.put_tasks.Goals as goal
 
 pub returns-clause-rows : goal.returns-clause-rows
@@ -26,3 +27,23 @@ returns-in_err-settle_tasks-clause-refused c =
     let e = c.in_ok-enter_sessions.ensures in
     if_err c.from_residual-in_err-settle_tasks.result _ c.in_err-settle_tasks.field-0.0 c.from_residual-in_err-settle_tasks.ensures.1 (λ not sound had.
     c.in_err-settle_tasks.ensures.refused sound (e.part (c.in_ok-placed.ensures.part had)) (e.seated sound.coherent.groups))
+
+pub settle_tasks-requires-clause-grouping : goal.settle_tasks-requires-clause-grouping
+settle_tasks-requires-clause-grouping c =
+    let u = c.in_ok-enter_sessions.ensures.ungrouped in
+    record { kin = λ k p e. absurd (let z : None ≡ Some p = sym (u.orphans k) ∙ e in cc); borne = u.borne; standing = u.standing }
+
+pub settle_tasks-requires-clause-real : goal.settle_tasks-requires-clause-real
+settle_tasks-requires-clause-real c = λ k q e. absurd (let z : None ≡ Some q = sym (c.in_ok-enter_sessions.ensures.ungrouped.orphans k) ∙ e in cc)
+
+pub returns-clause-places : goal.returns-clause-places
+returns-clause-places c =
+    let s1 = c.begin_tasks.new.store in
+    let s2 = c.enter_sessions.new.store in
+    let s3 = c.settle_tasks.new.store in
+    let s4 = c.remove_placeholders.new.store in
+    places-both c.args.store.now s1 s4 c.in_ok-placed.ensures.places
+    (places-both s1 s2 s4 c.in_ok-enter_sessions.ensures.places (places-both s2 s3 s4 c.in_ok-settle_tasks.ensures.places c.remove_placeholders.ensures.places))
+
+pub returns-clause-kin : goal.returns-clause-kin
+returns-clause-kin c = c.remove_placeholders.ensures.kin

@@ -7,7 +7,7 @@ use Rattle.pid_numbers.specs.Numbering.{draw_in, id_at, path_at}
 use Rattle.pids_charge.specs.Charges.{Charges}
 use Rattle.task_table.proofs.Newborn.{Comes, named_in}
 use Rattle.table_build.specs.Stages.{AddsRow, KeepsSpaces, lone_row}
-use Rattle.table_build.proofs.Steps.{added, added-behind, come-spaces, keeps-namespaces, same_ids, same_paths, ungrouped-come}
+use Rattle.table_build.proofs.Steps.{added, added-behind, bearers-both, bearers-come, bearers-moved, come-spaces, keeps-namespaces, same_ids, same_paths, spaces-both, ungrouped-come}
 use Rattle.table_build.proofs.Draws.{drawn-name}
 use Rattle.task_table.proofs.Results.{if_err}
 use Rattle.table_build.specs.declared.fault.BuildFault.TheVariants.{NoMemory}
@@ -85,3 +85,18 @@ returns-in_err-wanted-clause-refused c = if_err c.from_residual.result _ NoMemor
 
 pub returns-in_err-key-clause-refused : goal.returns-in_err-key-clause-refused
 returns-in_err-key-clause-refused c = if_err c.from_residual-in_err-key.result _ NoMemory c.from_residual-in_err-key.ensures.1 (λ not. absurd (not refl))
+
+pub returns-clause-names : goal.returns-clause-names
+returns-clause-names c =
+    bearers-both c.args.store.now c.put_cursors.new.store c.fork.new.self (bearers-moved c.args.store.now c.put_cursors.new.store c.put_cursors.ensures.moved) (bearers-come (comes c))
+
+pub returns-clause-places : goal.returns-clause-places
+returns-clause-places c =
+    let m = c.put_cursors.ensures.moved in
+    record {
+      spaces = spaces-both c.args.store.now.numbering c.put_cursors.new.store.numbering c.fork.new.self.numbering m.spaces (kept c);
+      controls = c.in_ok-key.ensures.begun.home.controls ∙ ap (λ (v : Charges). v.controls) m.charges;
+    }
+
+pub fork-requires-clause-parents : goal.fork-requires-clause-parents
+fork-requires-clause-parents c = λ k p e. absurd (let z = sym (c.put_cursors.ensures.ungrouped.orphans k) ∙ e in cc)
