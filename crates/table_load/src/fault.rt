@@ -1,12 +1,13 @@
 //! Why no table is loaded from a text.
 
 use std::alloc::AllocError;
+use std::fmt;
 use table_build::fault::BuildFault;
 use table_text::fault::LoadFault;
 use thiserror::Error;
 
 /// Why no table is loaded from a text. Each fault but want of memory names a line, counted from 1.
-#[derive(Clone, Copy, Debug, PartialEq, Eq, Error)]
+#[derive(Clone, Copy, PartialEq, Eq, Error)]
 pub enum RestoreFault {
     /// There was no memory for the table.
     #[error("no memory")]
@@ -44,6 +45,13 @@ pub enum RestoreFault {
     /// In no sound state is this line beside the others.
     #[error("line {0}: impossible line")]
     Impossible(u64),
+}
+
+/// The same text as that for users.
+impl fmt::Debug for RestoreFault {
+    fn fmt<W: fmt::Write>(&self, f: &mut fmt::Formatter<W>) -> fmt::Result {
+        fmt::Display::fmt(self, f)
+    }
 }
 
 impl From<AllocError> for RestoreFault {
