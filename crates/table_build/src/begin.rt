@@ -89,7 +89,7 @@ pub fn begin_tasks(alloc: Global, store: &mut Tasks, saved: &Saved) -> Result<Pl
         if is_unsorted(saved, index) {
             return Err(BuildFault::Unsorted(task_line(index)));
         }
-        saved.rows.write(index, &mut row);
+        saved.rows.write_next(index, &mut row);
         laws(store);
         let key = begin_task(store, &row, task_line(index))?;
         placed.add_key(key)?;

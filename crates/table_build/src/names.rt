@@ -19,7 +19,6 @@ use crate::fault::BuildFault;
 use arrayvec::ArrayVec;
 use pid_types::keys::{Pid, SpaceKey, TaskKey};
 use pid_types::plain::{LEVELS, Name};
-use std::alloc::AllocError;
 use task_table::Tasks;
 use task_table::view::laws;
 use task_tree::Task;
@@ -63,13 +62,18 @@ fn name_fault(store: &Tasks, space: SpaceKey, name: &Name, line: u64) -> BuildFa
     BuildFault::TakenNumber(line)
 }
 
-/// The numbers of the name, the one of its own namespace first.
-fn innermost_first(name: &Name) -> Result<ArrayVec<Pid, LEVELS>, AllocError>
-    ensures { IfOk result (λ numbers. numbers.items ≡ reverse name.now.numbers.items) }
+/// Writes the numbers of the name over others, the one of its own namespace first.
+fn write_innermost_first(name: &Name, numbers: &mut ArrayVec<Pid, LEVELS>)
+    ensures { numbers.new.items ≡ reverse name.now.numbers.items }
 {
-    let mut numbers = name.numbers.clone()?;
+    numbers.clear();
+    if numbers
+        .try_extend_from_slice(name.numbers.as_slice())
+        .is_err()
+    {
+        unreachable!()
+    }
     numbers.reverse();
-    Ok(numbers)
 }
 
 /// Whether the numbers are the same.
@@ -101,15 +105,15 @@ pub fn put_name(
     let Some(space) = store.numbers().find_space(name.space) else {
         return Err(BuildFault::UnknownNamespace(line));
     };
-    let wanted = innermost_first(name)?;
-    let fault = name_fault(store, space, name, line);
+    let mut wanted = ArrayVec::<Pid, LEVELS>::new();
+    write_innermost_first(name, &mut wanted);
     put_cursors(store, space, wanted.as_slice());
     let mut planned = ArrayVec::<Pid, LEVELS>::new();
     if let Err(_full) = store.numbers().plan_into(space, &mut planned) {
-        return Err(fault);
+        return Err(name_fault(store, space, name, line));
     }
     if !are_same(planned.as_slice(), wanted.as_slice()) {
-        return Err(fault);
+        return Err(name_fault(store, space, name, line));
     }
     laws(store);
     let key = store.fork(None, space, planned.as_slice(), task)?;

@@ -217,7 +217,7 @@ pub fn enter_sessions(
             return Err(BuildFault::Impossible(line));
         };
         let key = *key;
-        saved.rows.write(index, &mut row);
+        saved.rows.write_next(index, &mut row);
         put_in_session(store, placed, key, &row, &mut last, line)?;
     }
     laws(store);

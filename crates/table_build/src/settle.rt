@@ -230,7 +230,7 @@ pub fn settle_tasks(store: &mut Tasks, placed: &Placed, saved: &Saved) -> Result
         let (Some(key), Some(group)) = (placed.keys.get(index), placed.groups.get(index)) else {
             return Err(BuildFault::Impossible(line));
         };
-        saved.rows.write(index, &mut row);
+        saved.rows.write_next(index, &mut row);
         laws(store);
         join_group(store, *key, *group, line)?;
         settle_task(store, placed, *key, &row, &mut last, line)?;

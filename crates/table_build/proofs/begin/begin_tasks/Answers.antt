@@ -1,4 +1,4 @@
-use Rattle.std.proofs.Common.{◌≡◌, inl, inr, subst, ℕ, ◌+◌, ◌<◌, Some, arith, [], ◌∷◌, Bool, List, length, ap, sym, ◌∙◌, is_some, length-append, option_map, slice_get, refl}
+use Rattle.std.proofs.Common.{◌≡◌, inl, inr, subst, ℕ, ◌+◌, Some, arith, [], ◌∷◌, Bool, List, length, ap, sym, ◌∙◌, is_some, length-append, option_map, slice_get, refl, ◌-◌}
 use Rattle.std.specs.declared.vec.Vec.{Vec}
 use Rattle.std.specs.declared.alloc.Global.{Global}
 use Rattle.pid_numbers.specs.Restore.{is_flagged}
@@ -23,17 +23,18 @@ loop-index-preserved c =
     let p = c.in_ok-add_key.ensures in
     let i = c.loop-index.invariant in
     record {
+      rowed = λ _. subst (λ n. slice_get c.args.saved.now.rows n ≡ Some c.write_next.new.row) (let e : c.loop-index.index ≡ c.loop-index.index + 1 - 1 = omega arith in e) c.write_next.ensures;
       ungrouped = b.ungrouped;
       places = places-both c.args.store.now c.loop-index.store c.begin_task.new.store i.places b.places;
       lines = lines-push c.loop-index.store c.begin_task.new.store c.loop-index.placed c.add_key.new.self (λ j. option_map begun (slice_get c.args.saved.now.rows j)) c.in_ok-key.key _ i.lines b.added
-          (ap (λ n. option_map begun (slice_get c.args.saved.now.rows n)) i.keys ∙ ap (option_map begun) c.write.ensures) p.keys p.placeholders (ap (λ (l : List Bool). is_flagged l c.in_ok-key.key) i.placeholders);
+          (ap (λ n. option_map begun (slice_get c.args.saved.now.rows n)) i.keys ∙ ap (option_map begun) c.write_next.ensures) p.keys p.placeholders (ap (λ (l : List Bool). is_flagged l c.in_ok-key.key) i.placeholders);
       keys = ap length p.keys ∙ length-append c.loop-index.placed.keys.items (c.in_ok-key.key ∷ []) ∙ ap (λ n. n + 1) i.keys;
       groups = ap (λ (v : Vec ℕ Global). v.items) p.groups ∙ i.groups;
       placeholders = ap (λ (v : Vec Bool Global). v.items) p.placeholders ∙ i.placeholders;
       part = λ had.
           let rows = c.args.saved.now.rows in
           part-set c.loop-index.store c.begin_task.new.store (saved_state c.args.saved.now) b.places (i.part had) c.in_ok-key.key _ b.added.sets
-          (own_name_in_use rows c.write.new.row (at_place rows c.loop-index.index c.write.new.row c.write.ensures));
+          (own_name_in_use rows c.write_next.new.row (at_place rows c.loop-index.index c.write_next.new.row c.write_next.ensures));
       sorted = λ j lt. elim (cases_eq j c.loop-index.index) [
         | inl same ↦ subst (IsNotBelow c.args.saved.now.rows) (sym same) (c.is_unsorted.ensures.sorted c.if-is_unsorted.false)
         | inr not ↦ i.sorted j (omega (arith, lt, not))
@@ -44,9 +45,9 @@ pub returns-in_err-key-clause-refused : goal.returns-in_err-key-clause-refused
 returns-in_err-key-clause-refused c =
     let rows = c.args.saved.now.rows in
     let text = saved_state c.args.saved.now in
-    let row = c.write.new.row in
+    let row = c.write_next.new.row in
     let i = c.loop-index.invariant in
-    let here : slice_get rows c.loop-index.index ≡ Some row = c.write.ensures in
+    let here : slice_get rows c.loop-index.index ≡ Some row = c.write_next.ensures in
     let inside = at_place rows c.loop-index.index row here in
     if_err c.from_residual.result _ c.in_err-key.field-0.0 c.from_residual.ensures.1 (λ not sound had.
     let part = i.part had in

@@ -1,4 +1,4 @@
-use Rattle.std.proofs.Common.{◌≡◌, ℕ, ◌<◌, length, [], option_map, slice_get}
+use Rattle.std.proofs.Common.{◌≡◌, ℕ, ◌<◌, length, [], option_map, slice_get, ◌-◌, Some}
 use Rattle.table_build.specs.Ungrouped.{IsUngrouped}
 use Rattle.table_build.specs.Stages.{KeepsPlaces, begun}
 use Rattle.table_build.specs.Lines.{AreLines}
@@ -17,4 +17,5 @@ invariant-loop-index l = record {
   placeholders : l.placed.placeholders.items ≡ [];
   part : HasPlaces l.initial.store (saved_state l.saved) → IsPart l.store (saved_state l.saved);
   sorted : (j : ℕ) → j < l.index → IsNotBelow l.saved.rows j;
+  rowed : 0 < l.index → slice_get l.saved.rows (l.index - 1) ≡ Some l.row;
 }

@@ -1,5 +1,4 @@
-use Rattle.std.proofs.Common.{◌≡◌, ◌-◌, arith}
-use Rattle.pid_types.specs.Names.{root_number}
+use Rattle.std.proofs.Common.{◌-◌, arith}
 use Rattle.table_build.proofs.PartSteps.{rows-rise_at}
 use Rattle.table_build.proofs.Places.{at-some, number-is}
 use Rattle.table_build.proofs.begin.is_unsorted.Goals as goal

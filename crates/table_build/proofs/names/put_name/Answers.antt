@@ -1,14 +1,14 @@
-use Rattle.std.proofs.Common.{find, is_none, unwrap_or, map}
+use Rattle.std.proofs.Common.{ℕ, find, is_none, is_some, unwrap_or, map, IsSome}
 use Rattle.std.proofs.Common.{◌≡◌, None, Some, ap, sym, subst, refl, ◌∙◌, reverse}
 use Rattle.std.proofs.lemmas.List.{reverse-reverse}
 use Rattle.pid_types.specs.declared.plain.Name.{Name}
 use Rattle.pid_types.specs.declared.plain.Row.{Row}
-use Rattle.pid_numbers.specs.Numbering.{draw_in, id_at, path_at}
+use Rattle.pid_numbers.specs.Numbering.{Numbering, draw_in, id_at, namespace_at, path_at}
 use Rattle.pids_charge.specs.Charges.{Charges}
 use Rattle.task_table.proofs.Newborn.{Comes, named_in}
 use Rattle.table_build.specs.Stages.{AddsRow, KeepsSpaces, lone_row}
 use Rattle.table_build.proofs.Steps.{added, added-behind, bearers-both, bearers-come, bearers-moved, come-spaces, keeps-namespaces, same_ids, same_paths, spaces-both, ungrouped-come}
-use Rattle.table_build.proofs.Draws.{drawn-name}
+use Rattle.table_build.proofs.Draws.{drawn-name, still-there}
 use Rattle.task_table.proofs.Results.{if_err}
 use Rattle.table_build.specs.declared.fault.BuildFault.TheVariants.{NoMemory}
 use Rattle.table_build.proofs.names.put_name.Goals as goal
@@ -30,7 +30,7 @@ comes c = record {
 named : (c : goal.After-laws-3) → named_in c.args.name.now.space c.as_slice-4.result.now ≡ c.args.name.now
 named c =
     let same : c.as_slice-4.result.now ≡ reverse c.args.name.now.numbers.items =
-    c.as_slice-4.ensures.value ∙ sym c.as_slice-2.ensures.value ∙ c.if-not-are_same.ensures.0 refl ∙ c.as_slice-3.ensures.value ∙ c.in_ok-wanted.ensures in
+    c.as_slice-4.ensures.value ∙ sym c.as_slice-2.ensures.value ∙ c.if-not-are_same.ensures.0 refl ∙ c.as_slice-3.ensures.value ∙ c.write_innermost_first.ensures in
     let items = ap reverse same ∙ reverse-reverse c.args.name.now.numbers.items in
     λ i. record { space = c.args.name.now.space; numbers = record { items = items i } }
 
@@ -60,7 +60,7 @@ returns-in-Err-clause-refused c = λ _ may.
     let m = c.put_cursors.ensures.moved in
     let at : id_at c.args.store.now.numbering c.in-Some.space ≡ Some c.args.name.now.space = ap (λ b. id_at b c.in-Some.space) (sym c.numbers.ensures) ∙ c.in-Some.ensures in
     let space : may.space ≡ c.in-Some.space = c.laws.ensures.numbering.ids may.space c.in-Some.space c.args.name.now.space may.named at in
-    let wanted : c.as_slice.result.now ≡ reverse c.args.name.now.numbers.items = c.as_slice.ensures.value ∙ c.in_ok-wanted.ensures in
+    let wanted : c.as_slice.result.now ≡ reverse c.args.name.now.numbers.items = c.as_slice.ensures.value ∙ c.write_innermost_first.ensures in
     let drawn = drawn-name s0 b c.args.name.now may c.in-Some.space space c.as_slice.result.now wanted m.names (same_paths s0 b m.spaces) m.spaces.bound c.put_cursors.ensures.put in
     let paths : path_at c.numbers-2.result.now c.in-Some.space ≡ path_at s0 c.in-Some.space = ap (λ n. path_at n c.in-Some.space) c.numbers-2.ensures ∙ same_paths s0 b m.spaces c.in-Some.space in
     let none : find (λ q. is_none (draw_in c.numbers-2.result.now q)) (path_at c.numbers-2.result.now c.in-Some.space) ≡ None =
@@ -74,17 +74,14 @@ returns-then-not-are_same-clause-refused c = λ _ may.
     let m = c.put_cursors.ensures.moved in
     let at : id_at c.args.store.now.numbering c.in-Some.space ≡ Some c.args.name.now.space = ap (λ b. id_at b c.in-Some.space) (sym c.numbers.ensures) ∙ c.in-Some.ensures in
     let space : may.space ≡ c.in-Some.space = c.laws.ensures.numbering.ids may.space c.in-Some.space c.args.name.now.space may.named at in
-    let wanted : c.as_slice.result.now ≡ reverse c.args.name.now.numbers.items = c.as_slice.ensures.value ∙ c.in_ok-wanted.ensures in
+    let wanted : c.as_slice.result.now ≡ reverse c.args.name.now.numbers.items = c.as_slice.ensures.value ∙ c.write_innermost_first.ensures in
     let drawn = drawn-name s0 b c.args.name.now may c.in-Some.space space c.as_slice.result.now wanted m.names (same_paths s0 b m.spaces) m.spaces.bound c.put_cursors.ensures.put in
     let paths : path_at c.numbers-2.result.now c.in-Some.space ≡ path_at s0 c.in-Some.space = ap (λ n. path_at n c.in-Some.space) c.numbers-2.ensures ∙ same_paths s0 b m.spaces c.in-Some.space in
     let planned = ap (map (λ q. unwrap_or (draw_in c.numbers-2.result.now q) 0)) paths ∙ ap (λ n. map (λ q. unwrap_or (draw_in n q) 0) (path_at s0 c.in-Some.space)) c.numbers-2.ensures ∙ drawn.1 in
     c.if-not-are_same.ensures.1 refl (c.as_slice-2.ensures.value ∙ c.in_default-plan_into.ensures.ok.1 ∙ planned ∙ c.as_slice.ensures.value ∙ sym c.as_slice-3.ensures.value)
 
-pub returns-in_err-wanted-clause-refused : goal.returns-in_err-wanted-clause-refused
-returns-in_err-wanted-clause-refused c = if_err c.from_residual.result _ NoMemory c.from_residual.ensures.1 (λ not. absurd (not refl))
-
 pub returns-in_err-key-clause-refused : goal.returns-in_err-key-clause-refused
-returns-in_err-key-clause-refused c = if_err c.from_residual-in_err-key.result _ NoMemory c.from_residual-in_err-key.ensures.1 (λ not. absurd (not refl))
+returns-in_err-key-clause-refused c = if_err c.from_residual.result _ NoMemory c.from_residual.ensures.1 (λ not. absurd (not refl))
 
 pub returns-clause-names : goal.returns-clause-names
 returns-clause-names c =
@@ -100,3 +97,17 @@ returns-clause-places c =
 
 pub fork-requires-clause-parents : goal.fork-requires-clause-parents
 fork-requires-clause-parents c = λ k p e. absurd (let z = sym (c.put_cursors.ensures.ungrouped.orphans k) ∙ e in cc)
+
+-- the namespace is there still
+stays : (b c : Numbering) (space i : ℕ) → KeepsSpaces b c → id_at b space ≡ Some i → IsSome (namespace_at c space)
+stays b c space i keeps at = still-there (namespace_at c space) (ap is_some (same_ids b c keeps space ∙ at))
+
+pub name_fault-requires : goal.name_fault-requires
+name_fault-requires c =
+    stays c.args.store.now.numbering c.put_cursors.new.store.numbering c.in-Some.space c.args.name.now.space c.put_cursors.ensures.moved.spaces
+    (ap (λ b. id_at b c.in-Some.space) (sym c.numbers.ensures) ∙ c.in-Some.ensures)
+
+pub name_fault-requires-then-not-are_same : goal.name_fault-requires-then-not-are_same
+name_fault-requires-then-not-are_same c =
+    stays c.args.store.now.numbering c.put_cursors.new.store.numbering c.in-Some.space c.args.name.now.space c.put_cursors.ensures.moved.spaces
+    (ap (λ b. id_at b c.in-Some.space) (sym c.numbers.ensures) ∙ c.in-Some.ensures)

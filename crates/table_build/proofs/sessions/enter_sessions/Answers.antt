@@ -1,4 +1,4 @@
-use Rattle.std.proofs.Common.{◌≡◌, ℕ, ◌+◌, ◌≤◌, List, [], ◌∷◌, length, Some, refl, ap, sym, ◌∙◌, arith, length-append, slice_get, option_map}
+use Rattle.std.proofs.Common.{◌≡◌, ℕ, ◌+◌, ◌≤◌, List, [], ◌∷◌, length, Some, refl, ap, sym, ◌∙◌, arith, length-append, slice_get, option_map, ◌-◌, subst}
 use Rattle.table_build.specs.Lines.{stage}
 use Rattle.table_build.specs.Stages.{begun, seated}
 use Rattle.table_build.proofs.Steps.{places-both, places-none}
@@ -11,6 +11,7 @@ use Rattle.table_build.proofs.sessions.enter_sessions.Goals as goal
 
 pub loop-index-init : goal.loop-index-init
 loop-index-init c = record {
+  rowed = λ some. absurd (omega (arith, some));
   ungrouped = c.requires.ungrouped;
   places = places-none c.args.store.now;
   recent = record { session = λ k e. let z = sym c.none.ensures ∙ e in absurd (cc); group = λ k e. let z = sym c.none-2.ensures ∙ e in absurd (cc) };
@@ -30,11 +31,11 @@ key-here c =
 
 pub put_in_session-requires-clause-begun : goal.put_in_session-requires-clause-begun
 put_in_session-requires-clause-begun c =
-    let row : slice_get c.args.saved.now.rows c.loop-index.index ≡ Some c.write.new.row = c.write.ensures in
+    let row : slice_get c.args.saved.now.rows c.loop-index.index ≡ Some c.write_next.new.row = c.write_next.ensures in
     let key : slice_get c.loop-index.placed.keys.items c.loop-index.index ≡ Some c.in-Some.key.now =
     get-found c.loop-index.placed.keys.items c.deref.result.now c.loop-index.index c.in-Some.key.now c.deref.ensures.value c.in-Some.ensures.lookup.3.0 c.in-Some.ensures.lookup.1 in
-    line-at c.loop-index.store c.loop-index.placed (stage seated begun c.args.saved.now.rows c.loop-index.index) c.loop-index.index c.in-Some.key.now (begun c.write.new.row) c.loop-index.invariant.lines key
-    (stage-todo seated begun c.args.saved.now.rows c.loop-index.index c.write.new.row row)
+    line-at c.loop-index.store c.loop-index.placed (stage seated begun c.args.saved.now.rows c.loop-index.index) c.loop-index.index c.in-Some.key.now (begun c.write_next.new.row) c.loop-index.invariant.lines key
+    (stage-todo seated begun c.args.saved.now.rows c.loop-index.index c.write_next.new.row row)
 
 pub loop-index-preserved : goal.loop-index-preserved
 loop-index-preserved c =
@@ -42,20 +43,21 @@ loop-index-preserved c =
     let i = c.loop-index.invariant in
     let rows = c.args.saved.now.rows in
     record {
+      rowed = λ _. subst (λ n. slice_get c.args.saved.now.rows n ≡ Some c.write_next.new.row) (let e : c.loop-index.index ≡ c.loop-index.index + 1 - 1 = omega arith in e) c.write_next.ensures;
       ungrouped = e.ungrouped;
       places = places-both c.args.store.now c.loop-index.store c.put_in_session.new.store i.places e.places;
       recent = e.recent;
       lines = lines-set c.loop-index.store c.put_in_session.new.store c.loop-index.placed c.put_in_session.new.placed (stage seated begun rows c.loop-index.index) (stage seated begun rows (c.loop-index.index + 1))
-          c.loop-index.index c.in-Some.key.now (seated c.write.new.row) i.lines e.set e.group.keys (key-here c) (stage-here seated begun rows c.loop-index.index c.write.new.row c.write.ensures)
+          c.loop-index.index c.in-Some.key.now (seated c.write_next.new.row) i.lines e.set e.group.keys (key-here c) (stage-here seated begun rows c.loop-index.index c.write_next.new.row c.write_next.ensures)
           (λ j not. stage-others seated begun rows c.loop-index.index j not);
-      groups = groups-push c.loop-index.store c.put_in_session.new.store c.loop-index.placed c.put_in_session.new.placed rows c.in-Some.key.now c.write.new.row i.groups e.names e.group
-          (ap (slice_get rows) i.count ∙ c.write.ensures);
+      groups = groups-push c.loop-index.store c.put_in_session.new.store c.loop-index.placed c.put_in_session.new.placed rows c.in-Some.key.now c.write_next.new.row i.groups e.names e.group
+          (ap (slice_get rows) i.count ∙ c.write_next.ensures);
       count = ap length e.group.added ∙ length-append c.loop-index.placed.groups.items (e.group.group ∷ []) ∙ ap (λ n. n + 1) i.count;
       few = λ few. e.few (i.few few);
-      part = λ had. e.part (saved_state c.args.saved.now) (i.part had) (at_place rows c.loop-index.index c.write.new.row c.write.ensures);
+      part = λ had. e.part (saved_state c.args.saved.now) (i.part had) (at_place rows c.loop-index.index c.write_next.new.row c.write_next.ensures);
       seats = λ good.
-          seats-next c.loop-index.store c.put_in_session.new.store c.loop-index.placed c.put_in_session.new.placed rows c.in-Some.key.now c.write.new.row good i.groups (i.seats good) e.group
-          (ap (slice_get rows) i.count ∙ c.write.ensures) e.set.here.real e.names;
+          seats-next c.loop-index.store c.put_in_session.new.store c.loop-index.placed c.put_in_session.new.placed rows c.in-Some.key.now c.write_next.new.row good i.groups (i.seats good) e.group
+          (ap (slice_get rows) i.count ∙ c.write_next.ensures) e.set.here.real e.names;
       keys = e.group.keys ∙ i.keys;
     }
 
@@ -81,6 +83,6 @@ returns c =
 pub returns-in_err-put_in_session-clause-refused : goal.returns-in_err-put_in_session-clause-refused
 returns-in_err-put_in_session-clause-refused c =
     let rows = c.args.saved.now.rows in
-    let here : slice_get rows c.loop-index.index ≡ Some c.write.new.row = c.write.ensures in
+    let here : slice_get rows c.loop-index.index ≡ Some c.write_next.new.row = c.write_next.ensures in
     if_err c.from_residual.result _ c.in_err-put_in_session.field-0.0 c.from_residual.ensures.1 (λ not sound had.
-    c.in_err-put_in_session.ensures.refused not (saved_state c.args.saved.now) sound (c.loop-index.invariant.part had) (at_place rows c.loop-index.index c.write.new.row here))
+    c.in_err-put_in_session.ensures.refused not (saved_state c.args.saved.now) sound (c.loop-index.invariant.part had) (at_place rows c.loop-index.index c.write_next.new.row here))

@@ -1,4 +1,4 @@
-use Rattle.std.proofs.Common.{◌≡◌, length}
+use Rattle.std.proofs.Common.{◌≡◌, length, ◌-◌, ◌<◌, Some, slice_get}
 use Rattle.pid_types.specs.Sound.{HasGoodGroups}
 use Rattle.table_text.specs.Reading.{saved_state}
 use Rattle.table_build.specs.Parts.{HaveSeats, IsPart}
@@ -20,4 +20,5 @@ invariant-loop-index l = record {
   part : IsPart l.initial.store (saved_state l.saved) → IsPart l.store (saved_state l.saved);
   seats : HasGoodGroups l.saved.rows → HaveSeats l.store l.placed l.saved.rows;
   keys : l.placed.keys ≡ l.initial.placed.keys;
+  rowed : 0 < l.index → slice_get l.saved.rows (l.index - 1) ≡ Some l.row;
 }

@@ -1,4 +1,4 @@
-use Rattle.std.proofs.Common.{◌≡◌, ◌≢◌, ◌+◌, ◌≤◌, None, length, Some, ap, sym, ◌∙◌, arith, refl, Option, option_map, slice_get}
+use Rattle.std.proofs.Common.{◌≡◌, ◌≢◌, ◌+◌, ◌≤◌, None, length, Some, ap, sym, ◌∙◌, arith, refl, Option, option_map, slice_get, ◌-◌, subst}
 use Rattle.pid_types.specs.declared.plain.Name.{Name}
 use Rattle.pid_types.specs.declared.plain.Row.{Row}
 use Rattle.table_build.specs.Lines.{IsLine, stage}
@@ -17,43 +17,44 @@ pub settle_task-requires-clause-joined : goal.settle_task-requires-clause-joined
 settle_task-requires-clause-joined c =
     let rows = c.args.saved.now.rows in
     let i = c.loop-index.invariant in
-    let row_here : slice_get rows c.loop-index.index ≡ Some c.write.new.row = c.write.ensures in
+    let row_here : slice_get rows c.loop-index.index ≡ Some c.write_next.new.row = c.write_next.ensures in
     let key_here : slice_get c.args.placed.now.keys.items c.loop-index.index ≡ Some c.in-Some-Some.key.now =
     get-found c.args.placed.now.keys.items c.deref.result.now c.loop-index.index c.in-Some-Some.key.now c.deref.ensures.value c.in-Some-Some.ensures.lookup.3.0 c.in-Some-Some.ensures.lookup.1 in
-    let line : IsLine c.loop-index.store c.args.placed.now c.in-Some-Some.key.now (seated c.write.new.row) =
-    line-at c.loop-index.store c.args.placed.now (stage (λ r. r) seated rows c.loop-index.index) c.loop-index.index c.in-Some-Some.key.now (seated c.write.new.row) i.lines key_here
-    (stage-todo (λ r. r) seated rows c.loop-index.index c.write.new.row row_here) in
+    let line : IsLine c.loop-index.store c.args.placed.now c.in-Some-Some.key.now (seated c.write_next.new.row) =
+    line-at c.loop-index.store c.args.placed.now (stage (λ r. r) seated rows c.loop-index.index) c.loop-index.index c.in-Some-Some.key.now (seated c.write_next.new.row) i.lines key_here
+    (stage-todo (λ r. r) seated rows c.loop-index.index c.write_next.new.row row_here) in
     let group_here : slice_get c.args.placed.now.groups.items c.loop-index.index ≡ Some c.in-Some-Some.group.now =
     get-found c.args.placed.now.groups.items c.deref-in-loop-index.result.now c.loop-index.index c.in-Some-Some.group.now c.deref-in-loop-index.ensures.value c.in-Some-Some.ensures'.lookup.3.0 c.in-Some-Some.ensures'.lookup.1 in
-    (c.in_ok-join_group.ensures.joined (seated c.write.new.row) line.shown).here
-    ∙ ap (λ (n : Name). Some (record (seated c.write.new.row) { group = n }))
-    (group-at c.loop-index.store c.args.placed.now rows c.loop-index.index c.in-Some-Some.group.now c.write.new.row i.groups group_here row_here)
+    (c.in_ok-join_group.ensures.joined (seated c.write_next.new.row) line.shown).here
+    ∙ ap (λ (n : Name). Some (record (seated c.write_next.new.row) { group = n }))
+    (group-at c.loop-index.store c.args.placed.now rows c.loop-index.index c.in-Some-Some.group.now c.write_next.new.row i.groups group_here row_here)
 
 pub loop-index-preserved : goal.loop-index-preserved
 loop-index-preserved c =
     let rows = c.args.saved.now.rows in
     let i = c.loop-index.invariant in
-    let row_here : slice_get rows c.loop-index.index ≡ Some c.write.new.row = c.write.ensures in
+    let row_here : slice_get rows c.loop-index.index ≡ Some c.write_next.new.row = c.write_next.ensures in
     let key_here : slice_get c.args.placed.now.keys.items c.loop-index.index ≡ Some c.in-Some-Some.key.now =
     get-found c.args.placed.now.keys.items c.deref.result.now c.loop-index.index c.in-Some-Some.key.now c.deref.ensures.value c.in-Some-Some.ensures.lookup.3.0 c.in-Some-Some.ensures.lookup.1 in
-    let line : IsLine c.loop-index.store c.args.placed.now c.in-Some-Some.key.now (seated c.write.new.row) =
-    line-at c.loop-index.store c.args.placed.now (stage (λ r. r) seated rows c.loop-index.index) c.loop-index.index c.in-Some-Some.key.now (seated c.write.new.row) i.lines key_here
-    (stage-todo (λ r. r) seated rows c.loop-index.index c.write.new.row row_here) in
+    let line : IsLine c.loop-index.store c.args.placed.now c.in-Some-Some.key.now (seated c.write_next.new.row) =
+    line-at c.loop-index.store c.args.placed.now (stage (λ r. r) seated rows c.loop-index.index) c.loop-index.index c.in-Some-Some.key.now (seated c.write_next.new.row) i.lines key_here
+    (stage-todo (λ r. r) seated rows c.loop-index.index c.write_next.new.row row_here) in
     let j = c.in_ok-join_group.ensures in
     let e = c.in_ok-settle_task.ensures in
-    let set = set-twice c.loop-index.store c.join_group.new.store c.settle_task.new.store c.in-Some-Some.key.now _ c.write.new.row (j.joined (seated c.write.new.row) line.shown) e.settled in
+    let set = set-twice c.loop-index.store c.join_group.new.store c.settle_task.new.store c.in-Some-Some.key.now _ c.write_next.new.row (j.joined (seated c.write_next.new.row) line.shown) e.settled in
     record {
+      rowed = λ _. subst (λ n. slice_get c.args.saved.now.rows n ≡ Some c.write_next.new.row) (let e : c.loop-index.index ≡ c.loop-index.index + 1 - 1 = omega arith in e) c.write_next.ensures;
       grouping = e.grouping;
       recent = e.recent;
       places = places-both c.args.store.now c.loop-index.store c.settle_task.new.store i.places (places-both c.loop-index.store c.join_group.new.store c.settle_task.new.store j.places e.places);
       lines = lines-set c.loop-index.store c.settle_task.new.store c.args.placed.now c.args.placed.now (stage (λ r. r) seated rows c.loop-index.index) (stage (λ r. r) seated rows (c.loop-index.index + 1))
-          c.loop-index.index c.in-Some-Some.key.now c.write.new.row i.lines (line-set c.loop-index.store c.settle_task.new.store c.args.placed.now c.in-Some-Some.key.now c.write.new.row set line.real) refl key_here
-          (stage-here (λ r. r) seated rows c.loop-index.index c.write.new.row row_here) (λ k not. stage-others (λ r. r) seated rows c.loop-index.index k not);
+          c.loop-index.index c.in-Some-Some.key.now c.write_next.new.row i.lines (line-set c.loop-index.store c.settle_task.new.store c.args.placed.now c.in-Some-Some.key.now c.write_next.new.row set line.real) refl key_here
+          (stage-here (λ r. r) seated rows c.loop-index.index c.write_next.new.row row_here) (λ k not. stage-others (λ r. r) seated rows c.loop-index.index k not);
       groups = groups-kept c.loop-index.store c.settle_task.new.store c.args.placed.now rows i.groups (bearers-both c.loop-index.store c.join_group.new.store c.settle_task.new.store j.names e.names);
       part = λ had.
-          let name = own_name_in_use rows c.write.new.row (at_place rows c.loop-index.index c.write.new.row row_here) in
+          let name = own_name_in_use rows c.write_next.new.row (at_place rows c.loop-index.index c.write_next.new.row row_here) in
           part-set c.loop-index.store c.settle_task.new.store (saved_state c.args.saved.now)
-          (places-both c.loop-index.store c.join_group.new.store c.settle_task.new.store j.places e.places) (i.part had) c.in-Some-Some.key.now c.write.new.row set name;
+          (places-both c.loop-index.store c.join_group.new.store c.settle_task.new.store j.places e.places) (i.part had) c.in-Some-Some.key.now c.write_next.new.row set name;
       held = λ k held.
           let not : k ≢ c.in-Some-Some.key.now = (λ same. let z = sym held ∙ ap (is_held c.args.placed.now) same ∙ line.real in absurd (cc)) in
           set.others k not ∙ i.held k held;
@@ -78,9 +79,9 @@ returns-in_err-join_group-clause-refused c =
     let s = c.loop-index.store in
     let p = c.args.placed.now in
     let i = c.loop-index.invariant in
-    let row = c.write.new.row in
+    let row = c.write_next.new.row in
     let key = c.in-Some-Some.key.now in
-    let row_here : slice_get rows c.loop-index.index ≡ Some row = c.write.ensures in
+    let row_here : slice_get rows c.loop-index.index ≡ Some row = c.write_next.ensures in
     let key_here : slice_get p.keys.items c.loop-index.index ≡ Some key =
     get-found p.keys.items c.deref.result.now c.loop-index.index key c.deref.ensures.value c.in-Some-Some.ensures.lookup.3.0 c.in-Some-Some.ensures.lookup.1 in
     let line : IsLine s p key (seated row) = line-at s p (stage (λ r. r) seated rows c.loop-index.index) c.loop-index.index key (seated row) i.lines key_here (stage-todo (λ r. r) seated rows c.loop-index.index row row_here) in
@@ -96,9 +97,9 @@ returns-in_err-settle_task-clause-refused c =
     let s = c.loop-index.store in
     let p = c.args.placed.now in
     let i = c.loop-index.invariant in
-    let row = c.write.new.row in
+    let row = c.write_next.new.row in
     let key = c.in-Some-Some.key.now in
-    let row_here : slice_get rows c.loop-index.index ≡ Some row = c.write.ensures in
+    let row_here : slice_get rows c.loop-index.index ≡ Some row = c.write_next.ensures in
     let key_here : slice_get p.keys.items c.loop-index.index ≡ Some key =
     get-found p.keys.items c.deref.result.now c.loop-index.index key c.deref.ensures.value c.in-Some-Some.ensures.lookup.3.0 c.in-Some-Some.ensures.lookup.1 in
     let line : IsLine s p key (seated row) = line-at s p (stage (λ r. r) seated rows c.loop-index.index) c.loop-index.index key (seated row) i.lines key_here (stage-todo (λ r. r) seated rows c.loop-index.index row row_here) in

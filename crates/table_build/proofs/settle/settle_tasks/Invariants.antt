@@ -1,4 +1,4 @@
-use Rattle.std.proofs.Common.{◌≡◌, ℕ, true}
+use Rattle.std.proofs.Common.{◌≡◌, ℕ, true, ◌-◌, ◌<◌, Some, slice_get}
 use Rattle.table_text.specs.Reading.{saved_state}
 use Rattle.task_table.specs.View.{row_with}
 use Rattle.table_build.specs.Grouping.{HasRealParents, IsGrouping}
@@ -18,4 +18,5 @@ invariant-loop-index l = record {
   part : IsPart l.initial.store (saved_state l.saved) → IsPart l.store (saved_state l.saved);
   held : (k : ℕ) → is_held l.placed k ≡ true → row_with l.store k ≡ row_with l.initial.store k;
   real : HasRealParents l.store l.placed;
+  rowed : 0 < l.index → slice_get l.saved.rows (l.index - 1) ≡ Some l.row;
 }
