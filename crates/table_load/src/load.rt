@@ -1,6 +1,7 @@
 //! The way from a text to a table: [`load`].
-ghost use Rattle.std.specs.Prelude.{◌≡◌, ◌≢◌, IfOk, IfErr};
+ghost use Rattle.std.specs.Prelude.{◌≡◌, ◌≢◌, IfOk, IfErr, OnOk};
 ghost use Rattle.pid_types.specs.Sound.{IsSound, IsBelow};
+ghost use Rattle.task_table.specs.Whole.{IsWhole};
 ghost use Rattle.table_build.specs.Tables.{IsOfTables};
 ghost use Rattle.table_load.specs.Faults.{IsOfForm};
 ghost use Rattle.table_load.specs.Texts.{IsTextOfNoTable};
@@ -17,6 +18,7 @@ use std::alloc::Global;
 use table_build::build::build;
 use table_text::laws::{texts_tell_states, what_fits_is_of_words};
 use table_text::read::{Saved, read_text};
+use task_table::Tasks;
 
 /// A table that was loaded from a text.
 #[derive(Drop)]
@@ -50,6 +52,18 @@ pub fn load(alloc: Global, text: &[u8]) -> Result<Loaded, RestoreFault>
     table_of(alloc, &saved)
 }
 
+/// Sees that the store is sound. The error is the fault that its first flaw is, with its line.
+fn check_store(alloc: Global, store: &Tasks, saved: &Saved) -> Result<(), RestoreFault>
+    ensures sound { OnOk result (IsWhole store.now) }
+    ensures form { IfErr result (λ fault. IsOfForm fault → ⊥) }
+    ensures refused { IfErr result (λ fault. fault ≢ RestoreFault.NoMemory → IsWhole store.now → ⊥) }
+{
+    match check_sound(alloc, store) {
+        Ok(()) => Ok(()),
+        Err(flaw) => Err(fault_of(saved, flaw)),
+    }
+}
+
 /// The table that a text says which was read. It is the second half of [`load`], for whoever looks at what was read
 /// before a table is made. The store is made as the text says, and found to be sound.
 pub fn table_of(alloc: Global, saved: &Saved) -> Result<Loaded, RestoreFault>
@@ -64,9 +78,7 @@ pub fn table_of(alloc: Global, saved: &Saved) -> Result<Loaded, RestoreFault>
         return Err(RestoreFault::BadSettings(1));
     }
     let store = build(alloc, saved)?;
-    if let Err(flaw) = check_sound(alloc, &store) {
-        return Err(fault_of(saved, flaw));
-    }
+    check_store(alloc, &store, saved)?;
     let table = PidTable::of(store);
     table.laws();
     Ok(Loaded {

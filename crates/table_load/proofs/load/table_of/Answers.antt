@@ -16,13 +16,14 @@ returns-in_err-store-clause-refused c =
     if_err c.from_residual.result _ (of_build c.in_err-store.field-0.0) c.from_residual.ensures.1 (λ not tables below.
     c.in_err-store.ensures.refused (λ e. not (ap of_build e)) tables)
 
-pub returns-in-Err-clause-form : goal.returns-in-Err-clause-form
-returns-in-Err-clause-form c = c.fault_of.ensures.form
+pub returns-in_err-check_store-clause-form : goal.returns-in_err-check_store-clause-form
+returns-in_err-check_store-clause-form c =
+    if_err c.from_residual-in_err-check_store.result _ c.in_err-check_store.field-0.0 c.from_residual-in_err-check_store.ensures.1 c.in_err-check_store.ensures.form
 
-pub returns-in-Err-clause-refused : goal.returns-in-Err-clause-refused
-returns-in-Err-clause-refused c = λ not tables below.
-    c.in-Err.ensures.flaw (λ none. not (c.fault_of.ensures.memory none))
-    (record { sound = subst IsSound (sym c.in_ok-store.ensures.state) tables.sound; parents = c.in_ok-store.ensures.kin })
+pub returns-in_err-check_store-clause-refused : goal.returns-in_err-check_store-clause-refused
+returns-in_err-check_store-clause-refused c =
+    if_err c.from_residual-in_err-check_store.result _ c.in_err-check_store.field-0.0 c.from_residual-in_err-check_store.ensures.1 (λ not tables below.
+    c.in_err-check_store.ensures.refused not (record { sound = subst IsSound (sym c.in_ok-store.ensures.state) tables.sound; parents = c.in_ok-store.ensures.kin }))
 
 pub returns-clause-state : goal.returns-clause-state
 returns-clause-state c = c.of-table.ensures ∙ c.in_ok-store.ensures.state
