@@ -65,12 +65,14 @@ fn numbers_at(numbers: &[Pid], place: Place) -> &[Pid]
     &numbers[start..start + usize::from(place.count)]
 }
 
-/// Writes numbers over others. Where they are the same, as a group's mostly are in two rows, nothing is written.
+/// Writes numbers over others.
 fn write_numbers(told: &[Pid], numbers: &mut ArrayVec<Pid, LEVELS>)
     requires { length told.now ≤ 33 }
     ensures { numbers.new.items ≡ told.now }
 {
-    if numbers.as_slice() == told {
+    // As many as there were are one copy.
+    if numbers.len() == told.len() {
+        numbers.as_mut_slice().copy_from_slice(told);
         return;
     }
     numbers.clear();
