@@ -5,7 +5,8 @@ ghost use Rattle.groups_sessions.specs.Membership.{membership_at};
 ghost use Rattle.task_tree.specs.Tree.{task_at, parent_of};
 ghost use Rattle.sound_store.specs.Flaws.{IsFlaw, IsTaskFlaw};
 ghost use Rattle.sound_store.specs.Tasks.{IsTask, lives_at, is_init, is_around, may_be_parent, has_good_parent};
-ghost use Rattle.sound_store.specs.Tasks.{has_good_children, is_led, may_live, has_home, is_good_task, IsGoodAt, HasGoodTasks};
+ghost use Rattle.sound_store.specs.Tasks.{has_good_children, is_led, may_live, has_home, is_good_task};
+ghost use Rattle.sound_store.specs.Tasks.{IsGoodAt, HasGoodTasks};
 
 use crate::Flaw;
 use crate::walk::task_with;
