@@ -1,5 +1,5 @@
 -- A text that is refused is that of no table.
-use Rattle.std.proofs.Common.{◌≡◌, ◌≢◌, ◌∙◌, ℕ, List, Result, IfOk, ap, sym, subst}
+use Rattle.std.proofs.Common.{◌≡◌, ◌≢◌, ◌∙◌, ℕ, List, ap, sym, subst}
 use Rattle.pid_types.specs.Sound.{IsBelow}
 use Rattle.table_text.specs.Laws.{TextsTellStates, WhatFitsIsOfWords}
 use Rattle.table_text.specs.Ranges.{IsStateOfWords, IsWord}

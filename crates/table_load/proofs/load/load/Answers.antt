@@ -1,7 +1,5 @@
 use Rattle.std.proofs.Common.{◌∙◌, ap, sym, subst}
-use Rattle.pid_types.specs.State.{State}
 use Rattle.table_text.specs.Ranges.{IsStateOfWords, IsWord}
-use Rattle.table_text.specs.Reading.{saved_state}
 use Rattle.table_text.specs.Texts.{text_of}
 use Rattle.task_table.proofs.Results.{if_err, if_err-map}
 use Rattle.table_load.specs.Faults.{of_load}
