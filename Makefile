@@ -116,7 +116,7 @@ INCLUDEDIR ?= $(PREFIX)/include
 MANDIR ?= $(PREFIX)/share/man
 PYTHONDIR ?= $(PREFIX)/share/pidtab/python
 INSTALL ?= install
-PROGRAMS = pidtab-tree pidtab-check pidtab-play pidtab-replay pidtab-compare pidtab-top
+PROGRAMS = pidtab-tree pidtab-check pidtab-play pidtab-replay pidtab-keep pidtab-compare pidtab-top
 # The functions that a manual page names at its head, each of which has a manual page by its name.
 NAMED = sed -n 's/^\.Nm \(pidtab_[a-z_]*\).*/\1/p'
 FUNCTIONS = $(shell $(NAMED) man/*.3)

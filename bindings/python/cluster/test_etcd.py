@@ -89,6 +89,8 @@ class Cluster(unittest.TestCase):
         self.addCleanup(folder.cleanup)
         self.folder = Path(folder.name)
         self.writers: list[Writer] = []
+        # Where what is cut off the log is.
+        self.archives: list[Path] = []
 
     def start(self, *words: str, count: int = 3, relayed: bool = False) -> Etcds:
         """Starts members."""
@@ -145,6 +147,7 @@ class Cluster(unittest.TestCase):
         log = self.folder / "log.json"
         log.write_bytes(etcds.dump("web", etcds.leader()))
         rows = [it for writer in self.writers for it in ("--answers", writer.file)]
+        rows += [it for folder in self.archives for it in ("--archive", folder)]
         way = ("--program", find_program()) if table_kind() is Process else ("--library", find_library())
         command = [sys.executable, "-B", PACKAGE / "bin" / "pidtab-replay", *rows, *way, log]
         done = subprocess.run(command, env=environment(), capture_output=True, text=True, check=False)
@@ -347,7 +350,7 @@ class Refusals(Cluster):
     def test_another_pid_max(self) -> None:
         etcds = self.start(count=1)
         self.open(etcds.members)
-        with self.assertRaisesRegex(LogFault, "the log has form 1, pid_max 32768 and model 1, and this replica form 1, pid_max 400 and model 1"):
+        with self.assertRaisesRegex(LogFault, "the log has form 2, pid_max 32768 and model 1, and this replica form 2, pid_max 400 and model 1"):
             Replicated(EtcdLog(etcds.members, "web"), pid_max=400, table=table_kind())
 
     def test_no_space(self) -> None:

@@ -4,15 +4,16 @@ import heapq
 import http.client
 import json
 import re
-import secrets
 import ssl
 from collections.abc import Iterator, Sequence
 from typing import NamedTuple
 
 from pidtab.bounds import check_seconds
 from pidtab.etcd import JSON, Etcd, decode, encode, hang_up, read_member
+from pidtab.etcd_cells import EtcdCells, cut_entries, entry_key, read_entries_to
 from pidtab.faults import LogFault
-from pidtab.log import Following, Log, Progress
+from pidtab.log import CutLog, Following, Progress
+from pidtab.snapshots import load_behind, read_served
 
 # Seconds for one answer; and a watch that is quiet for so long is opened anew, at another member.
 TIMEOUT = 5.0
@@ -29,6 +30,8 @@ LONGEST_PAGE = 10_000
 KEY = re.compile(rb"([0-9a-f]{16})-[0-9a-f]{16}")
 NAME = re.compile(r"[^:\x00-\x1f\x7f]{1,200}")
 MARK = b"~mark"
+# Before the names of all cells, and behind what is read as the log.
+END = b"~n"
 
 
 class Compacted(Exception):
@@ -62,11 +65,11 @@ def check_user(user: tuple[str, str] | None) -> tuple[str, str] | None:
     return user
 
 
-class EtcdLog(Log):
+class EtcdLog(CutLog):
     """A log in etcd 3.4 or later, by the JSON gateway of its members, which are tried in turn.
 
-    Each entry is one put of a key below `NAME:`, so the log can be read by `etcdctl get --prefix NAME:`. Nothing else may put, change or delete a
-    key there. The history of etcd may be compacted at any time: a log does not need it.
+    Each entry is one put of a key below `NAME:`, so the log can be read by `etcdctl get --prefix NAME:`. Nothing but `pidtab-keep` may change or
+    delete a key there. The history of etcd may be compacted at any time: a log does not need it.
     """
 
     def __init__(
@@ -97,8 +100,8 @@ class EtcdLog(Log):
         self.name = name
         self._etcd = Etcd(found, tls, check_user(user), check_seconds("timeout", timeout))
         self.prefix = name.encode() + b":"
-        # Behind each key of the log.
-        self.last = name.encode() + b";"
+        # Behind each key of the log, but those of its cells.
+        self.last = self.prefix + END
 
     def __repr__(self) -> str:
         return f"<pidtab.EtcdLog {self.name!r} at {', '.join(map(str, self._etcd.members))}>"
@@ -106,8 +109,7 @@ class EtcdLog(Log):
     def append(self, entry: bytes) -> int:
         """Puts an entry behind all others, by one put at one member."""
         before = self._etcd.revision
-        key = self.prefix + b"%016x-" % before + secrets.token_hex(8).encode()
-        position = self._put(key, entry)
+        position = self._put(entry_key(self._etcd, self.prefix), entry)
         if position <= before:
             raise LogFault(f"etcd has made an entry at revision {position}, behind revision {before}: it was set back")
         return position
@@ -123,6 +125,18 @@ class EtcdLog(Log):
     def mark(self) -> int:
         """The same, by a put of a key that is none of an entry, and which each follower sees."""
         return self._put(self.prefix + MARK, b"")
+
+    def cells(self) -> EtcdCells:
+        """The cells, as keys behind `NAME:~`."""
+        return EtcdCells(self._etcd, self.prefix)
+
+    def entries_to(self, position: int) -> Iterator[Sequence[tuple[int, bytes]]]:
+        """The entries up to a revision, in the order of their keys."""
+        return read_entries_to(self._etcd, self.prefix, position)
+
+    def cut(self, position: int) -> int:
+        """Deletes the entries up to a revision, by a transaction for some of them at a time."""
+        return cut_entries(self._etcd, self.prefix, position)
 
     def _put(self, key: bytes, value: bytes) -> int:
         return self._etcd.note(self._etcd.ask("/v3/kv/put", {"key": encode(key), "value": encode(value)})["header"])
@@ -147,6 +161,8 @@ class EtcdFollowing(Following):
         self._log = log
         self._etcd = etcd
         self._seen = after
+        # Only entries with an earlier revision in their keys may be deleted.
+        self._cut = 0
         self._closed = False
         self._connection: http.client.HTTPConnection | None = None
         self._steps = self._walk()
@@ -186,13 +202,16 @@ class EtcdFollowing(Following):
     # By the keys, in their order: no entry has a revision up to that in its key. So what was read up to a key has all entries up to there.
 
     def _read_keys(self) -> Iterator[Progress]:
-        """All entries behind the place, as they are at one revision."""
-        after, at, most = self._seen, 0, FIRST_PAGE
-        start, at = self._first_behind(after)
+        """All that is behind the place, as it is at one revision: a snapshot, where what was there is cut or much, and then all entries."""
+        at, most = self._log.end(), FIRST_PAGE
+        loaded = load_behind(EtcdCells(self._etcd, self._log.prefix, at), self._seen)
+        if loaded is not None:
+            yield Progress(loaded[0], (), loaded[1])
+        after = self._seen
+        start = self._first_behind(after, at)
         waiting: list[Found] = []
         while True:
             page, size = self._page(start, at, most)
-            at = at or int(page["header"]["revision"])
             kvs = page.get("kvs", [])
             found = [it for it in map(self._log.read, kvs) if it is not None]
             for it in found:
@@ -210,29 +229,26 @@ class EtcdFollowing(Following):
             start = decode(kvs[-1]["key"]) + b"\0"
             most = max(1, min(LONGEST_PAGE, 2 * most, most * PAGE_BYTES // size))
 
-    def _first_behind(self, after: int) -> tuple[bytes, int]:
-        """The first key whose entry is behind the place, and the revision at which that was looked up; read without the entries themselves."""
-        start, at = self._log.prefix, 0
+    def _first_behind(self, after: int, at: int) -> bytes:
+        """The first key whose entry is behind the place; read without the entries themselves."""
+        start = self._log.prefix
         while after:
             page, _ = self._page(start, at, LONGEST_PAGE, keys_only=True)
-            at = at or int(page["header"]["revision"])
             kvs = page.get("kvs", [])
             newer = [it for it in kvs if int(it["create_revision"]) > after]
             if newer:
-                return decode(newer[0]["key"]), at
+                return decode(newer[0]["key"])
             if not page.get("more"):
-                return self._log.last, at
+                return self._log.last
             start = decode(kvs[-1]["key"]) + b"\0"
-        return start, at
+        return start
 
     def _page(self, start: bytes, at: int, most: int, keys_only: bool = False) -> tuple[JSON, int]:
-        """Some keys from the start on, and about how many bytes they are."""
-        body: JSON = {"key": encode(start), "range_end": encode(self._log.last), "limit": most, "keys_only": keys_only}
-        if at:
-            body["revision"] = at
+        """Some keys from the start on, as they are at a revision, and about how many bytes they are."""
         if start >= self._log.last:
-            return {"header": {"revision": at}}, 1
-        page = self._etcd.ask("/v3/kv/range", body)
+            return {}, 1
+        range_end = encode(self._log.last)
+        page = self._etcd.ask("/v3/kv/range", {"key": encode(start), "range_end": range_end, "revision": at, "limit": most, "keys_only": keys_only})
         return page, 1 + sum(len(it.get("value", "")) + len(it["key"]) for it in page.get("kvs", []))
 
     # By a watch.
@@ -279,8 +295,19 @@ class EtcdFollowing(Following):
         """The entry of an event, if it has one."""
         kv = event["kv"]
         if event.get("type") == "DELETE":
-            if decode(kv["key"]) == self._log.prefix + MARK:
-                return ()
-            raise LogFault(f"an entry of the log {self._log.name} was deleted, at revision {kv['mod_revision']}")
+            self._check_deleted(decode(kv["key"])[len(self._log.prefix) :], kv["mod_revision"])
+            return ()
         found = self._log.read(kv)
         return () if found is None else ((found.revision, found.data),)
+
+    def _check_deleted(self, key: bytes, revision: str) -> None:
+        """Sees to it that what was deleted is behind a snapshot. This follower had it before."""
+        form = KEY.fullmatch(key)
+        if key != MARK and not (form and self._is_cut(int(form[1], 16))):
+            raise LogFault(f"an entry of the log {self._log.name} was deleted, at revision {revision}")
+
+    def _is_cut(self, hint: int) -> bool:
+        """Whether an entry with this revision in its key may be one that is cut."""
+        if hint >= self._cut:
+            self._cut = read_served(self._log.cells()).cut
+        return hint < self._cut

@@ -1,11 +1,12 @@
-"""The entries of a log, as docs/CLUSTER.md has them: the settings, then sessions that open and end, and their calls."""
+"""The entries of a log, as docs/CLUSTER.md has them: the settings, then sessions that open and end, their calls, and what is said of snapshots."""
 
 import re
 from collections.abc import Sequence
 from typing import NamedTuple
 
-# The form of the entries, with the rules by which they are applied.
-FORM = 1
+# The form of the entries, with the rules by which they are applied. Form 2 has snapshots, behind which a log is cut; a log of form 1 goes on without.
+FORM = 2
+FORMS = (1, FORM)
 
 # It rises when a release answers a line otherwise than the one before.
 MODEL = 1
@@ -30,6 +31,8 @@ NUMBER = rb"(0|[1-9][0-9]{0,19})"
 SETTINGS = re.compile(rb"pidtab-log %s pid_max %s model %s" % (NUMBER, NUMBER, NUMBER))
 END = re.compile(rb"end %s" % NUMBER)
 CALLS = re.compile(rb"calls %s %s %s %s ([0-9a-f]{%d})" % (NUMBER, NUMBER, NUMBER, NUMBER, SHORT_DIGEST))
+SUM = rb"([0-9a-f]{64})"
+SNAPSHOT = re.compile(rb"snapshot %s %s %s %s ([0-9a-f]{16}-[0-9a-f]{16})" % (NUMBER, SUM, NUMBER, SUM))
 
 
 class Settings(NamedTuple):
@@ -63,9 +66,24 @@ class Asked(NamedTuple):
     lines: Sequence[bytes]
 
 
-Entry = Settings | Opened | Ended | Asked
+class Wanted(NamedTuple):
+    """Asks for a snapshot of the table as it is here: two hosts that make its text behind this entry make the same one."""
+
+
+class Announced(NamedTuple):
+    """A snapshot that is whole: the position of its `Wanted`, the digest there, the bytes of all its pieces, the sum of its text, and the pieces' name."""
+
+    position: int
+    digest: str
+    size: int
+    sum: str
+    key: str
+
+
+Entry = Settings | Opened | Ended | Asked | Wanted | Announced
 
 OPEN = b"open"
+SNAP = b"snap"
 
 
 def write_settings(settings: Settings) -> bytes:
@@ -84,6 +102,19 @@ def write_calls(asked: Asked) -> bytes:
     return b"\n".join([b"calls %d %d %d %d " % numbers + asked.digest.encode(), *asked.lines])
 
 
+def write_announced(it: Announced) -> bytes:
+    """The entry that announces a snapshot."""
+    return b"snapshot %d %s %d %s %s" % (it.position, it.digest.encode(), it.size, it.sum.encode(), it.key.encode())
+
+
+def read_announced(data: bytes) -> Announced:
+    """What announces a snapshot; any other bytes are a ValueError."""
+    found = SNAPSHOT.fullmatch(data)
+    if not found:
+        raise ValueError(f"it announces no snapshot: {data[:40]!r}")
+    return Announced(int(found[1]), found[2].decode(), int(found[3]), found[4].decode(), found[5].decode())
+
+
 def read_entry(data: bytes) -> Entry:
     """What an entry is; any other bytes are a ValueError."""
     head, *lines = data.split(b"\n")
@@ -92,10 +123,21 @@ def read_entry(data: bytes) -> Entry:
         if not lines or count != len(lines) or b"" in lines:
             raise ValueError(f"{len(lines)} lines in the place of {count}, or an empty one")
         return Asked(session, sequence, position, found[5].decode(), lines)
-    if not lines and data == OPEN:
+    if lines:
+        raise ValueError(f"it begins with {head[:40]!r}")
+    return read_line(data)
+
+
+def read_line(data: bytes) -> Entry:
+    """What an entry of one line is."""
+    if data == OPEN:
         return Opened()
-    if not lines and (found := END.fullmatch(head)):
+    if data == SNAP:
+        return Wanted()
+    if found := END.fullmatch(data):
         return Ended(int(found[1]))
-    if not lines and (found := SETTINGS.fullmatch(head)):
+    if found := SETTINGS.fullmatch(data):
         return Settings(*map(int, found.groups()))
-    raise ValueError(f"it begins with {head[:40]!r}")
+    if SNAPSHOT.fullmatch(data):
+        return read_announced(data)
+    raise ValueError(f"it begins with {data[:40]!r}")

@@ -8,10 +8,27 @@ from collections.abc import Callable, Sequence
 from typing import Literal, NamedTuple
 
 from pidtab.calls import Calls
-from pidtab.faults import Diverged, LogFault
-from pidtab.log_form import DIGESTS_KEPT, MOST_SESSIONS, SHORT_DIGEST, Asked, Ended, Entry, Opened, Settings, read_entry, write_settings
+from pidtab.faults import Diverged, LibraryFault, LogFault
+from pidtab.log_form import (
+    DIGESTS_KEPT,
+    FORM,
+    FORMS,
+    MOST_SESSIONS,
+    SHORT_DIGEST,
+    Announced,
+    Asked,
+    Ended,
+    Entry,
+    Opened,
+    Settings,
+    Wanted,
+    read_entry,
+    write_settings,
+)
 from pidtab.native import NumberCalls
 from pidtab.process import Process
+from pidtab.snapshot import Snapshot, read_snapshot, write_snapshot
+from pidtab.table import Table
 
 NO_MEMORY = "no memory"
 
@@ -72,10 +89,30 @@ def make_all(table: Calls, lines: Sequence[bytes]) -> Sequence[str]:
     return answers
 
 
+def text_of(table: Calls) -> bytes:
+    """All that there is to know of a table."""
+    dump = getattr(table, "dump", None)
+    if dump is None:
+        raise LibraryFault(f"a {type(table).__name__} has no text for a snapshot: only a table by the library has, as with table=pidtab.Table")
+    return str(dump()).encode("ascii")
+
+
+def table_of(text: bytes, like: Calls) -> Calls:
+    """A table as a text says, of the kind of another one."""
+    if isinstance(like, Table):
+        return type(like).from_dump(text, like.library)
+    load = getattr(like, "from_dump", None)
+    if load is None:
+        raise LibraryFault(f"the log begins with a snapshot, of which no {type(like).__name__} is made: open it with table=pidtab.Table")
+    table: Calls = load(text)
+    return table
+
+
 class Machine:
     """The table of one replica, with the sessions of the log and the digest of all answers."""
 
     def __init__(self, open_table: Callable[[], Calls], settings: Settings) -> None:
+        # Once the log has begun, those of the log.
         self.settings = settings
         self.table = open_table()
         # Whether the log has its settings.
@@ -102,6 +139,33 @@ class Machine:
             self._digests.popitem(last=False)
         return outcome
 
+    def write(self) -> bytes:
+        """All that the entries up to here have made, as the text of a snapshot. The caller sees to it that nobody changes the table."""
+        return write_snapshot(Snapshot(self.settings, self.position, self.digest, self.calls, list(self._sessions.items()), text_of(self.table)))
+
+    def load(self, position: int, text: bytes) -> None:
+        """Takes what a snapshot has in the place of what is here, which is behind it."""
+        if position <= self.position:
+            raise LogFault(f"the log has given the snapshot of entry {position} behind entry {self.position}")
+        try:
+            found = read_snapshot(text)
+            if found.position != position:
+                raise ValueError(f"it is that of entry {found.position}")
+            self._check_settings(found.settings)
+            table = table_of(found.table, self.table)
+        except ValueError as fault:
+            raise LogFault(f"the snapshot of entry {position} cannot be read: {fault}") from None
+        self.table, before = table, self.table
+        before.close()
+        self.settings, self.begun = found.settings, True
+        self.position, self.digest, self.calls = position, found.digest, found.calls
+        self._sessions = OrderedDict(found.sessions)
+        self._digests = OrderedDict([(position, found.digest)])
+
+    def last_of(self, session: int) -> int | None:
+        """The number of a session's last entry that counted; None where the session is not open."""
+        return self._sessions.get(session)
+
     def digest_at(self, position: int) -> str | None:
         """The digest behind an entry; None where it is not kept."""
         return self._digests.get(position)
@@ -116,17 +180,30 @@ class Machine:
         elif isinstance(entry, Asked):
             self._compare(position, entry)
             return self._ask(entry)
+        elif isinstance(entry, (Wanted, Announced)):
+            self._check_snapshot(position, entry)
         # Settings that are not the first were written at the same time: who wrote them reads the first ones too.
         return None
 
     def _begin(self, entry: Entry) -> None:
         """Takes the first entry."""
         if not isinstance(entry, Settings):
-            raise LogFault("the log does not begin with its settings: it was trimmed, or is none of pidtab's")
-        if entry != self.settings:
-            raise LogFault(f"the log has {entry}, and this replica {self.settings}")
-        self.begun = True
+            raise LogFault("the log does not begin with its settings: it was trimmed, its snapshots are lost, or it is none of pidtab's")
+        self._check_settings(entry)
+        self.settings, self.begun = entry, True
         self.digest = hashlib.sha256(write_settings(entry)).hexdigest()
+
+    def _check_settings(self, found: Settings) -> None:
+        """Sees to it that the log has the settings of this replica. It may have an earlier form, and goes on with that."""
+        if found.form not in FORMS or found[1:] != self.settings[1:]:
+            raise LogFault(f"the log has {found}, and this replica {self.settings}")
+
+    def _check_snapshot(self, position: int, entry: Wanted | Announced) -> None:
+        """Sees to it that a log has snapshots, and that one has the digest that this host had."""
+        if self.settings.form < FORM:
+            raise LogFault(f"entry {position} of the log cannot be read: form {self.settings.form} has no snapshots")
+        if isinstance(entry, Announced) and self._digests.get(entry.position, entry.digest) != entry.digest:
+            raise Diverged(f"behind entry {entry.position} the digest is not the one here in the snapshot that entry {position} announces")
 
     def _open(self, position: int) -> None:
         """Opens a session, for which the one that was used the longest ago may end."""

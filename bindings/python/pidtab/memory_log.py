@@ -2,10 +2,11 @@
 
 import random
 import threading
-from collections.abc import Sequence
+from collections.abc import Iterable, Iterator, Mapping, Sequence
 
 from pidtab.changed import Changed
-from pidtab.log import Following, Log, Progress
+from pidtab.log import Cell, Cells, CutLog, Following, Progress
+from pidtab.snapshots import load_behind
 
 # How often each trouble comes, of 1.
 CHANCE = 0.08
@@ -17,17 +18,22 @@ LONGEST_DELAY = 0.004
 IDLE = 0.5
 
 
-class MemoryLog(Log):
+class MemoryLog(CutLog):
     """Entries in a list. Without a seed all goes well.
 
     With one, appends and followers have troubles that the seed chooses: an append fails and its entry is not there, or is there, or comes later;
-    an entry is there twice, or again behind later ones; a follower ends, is late, or has few entries at a time.
+    an entry is there twice, or again behind later ones; a follower ends, is late, or has few entries at a time. A change of cells fails, and was
+    done or not.
     """
 
     def __init__(self, seed: int | None = None) -> None:
         self._random = None if seed is None else random.Random(seed)
         self._entries: list[bytes] = []
         self._late: list[bytes] = []
+        # How many entries were cut, before those that are here.
+        self._cut = 0
+        self._cells: dict[str, Cell] = {}
+        self._changes = 0
         self._changed = Changed()
 
     def append(self, entry: bytes) -> int:
@@ -41,7 +47,7 @@ class MemoryLog(Log):
             if fault is not None:
                 raise fault
             self._put(entry)
-            position = len(self._entries)
+            position = self._last()
             if self._comes():
                 self._put(entry)
             if self._comes():
@@ -55,13 +61,32 @@ class MemoryLog(Log):
     def end(self) -> int:
         """The position of the last entry."""
         with self._changed:
-            return len(self._entries)
+            return self._last()
 
     @property
     def entries(self) -> Sequence[tuple[int, bytes]]:
-        """All entries with their positions, as they are now."""
+        """All entries that are not cut with their positions, as they are now."""
         with self._changed:
-            return list(enumerate(self._entries, start=1))
+            return list(enumerate(self._entries, start=self._cut + 1))
+
+    def cells(self) -> "MemoryCells":
+        """The cells beside the entries."""
+        return MemoryCells(self)
+
+    def entries_to(self, position: int) -> Iterator[Sequence[tuple[int, bytes]]]:
+        """The entries up to a position."""
+        yield [it for it in self.entries if it[0] <= position]
+
+    def cut(self, position: int) -> int:
+        """Takes the entries up to a position away."""
+        with self._changed:
+            count = max(0, position - self._cut)
+            del self._entries[:count]
+            self._cut += count
+            return count
+
+    def _last(self) -> int:
+        return self._cut + len(self._entries)
 
     def _comes(self) -> bool:
         """Whether a trouble comes now."""
@@ -94,13 +119,18 @@ class MemoryLog(Log):
 
     def _wait_for(self, following: "MemoryFollowing") -> Progress:
         """What comes behind the place of a follower."""
-        self._changed.wait_for(lambda: following.closed or len(self._entries) > following.place, IDLE)
+        self._changed.wait_for(lambda: following.closed or self._last() > following.place, IDLE)
         with self._changed:
             if self._comes():
                 raise ConnectionError("the follower is cut off")
+            if following.place == 0 or following.place < self._cut:
+                loaded = load_behind(self.cells(), following.place)
+                if loaded is not None:
+                    return Progress(loaded[0], (), loaded[1])
+            at = max(0, following.place - self._cut)
             most = self._random.randint(1, 5) if self._random else len(self._entries)
-            found = list(enumerate(self._entries[following.place : following.place + most], start=following.place + 1))
-        return Progress(following.place + len(found), found)
+            found = list(enumerate(self._entries[at : at + most], start=self._cut + at + 1))
+        return Progress(self._cut + at + len(found), found)
 
 
 class MemoryFollowing(Following):
@@ -123,3 +153,42 @@ class MemoryFollowing(Following):
         """Ends it: who waits in it waits no more."""
         self.closed = True
         self._log._changed.notify_all()
+
+
+class MemoryCells(Cells):
+    """The cells of a `MemoryLog`."""
+
+    def __init__(self, log: MemoryLog) -> None:
+        self._log = log
+
+    def get(self, name: str) -> Cell:
+        """A cell as it is."""
+        with self._log._changed:
+            return self._log._cells.get(name, Cell(name, None, 0))
+
+    def names(self, start: str) -> list[str]:
+        """The names that begin so."""
+        with self._log._changed:
+            return sorted(it for it in self._log._cells if it.startswith(start))
+
+    def change(
+        self, puts: Mapping[str, bytes], *, drops: Iterable[str] = (), entry: bytes = b"", unchanged: Sequence[Cell] = ()
+    ) -> bool:
+        """A change with the lock of the log."""
+        log = self._log
+        with log._changed:
+            if log._comes():
+                raise ConnectionError("the log does not answer, and nothing was changed")
+            if any(self.get(it.name).version != it.version for it in unchanged):
+                return False
+            log._changes += 1
+            for name, value in puts.items():
+                log._cells[name] = Cell(name, value, log._changes)
+            for start in drops:
+                for name in self.names(start):
+                    del log._cells[name]
+            if entry:
+                log._put(entry)
+            if log._comes():
+                raise TimeoutError("the log does not answer, and all was changed")
+            return True

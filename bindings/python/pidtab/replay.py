@@ -8,6 +8,7 @@ import base64
 import hashlib
 import json
 from collections.abc import Iterable, Iterator
+from pathlib import Path
 from typing import NamedTuple
 
 from pidtab.calls import Calls
@@ -18,9 +19,11 @@ from pidtab.table import Table
 
 ABOUT = "Plays a log, as `etcdctl get --prefix NAME: -w json` writes it, and compares it with answers that were recorded. Status 1 where they differ."
 
-FORM, MODEL = "1", "1"
+FORM, MODEL = "2", "1"
+# The form without snapshots is a part of the other one.
+FORMS = ("1", FORM)
 MOST_SESSIONS = 4096
-SHORT_DIGEST = 16
+SHORT_DIGEST, DIGEST = 16, 64
 NO_MEMORY = "no memory"
 
 
@@ -52,13 +55,35 @@ class BadLog(ValueError):
 
 
 def read_log(text: bytes) -> list[tuple[int, bytes]]:
-    """The entries of a log with their positions, in their order."""
+    """The entries of a log with their positions, in their order: all keys but those behind `NAME:~`."""
     try:
         kvs = json.loads(text).get("kvs", [])
-        found = [(int(it["create_revision"]), base64.b64decode(it.get("value", ""))) for it in kvs if not base64.b64decode(it["key"]).endswith(b":~mark")]
+        keys = [base64.b64decode(it["key"]).partition(b":")[2] for it in kvs]
+        found = [(int(it["create_revision"]), base64.b64decode(it.get("value", ""))) for it, key in zip(kvs, keys) if not key.startswith(b"~")]
     except (ValueError, KeyError, TypeError, AttributeError) as fault:
         raise BadLog(f"it is not what `etcdctl get --prefix NAME: -w json` writes: {fault!r}") from None
     return sorted(found)
+
+
+def read_archive(folder: str) -> list[tuple[int, bytes]]:
+    """The entries of all files of an archive."""
+    found: list[tuple[int, bytes]] = []
+    for path in sorted(Path(folder).iterdir()):
+        if path.suffix == ".json":
+            try:
+                found += read_log(path.read_bytes())
+            except BadLog as fault:
+                raise BadLog(f"{path.name}: {fault}") from None
+    return found
+
+
+def join(some: list[tuple[int, bytes]]) -> list[tuple[int, bytes]]:
+    """Entries in their order, each once."""
+    found = dict(some)
+    for position, data in some:
+        if found[position] != data:
+            raise BadLog(f"two entries have the position {position}: they are those of two logs")
+    return sorted(found.items())
 
 
 def read_row(text: str) -> Row:
@@ -85,9 +110,9 @@ class Replay:
             raise BadLog("it has no entries")
         self._entries = entries
         words = entries[0][1].decode("latin-1").split(" ")
-        if len(words) != 6 or words[::2] != ["pidtab-log", "pid_max", "model"] or (words[1], words[5]) != (FORM, MODEL):
-            raise BadLog(f"it does not begin with `pidtab-log {FORM} pid_max N model {MODEL}`")
-        self.pid_max = int(words[3])
+        if len(words) != 6 or words[::2] != ["pidtab-log", "pid_max", "model"] or words[1] not in FORMS or words[5] != MODEL:
+            raise BadLog(f"it does not begin with `pidtab-log {FORM} pid_max N model {MODEL}`: one that was cut needs its --archive")
+        self.form, self.pid_max = words[1], int(words[3])
         self.digest = hashlib.sha256(entries[0][1]).digest()
         self.made: dict[Place, Made] = {}
         self.repeated = 0
@@ -108,7 +133,9 @@ class Replay:
                 self._last.pop(int(words[1]), None)
             elif words[0] == "calls":
                 self._call(table, position, words, lines)
-            elif words[0] != "pidtab-log":
+            elif words[0] == "snapshot" and len(words) == 6 and self.form == FORM:
+                self._compare(position, words[1], words[2], DIGEST)
+            elif words[0] != "pidtab-log" and (words != ["snap"] or self.form != FORM):
                 raise BadLog(f"entry {position} cannot be read")
             self._digests[position] = self.digest
 
@@ -117,12 +144,16 @@ class Replay:
             del self._last[next(iter(self._last))]
         self._last[position] = 0
 
+    def _compare(self, position: int, at: str, digest: str, digits: int) -> None:
+        """Notes an entry whose writer had another digest at some position; the entry has so many digits of it."""
+        if self._digests.get(int(at), b"").hex()[:digits] != digest:
+            self.differing.append(position)
+
     def _call(self, table: Calls, position: int, words: list[str], lines: list[str]) -> None:
-        session, sequence, count, writer_at = map(int, words[1:5])
+        session, sequence, count = map(int, words[1:4])
         if count != len(lines) or not all(lines):
             raise BadLog(f"entry {position} cannot be read")
-        if self._digests.get(writer_at, b"").hex()[:SHORT_DIGEST] != words[5]:
-            self.differing.append(position)
+        self._compare(position, words[4], words[5], SHORT_DIGEST)
         if self._last.get(session) != sequence - 1:
             self.repeated += 1
             return
@@ -184,6 +215,7 @@ def read_command_line() -> argparse.Namespace:
     """The words of the command line."""
     parser = parser_of("pidtab-replay", ABOUT)
     parser.add_argument("--answers", action="append", default=[], metavar="FILE", help="rows of answers, as `Submitted.rows` has them; may be given again")
+    parser.add_argument("--archive", action="append", default=[], metavar="DIRECTORY", help="read what was cut off the log, too; may be given again")
     parser.add_argument("--list", action="store_true", help="write the table that the log leaves, and nothing else")
     ways = parser.add_mutually_exclusive_group()
     ways.add_argument("--program", metavar="PATH", help="have the table by this program")
@@ -236,6 +268,8 @@ def play(given: argparse.Namespace) -> int:
     """Plays the log, and says what was found."""
     with open_script(given.log) as log:
         entries = read_log(log.read())
+    # Behind the log: what is cut meanwhile was in the archive before.
+    entries = join([*entries, *(it for folder in given.archive for it in read_archive(folder))])
     replay = Replay(entries)
     with open_table(given, replay.pid_max) as table:
         replay.play(table)

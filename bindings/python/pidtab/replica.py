@@ -13,9 +13,10 @@ from pidtab.backoff import Backoff
 from pidtab.calls import Calls
 from pidtab.changed import Changed
 from pidtab.faults import Diverged, LogFault, NotKnown, ProgramFault, TableClosed
-from pidtab.log import Following, Log, Progress
-from pidtab.log_form import FORM, MODEL, MOST_BYTES, OPEN, SHORT_DIGEST, Asked, Settings, write_calls, write_end, write_settings
+from pidtab.log import CutLog, Following, Log, Progress
+from pidtab.log_form import FORM, MODEL, MOST_BYTES, OPEN, SHORT_DIGEST, Announced, Asked, Settings, Wanted, read_entry, write_calls, write_end, write_settings
 from pidtab.machine import Machine, NoMemory, Outcome
+from pidtab.snapshots import Checker
 from pidtab.submitted import Part, Receipt, Submitted, deadline_behind
 
 T = TypeVar("T")
@@ -65,7 +66,7 @@ class Replica:
     Nothing here has its own reference to the `Replicated` that it serves, but by what was submitted and is not answered.
     """
 
-    def __init__(self, log: Log, pid_max: int, open_table: Callable[[], Calls], patience: float) -> None:
+    def __init__(self, log: Log, pid_max: int, open_table: Callable[[], Calls], patience: float, checks: bool = False) -> None:
         self.log = log
         self.patience = patience
         self.settings = Settings(FORM, pid_max, MODEL)
@@ -98,6 +99,8 @@ class Replica:
         # Asks the thread that watches to end the replica. A destructor may put something here, as it takes no lock.
         self.wishes: "queue.SimpleQueue[None]" = queue.SimpleQueue()
         self.table_lock = threading.Lock()
+        # Its sums, if this host checks snapshots.
+        self.checker = Checker() if checks else None
         self.machine = Machine(open_table, self.settings)
         # The last entry that was applied, and the digest behind it. While the log is replayed it stays.
         self.place = (0, "")
@@ -287,22 +290,72 @@ class Replica:
 
     def take(self, progress: Progress) -> None:
         """Applies what has come, and answers what is this host's."""
+        if progress.snapshot is not None:
+            text = progress.snapshot
+            self.advance(progress.position, lambda: self.machine.load(progress.position, text))
+            self.skip(progress.position)
         for position, data in progress.entries:
-            with self.table_lock:
-                if self.stopped:
-                    return
-                try:
-                    outcome = self.machine.apply(position, data)
-                except LOSSES as fault:
-                    # Before anybody reads it.
-                    self.lost = fault
-                    raise
-                self.note(position, self.machine.digest)
+            outcome = self.advance(position, lambda: self.machine.apply(position, data))
             if outcome is not None:
                 self.settle(outcome)
+            elif self.checker is not None:
+                self.check(self.checker, position, data)
+            if self.stopped:
+                return
         with self.changed:
             self.seen = max(self.seen, progress.position)
             self.changed.notify_all()
+
+    def advance(self, position: int, step: Callable[[], T]) -> T | None:
+        """Has the table go on to a position; None where the replica has stopped."""
+        with self.table_lock:
+            if self.stopped:
+                return None
+            try:
+                done = step()
+            except LOSSES as fault:
+                # Before anybody reads it.
+                self.lost = fault
+                raise
+            self.note(position, self.machine.digest)
+            return done
+
+    def check(self, checker: Checker, position: int, data: bytes) -> None:
+        """Makes the text of the table where a snapshot is asked for, and compares it with the one that is announced."""
+        entry = read_entry(data)
+        if isinstance(entry, Wanted):
+            with self.table_lock:
+                text = self.machine.write()
+            checker.note(position, text)
+        elif isinstance(entry, Announced):
+            # Not by this thread, which must not wait for what the log is asked.
+            threading.Thread(target=self.judge, args=(checker, entry), name="pidtab judge", daemon=True).start()
+
+    def judge(self, checker: Checker, it: Announced) -> None:
+        """Says whether this host has the same table as a snapshot. Where it cannot, the next one serves."""
+        try:
+            assert isinstance(self.log, CutLog)
+            checker.judge(self.log.cells(), it)
+        except OSError as fault:
+            self.trouble = fault
+        except Exception as fault:
+            self.stop(fault, f"the replica has stopped, {fault}")
+
+    def skip(self, position: int) -> None:
+        """A snapshot has come in the place of entries: what of this host's may be among them has no answer, and is never sent again."""
+        with self.changed:
+            if not self.session or self.session > position:
+                return
+            last = self.machine.last_of(self.session)
+            keys = [key for key in self.pending if last is None or key[1] <= last]
+            lost = {id(part.submitted): part.submitted for key in keys for part in self.pending.pop(key).parts}
+            # What was not sent goes on: its numbers are those behind the last one.
+            self.queue = deque([part for part in self.queue if id(part.submitted) not in lost])
+            if last is None:
+                self.session = 0
+            self.changed.notify_all()
+        for it in lost.values():
+            it.fail("the log was cut before this host had read it")
 
     def note(self, position: int, digest: str) -> None:
         """Notes the digest behind an entry. Where the log is replayed, it has to be the one that was noted before."""

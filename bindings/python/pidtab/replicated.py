@@ -9,7 +9,7 @@ from pidtab.answers import Form, Stat
 from pidtab.bounds import DEFAULT_PID_MAX, check_pid_max, check_seconds
 from pidtab.calls import Call, Calls, as_line
 from pidtab.faults import LibraryFault, NotKept
-from pidtab.log import Log
+from pidtab.log import CutLog, Log
 from pidtab.native import Ask, AskableCalls, pack
 from pidtab.raw import PidtabReply, PidtabTask
 from pidtab.replica import Replica
@@ -63,7 +63,7 @@ class Replicated(AskableCalls):
     and, where this host has no memory for what others have made, a MemoryError stop it: then each method raises the same again. What waited
     meanwhile gets a `NotKnown`. Nothing is lost by any of them: the log has all calls, and a new `Replicated` makes them again.
 
-    Opening it plays the whole log, and waits for that.
+    Opening it loads the newest snapshot that the log has, plays what is behind it, and waits for that.
     """
 
     def __init__(
@@ -73,17 +73,21 @@ class Replicated(AskableCalls):
         pid_max: int = DEFAULT_PID_MAX,
         table: Callable[..., Calls] = Table,
         patience: float = PATIENCE,
+        checks: bool = False,
     ) -> None:
         """Opens the table of a log, or begins one in a log that is empty.
 
         `table` opens this host's table when it is called with `pid_max=..`: `Table`, `Process`, or a function. The log stays the caller's.
+        With `checks` this host checks the snapshots of a `pidtab-keep`, and all of it waits for a dump of the table then.
         """
         if not isinstance(log, Log):
             raise TypeError(f"a log is a pidtab.Log, as an EtcdLog is, not {type(log).__name__}")
+        if checks and not isinstance(log, CutLog):
+            raise TypeError(f"a {type(log).__name__} has no snapshots to check")
         self.pid_max = check_pid_max(pid_max)
         self.log = log
         self.patience = check_seconds("patience", patience)
-        self._replica = Replica(log, self.pid_max, opener(table, self.pid_max), self.patience)
+        self._replica = Replica(log, self.pid_max, opener(table, self.pid_max), self.patience, checks)
         try:
             self._replica.start()
         except BaseException:

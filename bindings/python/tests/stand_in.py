@@ -21,6 +21,18 @@ class StandIn(Calls):
         self.refuse: Callable[[bytes], str | None] = lambda line: None
         self._keep(lambda: None)
 
+    @classmethod
+    def from_dump(cls, text: bytes) -> "StandIn":
+        """A table as a text of `dump` says."""
+        words = [int(word) for word in text.split()]
+        table = cls(words[0])
+        table.next_task, table.stamp, table.tasks = words[1], words[2], set(words[3:])
+        return table
+
+    def dump(self) -> str:
+        """All that there is to know of the table."""
+        return f"{self.pid_max} {self.next_task} {self.stamp}\n" + "".join(f"{it}\n" for it in sorted(self.tasks))
+
     def close(self) -> None:
         if self._finish is not None:
             self._finish()

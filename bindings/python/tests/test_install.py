@@ -17,9 +17,10 @@ from tests.ways import need_library, need_program
 # A folder whose name has a space.
 PREFIX = "/opt/pid tab"
 
-PROGRAM = ["bin/pidtab", "bin/pidtab-check", "bin/pidtab-compare", "bin/pidtab-play", "bin/pidtab-replay", "bin/pidtab-top", "bin/pidtab-tree",
-           "share/man/man1/pidtab-check.1", "share/man/man1/pidtab-compare.1", "share/man/man1/pidtab-play.1", "share/man/man1/pidtab-replay.1",
-           "share/man/man1/pidtab-top.1", "share/man/man1/pidtab-tree.1", "share/man/man1/pidtab.1", "share/man/man5/pidtab.5", "share/pidtab/LICENSE"]  # fmt: skip
+PROGRAM = ["bin/pidtab", "bin/pidtab-check", "bin/pidtab-compare", "bin/pidtab-keep", "bin/pidtab-play", "bin/pidtab-replay", "bin/pidtab-top",
+           "bin/pidtab-tree", "share/man/man1/pidtab-check.1", "share/man/man1/pidtab-compare.1", "share/man/man1/pidtab-keep.1",
+           "share/man/man1/pidtab-play.1", "share/man/man1/pidtab-replay.1", "share/man/man1/pidtab-top.1", "share/man/man1/pidtab-tree.1",
+           "share/man/man1/pidtab.1", "share/man/man5/pidtab.5", "share/pidtab/LICENSE"]  # fmt: skip
 # The library has a manual page for each function, by its name, beside the pages on all of them.
 HEADERS = sorted((REPOSITORY / "bindings" / "c").glob("pidtab*.h"))
 FUNCTIONS = re.findall(r"^(?:static inline )?[a-z].*[ *](pidtab_[a-z_]+)\(", "".join(path.read_text(encoding="utf-8") for path in HEADERS), re.MULTILINE)

@@ -129,7 +129,7 @@ class Replays(unittest.TestCase):
     def test_what_is_no_log(self) -> None:
         for log, words in [
             ("", "it is not what `etcdctl get --prefix NAME: -w json` writes"), ("[]", "it is not what"), ('{"kvs": [{}]}', "it is not what"),
-            ("{}", "it has no entries"), (as_json(LOG[1:]), "it does not begin with `pidtab-log 1 pid_max N model 1`"),
+            ("{}", "it has no entries"), (as_json(LOG[1:]), "it does not begin with `pidtab-log 2 pid_max N model 1`: one that was cut needs its --archive"),
             (as_json([(3, SETTINGS[:-1] + b"2")]), "it does not begin"), (as_json([*LOG[:2], (6, b"hello")]), "entry 6 cannot be read"),
             (as_json([*LOG[:2], (6, LOG[2][1] + b"\nfork 1")]), "entry 6 cannot be read"),
         ]:  # fmt: skip

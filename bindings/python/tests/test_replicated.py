@@ -19,12 +19,13 @@ from unittest import mock
 import pidtab
 from pidtab import Diverged, EtcdLog, Following, LibraryFault, LogFault, MemoryLog, NotKept, NotKnown, Replicated, TableClosed
 from pidtab.log_form import MOST_SESSIONS, OPEN, Asked, Settings, read_entry, write_calls, write_end, write_settings
+from pidtab.memory_log import MemoryFollowing
 from tests.stand_in import StandIn
 from tests.test_ends import OTHERS, in_child, run_python
 from tests.alarms import alarms
 from tests.test_interrupts import CallInterrupter, interrupts
 
-SETTINGS = write_settings(Settings(1, 32768, 1))
+SETTINGS = write_settings(Settings(2, 32768, 1))
 NO_DIGEST = "0" * 16
 
 # Longer than any answer of a log that goes, in seconds.
@@ -180,16 +181,44 @@ class Answers(Hosts):
             self.assertEqual(len({it.list_text() for it in hosts}), 1)
 
 
+class HeldLog(MemoryLog):
+    """A log whose followers can be held up."""
+
+    def __init__(self) -> None:
+        super().__init__()
+        self.goes = threading.Event()
+        self.goes.set()
+
+    def _wait_for(self, following: "MemoryFollowing") -> pidtab.Progress:
+        self.goes.wait(LONG)
+        return super()._wait_for(following)
+
+
+class Reads(Hosts):
+    """Reads that are not behind the log."""
+
+    def test_a_read_waits_for_what_was_answered(self) -> None:
+        self.log = log = HeldLog()  # type: ignore[assignment]
+        table = self.open()
+        log.goes.clear()
+        # The follower waits for this one already, and then it is held up.
+        first = log.append(OPEN)
+        self.wait_until(lambda: table.position == first)
+        second = log.append(OPEN)
+        threading.Timer(0.3, log.goes.set).start()
+        self.assertEqual(table.catch_up(), second)
+
+
 class Settled(Hosts):
     """The settings of a log, and what it may not have."""
 
     def test_another_pid_max(self) -> None:
         self.open()
-        with self.assertRaisesRegex(LogFault, "the log has form 1, pid_max 32768 and model 1, and this replica form 1, pid_max 400 and model 1"):
+        with self.assertRaisesRegex(LogFault, "the log has form 2, pid_max 32768 and model 1, and this replica form 2, pid_max 400 and model 1"):
             self.open(pid_max=400)
 
     def test_another_form_or_model(self) -> None:
-        for settings in (Settings(2, 32768, 1), Settings(1, 32768, 2)):
+        for settings in (Settings(3, 32768, 1), Settings(2, 32768, 2), Settings(0, 32768, 1)):
             self.log = SwitchedLog()
             self.log.append(write_settings(settings))
             with self.assertRaisesRegex(LogFault, f"the log has form {settings.form}, .* model {settings.model}, and this replica"):
@@ -688,8 +717,8 @@ class Form(unittest.TestCase):
         asked = Asked(7, 3, 21, "0123456789abcdef", [b"fork 1", b"\xff\r"])
         self.assertEqual(write_calls(asked), b"calls 7 3 2 21 0123456789abcdef\nfork 1\n\xff\r")
         self.assertEqual(read_entry(write_calls(asked)), asked)
-        self.assertEqual(read_entry(SETTINGS), Settings(1, 32768, 1))
-        self.assertEqual(SETTINGS, b"pidtab-log 1 pid_max 32768 model 1")
+        self.assertEqual(read_entry(SETTINGS), Settings(2, 32768, 1))
+        self.assertEqual(SETTINGS, b"pidtab-log 2 pid_max 32768 model 1")
 
     def test_what_is_none(self) -> None:
         good = write_calls(Asked(7, 3, 21, "0123456789abcdef", [b"fork 1", b"mk 0"]))

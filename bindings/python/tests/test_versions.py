@@ -101,8 +101,8 @@ class Versions(unittest.TestCase):
                 self.assertEqual(set(found(page, pattern)), {interface})
 
     def test_the_log(self) -> None:
-        for places in (MODELS, FORMS):
-            self.assertEqual({tuple(found(page, pattern)) for page, pattern in places.items()}, {("1",)})
+        for places, number in ((MODELS, "1"), (FORMS, "2")):
+            self.assertEqual({tuple(found(page, pattern)) for page, pattern in places.items()}, {(number,)})
 
     def test_python(self) -> None:
         for places, least in ((PYTHONS, "3.10"), (PYTHONS_OF_THE_GATE, "3.8")):
