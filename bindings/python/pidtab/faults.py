@@ -66,10 +66,10 @@ class NotKnown(RuntimeError):
 
 
 class Diverged(RuntimeError):
-    """Two hosts have answered the same calls otherwise, and this replica has stopped. It does not say which of them is wrong.
+    """Two hosts have answered the same calls otherwise, or have other tables, and this replica has stopped. It does not say which of them is wrong.
 
     Stop all replicas of the log. `pidtab-replay` plays it by one thread, and names the entries whose writers had answered otherwise: the hosts
-    that wrote them have another version of pidtab, or memory that fails. Repair them, and open all replicas again: each plays the whole log.
+    that wrote them have another version of pidtab, or memory that fails. Repair them, and open all replicas again.
     """
 
 

@@ -4,6 +4,7 @@ import queue
 import random
 import time
 from collections.abc import Callable
+from functools import partial
 from typing import NamedTuple, TypeVar
 
 from pidtab.archive import Archive, ArchiveFault
@@ -137,6 +138,9 @@ class Keeper:
 
     def save(self) -> Announced | None:
         """Writes a snapshot, and cuts the log behind the older one of those that serve then. None where none was written, which is said."""
+        if self.machine is None:
+            # The first entry of a log is its settings.
+            return None
         self.asked = self.insist(lambda: self.log.append(SNAP))
         self.reach(self.asked)
         made, self.made = self.made, None
@@ -279,7 +283,7 @@ class Keeper:
         self.look_at_last(self.insist(lambda: read_served(cells)))
         self.own.add(it.key)
         for number, piece in enumerate(pieces):
-            self.insist(lambda number=number, piece=piece: cells.change({piece_name(it.key, number): piece}))
+            self.insist(partial(cells.change, {piece_name(it.key, number): piece}))
         if not self.insist(lambda: announce(cells, it, self.wishes.alone)):
             self.insist(lambda: drop_pieces(cells, it.key))
             self.say(f"no snapshot of position {position}: another host has written a later one")
@@ -306,7 +310,7 @@ class Keeper:
     def look_at_last(self, served: Served) -> None:
         """Says where nobody has looked at the last snapshot; where somebody has another one, this is a `Diverged`."""
         for it in served.all[-1:]:
-            sum = self.insist(lambda it=it: agreed_sum(self.log.cells(), it))
+            sum = self.insist(partial(agreed_sum, self.log.cells(), it))
             if sum and sum != it.sum:
                 raise diverged(it)
             if not sum:
@@ -320,13 +324,16 @@ class Keeper:
         if len(served.all) < 2 or not self.insist(lambda: is_agreed(cells, served.all[0])):
             return
         try:
-            archive = self.archive
-            if archive is not None:
-                self.insist(lambda: archive.put(self.log.entries_to(served.cut)))
+            if self.archive is not None:
+                self.insist(partial(self.keep_entries, self.archive, served.cut))
         except ArchiveFault as fault:
             self.say(f"nothing is cut: {fault}")
             return
         self.say(f"{self.insist(lambda: self.log.cut(served.cut))} entries up to position {served.cut} are cut")
+
+    def keep_entries(self, archive: Archive, position: int) -> None:
+        """Puts what is to be cut into the archive."""
+        archive.put(self.log.entries_to(position))
 
 
 def settings_of(data: bytes) -> Settings:

@@ -25,14 +25,14 @@ class Version(NamedTuple):
     key: bytes
     revision: int
     made_at: int
-    count: int
+    writes: int
     value: bytes | None
 
     def shown(self, keys_only: bool = False) -> JSON:
         """As the gateway has it, which leaves out what is empty."""
         shown: JSON = {"key": encode(self.key), "mod_revision": str(self.revision)}
         if self.value is not None:
-            shown |= {"create_revision": str(self.made_at), "version": str(self.count)}
+            shown |= {"create_revision": str(self.made_at), "version": str(self.writes)}
         if self.value and not keys_only:
             shown["value"] = encode(self.value)
         return shown
@@ -62,7 +62,7 @@ class Watcher:
         """Says what of some changes is its own."""
         own = [it for it in versions if self._start <= it.key < self._before]
         if own:
-            events = [{"kv": it.shown(), **({"type": "DELETE"} if it.value is None else {})} for it in own]
+            events: list[JSON] = [{"kv": it.shown()} | ({"type": "DELETE"} if it.value is None else {}) for it in own]
             self.say({"header": header, "events": events})
 
 
@@ -148,7 +148,8 @@ class MemoryEtcd:
     def _transact(self, body: JSON) -> JSON:
         if not all(map(self._holds, body.get("compare", []))):
             return {"responses": []}
-        versions, answers = [], []
+        versions: list[Version] = []
+        answers: list[JSON] = []
         for step in body["success"]:
             if "request_put" in step:
                 versions.append(self._next(decode(step["request_put"]["key"]), decode(step["request_put"].get("value", ""))))
@@ -171,7 +172,7 @@ class MemoryEtcd:
         before, revision = self._now(key), self._revision + 1
         if before.value is None:
             return Version(key, revision, revision, 1, value)
-        return Version(key, revision, before.made_at, before.count + 1, value)
+        return Version(key, revision, before.made_at, before.writes + 1, value)
 
     def _gone(self, key: bytes) -> Version:
         return Version(key, self._revision + 1, 0, 0, None)

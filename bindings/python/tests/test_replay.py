@@ -46,6 +46,21 @@ control 0 parent - limit max count 3
 """
 
 
+# A log of form 2, with the snapshot that the entry at 6 has asked for. What is up to there may be cut.
+FORM_2 = b"pidtab-log 2 pid_max 32768 model 1"
+BEGUN = hashlib.sha256(FORM_2).digest()
+ONCE = hashlib.sha256(BEGUN + b"fork 1\nchild 2 root 2\n").digest()
+TWICE = hashlib.sha256(ONCE + b"getpid 2\n2\n").hexdigest()
+CUT_LOG = [
+    (3, FORM_2),
+    (4, b"open"),
+    (5, b"calls 4 1 1 3 " + BEGUN.hex()[:16].encode() + b"\nfork 1"),
+    (6, b"snap"),
+    (7, b"snapshot 6 " + ONCE.hex().encode() + b" 90 " + b"a" * 64 + b" 0000000000000006-0123456789abcdef"),
+    (9, b"calls 4 2 1 7 " + ONCE.hex()[:16].encode() + b"\ngetpid 2"),
+]
+
+
 def text64(data: bytes) -> str:
     return base64.b64encode(data).decode()
 
@@ -140,6 +155,47 @@ class Replays(unittest.TestCase):
         status, said, fault = self.run_it(as_json(LOG), rows=["hello\n"])
         self.assertEqual((status, said), (2, ""))
         self.assertIn("it has a row that is none: 'hello", fault)
+
+    def archive(self, name: str, *entries: tuple[int, bytes]) -> Path:
+        """A folder with a file of entries, and one that is not whole."""
+        folder = self.folder / name
+        folder.mkdir(exist_ok=True)
+        (folder / f"{name}.json").write_text(as_json(entries))
+        (folder / "torn.part").write_text('{"kvs":[')
+        return folder
+
+    def test_a_log_that_was_cut(self) -> None:
+        whole = self.run_it(as_json(CUT_LOG))
+        said = "log: 6 entries, 2 calls, 0 entries repeated\ndigest " + TWICE
+        self.assertEqual((whole[0], whole[1][: len(said)], whole[2]), (0, said, ""))
+        self.assertIn("writers with another digest: 0\n", whole[1])
+        # Cut by two keepers, of which one had not come to its end.
+        folders = (self.archive("one", *CUT_LOG[:2]), self.archive("two", *CUT_LOG[1:4]))
+        words = [it for folder in folders for it in ("--archive", folder)]
+        for left in (CUT_LOG[4:], CUT_LOG[3:], CUT_LOG):
+            self.assertEqual(self.run_it(as_json(left), *words), whole)
+        status, said, fault = self.run_it(as_json(CUT_LOG[4:]))
+        self.assertEqual((status, said), (2, ""))
+        self.assertIn("it does not begin with `pidtab-log 2 pid_max N model 1`: one that was cut needs its --archive", fault)
+
+    def test_an_archive_of_another_log(self) -> None:
+        folder = self.archive("other", *CUT_LOG[:3], (6, b"open"))
+        self.assertIn("two entries have the position 6: they are those of two logs", self.run_it(as_json(CUT_LOG[3:]), "--archive", folder)[2])
+        (folder / "other.json").write_text("[]")
+        self.assertIn("other.json: it is not what `etcdctl get", self.run_it(as_json(CUT_LOG), "--archive", folder)[2])
+        self.assertEqual(self.run_it(as_json(CUT_LOG), "--archive", "/no/archive")[::2], (2, "pidtab-replay: cannot read /no/archive: No such file or directory\n"))
+
+    def test_what_an_archive_lacks(self) -> None:
+        # The entry at 5 is in none: the snapshot's digest shows that.
+        folder = self.archive("some", *CUT_LOG[:2])
+        status, said, _ = self.run_it(as_json(CUT_LOG[3:]), "--archive", folder)
+        self.assertEqual(status, 1)
+        self.assertIn("writers with another digest: 2 7 9\n", said)
+
+    def test_a_snapshot_in_the_form_before(self) -> None:
+        for at in (3, 4):
+            entries = [(3, SETTINGS), (4, b"open"), CUT_LOG[at]]
+            self.assertIn("cannot be read", self.run_it(as_json(entries))[2])
 
     def test_files_that_are_not_there(self) -> None:
         self.assertEqual(self.run_it(as_json(LOG), "--answers", "/no/rows")[::2], (2, "pidtab-replay: cannot read /no/rows: No such file or directory\n"))

@@ -179,7 +179,7 @@ class Two(Keeping):
     def test_two_at_once(self) -> None:
         table, one, two = self.open(), self.keep(), self.keep()
         self.save_twice(table, one)
-        done = []
+        done: list[Announced | None] = []
 
         def before(path: str, body: JSON) -> None:
             if announces(body) and not done:
@@ -252,8 +252,8 @@ class Two(Keeping):
         self.fill(table)
         done = keeper.save()
         assert done
-        cells = self.make_log().cells()
-        self.wait_until(lambda: is_agreed(cells, done))
+        cells, announced = self.make_log().cells(), done
+        self.wait_until(lambda: is_agreed(cells, announced))
         # Its table has one task more, which no answer has shown.
         checker._replica.machine.table.fork(1)
         keeper.save()
@@ -520,7 +520,7 @@ class Times(Keeping):
     """When a keeper asks for a snapshot."""
 
     def keep_small(self, **wishes: object) -> Keeper:
-        return self.keep(**{"bytes": 5000, "times": 4.0, **wishes})
+        return self.keep(**{"bytes": 5000, "times": 4.0, **wishes})  # type: ignore[arg-type]
 
     def check_due(self, keeper: Keeper, is_due: bool) -> None:
         """Whether it is time, once the time of hesitation is over."""
@@ -549,6 +549,16 @@ class Times(Keeping):
         self.assertEqual(again.size, keeper.size)
         self.fill(table)
         self.check_due(again, False)
+
+    def test_a_log_that_nobody_has_begun(self) -> None:
+        keeper = self.keep_small(bytes=1)
+        self.check_due(keeper, False)
+        self.assertIsNone(keeper.save())
+        self.assertEqual(self.keys(), [])
+        table = self.open()
+        table.fork(1)
+        self.check_due(keeper, True)
+        self.assertIsNotNone(keeper.save())
 
     def test_one_that_only_checks(self) -> None:
         table, keeper = self.open(), self.keep_small(checks=True)
