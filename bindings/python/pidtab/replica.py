@@ -15,7 +15,7 @@ from pidtab.changed import Changed
 from pidtab.faults import Diverged, LogFault, NotKnown, ProgramFault, TableClosed
 from pidtab.log import CutLog, Following, Log, Progress
 from pidtab.log_form import FORM, MODEL, MOST_BYTES, OPEN, SHORT_DIGEST, Announced, Asked, Settings, Wanted, read_entry, write_calls, write_end, write_settings
-from pidtab.machine import Machine, NoMemory, Outcome
+from pidtab.machine import Machine, NoMemory, Outcome, text_of
 from pidtab.snapshots import Checker
 from pidtab.submitted import Part, Receipt, Submitted, deadline_behind
 
@@ -102,6 +102,9 @@ class Replica:
         # Its sums, if this host checks snapshots.
         self.checker = Checker() if checks else None
         self.machine = Machine(open_table, self.settings)
+        if checks:
+            # A table that has no text says so before it is needed.
+            text_of(self.machine.table)
         # The last entry that was applied, and the digest behind it. While the log is replayed it stays.
         self.place = (0, "")
         self.threads = [threading.Thread(target=it, name=f"pidtab {it.__name__}", daemon=True) for it in (self.follow, self.append, self.watch)]
@@ -298,7 +301,7 @@ class Replica:
             outcome = self.advance(position, lambda: self.machine.apply(position, data))
             if outcome is not None:
                 self.settle(outcome)
-            elif self.checker is not None:
+            elif self.checker is not None and not self.stopped:
                 self.check(self.checker, position, data)
             if self.stopped:
                 return
@@ -324,9 +327,11 @@ class Replica:
         """Makes the text of the table where a snapshot is asked for, and compares it with the one that is announced."""
         entry = read_entry(data)
         if isinstance(entry, Wanted):
-            with self.table_lock:
-                text = self.machine.write()
-            checker.note(position, text)
+            # Without memory for it, this host says nothing of that snapshot.
+            with suppress(MemoryError):
+                with self.table_lock:
+                    text = self.machine.write()
+                checker.note(position, text)
         elif isinstance(entry, Announced):
             # Not by this thread, which must not wait for what the log is asked.
             threading.Thread(target=self.judge, args=(checker, entry), name="pidtab judge", daemon=True).start()

@@ -261,9 +261,22 @@ class Two(Keeping):
         with self.assertRaisesRegex(Diverged, "behind entry [0-9]+ two hosts have other tables"):
             checker.getpid(1)
 
-    def test_a_log_without_snapshots_has_none_to_check(self) -> None:
+    def test_a_host_that_checks_and_has_no_memory(self) -> None:
+        table, keeper, checker = self.open(), self.keep(alone=False), self.open(checks=True)
+        self.fill(table)
+        checker._replica.machine.table.dump = mock.Mock(side_effect=MemoryError("dump: no memory"))  # type: ignore[attr-defined]
+        done = keeper.save()
+        assert done
+        self.assertEqual(checker.fork(1).root, table.fork(1).root - 1)
+        self.assertFalse(is_agreed(self.make_log().cells(), done))
+        del checker._replica.machine.table.dump  # type: ignore[attr-defined]
+        self.check_same(table, checker)
+
+    def test_a_host_that_cannot_check(self) -> None:
         with self.assertRaisesRegex(TypeError, "a Plain has no snapshots to check"):
             Replicated(Plain(), table=StandIn, checks=True)
+        with mock.patch("tests.stand_in.StandIn.dump", None), self.assertRaisesRegex(LibraryFault, "a StandIn has no text for a snapshot: only a table by"):
+            Replicated(MemoryLog(), table=StandIn, checks=True)
 
     def test_one_that_has_diverged(self) -> None:
         table, good, bad = self.open(), self.keep(alone=False), self.keep(alone=False)
