@@ -472,19 +472,34 @@ class Walks(Cluster):
         self.assertLess(time.monotonic() - begun, 3)
 
 
+def add_users(etcds: Etcds) -> None:
+    """Has members ask for users, of whom one may use the log `web`, as docs/CLUSTER.md has it."""
+    for path, body in [
+        ("/v3/auth/user/add", {"name": "root", "password": "secret"}), ("/v3/auth/role/add", {"name": "root"}),
+        ("/v3/auth/user/grant", {"user": "root", "role": "root"}), ("/v3/auth/user/add", {"name": "web", "password": "word"}),
+        ("/v3/auth/role/add", {"name": "web"}), ("/v3/auth/user/grant", {"user": "web", "role": "web"}),
+        ("/v3/auth/role/grant", {"name": "web", "perm": {"permType": "READWRITE", "key": text64("web:"), "range_end": text64("web;")}}),
+        ("/v3/auth/enable", {}),
+    ]:  # fmt: skip
+        etcds.ask(path, body)
+
+
+def start_with_tls(folder: Path) -> tuple[Etcds, ssl.SSLContext, Path]:
+    """A member that speaks TLS, what its clients need for that, and its certificate."""
+    openssl = need_tool("openssl")
+    key, certificate = folder / "key.pem", folder / "certificate.pem"
+    words = ["req", "-x509", "-newkey", "rsa:2048", "-nodes", "-days", "1", "-subj", "/CN=127.0.0.1", "-addext", "subjectAltName=IP:127.0.0.1"]
+    subprocess.run([openssl, *words, "-keyout", key, "-out", certificate], capture_output=True, check=True)
+    tls = ssl.create_default_context(cafile=str(certificate))
+    return Etcds(folder, 1, f"--cert-file={certificate}", f"--key-file={key}", scheme="https", tls=tls), tls, certificate
+
+
 class Secrets(Cluster):
     """Users and TLS."""
 
     def test_a_user(self) -> None:
         etcds = self.start(count=1)
-        for path, body in [
-            ("/v3/auth/user/add", {"name": "root", "password": "secret"}), ("/v3/auth/role/add", {"name": "root"}),
-            ("/v3/auth/user/grant", {"user": "root", "role": "root"}), ("/v3/auth/user/add", {"name": "web", "password": "word"}),
-            ("/v3/auth/role/add", {"name": "web"}), ("/v3/auth/user/grant", {"user": "web", "role": "web"}),
-            ("/v3/auth/role/grant", {"name": "web", "perm": {"permType": "READWRITE", "key": text64("web:"), "range_end": text64("web;")}}),
-            ("/v3/auth/enable", {}),
-        ]:  # fmt: skip
-            etcds.ask(path, body)
+        add_users(etcds)
         with Replicated(EtcdLog(etcds.members, "web", user=("web", "word")), table=table_kind()) as table:
             self.assertEqual(table.fork(1).root, 2)
             table.catch_up()
@@ -496,12 +511,7 @@ class Secrets(Cluster):
                 Replicated(EtcdLog(etcds.members, name, user=user), table=table_kind(), patience=10)
 
     def test_tls(self) -> None:
-        openssl = need_tool("openssl")
-        key, certificate = self.folder / "key.pem", self.folder / "certificate.pem"
-        words = ["req", "-x509", "-newkey", "rsa:2048", "-nodes", "-days", "1", "-subj", "/CN=127.0.0.1", "-addext", "subjectAltName=IP:127.0.0.1"]
-        subprocess.run([openssl, *words, "-keyout", key, "-out", certificate], capture_output=True, check=True)
-        tls = ssl.create_default_context(cafile=str(certificate))
-        etcds = Etcds(self.folder, 1, f"--cert-file={certificate}", f"--key-file={key}", scheme="https", tls=tls)
+        etcds, tls, _ = start_with_tls(self.folder)
         self.addCleanup(etcds.stop)
         members = [f"https://{it}" for it in etcds.members]
         with Replicated(EtcdLog(members, "web", tls=tls), table=table_kind()) as table:

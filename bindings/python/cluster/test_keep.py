@@ -11,7 +11,7 @@ from pathlib import Path
 
 from cluster.etcds import LONGEST, Etcds, need_etcd
 from cluster.load import Load
-from cluster.test_etcd import PACKAGE, Cluster, environment
+from cluster.test_etcd import PACKAGE, Cluster, add_users, environment, start_with_tls
 from pidtab import EtcdLog, MemoryLog, Replicated, Table
 from pidtab.etcd import JSON, Etcd
 from pidtab.log_form import Settings, write_settings
@@ -155,6 +155,11 @@ class Programs(Cluster):
         self.assertIn(f"digest {table.digest}\n", said)
         self.assertIn("writers with another digest: 0\n", said)
 
+    def positions(self, table: Replicated) -> set[int]:
+        """The positions of the entries that are left."""
+        assert isinstance(table.log, EtcdLog)
+        return {position for page in table.log.entries_to(table.position) for position, _ in page}
+
     def replay_alone(self, etcds: Etcds) -> str:
         """What `pidtab-replay` says of the log and its archives."""
         log = self.folder / "log.json"
@@ -162,6 +167,28 @@ class Programs(Cluster):
         folders: list[str | Path] = [it for folder in self.archives for it in ("--archive", folder)]
         command: list[str | Path] = [sys.executable, "-B", PACKAGE / "bin" / "pidtab-replay", *folders, log]
         return str(subprocess.run(command, env=environment(), capture_output=True, text=True, check=True).stdout)
+
+    def test_a_user_and_tls(self) -> None:
+        need_library()
+        etcds, tls, certificate = start_with_tls(self.folder)
+        self.addCleanup(etcds.stop)
+        add_users(etcds)
+        members = [f"https://{it}" for it in etcds.members]
+        password = self.folder / "password"
+        password.write_text("word\n")
+        table = Replicated(EtcdLog(members, "web", tls=tls, user=("web", "word")))
+        self.addCleanup(table.close)
+        words = ("--alone", "--bytes", "0.02", "--user", "web", "--password", password, "--ca", certificate)
+        keeper = self.keep(members, *words)
+        first = table.position
+        while first in self.positions(table):
+            table.answers(["fork 1", "exit 2 0", "wait 1 any"] * 20)
+        status, said, fault = self.stop(keeper)
+        self.assertEqual((status, fault), (0, ""))
+        self.assertRegex(said, "[1-9][0-9]* entries up to position [0-9]+ are cut")
+        password.write_text("wrong\n")
+        keeper = self.keep(members, *words)
+        self.assertRegex(keeper.communicate(timeout=LONGEST)[1], "^pidtab-keep: stopped: etcd refuses: .*authentication failed")
 
     def test_it_says_what_stops_it(self) -> None:
         need_library()
