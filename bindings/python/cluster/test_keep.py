@@ -233,16 +233,16 @@ class Programs(Cluster):
         one, two, three = (self.writer(etcds, batch=3, seconds=20) for _ in range(3))
         keepers = [self.keep(etcds.members, "--bytes", "0.1", "--archive", it) for it in folders]
         leader = etcds.leader()
-        for turn in range(12):
-            time.sleep(1.5)
-            if turn == 3:
+        for turn in range(8):
+            time.sleep(2.5)
+            if turn == 2:
                 etcds.kill(leader)
-            if turn == 5:
+            if turn == 4:
                 etcds.start(leader)
                 etcds.wait_until_ready()
-            if turn == 7:
+            if turn == 6:
                 two.send(signal.SIGKILL)
-            if turn in (6, 9, 11):
+            if turn in (3, 5, 7):
                 etcds.compact()
             keepers[turn % 2].kill()
             keepers[turn % 2].communicate()
@@ -254,7 +254,7 @@ class Programs(Cluster):
         self.assertRegex(said, "log: [0-9]+ entries")
         served = read_served(EtcdLog(etcds.members, "web").cells())
         self.assertEqual(len(served.all), 2)
-        self.assertGreater(len([it for folder in folders for it in folder.glob("*.json")]), 2)
+        self.assertGreater(len([it for folder in folders for it in folder.glob("*.json")]), 0)
 
 
 if __name__ == "__main__":

@@ -10,9 +10,9 @@ from pidtab.log import Cell, Cells
 # Before the names of cells, so that a watch of the entries does not see them.
 BEFORE_CELLS = b"~"
 
-# So many keys are looked up, and at most so many are deleted in one transaction, which no host is to wait for long.
+# So many keys are looked up at once. For those that are deleted in one transaction all hosts wait.
 NAMES_AT_ONCE = 1000
-CUT_AT_ONCE = 500
+CUT_AT_ONCE = 100
 ENTRIES_AT_ONCE = 100
 
 

@@ -8,8 +8,8 @@ from typing import NamedTuple
 
 from pidtab.log_form import NUMBER, SUM, Settings
 
-# A piece has at most so many bytes; etcd takes 1.5 MB in one request.
-PIECE_BYTES = 1_000_000
+# A piece has at most so many bytes. etcd takes 1.5 MB in one request, but then all others wait for it.
+PIECE_BYTES = 125_000
 
 # Of zlib, which makes the text of a table some 16 times smaller: the fastest.
 LEVEL = 1

@@ -197,16 +197,39 @@ class HeldLog(MemoryLog):
 class Reads(Hosts):
     """Reads that are not behind the log."""
 
+    def setUp(self) -> None:
+        self.log = self.held = HeldLog()  # type: ignore[assignment]
+
+    def hold(self, *tables: Replicated) -> None:
+        """Holds up the followers."""
+        self.held.goes.clear()
+        # They wait for this one already.
+        last = self.held.append(OPEN)
+        self.wait_until(lambda: all(it.position == last for it in tables))
+
     def test_a_read_waits_for_what_was_answered(self) -> None:
-        self.log = log = HeldLog()  # type: ignore[assignment]
         table = self.open()
-        log.goes.clear()
-        # The follower waits for this one already, and then it is held up.
-        first = log.append(OPEN)
-        self.wait_until(lambda: table.position == first)
-        second = log.append(OPEN)
-        threading.Timer(0.3, log.goes.set).start()
-        self.assertEqual(table.catch_up(), second)
+        self.hold(table)
+        last = self.held.append(OPEN)
+        threading.Timer(0.3, self.held.goes.set).start()
+        self.assertEqual(table.catch_up(), last)
+
+    def test_two_hosts_that_wait_at_once(self) -> None:
+        # Their entries have the same number.
+        tables = [self.open(), self.open()]
+        for it in tables:
+            it.getpid(1)
+        self.hold(*tables)
+        before = self.held.end()
+        futures = [it.submit(["fork 1"]) for it in tables]
+        self.wait_until(lambda: self.held.end() == before + 2)
+        self.held.goes.set()
+        answers = [it.result(LONG)[0] for it in futures]
+        self.assertCountEqual(answers, ["child 2 root 2", "child 3 root 3"])
+        # Each of them has that of its own entry.
+        places = [it.receipts[0].session for it in futures]
+        sent = [entry for entry in map(read_entry, (data for _, data in self.held.entries)) if isinstance(entry, Asked) and entry.lines == [b"fork 1"]]
+        self.assertEqual([places.index(entry.session) for entry in sent], [answers.index(f"child {it} root {it}") for it in (2, 3)])
 
 
 class Settled(Hosts):
