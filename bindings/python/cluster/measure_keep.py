@@ -160,7 +160,8 @@ def measure_pause(folder: Path) -> None:
                     run_all([lambda: Client(table).run(8, until, took)] * 4)
                     heart.goes = False
                     run.join()
-                    print(tasks, "tasks,", "with" if words else "without", "a keeper: a query by ask,", worst(heart.waits), "; a batch of 8,", worst(took), flush=True)
+                    what = f"{tasks} tasks, {'with' if words else 'without'} a keeper"
+                    print(f"{what}: a query by ask, {worst(heart.waits)}; a batch of 8, {worst(took)}", flush=True)
         finally:
             if keeper is not None:
                 keeper.terminate()

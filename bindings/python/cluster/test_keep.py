@@ -210,10 +210,14 @@ class Programs(Cluster):
         need_library()
         wrong: list[tuple[tuple[str | Path, ...], str]] = [
             (("--archive", self.folder / "none"), f"pidtab-keep: no folder {self.folder / 'none'} for an archive\n"),
-            (("--alone", "--check"), "not allowed with argument"), (("--bytes", "0"), "a number above 0, not 0"), (("--user", "web"), "--user and --password go together"),
-            (("--key", "file"), "--certificate and --key go together, with --ca"), (("--ca", "/no/ca"), "pidtab-keep: cannot read /no/ca: No such file"),
-            (("--library", "/no/library"), "pidtab-keep: no table: no library /no/library"), (("--user", "web", "--password", "/no/file"), "cannot read /no/file: No such file"),
-        ]  # fmt: skip
+            (("--alone", "--check"), "not allowed with argument"),
+            (("--bytes", "0"), "a number above 0, not 0"),
+            (("--user", "web"), "--user and --password go together"),
+            (("--key", "file"), "--certificate and --key go together, with --ca"),
+            (("--ca", "/no/ca"), "pidtab-keep: cannot read /no/ca: No such file"),
+            (("--library", "/no/library"), "pidtab-keep: no table: no library /no/library"),
+            (("--user", "web", "--password", "/no/file"), "cannot read /no/file: No such file"),
+        ]
         for words, said in wrong:
             with self.subTest(words):
                 keeper = self.keep(["127.0.0.1:1"], *words)
