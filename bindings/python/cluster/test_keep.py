@@ -72,6 +72,10 @@ class CutsByEtcd(ByEtcd, cases.Cuts):
     """What is cut."""
 
 
+class WalksByEtcd(ByEtcd, cases.Walks):
+    """A cut amid a walk."""
+
+
 class CrashesByEtcd(ByEtcd, cases.Crashes):
     """Crashes of a keeper."""
 

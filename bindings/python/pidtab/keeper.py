@@ -132,7 +132,8 @@ class Keeper:
 
     def catch_up(self) -> None:
         """Follows the log to its end."""
-        end = self.insist(self.log.end)
+        # Who follows it already does not see what becomes of the cells, but a mark.
+        end = self.insist(self.log.end if self.following is None else self.log.mark)
         self.began_at = end if self.began_at is None else self.began_at
         self.reach(end)
 

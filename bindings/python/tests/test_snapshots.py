@@ -118,6 +118,35 @@ class Cuts(Keeping):
             Archive(self.folder / "none", "web")
 
 
+class Walks(Keeping):
+    """A log that is cut while somebody reads it."""
+
+    def walk(self, is_compacted: bool) -> tuple[list[int], list[int]]:
+        """The positions that a walk gives behind its first page, behind which the log is cut; and those that there were before."""
+        table, keeper, log = self.open(), self.keep(), self.make_log()
+        self.fill(table)
+        before = self.positions()
+        with mock.patch("pidtab.etcd_log.FIRST_PAGE", 5), mock.patch("pidtab.etcd_log.LONGEST_PAGE", 5):
+            following = log.follow(0)
+            self.addCleanup(following.close)
+            found = [position for position, _ in next(following).entries]
+            self.save_twice(table, keeper)
+            if is_compacted:
+                self.compact()
+            while not found or found[-1] < table.position:
+                found += [position for position, _ in next(following).entries]
+        return found, sorted(before)
+
+    def test_it_is_read_as_it_was(self) -> None:
+        found, before = self.walk(is_compacted=False)
+        self.assertEqual(found[: len(before)], before)
+        self.assertEqual(found, sorted(set(found)))
+
+    def test_its_history_is_no_more(self) -> None:
+        with self.assertRaisesRegex(OSError, "required revision has been compacted"):
+            self.walk(is_compacted=True)
+
+
 class Crashes(Keeping):
     """A keeper that ends in the middle leaves nothing that does harm, and the next one goes on."""
 
@@ -232,6 +261,21 @@ class Two(Keeping):
         late = self.open()
         self.assertEqual(next(iter(late._replica.machine._digests)), read_served(self.make_log().cells()).all[-1].position)
         self.check_same(table, late)
+
+    def test_the_one_that_checks_goes_away(self) -> None:
+        table, one, two = self.open(), self.keep(alone=False), self.keep(alone=False)
+        self.save_twice(table, one, two)
+        last = read_served(self.make_log().cells()).all[-1]
+        two.close()
+        self.save_twice(table, one)
+        # What was checked last serves, however many come behind it.
+        self.assertEqual(read_served(self.make_log().cells()).all[0], last)
+        late = self.open()
+        self.assertEqual(next(iter(late._replica.machine._digests)), last.position)
+        self.check_same(table, late)
+        self.save_twice(table, one, self.keep(alone=False))
+        self.check_cut()
+        self.check_same(table, self.open())
 
     def test_nobody_agrees_with_what_it_has_written_itself(self) -> None:
         table, keeper = self.open(), self.keep(alone=False)
@@ -567,7 +611,8 @@ class Times(Keeping):
         keeper = self.keep_small(bytes=1)
         self.check_due(keeper, False)
         self.assertIsNone(keeper.save())
-        self.assertEqual(self.keys(), [])
+        # A mark is no entry.
+        self.assertLessEqual({key.partition(b":")[2] for key in self.keys()}, {b"~mark"})
         table = self.open()
         table.fork(1)
         self.check_due(keeper, True)
