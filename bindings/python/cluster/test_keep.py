@@ -250,7 +250,7 @@ class Programs(Cluster):
                 etcds.wait_until_ready()
             if turn == 6:
                 two.send(signal.SIGKILL)
-            if turn in (3, 5, 7):
+            if turn in (1, 5, 7):
                 etcds.compact()
             keepers[turn % 2].kill()
             keepers[turn % 2].communicate()
