@@ -218,6 +218,7 @@ class Reads(Hosts):
         # Their entries have the same number.
         tables = [self.open(), self.open()]
         for it in tables:
+            it.catch_up()
             it.getpid(1)
         self.hold(*tables)
         before = self.held.end()
