@@ -116,7 +116,7 @@ fn pkg_config_finds_it_and_a_named_folder_wins() {
     copy.install();
     let done = copy.cargo(&["run", "--example", "containers"], "");
     assert!(done.status.success(), "{}", said(&done));
-    assert!(String::from_utf8_lossy(&done.stdout).starts_with("init 1\n"));
+    assert!(String::from_utf8_lossy(&done.stdout).starts_with("Child { number: 2, root: 2 }\n"));
     assert!(!said(&done).contains("warning"), "{}", said(&done));
     warns(&copy, &["check"], "/no/such/folder", "/no/such/folder:");
 }
