@@ -133,7 +133,7 @@ impl Log {
     /// Writes the batch, and syncs it where that is always done. Behind a write that failed, the same batch goes on where that one stopped.
     /// `Ok(false)`: it cannot be written now.
     pub fn commit(&mut self, batch: &[u8]) -> Result<bool, Fault> {
-        if self.sync == Sync::Always && batch.len() <= SMALL {
+        if self.sync == Sync::Always && self.written == 0 && batch.len() <= SMALL {
             self.write_ahead(self.bytes + batch.len() as u64);
         }
         while self.written < batch.len() {

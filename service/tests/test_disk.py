@@ -331,8 +331,8 @@ def damaged(data, dice):
 
 
 class Full(Case):
-    def test_answers_wait_for_room(self):
-        """A file system of 200 KB fills up: the answers are held back, and all come when there is room."""
+    def small_disk(self):
+        """A daemon whose directory is a file system of 200 KB."""
         if os.geteuid() != 0:
             self.skipTest("not root")
         one = self.daemon("--fsync", "always")
@@ -340,7 +340,15 @@ class Full(Case):
         if mounted.returncode:
             self.skipTest("no mount")
         self.addCleanup(subprocess.run, ["umount", "-l", one.kept], check=False)
-        client = one.start().client()
+        return one.start()
+
+    def grow(self, one):
+        subprocess.run(["mount", "-o", "remount,size=4m", one.kept], check=True)
+
+    def test_answers_wait_for_room(self):
+        """The disk fills up: the answers are held back, and all come when there is room."""
+        one = self.small_disk()
+        client = one.client()
         client.socket.sendall(b"EXEC 1\r\n" * 10000)
         client.socket.settimeout(1)
         answered = 0
@@ -351,12 +359,29 @@ class Full(Case):
         before = one.time()
         time.sleep(1)
         self.assertLess(one.time() - before, 0.2)
-        subprocess.run(["mount", "-o", "remount,size=4m", one.kept], check=True)
+        self.grow(one)
         client.socket.settimeout(30)
         self.assertEqual([client.answer() for _ in range(10000 - answered)], ["OK"] * (10000 - answered))
         self.assertEqual(client.say("POSITION"), 10000)
         self.assertEqual(one.end(), 0)
         self.assertEqual(one.start().client().say("POSITION"), 10000)
+
+    def test_one_call_at_a_time_waits_for_room(self):
+        """Batches that are written over zeroes: there is room for fewer of these than are wanted, and then for none."""
+        one = self.small_disk()
+        client = one.client()
+        client.socket.settimeout(1)
+        answered = 0
+        with self.assertRaises(TimeoutError):
+            while client.say("EXEC 1") == "OK":
+                answered += 1
+        self.assertTrue(2000 < answered < 5000, answered)
+        self.grow(one)
+        client.socket.settimeout(30)
+        self.assertEqual(client.answer(), "OK")
+        self.assertEqual([client.say("EXEC 1") for _ in range(1000)], ["OK"] * 1000)
+        one.kill()
+        self.assertEqual(one.start().client().say("POSITION"), answered + 1001)
 
 
 if __name__ == "__main__":
