@@ -84,9 +84,10 @@ class Killed(Case):
             one.kill()
             for caller in callers:
                 caller.join()
-            if loses_power:
-                lost += lose_power(one.kept, synced, dice)
-            tear(one.kept, dice)
+            sectors = lose_power(one.kept, synced, dice) if loses_power else 0
+            lost += sectors
+            if not sectors:
+                tear(one.kept, dice)
             entries = self.compare(one.start())
             for caller in callers:
                 self.compare_caller(caller, entries[before:], number)
