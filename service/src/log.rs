@@ -19,7 +19,7 @@ pub const BATCH: usize = 1 << 20;
 /// A batch that is longer makes the file grow as it is written: its own bytes are what it waits for.
 const SMALL: usize = 1 << 14;
 /// So many zeroes are written ahead.
-const AHEAD: u64 = 1 << 20;
+const AHEAD: u64 = 1 << 22;
 
 /// When what was written is brought to the disk.
 #[derive(Clone, Copy, Debug, PartialEq)]
