@@ -255,7 +255,7 @@ box-test: box ## runs real programs in the box and in the kernel's namespaces, a
 box-bench: box ## times builds and single calls natively, in the box, under strace and under proot (a minute)
 	@box/tests/bench
 
-.PHONY: bindings bindings-python bindings-c bindings-rust bindings-go bindings-js package
+.PHONY: bindings bindings-python bindings-c bindings-rust bindings-go bindings-js package repository
 
 # Over what `make build` and `make lib` have built.
 bindings: bindings-python bindings-c bindings-rust bindings-go bindings-js ## tests the ways in for Python, C, Rust, Go and JavaScript; what is not there is skipped with a word
@@ -275,6 +275,11 @@ bindings-python:
 	@test -e '$(SHARED)' || echo '$@: the library is skipped: no $(SHARED)'
 	$(call tested,python3,bindings/python/tests,PIDTAB='$(PIDTAB)' PIDTAB_LIBRARY='$(SHARED)' \
 		python3 -B -m unittest discover -v -s bindings/python/tests -t bindings/python)
+
+# With helpers of the package's tests, and by the program and the library as these.
+repository: ## tests the pages with their examples, the tools, the Makefile and `make install` (some 3 minutes); what is not there is skipped
+	$(call tested,python3,tests,PIDTAB='$(PIDTAB)' PIDTAB_LIBRARY='$(SHARED)' PYTHONPATH=bindings/python \
+		python3 -B -m unittest discover -v -s tests -t tests)
 
 # From C, under the sanitizers for addresses and undefined behaviour, and under that for threads.
 HELD = -Dmalloc=test_malloc -Drealloc=test_realloc

@@ -28,8 +28,11 @@ sleep 0.7
 exit ${STATUS:-0}
 """
 
-# The modules of tests but this one.
-OTHERS = sorted(f"tests.{it.stem}" for it in Path(__file__).parent.glob("test_*.py") if it.stem != Path(__file__).stem)
+# The modules of tests beside this one, and those of the package.
+HERE = Path(__file__).parent
+OTHERS = sorted(it.stem for it in HERE.glob("test_*.py") if it.stem != Path(__file__).stem)
+PACKAGE = REPOSITORY / "bindings" / "python"
+OF_PACKAGE = sorted(f"tests.{it.stem}" for it in (PACKAGE / "tests").glob("test_*.py"))
 
 
 def paths_without(name: str) -> str:
@@ -252,13 +255,20 @@ class LibraryFolders(Checkouts):
 
 
 class NothingBuilt(unittest.TestCase):
-    """The tests of this package where there is neither a program nor a library."""
+    """Tests where there is neither a program nor a library: what needs one is skipped."""
 
-    def test_they_are_skipped(self) -> None:
-        nowhere = {**os.environ, "PIDTAB": "/no/such/pidtab", "PIDTAB_LIBRARY": "/no/such/library"}
-        command = [sys.executable, "-B", "-m", "unittest", *OTHERS]
-        done = subprocess.run(command, cwd=Path(__file__).parent.parent, env=nowhere, capture_output=True, text=True, check=False)
-        self.assertRegex(done.stderr.splitlines()[-1], r"^OK \(skipped=\d+\)$")
+    def run_nowhere(self, folder: Path, modules: list[str]) -> str:
+        """The last line of what the tests say."""
+        nowhere = {**os.environ, "PYTHONPATH": str(PACKAGE), "PIDTAB": "/no/such/pidtab", "PIDTAB_LIBRARY": "/no/such/library"}
+        command = [sys.executable, "-B", "-m", "unittest", *modules]
+        done = subprocess.run(command, cwd=folder, env=nowhere, capture_output=True, text=True, check=False)
+        return done.stderr.splitlines()[-1]
+
+    def test_of_the_repository(self) -> None:
+        self.assertRegex(self.run_nowhere(HERE, OTHERS), r"^OK \(skipped=\d+\)$")
+
+    def test_of_the_package(self) -> None:
+        self.assertRegex(self.run_nowhere(PACKAGE, OF_PACKAGE), r"^OK \(skipped=\d+\)$")
 
 
 if __name__ == "__main__":

@@ -13,7 +13,7 @@ from pathlib import Path
 from unittest import mock
 
 from tests.pages import REPOSITORY, read_page
-from tests.test_versions import RELEASED
+from test_versions import RELEASED
 
 
 def load_tool():
