@@ -286,7 +286,7 @@ uint32_t pidtab_call(struct pidtab *table, const struct pidtab_call *call, struc
  * DONE, CLOSED, and OUT_OF_RANGE for each other operation too. */
 uint32_t pidtab_ask(const struct pidtab *table, const struct pidtab_call *call, struct pidtab_reply *reply);
 
-/* A task as the caller's namespace sees it. The numbers of processes are those there, 0 where there is none. */
+/* A task as the caller's namespace sees it. The numbers of processes but root are those there, 0 where there is none. */
 struct pidtab_task {
 	uint32_t error;     /* 0; or ESRCH, and then all but error and refusal is 0 */
 	uint32_t refusal;   /* 0, PIDTAB_NO_CALLER or PIDTAB_NO_TASK */
@@ -300,6 +300,7 @@ struct pidtab_task {
 	uint32_t subreaper; /* 0 or 1 */
 	uint64_t space;     /* the id of its own namespace */
 	uint64_t control;   /* the id of its control group */
+	uint32_t root;      /* its number in the root namespace, which names it in calls */
 	uint32_t levels[PIDTAB_LEVELS_MAX]; /* its numbers from the caller's namespace inwards */
 };
 

@@ -297,8 +297,8 @@ static void read_task(uint32_t caller, uint32_t number)
 	say_levels(levels, it.levels, it.count, ',');
 	if (it.ended)
 		say_end(end, it.status);
-	sprintf(told, "%s space %" PRIu64 " parent %u group %u session %u control %" PRIu64 " %s%s%s", levels, it.space, it.parent, it.group,
-		it.session, it.control, end, it.executed ? " executed" : "", it.subreaper ? " subreaper" : "");
+	sprintf(told, "%s root %u space %" PRIu64 " parent %u group %u session %u control %" PRIu64 " %s%s%s", levels, it.root, it.space, it.parent,
+		it.group, it.session, it.control, end, it.executed ? " executed" : "", it.subreaper ? " subreaper" : "");
 }
 
 static struct pidtab_entry entries[ENTRIES];

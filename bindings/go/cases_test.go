@@ -291,8 +291,8 @@ func (it *caseWorld) stat(caller, pid uint32) string {
 	if found.Subreaper {
 		end += " subreaper"
 	}
-	return fmt.Sprintf("%s space %d parent %d group %d session %d control %d %s", joined(found.Numbers, ","), found.Space, found.Parent, found.Group,
-		found.Session, found.Control, end)
+	return fmt.Sprintf("%s root %d space %d parent %d group %d session %d control %d %s", joined(found.Numbers, ","), found.Root, found.Space, found.Parent,
+		found.Group, found.Session, found.Control, end)
 }
 
 // read is what a step of a history tells.

@@ -5,9 +5,10 @@ import "C"
 
 import "encoding/json"
 
-// Stat is a task as the caller's namespace sees it. The numbers of processes are those there, 0 where there is none.
+// Stat is a task as the caller's namespace sees it. The numbers of processes but Root are those there, 0 where there is none.
 type Stat struct {
 	Numbers   []uint32 // from the caller's namespace inwards, 1 to 33 of them
+	Root      uint32   // its number in the root namespace, which names it in calls
 	Parent    uint32   // the number of its parent
 	Group     uint32   // the number of its process group
 	Session   uint32   // the number of its session
@@ -55,6 +56,7 @@ func statOf(status C.uint32_t, task *C.struct_pidtab_task) (Stat, error) {
 	}
 	stat := Stat{
 		Numbers:   make([]uint32, task.count),
+		Root:      uint32(task.root),
 		Parent:    uint32(task.parent),
 		Group:     uint32(task.group),
 		Session:   uint32(task.session),
@@ -79,6 +81,7 @@ func (stat Stat) MarshalJSON() ([]byte, error) {
 	state, status := stateOf(stat.Live, stat.Killed, &stat.Status)
 	return json.Marshal(struct {
 		Numbers   []uint32 `json:"numbers"`
+		Root      uint32   `json:"root"`
 		Parent    uint32   `json:"parent"`
 		Group     uint32   `json:"group"`
 		Session   uint32   `json:"session"`
@@ -88,5 +91,5 @@ func (stat Stat) MarshalJSON() ([]byte, error) {
 		Status    *uint8   `json:"status"`
 		Executed  bool     `json:"executed"`
 		Subreaper bool     `json:"subreaper"`
-	}{some(stat.Numbers), stat.Parent, stat.Group, stat.Session, stat.Space, stat.Control, state, status, stat.Executed, stat.Subreaper})
+	}{some(stat.Numbers), stat.Root, stat.Parent, stat.Group, stat.Session, stat.Space, stat.Control, state, status, stat.Executed, stat.Subreaper})
 }

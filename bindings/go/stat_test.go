@@ -25,10 +25,10 @@ func TestTasksAsJSON(t *testing.T) {
 	table := open(t, 32768)
 	play(t, table, made...)
 	for pid, wanted := range map[uint32]string{
-		4: `{"numbers":[4,3,1],"parent":3,"group":4,"session":1,"space":4,"control":0,"state":"live","status":null,"executed":false,"subreaper":true}`,
-		5: `{"numbers":[5,4,2],"parent":4,"group":1,"session":1,"space":4,"control":1,"state":"live","status":null,"executed":true,"subreaper":false}`,
-		6: `{"numbers":[6,5],"parent":2,"group":1,"session":1,"space":2,"control":0,"state":"exited","status":255,"executed":false,"subreaper":false}`,
-		8: `{"numbers":[8,2],"parent":1,"group":1,"session":1,"space":13,"control":0,"state":"killed","status":null,"executed":false,"subreaper":false}`,
+		4: `{"numbers":[4,3,1],"root":4,"parent":3,"group":4,"session":1,"space":4,"control":0,"state":"live","status":null,"executed":false,"subreaper":true}`,
+		5: `{"numbers":[5,4,2],"root":5,"parent":4,"group":1,"session":1,"space":4,"control":1,"state":"live","status":null,"executed":true,"subreaper":false}`,
+		6: `{"numbers":[6,5],"root":6,"parent":2,"group":1,"session":1,"space":2,"control":0,"state":"exited","status":255,"executed":false,"subreaper":false}`,
+		8: `{"numbers":[8,2],"root":8,"parent":1,"group":1,"session":1,"space":13,"control":0,"state":"killed","status":null,"executed":false,"subreaper":false}`,
 	} {
 		stat, err := table.Stat(1, pid)
 		if got := asJSON(t, stat); err != nil || got != wanted {

@@ -40,10 +40,12 @@ export interface Which {
   group?: number;
 }
 
-/** A task as the caller's namespace sees it. Numbers of processes are those there, 0 where there is none. */
+/** A task as the caller's namespace sees it. Numbers of processes but `root` are those there, 0 where there is none. */
 export interface Stat {
   /** From the caller's namespace inwards. */
   numbers: number[];
+  /** Its number in the root namespace, which names it in calls. */
+  root: number;
   parent: number;
   group: number;
   session: number;

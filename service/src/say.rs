@@ -70,6 +70,7 @@ fn numbers(out: &mut Vec<u8>, numbers: &[u32]) {
 /// Names and values, by turns.
 pub fn stat(out: &mut Vec<u8>, task: &Stat) {
     let fields = [
+        ("root", u64::from(task.root())),
         ("parent", u64::from(task.parent())),
         ("group", u64::from(task.group())),
         ("session", u64::from(task.session())),

@@ -112,7 +112,7 @@ class Commands(Case):
     def test_stat(self):
         self.client.say("FORK 1 NEW")
         told = self.client.say("STAT 1 2")
-        wanted = {"numbers": [2, 1], "state": "live", "parent": 1, "group": 1, "session": 1, "space": 1, "control": 0, "executed": 0, "subreaper": 0}
+        wanted = {"numbers": [2, 1], "state": "live", "root": 2, "parent": 1, "group": 1, "session": 1, "space": 1, "control": 0, "executed": 0, "subreaper": 0}
         self.assertEqual(dict(zip(told[::2], told[1::2])), wanted)
         self.refused(self.client, "STAT 1 9", "ESRCH no-task")
 

@@ -43,6 +43,7 @@ export function aTask({ words, longs }, at) {
   const { status, killed } = live ? LIVES : ending(words[at + TASK.status]);
   return {
     numbers: numbersAt(words, at + TASK.levels, words[at + TASK.count]),
+    root: words[at + TASK.root],
     parent: words[at + TASK.parent],
     group: words[at + TASK.group],
     session: words[at + TASK.session],

@@ -41,8 +41,8 @@ tested("a task, read at once", (table) => {
   table.fork(1, { newSpace: true });
   const { ask } = table;
   const still = { status: null, killed: false, executed: false, subreaper: false };
-  assert.deepEqual(ask.stat(1, 2), { numbers: [2, 1], parent: 1, group: 1, session: 1, space: 1n, control: 0n, live: true, ...still });
-  assert.deepEqual(ask.stat(2), { numbers: [1], parent: 0, group: 0, session: 0, space: 1n, control: 0n, live: true, ...still });
+  assert.deepEqual(ask.stat(1, 2), { numbers: [2, 1], root: 2, parent: 1, group: 1, session: 1, space: 1n, control: 0n, live: true, ...still });
+  assert.deepEqual(ask.stat(2), { numbers: [1], root: 2, parent: 0, group: 0, session: 0, space: 1n, control: 0n, live: true, ...still });
   table.exit(2, 9);
   assert.deepEqual([ask.stat(1, 2).live, ask.stat(1, 2).status], [false, 9]);
   assert.throws(() => ask.stat(1, 5), { name: "Refusal", code: "ESRCH", word: "no-task", id: null });

@@ -68,7 +68,7 @@ function say(told, name) {
 
 function sayTask(it) {
   const marks = (it.executed ? " executed" : "") + (it.subreaper ? " subreaper" : "");
-  const family = `space ${it.space} parent ${it.parent} group ${it.group} session ${it.session} control ${it.control}`;
+  const family = `root ${it.root} space ${it.space} parent ${it.parent} group ${it.group} session ${it.session} control ${it.control}`;
   return `${it.numbers.join(",")} ${family} ${it.live ? "live" : sayEnd(it)}${marks}`;
 }
 

@@ -23,7 +23,7 @@ test("a task", { skip }, () => {
   const { Table, toJson } = pidtab;
   const table = new Table();
   const task =
-    '{"numbers":[1],"parent":0,"group":1,"session":1,"space":0,"control":0,"state":"live","status":null,"executed":false,"subreaper":false}';
+    '{"numbers":[1],"root":1,"parent":0,"group":1,"session":1,"space":0,"control":0,"state":"live","status":null,"executed":false,"subreaper":false}';
   assert.equal(toJson(table.ask.stat(1)), task);
 });
 

@@ -41,12 +41,13 @@ class Reaped(NamedTuple):
 
 @dataclass(frozen=True)
 class Stat:
-    """A task as a namespace sees it: its numbers there and inwards, and those of its parent, group and session, 0 where there is none.
+    """A task as a namespace sees it: its numbers there and inwards, its root number, and those there of its parent, group and session, 0 where there is none.
 
     Then the ids of its own namespace and of its control group, whether it lives, its status if it has ended and was not killed, and its marks.
     """
 
     numbers: tuple[int, ...]
+    root: int
     parent: int
     group: int
     session: int
@@ -136,7 +137,7 @@ def tell_stat(task: PidtabTask) -> Stat:
     """What was read of a task."""
     status = task.status if task.ended and task.status != KILLED else None
     numbers = tuple(task.levels[: task.count])
-    seen = (numbers, task.parent, task.group, task.session, task.space, task.control)
+    seen = (numbers, task.root, task.parent, task.group, task.session, task.space, task.control)
     return Stat(*seen, not task.ended, status, bool(task.executed), bool(task.subreaper))
 
 

@@ -140,6 +140,7 @@ class PidtabTask(ctypes.Structure):
     subreaper: int
     space: int
     control: int
+    root: int
     levels: "ctypes.Array[ctypes.c_uint32]"
 
     _fields_ = [
@@ -155,6 +156,7 @@ class PidtabTask(ctypes.Structure):
         ("subreaper", ctypes.c_uint32),
         ("space", ctypes.c_uint64),
         ("control", ctypes.c_uint64),
+        ("root", ctypes.c_uint32),
         ("levels", ctypes.c_uint32 * LEVELS_MAX),
     ]
 

@@ -44,7 +44,7 @@ def say_task(task: Stat) -> str:
     """A task that was read, in the words of the list."""
     end = "live" if task.live else "killed" if task.killed else f"exit {task.status}"
     marks = " executed" * task.executed + " subreaper" * task.subreaper
-    family = f"space {task.space} parent {task.parent} group {task.group} session {task.session} control {task.control}"
+    family = f"root {task.root} space {task.space} parent {task.parent} group {task.group} session {task.session} control {task.control}"
     return f"{','.join(map(str, task.numbers))} {family} {end}{marks}"
 
 

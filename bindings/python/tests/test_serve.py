@@ -46,7 +46,7 @@ class Serves(unittest.TestCase):
 
     def test_a_task(self) -> None:
         *_, seen, inner, none, gone = self.answers("fork 1 new", "fork 2", "exit 3 7", "stat 1 3", "stat 2 2", "stat 2 9", "stat 9 1")
-        self.assertEqual(json.loads(seen), {"numbers": [3, 2], "parent": 2, "group": 1, "session": 1, "space": 1, "control": 0,
+        self.assertEqual(json.loads(seen), {"numbers": [3, 2], "root": 3, "parent": 2, "group": 1, "session": 1, "space": 1, "control": 0,
                                             "state": "exited", "status": 7, "executed": False, "subreaper": False})  # fmt: skip
         # Inside, the group and the session cannot be seen.
         self.assertEqual([json.loads(inner)[it] for it in ("numbers", "parent", "group", "session")], [[2], 1, 0, 0])

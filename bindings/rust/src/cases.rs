@@ -310,7 +310,8 @@ fn say_task(it: &Stat) -> String {
         .map(|(_, word)| word)
         .collect();
     let (parent, group, session) = (it.parent(), it.group(), it.session());
-    format!("{numbers} space {} parent {parent} group {group} session {session} control {} {end}{marks}", it.space(), it.control())
+    let (root, space, control) = (it.root(), it.space(), it.control());
+    format!("{numbers} root {root} space {space} parent {parent} group {group} session {session} control {control} {end}{marks}")
 }
 
 /// The line of the call that the numbers say, which has the same numbers again.

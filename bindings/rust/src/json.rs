@@ -84,8 +84,9 @@ impl Stat {
     pub fn to_json(&self) -> String {
         let (state, status) = state(self.ended());
         format!(
-            r#"{{"numbers":{},"parent":{},"group":{},"session":{},"space":{},"control":{},"state":"{state}","status":{},"executed":{},"subreaper":{}}}"#,
+            r#"{{"numbers":{},"root":{},"parent":{},"group":{},"session":{},"space":{},"control":{},"state":"{state}","status":{},"executed":{},"subreaper":{}}}"#,
             array(self.numbers(), u32::to_string),
+            self.root(),
             self.parent(),
             self.group(),
             self.session(),

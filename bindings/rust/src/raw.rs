@@ -205,6 +205,7 @@ pub(crate) struct Task {
     pub(crate) subreaper: u32,
     pub(crate) space: u64,
     pub(crate) control: u64,
+    pub(crate) root: u32,
     pub(crate) levels: [u32; LEVELS_MAX],
 }
 
@@ -222,6 +223,7 @@ impl Task {
         subreaper: 0,
         space: 0,
         control: 0,
+        root: 0,
         levels: [0; LEVELS_MAX],
     };
 }

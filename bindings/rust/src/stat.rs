@@ -2,7 +2,7 @@
 use crate::{raw, Ended, Error, Refusal, Table};
 use std::fmt;
 
-/// A task as the caller's namespace sees it. The numbers of processes are those there, 0 where there is none.
+/// A task as the caller's namespace sees it. The numbers of processes but the root number are those there, 0 where there is none.
 #[derive(Clone, Copy, PartialEq)]
 pub struct Stat {
     raw: raw::Task,
@@ -24,6 +24,11 @@ impl Stat {
     /// Its numbers from the caller's namespace inwards, 1 to 33 of them.
     pub fn numbers(&self) -> &[u32] {
         &self.raw.levels[..self.raw.count as usize]
+    }
+
+    /// Its number in the root namespace, which names it in calls.
+    pub fn root(&self) -> u32 {
+        self.raw.root
     }
 
     /// The number of its parent.
@@ -75,6 +80,7 @@ impl fmt::Debug for Stat {
     fn fmt(&self, to: &mut fmt::Formatter<'_>) -> fmt::Result {
         to.debug_struct("Stat")
             .field("numbers", &self.numbers())
+            .field("root", &self.root())
             .field("parent", &self.parent())
             .field("group", &self.group())
             .field("session", &self.session())
@@ -127,6 +133,7 @@ mod tests {
         assert_eq!((task.executed(), task.subreaper()), (false, false));
         let inside = table.stat(2, 2).expect("a task");
         assert_eq!((inside.numbers(), inside.parent()), (&[2][..], 1));
+        assert_eq!((task.root(), inside.root()), (3, 3));
         assert_eq!((inside.group(), inside.session()), (0, 0));
         table.exec(3).expect("a program");
         table.subreaper(3, true).expect("a subreaper");

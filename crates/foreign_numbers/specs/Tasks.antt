@@ -36,6 +36,7 @@ stat_numbers stat = record {
   subreaper = switch_number stat.subreaper;
   space = stat.space;
   control = stat.home;
+  root = stat.root;
   levels = with_zeroes stat.numbers.items;
 }
 
@@ -54,6 +55,7 @@ no_stat_numbers refusal = record {
   subreaper = 0;
   space = 0;
   control = 0;
+  root = 0;
   levels = replicate 33 0;
 }
 

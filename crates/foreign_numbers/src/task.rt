@@ -7,8 +7,8 @@ use pid_types::plain::{Ended, LEVELS, Life};
 use pid_types::reply::Refusal;
 use translate::stat::Stat;
 
-/// A task as the caller's namespace sees it; all its numbers are those there, 0 where there is none. Where `refusal` is
-/// not 0 the task was not read, and all but `errno` and `refusal` is 0.
+/// A task as the caller's namespace sees it; all its numbers but `root` are those there, 0 where there is none. Where
+/// `refusal` is not 0 the task was not read, and all but `errno` and `refusal` is 0.
 ///
 /// | Field | What it tells |
 /// |---|---|
@@ -18,6 +18,7 @@ use translate::stat::Stat;
 /// | `ended`, `status` | 0 and 0 while it lives; then 1 and its status, or 256 where it was killed |
 /// | `executed`, `subreaper` | 1 where it has executed, or is a subreaper |
 /// | `space`, `control` | the ids of its namespace and of its control group |
+/// | `root` | its number in the root namespace, which names it in calls |
 #[repr(C)]
 #[derive(Clone, Copy)]
 pub struct TaskNumbers {
@@ -33,6 +34,7 @@ pub struct TaskNumbers {
     pub subreaper: u32,
     pub space: u64,
     pub control: u64,
+    pub root: u32,
     pub levels: [u32; LEVELS],
 }
 
@@ -74,6 +76,7 @@ fn stat_told(stat: &Stat) -> TaskNumbers
         subreaper: u32::from(stat.subreaper),
         space: stat.space,
         control: stat.home,
+        root: stat.root,
         levels: padded(&stat.numbers),
     }
 }
@@ -95,6 +98,7 @@ fn refusal_told(refusal: Refusal) -> TaskNumbers
         subreaper: 0,
         space: 0,
         control: 0,
+        root: 0,
         levels: [0; LEVELS],
     }
 }

@@ -6,7 +6,7 @@ use Rattle.pid_types.specs.declared.plain.Life.TheVariants.{Live, Zombie}
 use Rattle.pid_types.specs.declared.plain.Row.{Row}
 use Rattle.pid_types.specs.declared.reply.Refusal.{Refusal}
 use Rattle.pid_types.specs.declared.reply.Refusal.TheVariants.{NoTask, NoCaller}
-use Rattle.pid_types.specs.Names.{number_or_zero, numbers_from, live_row}
+use Rattle.pid_types.specs.Names.{number_or_zero, numbers_from, root_number, live_row}
 use Rattle.pid_types.specs.Queries.{self_or_task}
 use Rattle.pid_types.specs.Sight.{Glimpse, glimpse_of}
 use Rattle.pid_types.specs.State.{State}
@@ -16,10 +16,11 @@ use Rattle.translate.specs.declared.stat.Stat.{Stat}
 abbrev pub seen_parent : State → ℕ → Row → ℕ
 seen_parent state s row = option_map_or (λ parent. number_or_zero state.spaces parent s) row.parent 0
 
--- what is read of the task's row: its numbers are those that the namespace sees, all else is the row's own
+-- what is read of the task's row: its numbers are those that the namespace sees, all else is the row's own, and the root number too
 abbrev pub stat_of : State → ℕ → Row → Stat
 stat_of state s row = record {
   numbers = record { items = numbers_from state.spaces row.name s };
+  root = root_number row.name;
   space = row.name.space;
   parent = seen_parent state s row;
   group = number_or_zero state.spaces row.group s;

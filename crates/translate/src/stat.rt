@@ -1,6 +1,7 @@
 //! One read of a task as the caller's namespace sees it: what `status` and `stat` of `proc(5)` tell of a process.
 
-ghost use Rattle.std.specs.Prelude.{◌≡◌, ℕ, Some, IfOk};
+ghost use Rattle.std.specs.Prelude.{◌≡◌, ℕ, Some, IfOk, IsSome};
+ghost use Rattle.pid_types.specs.Names.{root_number};
 ghost use Rattle.pid_numbers.specs.Numbering.{id_at};
 ghost use Rattle.task_tree.specs.Tree.{task_at};
 ghost use Rattle.task_table.specs.View.{name_at, row_of, state_of};
@@ -9,17 +10,19 @@ ghost use Rattle.translate.specs.Stat.{stat_of, stat_at, glimpse_in, IsSeen};
 
 use crate::queries::{seen_group, seen_parent, seen_session, self_or_task};
 use arrayvec::ArrayVec;
-use pid_types::keys::{Pid, SpaceKey};
+use pid_types::keys::{Pid, SpaceKey, TaskKey};
 use pid_types::plain::{LEVELS, Life};
 use pid_types::reply::Refusal;
 use task_table::Tasks;
 use task_table::view::{Found, find_live, laws, own_id};
 
-/// What is read of a task. The numbers are those in the caller's namespace, 0 where there is none.
+/// What is read of a task. The numbers are those in the caller's namespace, 0 where there is none, but for `root`.
 #[derive(Clone, Debug, Drop, PartialEq, Eq)]
 pub struct Stat {
     /// Its numbers from the caller's namespace inwards, outermost first, as `NSpid` has them.
     pub numbers: ArrayVec<Pid, LEVELS>,
+    /// Its number in the root namespace, which names it in calls. It is told whether or not the caller sees that far.
+    pub root: Pid,
     /// The id of its own namespace.
     pub space: u64,
     /// Its parent's number: 0 for the root init too, which has no parent.
@@ -36,6 +39,15 @@ pub struct Stat {
     pub subreaper: bool,
 }
 
+/// The number of a task in the root namespace.
+fn root_of(store: &Tasks, key: TaskKey) -> Pid
+    requires { IsSome (task_at store.now.tree key) }
+    ensures { result ≡ root_number (name_at store.now.numbering key) }
+{
+    laws(store);
+    store.numbers().number_in(key, 0).unwrap_or(0)
+}
+
 /// Reads a task as the namespace sees it.
 fn read_task(store: &Tasks, space: SpaceKey, found: &Found) -> Stat
     requires parents { HasParents store.now }
@@ -47,6 +59,7 @@ fn read_task(store: &Tasks, space: SpaceKey, found: &Found) -> Stat
     laws(store);
     Stat {
         numbers: store.numbers().levels_from(found.key, space),
+        root: root_of(store, found.key),
         space: own_id(store, found),
         parent: seen_parent(store, space, found.key),
         group: seen_group(store, space, found),

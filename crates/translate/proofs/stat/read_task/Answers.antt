@@ -18,6 +18,7 @@ returns c i at =
     let home = c.home_id.ensures ∙ ap (λ (v : Charges). home_id v found.task.home) c.controls.ensures in
     λ j. record {
       numbers = record { items = levels j };
+      root = c.root_of.ensures j;
       space = c.own_id.ensures j;
       parent = c.seen_parent.ensures i at j;
       group = c.seen_group.ensures i at j;
