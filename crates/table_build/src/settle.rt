@@ -50,7 +50,7 @@ fn join_group(store: &mut Tasks, key: TaskKey, group: TaskKey, line: u64) -> Res
         Some(found) if found != session => return Err(BuildFault::Impossible(line)),
         _ => {}
     }
-    store.move_to(key, group, session);
+    store.set_group(key, group);
     laws(store);
     Ok(())
 }

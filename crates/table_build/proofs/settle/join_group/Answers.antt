@@ -1,7 +1,8 @@
 use Rattle.std.proofs.Common.{◌≡◌, Some, ap, sym, subst, ◌∙◌, is_some, option_map}
 use Rattle.pid_types.specs.declared.plain.Name.{Name}
 use Rattle.pid_types.specs.declared.plain.Row.{Row}
-use Rattle.groups_sessions.specs.Membership.{Membership, session_of}
+use Rattle.std.specs.Prelude.{slice_set}
+use Rattle.groups_sessions.specs.Membership.{Membership, membership_at, session_of}
 use Rattle.task_tree.specs.Tree.{task_at, parent_of}
 use Rattle.task_table.specs.View.{name_at}
 use Rattle.task_table.proofs.Regrouped.{IsRegrouped}
@@ -14,33 +15,36 @@ use Rattle.groups_sessions.specs.Membership.{IsSessionOf}
 use Rattle.table_build.proofs.PartSteps.{one-session}
 use Rattle.table_build.proofs.settle.join_group.Goals as goal
 
-went : (c : goal.After-laws-2) → IsRegrouped c.args.store.now c.move_to.new.self c.args.key (record { group = c.args.group; session = c.session-session.result })
-went c = record { members = c.move_to.ensures.members; numbers = c.move_to.ensures.numbers; tree = c.move_to.ensures.rest.0; charges = c.move_to.ensures.rest.1 }
+went : (c : goal.After-laws-2) (m : Membership) → membership_at c.args.store.now.members c.args.key ≡ Some m
+    → IsRegrouped c.args.store.now c.set_group.new.self c.args.key (record m { group = c.args.group })
+went c m at = record {
+  members = c.set_group.ensures.members ∙ ap (λ o. slice_set c.args.store.now.members c.args.key (option_map (λ (i : Membership). record i { group = c.args.group }) o)) at;
+  numbers = c.set_group.ensures.numbers;
+  tree = c.set_group.ensures.rest.0;
+  charges = c.set_group.ensures.rest.1;
+}
 
 pub returns-clause-grouping : goal.returns-clause-grouping
 returns-clause-grouping c = record {
-  kin = λ k p e. ap (λ x. is_some (task_at x p)) c.move_to.ensures.rest.0 ∙ c.requires.grouping.kin k p (sym (ap (λ x. parent_of x k) c.move_to.ensures.rest.0) ∙ e);
-  borne = borne-less c.args.store.now c.move_to.new.self c.move_to.ensures.rest.0 c.move_to.ensures.numbers c.requires.grouping.borne;
-  standing = standing-less c.args.store.now.numbering c.move_to.new.self.numbering c.laws.ensures.numbering c.requires.grouping.standing c.move_to.ensures.numbers;
+  kin = λ k p e. ap (λ x. is_some (task_at x p)) c.set_group.ensures.rest.0 ∙ c.requires.grouping.kin k p (sym (ap (λ x. parent_of x k) c.set_group.ensures.rest.0) ∙ e);
+  borne = borne-less c.args.store.now c.set_group.new.self c.set_group.ensures.rest.0 c.set_group.ensures.numbers c.requires.grouping.borne;
+  standing = standing-less c.args.store.now.numbering c.set_group.new.self.numbering c.laws.ensures.numbering c.requires.grouping.standing c.set_group.ensures.numbers;
 }
 
 pub returns-clause-joined : goal.returns-clause-joined
 returns-clause-joined c = λ row e.
     let v = task-of c.args.store.now c.args.key row e in
     let m = member c.args.store.now c.laws.ensures c.args.key v.0 v.1 in
-    let found : Some m.0.session ≡ Some c.session-session.result =
-    sym (ap (option_map (λ (i : Membership). i.session)) m.1) ∙ sym (ap (λ ms. session_of ms c.args.key) c.members.ensures) ∙ c.session-session.ensures in
-    let same : m.0.session ≡ c.session-session.result = cc in
-    let name : name_at c.args.store.now.numbering c.session-session.result ≡ row.session =
-    ap (name_at c.args.store.now.numbering) (sym same) ∙ sym (session-name c.args.store.now c.laws.ensures c.args.key v.0 m.0 m.1) ∙ ap (λ (r : Row). r.session) v.2 in
-    subst (λ (n : Name). SetsRow c.args.store.now c.move_to.new.self c.args.key (record row { group = name_at c.args.store.now.numbering c.args.group; session = n })) name
-    (regrouped-row c.args.store.now c.move_to.new.self c.laws.ensures c.laws-2.ensures c.requires.grouping.kin c.args.key (record { group = c.args.group; session = c.session-session.result }) (went c) row e)
+    let name : name_at c.args.store.now.numbering m.0.session ≡ row.session =
+    sym (session-name c.args.store.now c.laws.ensures c.args.key v.0 m.0 m.1) ∙ ap (λ (r : Row). r.session) v.2 in
+    subst (λ (n : Name). SetsRow c.args.store.now c.set_group.new.self c.args.key (record row { group = name_at c.args.store.now.numbering c.args.group; session = n })) name
+    (regrouped-row c.args.store.now c.set_group.new.self c.laws.ensures c.laws-2.ensures c.requires.grouping.kin c.args.key (record m.0 { group = c.args.group }) (went c m.0 m.1) row e)
 
 pub returns-clause-names : goal.returns-clause-names
-returns-clause-names c = bearers-stay c.args.store.now c.move_to.new.self c.laws.ensures c.laws-2.ensures c.move_to.ensures.rest.0 c.move_to.ensures.numbers
+returns-clause-names c = bearers-stay c.args.store.now c.set_group.new.self c.laws.ensures c.laws-2.ensures c.set_group.ensures.rest.0 c.set_group.ensures.numbers
 
 pub returns-clause-places : goal.returns-clause-places
-returns-clause-places c = places-less c.args.store.now c.move_to.new.self c.laws.ensures.numbering c.requires.grouping.standing c.move_to.ensures.numbers c.move_to.ensures.rest.1
+returns-clause-places c = places-less c.args.store.now c.set_group.new.self c.laws.ensures.numbering c.requires.grouping.standing c.set_group.ensures.numbers c.set_group.ensures.rest.1
 
 pub returns-in-Some-clause-refused : goal.returns-in-Some-clause-refused
 returns-in-Some-clause-refused c = λ row e there inside.
