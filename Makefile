@@ -344,7 +344,7 @@ bindings-js: package
 
 .PHONY: replicated
 
-# By a log in memory that has troubles, and by three members of etcd on the loopback, of which some are killed.
+# By a log in memory that has troubles, by three members of etcd on the loopback, of which some are killed, and by a server of PostgreSQL likewise.
 replicated: ## * tests one table on many hosts (some 10 minutes); where there is no library, it first does `make lib`
 	@test -e '$(SHARED)' || $(MAKE) -s lib
 	@command -v etcd > /dev/null || echo '$@: etcd is skipped: no etcd on PATH (Debian: etcd-server)'

@@ -12,6 +12,7 @@ from pathlib import Path
 
 from cluster.etcds import need_etcd
 from cluster.load import table_kind
+from cluster.postgres import need_postgres
 from cluster.test_etcd import environment
 from pidtab import Process
 from tests.ways import need_library, need_program
@@ -59,7 +60,9 @@ class Wrong(unittest.TestCase):
             folder = Path(name) / "python"
             shutil.copytree(PACKAGE, folder, ignore=shutil.ignore_patterns("__pycache__"))
             test = plant(edit.read_text(encoding="utf-8"), folder / "pidtab")
-            if test.startswith("cluster."):
+            if test.startswith("cluster.test_postgres."):
+                need_postgres()
+            elif test.startswith("cluster."):
                 need_etcd()
                 (need_program if table_kind() is Process else need_library)()
             done = self.run_test(folder, test)
@@ -68,7 +71,7 @@ class Wrong(unittest.TestCase):
         self.assertNotRegex(done.stderr, r"SyntaxError|NameError|ImportError|_FailedTest")
 
     def test_each_is_found(self) -> None:
-        self.assertGreater(len(EDITS), 35)
+        self.assertGreater(len(EDITS), 41)
         for edit in EDITS:
             with self.subTest(edit.stem):
                 self.check(edit)
