@@ -290,6 +290,7 @@ DUMP_SEEDS_TEST = test_dump_seeds guard heap
 DUMP_RECORD_TEST = test_dump_record shared guard guard_record
 THREADS_TEST = test_threads guard guard_record
 READERS_TEST = test_readers shared guard guard_record
+CALLS_TEST = test_calls shared guard guard_record
 SHARED_TEST = test_shared shared guard guard_record heap
 FOLLOW_TEST = test_follow shared guard guard_record heap
 WATCH_TEST = test_watch saved_file shared guard guard_record heap
@@ -317,6 +318,8 @@ bindings-c:
 			$(CC) $$sanitizer -o $(OUT)/test_readers $(READERS_TEST:%=bindings/c/%.c) $(OUT)/readers_heap.o $(OUT)/proved.a && \
 			$(RUN) $(OUT)/test_readers || exit 1; done && \
 		for sanitizer in '$(CHECKED)' '$(THREADED)'; do \
+			$(CC) $$sanitizer $(HELD) -c -o $(OUT)/calls_heap.o bindings/c/heap.c && \
+			$(CC) $$sanitizer -o $(OUT)/test_calls $(CALLS_TEST:%=bindings/c/%.c) $(OUT)/calls_heap.o $(OUT)/proved.a && $(RUN) $(OUT)/test_calls && \
 			$(CC) $$sanitizer -o $(OUT)/test_shared $(SHARED_TEST:%=bindings/c/%.c) $(OUT)/proved.a && $(RUN) $(OUT)/test_shared && \
 			$(CC) $$sanitizer -o $(OUT)/test_follow $(FOLLOW_TEST:%=bindings/c/%.c) $(OUT)/proved.a && $(RUN) $(OUT)/test_follow && \
 			$(CC) $$sanitizer -o $(OUT)/test_watch $(WATCH_TEST:%=bindings/c/%.c) $(OUT)/proved.a && $(RUN) $(OUT)/test_watch && \

@@ -1,7 +1,7 @@
 /* Calls of the library for C by numbers, for callgrind: calls TABLE LOAD N.
  *
- * TABLE is plain, record or shared (with its lock taken for each call); LOAD is getpid, the same as a query that is no call (ask), or
- * cycle: a fork, an exit and a wait. The difference of the instructions at two lengths, divided by that of the lengths, is the cost; the
+ * TABLE is plain, record or shared (with its lock taken for each call); LOAD is getpid, the same as a query that is no call (ask), the
+ * same with 100 in a turn (turns; N is how many turns, and no table is plain), or cycle: a fork, an exit and a wait. The difference of the instructions at two lengths, divided by that of the lengths, is the cost; the
  * loop is in it.
  *
  *   cc -O2 -Iout loads/calls.c out/libpidtab.a -pthread -o out/calls
@@ -16,6 +16,9 @@
 static struct pidtab plain;
 static struct pidtab_record record;
 static struct pidtab_shared shared;
+
+/* So many calls are made in a turn. */
+#define A_TURN 100
 
 typedef uint32_t make_call(const struct pidtab_call *call, struct pidtab_reply *reply);
 
@@ -36,6 +39,20 @@ static uint32_t on_shared(const struct pidtab_call *call, struct pidtab_reply *r
 	return pidtab_shared_call(&shared, 0, call, reply, &ordinal);
 }
 
+static uint32_t turn_on_record(const struct pidtab_call *calls, struct pidtab_reply *replies)
+{
+	uint64_t ordinal;
+	size_t made;
+	return pidtab_record_calls(&record, 0, calls, A_TURN, replies, A_TURN, &made, &ordinal);
+}
+
+static uint32_t turn_on_shared(const struct pidtab_call *calls, struct pidtab_reply *replies)
+{
+	uint64_t ordinal;
+	size_t made;
+	return pidtab_shared_calls(&shared, 0, calls, A_TURN, replies, A_TURN, &made, &ordinal);
+}
+
 static uint32_t ask_plain(const struct pidtab_call *call, struct pidtab_reply *reply)
 {
 	return pidtab_ask(&plain, call, reply);
@@ -51,15 +68,22 @@ static uint32_t ask_shared(const struct pidtab_call *call, struct pidtab_reply *
 	return pidtab_shared_ask(&shared, call, reply);
 }
 
-/* Opens the table that the word names, with 16 workers and the whole history. */
-static make_call *opened(const char *table, bool asks)
+static bool is_word(const char *word, const char *other)
 {
-	if (strcmp(table, "plain") == 0)
-		return pidtab_open(&plain, 32768) != PIDTAB_DONE ? NULL : asks ? ask_plain : on_plain;
-	if (strcmp(table, "record") == 0)
-		return pidtab_record_open(&record, 32768, 1, 16) != PIDTAB_DONE ? NULL : asks ? ask_record : on_record;
-	if (strcmp(table, "shared") == 0)
-		return pidtab_shared_open(&shared, 32768, 1, 16, 0) != PIDTAB_DONE ? NULL : asks ? ask_shared : on_shared;
+	return strcmp(word, other) == 0;
+}
+
+/* Opens the table that the word names, with 16 workers and the whole history. */
+static make_call *opened(const char *table, const char *load)
+{
+	const bool asks = is_word(load, "ask"), turns = is_word(load, "turns");
+
+	if (is_word(table, "plain"))
+		return turns || pidtab_open(&plain, 32768) != PIDTAB_DONE ? NULL : asks ? ask_plain : on_plain;
+	if (is_word(table, "record"))
+		return pidtab_record_open(&record, 32768, 1, 16) != PIDTAB_DONE ? NULL : asks ? ask_record : turns ? turn_on_record : on_record;
+	if (is_word(table, "shared"))
+		return pidtab_shared_open(&shared, 32768, 1, 16, 0) != PIDTAB_DONE ? NULL : asks ? ask_shared : turns ? turn_on_shared : on_shared;
 	return NULL;
 }
 
@@ -68,6 +92,20 @@ static uint32_t getpid_once(make_call *make)
 	const struct pidtab_call call = { .operation = PIDTAB_GETPID, .caller = 1 };
 	struct pidtab_reply reply;
 	return make(&call, &reply);
+}
+
+/* So many turns of getpid. */
+static uint32_t take_turns(make_call *make, long left)
+{
+	static struct pidtab_call calls[A_TURN];
+	static struct pidtab_reply replies[A_TURN];
+	uint32_t status = 0;
+
+	for (int i = 0; i < A_TURN; i++)
+		calls[i] = (struct pidtab_call){ .operation = PIDTAB_GETPID, .caller = 1 };
+	for (; left > 0; left--)
+		status |= make(calls, replies);
+	return status;
 }
 
 static uint32_t cycle_once(make_call *make)
@@ -84,14 +122,16 @@ static uint32_t cycle_once(make_call *make)
 
 int main(int count, char **words)
 {
-	make_call *make = count == 4 ? opened(words[1], strcmp(words[2], "ask") == 0) : NULL;
+	make_call *make = count == 4 ? opened(words[1], words[2]) : NULL;
 	uint32_t status = 0;
 
 	if (!make) {
-		fprintf(stderr, "calls plain|record|shared getpid|ask|cycle N\n");
+		fprintf(stderr, "calls plain|record|shared getpid|ask|turns|cycle N\n");
 		return 2;
 	}
+	if (is_word(words[2], "turns"))
+		return take_turns(make, atol(words[3])) != PIDTAB_DONE;
 	for (long left = atol(words[3]); left > 0; left--)
-		status |= strcmp(words[2], "cycle") == 0 ? cycle_once(make) : getpid_once(make);
+		status |= is_word(words[2], "cycle") ? cycle_once(make) : getpid_once(make);
 	return status != PIDTAB_DONE;
 }

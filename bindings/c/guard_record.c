@@ -5,6 +5,7 @@ uint32_t proved_record_open(struct pidtab_record *record, uint32_t pid_max, uint
 void proved_record_close(struct pidtab_record *record);
 uint32_t proved_record_call(struct pidtab_record *record, uint32_t worker, const struct pidtab_call *call, struct pidtab_reply *reply, uint64_t *ordinal);
 uint32_t proved_record_call_keeping(struct pidtab_record *record, uint32_t worker, const struct pidtab_call *call, uint64_t keep, struct pidtab_reply *reply, uint64_t *ordinal);
+uint32_t proved_record_calls(struct pidtab_record *record, uint32_t worker, const struct pidtab_call *calls, size_t count, struct pidtab_reply *replies, size_t room, size_t *made, uint64_t *ordinal);
 uint32_t proved_record_line(struct pidtab_record *record, uint32_t worker, const void *line, size_t length, void *answer, size_t room, size_t *size, uint64_t *ordinal);
 uint32_t proved_record_ask(struct pidtab_record *record, const struct pidtab_call *call, struct pidtab_reply *reply);
 uint32_t proved_record_stat(struct pidtab_record *record, uint32_t caller, uint32_t number, struct pidtab_task *task);
@@ -108,6 +109,16 @@ uint32_t pidtab_record_call_keeping(struct pidtab_record *record, uint32_t worke
 	if (!enter(record, &held))
 		return PIDTAB_BUSY;
 	return leave(record, &held, proved_record_call_keeping(&held, worker, call, keep, reply, ordinal));
+}
+
+uint32_t pidtab_record_calls(struct pidtab_record *record, uint32_t worker, const struct pidtab_call *calls, size_t count, struct pidtab_reply *replies, size_t room, size_t *made, uint64_t *ordinal)
+{
+	struct pidtab_record held;
+
+	*made = 0;
+	if (!enter(record, &held))
+		return PIDTAB_BUSY;
+	return leave(record, &held, proved_record_calls(&held, worker, calls, count, replies, room, made, ordinal));
 }
 
 uint32_t pidtab_record_line(struct pidtab_record *record, uint32_t worker, const void *line, size_t length, void *answer, size_t room, size_t *size, uint64_t *ordinal)

@@ -52,7 +52,7 @@ enum pidtab_status {
 };
 
 /* What the functions of a record answer besides. Any status but PIDTAB_DONE says that the record is as it was, but of
- * pidtab_record_replay. */
+ * pidtab_record_replay, and of pidtab_record_calls as it says. */
 enum pidtab_record_status {
 	PIDTAB_NOT_KEPT = 2, /* ENOENT: the entry was cut away, or is not reached yet */
 	PIDTAB_AGAIN = 11,   /* EAGAIN: another number of calls was recorded by now */
@@ -521,6 +521,14 @@ uint32_t pidtab_record_call(struct pidtab_record *record, uint32_t worker, const
 /* The same, and then at most `keep` entries are kept: behind the call the first ones are cut, two at most. DONE, CLOSED, OUT_OF_RANGE,
  * SPENT, NO_MEMORY. */
 uint32_t pidtab_record_call_keeping(struct pidtab_record *record, uint32_t worker, const struct pidtab_call *call, uint64_t keep, struct pidtab_reply *reply, uint64_t *ordinal);
+
+/* Makes `count` calls of the worker in their order and with none between them, as so many pidtab_record_call would. made is how many were
+ * made, and ordinal the place of the last. replies[i] is that to calls[i]; those from made on stay as they are.
+ *
+ * OUT_OF_RANGE, where one of the calls is none or there is no such worker, and NO_ROOM, where room is less than count, are found before any
+ * is made. SPENT and NO_MEMORY end it before the call that meets them: the calls before that were made. Of each other status but DONE, made
+ * is 0. DONE, CLOSED, OUT_OF_RANGE, NO_ROOM, SPENT, NO_MEMORY. */
+uint32_t pidtab_record_calls(struct pidtab_record *record, uint32_t worker, const struct pidtab_call *calls, size_t count, struct pidtab_reply *replies, size_t room, size_t *made, uint64_t *ordinal);
 
 /* The same as pidtab_record_call of a line, as pidtab_line has it. DONE, CLOSED, EMPTY_LINE, BAD_LINE, NO_ROOM, OUT_OF_RANGE, SPENT,
  * NO_MEMORY. */

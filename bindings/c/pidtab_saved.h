@@ -152,8 +152,9 @@ uint32_t pidtab_saved_serve(struct pidtab_saved *saved, struct pidtab_shared *sh
 uint32_t pidtab_saved_wait(struct pidtab_shared *shared, uint64_t ordinal);
 
 /* From now on at most so many calls are recorded and not saved; 0, as at first, is any number. A call of pidtab_shared_call or
- * pidtab_shared_line that would be one more waits for the saver, as pidtab_saved_wait does. Where the saver's last turn failed, or it has
- * ended, it is not made, and answers that status. */
+ * pidtab_shared_line that would be one more waits for the saver, as pidtab_saved_wait does; so do those of pidtab_shared_calls that would be
+ * too many, and more than the bound until all are saved. Where the saver's last turn failed, or it has ended, none is made, and the answer
+ * is that status. */
 void pidtab_saved_bound(struct pidtab_shared *shared, uint64_t most);
 
 /* Ends the saver, for good: pidtab_saved_serve saves what was recorded, and answers. What waits, or comes to wait, for a call that is not

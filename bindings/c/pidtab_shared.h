@@ -68,6 +68,9 @@ void pidtab_shared_unlock(struct pidtab_shared *shared);
 /* What the functions of pidtab.h with these names do. Where pidtab_saved_bound of pidtab_saved.h has set a bound, a call and a line wait for
  * the saver, and may answer its status. */
 uint32_t pidtab_shared_call(struct pidtab_shared *shared, uint32_t worker, const struct pidtab_call *call, struct pidtab_reply *reply, uint64_t *ordinal);
+/* pidtab_record_calls under one lock, so no call of another thread comes between. A bound has it wait until there is room for all of the calls, or
+ * all that was recorded is saved. Entries are cut behind the last call. */
+uint32_t pidtab_shared_calls(struct pidtab_shared *shared, uint32_t worker, const struct pidtab_call *calls, size_t count, struct pidtab_reply *replies, size_t room, size_t *made, uint64_t *ordinal);
 uint32_t pidtab_shared_line(struct pidtab_shared *shared, uint32_t worker, const void *line, size_t length, void *answer, size_t room, size_t *size, uint64_t *ordinal);
 uint32_t pidtab_shared_ask(struct pidtab_shared *shared, const struct pidtab_call *call, struct pidtab_reply *reply);
 uint32_t pidtab_shared_stat(struct pidtab_shared *shared, uint32_t caller, uint32_t number, struct pidtab_task *task);

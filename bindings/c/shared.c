@@ -272,13 +272,14 @@ void pidtab_shared_end(struct pidtab_shared *shared)
 	pthread_mutex_unlock(&shared->lock);
 }
 
-/* Waits until the saver is near enough. A saver that cannot save lets no call go on. */
-static uint32_t wait_for_saver(struct pidtab_shared *shared)
+/* Waits until the saver is near enough for so many calls: for more than the bound, until it has saved all. A saver that cannot save lets no call
+ * go on. */
+static uint32_t wait_for_saver(struct pidtab_shared *shared, size_t count)
 {
 	uint64_t first_kept, recorded;
 
 	while (shared->most != 0 && pidtab_record_counts(&shared->record, &first_kept, &recorded) == PIDTAB_DONE) {
-		if (recorded < shared->saved || recorded - shared->saved < shared->most)
+		if (recorded <= shared->saved || recorded - shared->saved + count <= shared->most)
 			break;
 		if (shared->saving != PIDTAB_DONE)
 			return shared->saving;
@@ -287,27 +288,39 @@ static uint32_t wait_for_saver(struct pidtab_shared *shared)
 	return PIDTAB_DONE;
 }
 
-/* The locks for a call; where that is not to be made, the status, and no lock. */
-static inline uint32_t begin_call(struct pidtab_shared *shared)
+/* The locks for so many calls; where they are not to be made, the status, and no lock. */
+static inline uint32_t begin_calls(struct pidtab_shared *shared, size_t count)
 {
 	uint32_t status;
 
 	lock_for_call(shared);
-	status = shared->most == 0 ? (uint32_t)PIDTAB_DONE : wait_for_saver(shared);
+	status = shared->most == 0 ? (uint32_t)PIDTAB_DONE : wait_for_saver(shared, count);
 	if (status != PIDTAB_DONE)
 		return unlocked(shared, status);
 	begin_change(shared);
 	return status;
 }
 
-static inline uint32_t end_call(struct pidtab_shared *shared, uint32_t status)
+/* Behind so many calls more entries are cut than they made, two in a step, so that a bound which was lowered is reached. */
+static inline uint32_t end_calls(struct pidtab_shared *shared, size_t made, uint32_t status)
 {
-	if (status == PIDTAB_DONE) {
+	if (made != 0) {
 		if (shared->keep != 0)
-			pidtab_record_keep(&shared->record, shared->keep);
+			for (size_t cut = 0; cut <= made; cut += 2)
+				pidtab_record_keep(&shared->record, shared->keep);
 		wake_sleepers(shared);
 	}
 	return changed(shared, status);
+}
+
+static inline uint32_t begin_call(struct pidtab_shared *shared)
+{
+	return begin_calls(shared, 1);
+}
+
+static inline uint32_t end_call(struct pidtab_shared *shared, uint32_t status)
+{
+	return end_calls(shared, status == PIDTAB_DONE, status);
 }
 
 uint32_t pidtab_shared_call(struct pidtab_shared *shared, uint32_t worker, const struct pidtab_call *call, struct pidtab_reply *reply, uint64_t *ordinal)
@@ -317,6 +330,17 @@ uint32_t pidtab_shared_call(struct pidtab_shared *shared, uint32_t worker, const
 	if (status != PIDTAB_DONE)
 		return status;
 	return end_call(shared, pidtab_record_call(&shared->record, worker, call, reply, ordinal));
+}
+
+uint32_t pidtab_shared_calls(struct pidtab_shared *shared, uint32_t worker, const struct pidtab_call *calls, size_t count, struct pidtab_reply *replies, size_t room, size_t *made, uint64_t *ordinal)
+{
+	uint32_t status = begin_calls(shared, count);
+
+	*made = 0;
+	if (status != PIDTAB_DONE)
+		return status;
+	status = pidtab_record_calls(&shared->record, worker, calls, count, replies, room, made, ordinal);
+	return end_calls(shared, *made, status);
 }
 
 uint32_t pidtab_shared_line(struct pidtab_shared *shared, uint32_t worker, const void *line, size_t length, void *answer, size_t room, size_t *size, uint64_t *ordinal)

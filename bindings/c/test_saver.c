@@ -130,6 +130,34 @@ static void never_too_far(void)
 	end();
 }
 
+/* Turns, of which some are longer than the bound: those are made where all is saved. */
+static void *keeps_the_bound_by_turns(void *unused)
+{
+	struct pidtab_call calls[2 * BOUND];
+	struct pidtab_reply replies[2 * BOUND];
+	uint32_t worker;
+	uint64_t ordinal;
+
+	for (size_t i = 0; i < 2 * BOUND; i++)
+		calls[i] = (struct pidtab_call){ .operation = PIDTAB_GETPID, .caller = 1 };
+	CHECK(pidtab_shared_seat(&shared, &worker) == PIDTAB_DONE);
+	for (size_t left = EACH, count = 1, made; left > 0; left -= made, count = count * 5 % (2 * BOUND) + 1) {
+		count = count < left ? count : left;
+		CHECK(pidtab_shared_calls(&shared, worker, calls, count, replies, count, &made, &ordinal) == PIDTAB_DONE && made == count);
+		CHECK(ordinal < count_in_file() + (count < BOUND ? BOUND : count));
+	}
+	return unused;
+}
+
+static void no_turn_too_far(void)
+{
+	begin();
+	pidtab_saved_bound(&shared, BOUND);
+	beside_the_saver(keeps_the_bound_by_turns, 0);
+	CHECK(saved.next == THREADS * EACH);
+	end();
+}
+
 /* One call more than the bound, and by a line. */
 static void *makes_one_too_many(void *unused)
 {
@@ -311,6 +339,7 @@ int main(void)
 	CHECK(signal(SIGPIPE, SIG_IGN) != SIG_ERR);
 	all_is_saved_and_cut();
 	never_too_far();
+	no_turn_too_far();
 	let_go(true);
 	let_go(false);
 	fails_and_goes_on();

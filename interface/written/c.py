@@ -56,7 +56,7 @@ def statuses(tables):
         " * A call that the table refuses, as ESRCH no-caller, is PIDTAB_DONE: its answer or reply says so. */",
         *enum("pidtab_status", status_enum(tables, "table")), "",
         "/* What the functions of a record answer besides. Any status but PIDTAB_DONE says that the record is as it was, but of",
-        " * pidtab_record_replay. */",
+        " * pidtab_record_replay, and of pidtab_record_calls as it says. */",
         *enum("pidtab_record_status", status_enum(tables, "record")), "", "/* What a status says, as a sentence. */",
         *status_text("pidtab_text", [it for it in tables["statuses"] if it.of != "saved"], '"no such status"'),
     ]  # fmt: skip
@@ -112,7 +112,7 @@ def operations(tables):
 # What waits for its turn as a call does; all other functions go before the calls.
 AS_CALLS = ("ask", "stat")
 # What is more than the function of a record behind the lock.
-BY_HAND = ("open", "load", "close", "call", "line")
+BY_HAND = ("open", "load", "close", "call", "calls", "line")
 
 
 def forwards(tables):

@@ -45,7 +45,7 @@ def python_structs(tables):
 
 # The dictionaries of functions: which they are, and whether an earlier library may lack them.
 OTHERS = ("shared_lock", "shared_unlock", "call_line", *(f"saved_{it}" for it in ("sum", "put", "put_head", "append", "load", "resume")))
-ADDED = ("shared_load", "shared_dump", "shared_follow", "shared_wait", "shared_end")
+ADDED = ("shared_calls", "shared_load", "shared_dump", "shared_follow", "shared_wait", "shared_end")
 
 
 def python_functions(tables):

@@ -359,6 +359,36 @@ uint32_t proved_record_worker(struct pidtab_record *record, uint32_t worker, uin
 	return record->is_open ? fetched(it, Z_pidtabZ_record_worker(it, worker), NUMBERS, calls, sizeof *calls) : PIDTAB_CLOSED;
 }
 
+/* Whether each is a call, which has a line then, and there is such a worker. */
+static bool can_make(struct pidtab_record *record, uint32_t worker, const struct pidtab_call *calls, size_t count)
+{
+	uint64_t recorded;
+
+	for (size_t i = 0; i < count; i++) {
+		put(record->at, CALL, &calls[i], sizeof *calls);
+		if (Z_pidtabZ_call_line(record->at) != PIDTAB_DONE)
+			return false;
+	}
+	return proved_record_worker(record, worker, &recorded) == PIDTAB_DONE;
+}
+
+uint32_t proved_record_calls(struct pidtab_record *record, uint32_t worker, const struct pidtab_call *calls, size_t count, struct pidtab_reply *replies, size_t room, size_t *made, uint64_t *ordinal)
+{
+	*made = 0;
+	if (!record->is_open)
+		return PIDTAB_CLOSED;
+	if (!can_make(record, worker, calls, count))
+		return PIDTAB_OUT_OF_RANGE;
+	if (room < count)
+		return PIDTAB_NO_ROOM;
+	for (; *made < count; ++*made) {
+		uint32_t status = proved_record_call(record, worker, &calls[*made], &replies[*made], ordinal);
+		if (status != PIDTAB_DONE)
+			return status;
+	}
+	return PIDTAB_DONE;
+}
+
 uint32_t proved_record_entry(struct pidtab_record *record, uint64_t ordinal, uint64_t *worker, struct pidtab_call *call, struct pidtab_reply *reply)
 {
 	instance *it = record->at;

@@ -290,6 +290,7 @@ SHARED_FUNCTIONS: dict[str, Function] = {
 # Those of these that an earlier library may lack.
 LATER_SHARED_FUNCTIONS: dict[str, Function] = {
     "pidtab_shared_load": (U32, [SHARED, ctypes.c_char_p, SIZE_T, NUMBER_64, SIZE_T, U64, FAULT]),
+    "pidtab_shared_calls": (U32, [SHARED, U32, CALL_BYTES, SIZE_T, REPLY, SIZE_T, SIZE, NUMBER_64]),
     "pidtab_shared_dump": (U32, [SHARED, BYTES, SIZE_T, SIZE]),
     "pidtab_shared_follow": (U32, [SHARED, TABLE, NUMBER_64]),
     "pidtab_shared_wait": (U32, [SHARED, U64, ctypes.c_void_p, NUMBER_64]),

@@ -316,6 +316,16 @@ extern "C" {
         reply: *mut Reply,
         ordinal: *mut u64,
     ) -> u32;
+    fn pidtab_record_calls(
+        record: *mut Held,
+        worker: u32,
+        calls: *const Call,
+        count: usize,
+        replies: *mut Reply,
+        room: usize,
+        made: *mut usize,
+        ordinal: *mut u64,
+    ) -> u32;
     fn pidtab_record_line(
         record: *mut Held,
         worker: u32,
@@ -565,6 +575,29 @@ impl Record {
     ) -> u32 {
         // SAFETY: it is open and lent to this call alone; each pointer is that of a reference or of a slice with that length.
         unsafe { pidtab_record_call(&mut *self.held, worker, call, reply, ordinal) }
+    }
+
+    pub(crate) fn calls(
+        &mut self,
+        worker: u32,
+        calls: &[Call],
+        replies: &mut [Reply],
+        made: &mut usize,
+        ordinal: &mut u64,
+    ) -> u32 {
+        // SAFETY: it is open and lent to this call alone; each pointer is that of a reference or of a slice with that length.
+        unsafe {
+            pidtab_record_calls(
+                &mut *self.held,
+                worker,
+                calls.as_ptr(),
+                calls.len(),
+                replies.as_mut_ptr(),
+                replies.len(),
+                made,
+                ordinal,
+            )
+        }
     }
 
     pub(crate) fn line(

@@ -4,5 +4,6 @@ pub mod Records
 pub mod Entries
 pub mod Asked
 pub mod Replays
+pub mod Turns
 pub mod Saved
 pub mod SavedBytes

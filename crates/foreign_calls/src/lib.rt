@@ -6,6 +6,7 @@
 
 pub mod ask;
 pub mod history;
+pub mod many_calls;
 pub mod read;
 pub mod record;
 pub mod record_calls;

@@ -1,5 +1,5 @@
 //! Calls on a record, as numbers and as lines.
-ghost use Rattle.std.specs.Prelude.{◌≡◌, ◌≢◌, ◌<◌, ◌≤◌, ◌↔◌, ◌⊎◌, IsTrue, Some, length, take, drop};
+ghost use Rattle.std.specs.Prelude.{◌≡◌, ◌≢◌, ◌+◌, ◌<◌, ◌≤◌, ◌↔◌, ◌⊎◌, IsTrue, Some, length, take, drop};
 ghost use Rattle.pid_types.specs.Step.{may_grow};
 ghost use Rattle.pid_script.specs.Answers.{reply_text};
 ghost use Rattle.kept_table.specs.Calls.{outcome};
@@ -24,6 +24,7 @@ pub fn make_on(held: &mut Kept, worker: usize, made: Call, ordinal: &mut u64) ->
     ensures out_of_range { (result ≡ OUT_OF_RANGE) ↔ (length held.old.cut ≤ worker) }
     ensures spent { (result ≡ SPENT) ↔ (worker < length held.old.cut) × (next_stamp held.old ≡ u64.MAX) }
     ensures no_memory { result ≡ NO_MEMORY → 0 < held.old.room → IsTrue (may_grow made) }
+    ensures room { held.old.room ≤ held.new.room + 1 }
     ensures statuses { (result ≡ DONE) ⊎ ((result ≡ OUT_OF_RANGE) ⊎ ((result ≡ SPENT) ⊎ (result ≡ NO_MEMORY))) }
 {
     if worker >= held.workers() {

@@ -28,6 +28,7 @@ ghost use Rattle.stamped_table.specs.Stamped.{IsInOrder};
 
 mod ask;
 mod history;
+mod many_calls;
 mod read;
 mod record;
 mod record_calls;
