@@ -203,11 +203,12 @@ func (held *heldRecord) wakeSleepers() {
 	}
 }
 
-// waitForSaver waits until the saver is near enough, where there is a bound: the status of a call that is not to be made. The lock is held.
-func (held *heldRecord) waitForSaver() C.uint32_t {
+// waitForSaver waits until the saver is near enough for so many calls, where there is a bound; for more than the bound, until all are saved. It
+// answers the status of calls that are not to be made. The lock is held.
+func (held *heldRecord) waitForSaver(calls int) C.uint32_t {
 	for held.saving.most != 0 {
 		counts, err := held.counts()
-		if err != nil || counts.Recorded < held.saving.saved || counts.Recorded-held.saving.saved < held.saving.most {
+		if err != nil || counts.Recorded <= held.saving.saved || counts.Recorded-held.saving.saved+uint64(calls) <= held.saving.most {
 			break
 		}
 		if held.saving.fault != nil {

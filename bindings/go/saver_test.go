@@ -103,6 +103,33 @@ func TestNeverTooFar(t *testing.T) {
 	}
 }
 
+// The same by turns. One that is longer than the bound is made where all is saved.
+func TestNoTurnTooFar(t *testing.T) {
+	const bound = 16
+	shared, to := openShared(t, Settings{PidMax: 32768, Workers: savers}), new(disk)
+	shared.BoundUnsaved(bound)
+	var turns atomic.Uint64
+	calls := besideTheSaver(t, shared, to, 0, func(seat *Seat) {
+		count := 1 + turns.Add(1)%3*bound
+		calls := make([]Call, count)
+		for i := range calls {
+			calls[i] = Call{Operation: OpGetpid, Caller: 1}
+		}
+		_, err := seat.Calls(calls)
+		most := count
+		if most < bound {
+			most = bound
+		}
+		if ordinal, _ := seat.Ordinal(); err != nil || ordinal >= to.calls()+most {
+			t.Error(ordinal, to.calls(), err)
+		}
+	})
+	counts, err := shared.Counts()
+	if calls != counts.Recorded || calls < savers*savedEach || err != nil {
+		t.Error(calls, counts, err)
+	}
+}
+
 // What was loaded is saved.
 func TestWhatWasLoadedIsSaved(t *testing.T) {
 	again, _ := load(t, bytesOf(t, example(t)))

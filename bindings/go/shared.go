@@ -471,6 +471,35 @@ func (seat *Seat) Ordinal() (uint64, bool) {
 	return own.ordinal, own.made
 }
 
+// Calls makes the calls in their order, and none of another worker comes between them. It answers the replies of those that were made, refusals too:
+// those of all, and behind ErrNoMemory or ErrSpent those of the calls before that one. ErrOutOfRange where one of them is none: then none is made.
+//
+// With a bound of BoundUnsaved it waits until there is room for all of them, or all that was recorded is saved.
+func (seat *Seat) Calls(calls []Call) ([]Reply, error) {
+	own := seat.place()
+	// C takes no pointer to nothing.
+	numbers, told := make([]C.struct_pidtab_call, len(calls)+1), make([]C.struct_pidtab_reply, len(calls)+1)
+	for i, call := range calls {
+		numbers[i] = call.numbers()
+	}
+	own.held.lock.LockForCall()
+	defer own.held.lock.Unlock()
+	var made C.size_t
+	var ordinal C.uint64_t
+	status := own.held.waitForSaver(len(calls))
+	if status == C.PIDTAB_DONE {
+		count := C.size_t(len(calls))
+		status = C.pidtab_record_calls(own.held.raw, C.uint32_t(own.worker), &numbers[0], count, &told[0], count, &made, &ordinal)
+	}
+	replies := make([]Reply, made)
+	for i := range replies {
+		own.held.labels.replied(&told[i])
+		own.after(C.PIDTAB_DONE, ordinal)
+		replies[i] = replyOf(&told[i])
+	}
+	return replies, faultOf(uint32(status))
+}
+
 // Line makes the call on a line of the script language, without its newline. What the table refuses is an answer, as `ESRCH no-caller`.
 // ErrEmptyLine, ErrBadLine, and what a call may answer.
 func (seat *Seat) Line(line string) (string, error) {
@@ -479,7 +508,7 @@ func (seat *Seat) Line(line string) (string, error) {
 	defer own.held.lock.Unlock()
 	said, err := answer(line, func(line unsafe.Pointer, length C.size_t, room unsafe.Pointer, size *C.size_t) C.uint32_t {
 		var ordinal C.uint64_t
-		if status := own.held.waitForSaver(); status != C.PIDTAB_DONE {
+		if status := own.held.waitForSaver(1); status != C.PIDTAB_DONE {
 			return status
 		}
 		status := C.pidtab_record_line(own.held.raw, C.uint32_t(own.worker), line, length, room, C.PIDTAB_LONGEST_ANSWER, size, &ordinal)
@@ -502,7 +531,7 @@ func (own *seated) step(call *C.struct_pidtab_call, reply *C.struct_pidtab_reply
 	own.held.lock.LockForCall()
 	defer own.held.lock.Unlock()
 	var ordinal C.uint64_t
-	if status := own.held.waitForSaver(); status != C.PIDTAB_DONE {
+	if status := own.held.waitForSaver(1); status != C.PIDTAB_DONE {
 		return status
 	}
 	status := C.pidtab_record_call(own.held.raw, C.uint32_t(own.worker), call, reply, &ordinal)

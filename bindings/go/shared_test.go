@@ -350,6 +350,79 @@ func TestGoroutinesAtOneSeat(t *testing.T) {
 	wantOrdinal(t, seat, 1599)
 }
 
+// mixed are so many calls, of which some are refused.
+func mixed(count int) []Call {
+	calls := make([]Call, count)
+	for i := range calls {
+		calls[i] = []Call{
+			{Operation: OpMk}, {Operation: OpFork, Caller: 1, Choice: 1}, {Operation: OpGetpid, Caller: 2},
+			{Operation: OpNspid, Caller: 1, Number: 2}, {Operation: OpGetpid, Caller: 999}, {Operation: OpCount},
+		}[i%6]
+	}
+	return calls
+}
+
+// Turns beside as many single calls.
+func TestTurnsAsSingleCalls(t *testing.T) {
+	shared, other := openShared(t, Settings{PidMax: 32768, Workers: 2}), openShared(t, Settings{PidMax: 32768, Workers: 2})
+	seat, alone := seatOf(t, shared), seatOf(t, other)
+	for _, count := range []int{0, 1, 64, 200} {
+		wanted := []Reply{}
+		for _, call := range mixed(count) {
+			reply, err := alone.Call(call)
+			if err != nil {
+				t.Fatal(err)
+			}
+			wanted = append(wanted, reply)
+		}
+		want(t, "a turn", of(seat.Calls(mixed(count))), wanted, nil)
+	}
+	wantOrdinal(t, seat, 264)
+	text, err := other.Dump()
+	want(t, "the text", of(shared.Dump()), text, err)
+	want(t, "a turn with what is no call", of(seat.Calls(append(mixed(5), Call{Operation: 99}))), []Reply{}, ErrOutOfRange)
+	wantCounts(t, shared, 0, 265)
+	shared.Close()
+	want(t, "a closed table", of(seat.Calls(nil)), []Reply{}, ErrClosed)
+	want(t, "a seat that nobody gave", of(new(Seat).Calls(mixed(2))), []Reply{}, ErrClosed)
+}
+
+// Where the stamps are used up, the calls before are made and told.
+func TestATurnBehindTheLastStamp(t *testing.T) {
+	shared := openShared(t, Settings{PidMax: 32768, Workers: 1, FirstStamp: math.MaxUint64 - 3})
+	seat := seatOf(t, shared)
+	replies, err := seat.Calls(mixed(9))
+	want(t, "how many", of(len(replies), err), 3, ErrSpent)
+	wantOrdinal(t, seat, 2)
+}
+
+// No call of another worker comes between those of a turn, and the history keeps its bound.
+func TestTurnsOfGoroutines(t *testing.T) {
+	shared := openShared(t, Settings{PidMax: 32768, Workers: 4, Keep: 1000})
+	var busy sync.WaitGroup
+	for i := 0; i < 4; i++ {
+		seat := seatOf(t, shared)
+		busy.Add(1)
+		go func() {
+			defer busy.Done()
+			for turn := 0; turn < 300; turn++ {
+				if _, err := seat.Calls(mixed(10)); err != nil {
+					t.Error(err)
+				}
+			}
+		}()
+	}
+	busy.Wait()
+	wantCounts(t, shared, 11000, 12000)
+	entries, err := shared.Entries(11000, 1000)
+	for i, entry := range entries {
+		if entry.Worker != entries[i-i%10].Worker {
+			t.Error(i, entry.Worker)
+		}
+	}
+	want(t, "the entries", of(len(entries), err), 1000, nil)
+}
+
 // resident is the memory of this process, in bytes.
 func resident(t *testing.T) int {
 	t.Helper()

@@ -6,16 +6,17 @@ import threading
 import warnings
 import weakref
 from collections.abc import Callable, Iterator, Sequence
-from itertools import islice
+from itertools import groupby, islice
 from operator import index
 
-from pidtab.answers import Stat
+from pidtab.answers import ANSWERS, Stat
+from pidtab.batch import read_call
 from pidtab.bounds import DEFAULT_PID_MAX, Unnamed, check_pid_max, check_range, check_timeout
 from pidtab.faults import LibraryFault, NotKept, OtherSettings, SaverEnded, SeatsTaken, TableClosed, Unsaved, WaitingEnded
 from pidtab.history import Counts, Entry, read_entry
 from pidtab.labels import Labelled, Labels
 from pidtab.library import call_later, find_library, lacks, load_shared
-from pidtab.native import ROOT_INIT, Ask, NumberCalls, check_loaded, fault_of, head_of, read_written, text_bytes
+from pidtab.native import ROOT_INIT, Ask, NumberCalls, answer_of, check_loaded, fault_of, head_of, read_written, text_bytes
 from pidtab.owner import TABLES, Owner
 from pidtab.raw import (
     AGAIN,
@@ -24,6 +25,7 @@ from pidtab.raw import (
     DIFFERS,
     DONE,
     ENDED,
+    FORKED,
     MOST_WORKERS,
     NOT_KEPT,
     OUT_OF_RANGE,
@@ -45,7 +47,7 @@ GREATEST_NUMBER = 2**64 - 1
 # No call has this ordinal.
 NO_ORDINAL = GREATEST_NUMBER
 
-# How many entries are read in one go, while calls wait.
+# How many entries are read in one go, and how many calls are made, while others wait.
 BLOCK = 1024
 
 # What a call answers that the bound does not let be made: the status of the saver.
@@ -84,6 +86,8 @@ class Seat(NumberCalls):
 
     Threads may share a seat: each call is answered what that call is answered. Then `ordinal` is that of the seat's latest call, whichever
     thread has made it; a thread that wants its own takes a seat of its own.
+
+    `answers` makes up to 1024 calls on end in one turn: no call of another thread comes between them.
 
     An interrupt, as by Ctrl-C, never breaks a call: it was made or not begun. Where it was made and its answer lost, `ordinal` has moved, and
     `shared.entry(seat.ordinal)` has the answer.
@@ -151,6 +155,41 @@ class Seat(NumberCalls):
 
     def _list(self, room: "ctypes.Array[ctypes.c_char]", size: ctypes.c_size_t) -> int:
         return self.shared._list(room, size)
+
+    def _answers(self, lines: Sequence[bytes]) -> tuple[str, ...]:
+        self._check_owner()
+        # An earlier library has no turns.
+        if len(lines) == 1 or not hasattr(self.shared._check_open().functions, "pidtab_shared_calls"):
+            return super()._answers(lines)
+        answers: list[str] = []
+        for is_call, run in groupby([(line, read_call(line)) for line in lines], lambda it: it[1] is not None):
+            if is_call:
+                answers += self._make_all([call for _, call in run if call is not None])
+            else:
+                answers += [self._answer(line) for line, _ in run]
+        return tuple(answers)
+
+    def _make_all(self, calls: Sequence[bytes]) -> Iterator[str]:
+        """The answers to calls, as many in one turn as may be. One that cannot be made ends a turn, and the next begins behind it."""
+        begin = 0
+        while begin < len(calls):
+            turn = calls[begin : begin + BLOCK]
+            replies, made = (PidtabReply * len(turn))(), ctypes.c_size_t()
+            given = (b"".join(turn), len(turn), replies, len(turn))
+            status = self.shared._bounded("pidtab_shared_calls", self.worker, *given, made, self._ordinal)
+            yield from self._told(replies[: made.value])
+            begin += made.value
+            if status != DONE:
+                yield answer_of(status)
+                begin += 1
+
+    def _told(self, replies: Sequence[PidtabReply]) -> list[str]:
+        """The answers that the replies of a turn are."""
+        if self._labels.by_root:
+            for place, reply in enumerate(replies, self._ordinal.value + 1 - len(replies)):
+                if reply.kind == FORKED:
+                    self._labels.fork(reply.second, place)
+        return [ANSWERS[it.kind](it) for it in replies]
 
 
 class Shared(Labelled, Owner):

@@ -120,6 +120,14 @@ class SharedLabels(unittest.TestCase):
         self.assertEqual(self.seats[1].fork(1).root, LAST)
         self.assertEqual(labels_of(self.shared), {})
 
+    def test_it_goes_by_the_fork_of_a_turn(self) -> None:
+        go_up(self.seats[0])
+        self.shared.label(LAST, "web")
+        self.shared.label(1, "init")
+        _, _, forked, *_ = self.seats[1].answers([f"exit {LAST} 0", "wait 1 any", "fork 1", "getpid 1", "count 0"])
+        self.assertEqual(forked, f"child {LAST} root {LAST}")
+        self.assertEqual(labels_of(self.shared), {1: "init"})
+
     def test_who_is_labelled_behind_a_fork_keeps_it(self) -> None:
         # As a thread may label a task before the one that made it goes on.
         self.seats[0].fork(1)

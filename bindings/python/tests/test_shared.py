@@ -5,6 +5,7 @@ import ctypes
 import gc
 import os
 import pickle
+import random
 import signal
 import subprocess
 import sys
@@ -19,13 +20,17 @@ from typing import Any
 from unittest import mock
 
 from pidtab import Ask, Calls, Counts, Entry, LibraryFault, NotKept, Queries, Seat, SeatsTaken, Shared, Table, TableClosed, raw
+from pidtab.batch import read_call
+from pidtab.calls import Call
 from pidtab.forms import say_answer
+from pidtab.language import FORMS
 from pidtab.library import load_library, load_shared
 from pidtab.shared import BLOCK
 from tests.alarms import Awaiting, alarms
 from tests.pages import StoredScript
 from tests.test_arguments import NO_INTEGERS, IntegerCases, LongCases, TypeCases
 from tests.test_calls import CallCases, LineCases, ListCases, NumberCases, PageCases, TableCases
+from tests.test_dump import random_lines
 from tests.test_ends import OTHERS, ForkCases, in_child
 from tests.test_refusals import RefusalCases
 from tests.ways import BySeat, ask, need_library, need_shared
@@ -113,6 +118,75 @@ class ForksBySeat(ForkCases, BySeat):
             self.assertEqual(in_child(lambda: self.table.getpid(1)), f"closed: {OTHERS}")
             self.assertEqual(in_child(lambda: self.table.close()), "None")
         self.assertEqual(self.table.getpid(1), 1)
+
+
+class Turns(unittest.TestCase):
+    """Many lines at a seat, in one turn of the library where they are calls."""
+
+    def setUp(self) -> None:
+        need_shared()
+
+    def open(self, workers: int = 1, **settings: int) -> Shared:
+        shared = Shared(workers, **settings)
+        self.addCleanup(shared.close)
+        return shared
+
+    def test_as_one_line_after_another(self) -> None:
+        chance = random.Random(5)
+        lines = random_lines(chance, 3 * BLOCK)
+        for bad in ("fork 01", "fork 1 ", "exit 1 256", "getpid 4294967296", "move 1", "setpgid 1 -0 0", "getpid " + "9" * 5000, "fork \xb2"):
+            lines.insert(chance.randrange(len(lines)), bad)
+        shared, other = self.open(), self.open()
+        seat, alone = shared.seat(), other.seat()
+        self.assertEqual(seat.answers(lines), tuple(alone.answers([line])[0] for line in lines))
+        self.assertEqual((shared.dump(), seat.ordinal), (other.dump(), alone.ordinal))
+        self.assertEqual(list(shared.entries()), list(other.entries()))
+
+    def test_each_form_is_a_call_of_a_turn(self) -> None:
+        for text in FORMS:
+            line = " ".join({"C": "1", "T": "1", "P": "2", "N": "3", "S": "4", "G": "-5", "I": "6"}.get(word, word) for word in text.split(" "))
+            packed = read_call(line.encode())
+            assert packed is not None
+            self.assertEqual(Call._make(raw.CALL_FIELDS.unpack(packed)).line, line)
+
+    def test_none_of_another_thread_between(self) -> None:
+        shared = self.open(4)
+
+        def work() -> None:
+            seat = shared.seat()
+            for _ in range(100):
+                first, *_, last = seat.answers(["count 0", "fork 1", "getpid 1", "getpid 9999", "count 0"])
+                self.assertEqual(int(last), int(first) + 1)
+
+        threads = [threading.Thread(target=work) for _ in range(4)]
+        for thread in threads:
+            thread.start()
+        for thread in threads:
+            thread.join()
+        workers = [entry.worker for entry in shared.entries()]
+        self.assertEqual([workers[place - place % 5] for place in range(len(workers))], workers)
+        self.assertEqual(len(workers), 2000)
+
+    def test_behind_the_last_stamp(self) -> None:
+        shared = self.open(first_stamp=2**64 - 4)
+        seat = shared.seat()
+        self.assertEqual(seat.answers(["mk 0", "fork 1", "getpid 2", "getpid 1", "fork 01", "count 0"])[2:], ("2", "spent", "bad line", "spent"))
+        self.assertEqual((seat.ordinal, shared.counts()), (2, Counts(0, 3)))
+
+    def test_a_bound(self) -> None:
+        shared = self.open(keep=10)
+        seat = shared.seat()
+        for count in (7, 20, 1, BLOCK + 1):
+            seat.answers(["count 0"] * count)
+            recorded = shared.counts().recorded
+            self.assertEqual(shared.counts().first_kept, max(0, recorded - 10))
+
+    def test_a_library_without_turns(self) -> None:
+        shared = self.open()
+        seat = shared.seat()
+        hold = shared._check_open()
+        with mock.patch.object(hold, "functions", SimpleNamespace(pidtab_shared_line=hold.functions.pidtab_shared_line)):
+            self.assertEqual(seat.answers(["fork 1", "getpid 2"]), ("child 2 root 2", "2"))
 
 
 def methods_of(shared: Shared) -> list[Callable[[], object]]:

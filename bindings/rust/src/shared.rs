@@ -299,10 +299,10 @@ impl Shared {
         record
     }
 
-    /// The lock for a call that keeps the bound: it waits until the saver is near enough.
-    fn lock_in_bound(&self) -> Result<Locked<'_>, Error> {
+    /// The lock for so many calls that keep the bound: it waits until the saver is near enough.
+    fn lock_in_bound(&self, calls: usize) -> Result<Locked<'_>, Error> {
         let mut locked = self.lock_for_call();
-        while locked.is_too_far()? {
+        while locked.is_too_far(calls as u64)? {
             if locked.saving.fault.is_some() {
                 return Err(Error::Unsaved);
             }
@@ -597,10 +597,14 @@ impl Record {
         }
     }
 
-    /// Whether as many calls are recorded and not saved as the bound lets there be.
-    fn is_too_far(&self) -> Result<bool, Error> {
+    /// Whether with so many calls more would be recorded and not saved than the bound lets there be. More than the bound follow where all are saved.
+    fn is_too_far(&self, calls: u64) -> Result<bool, Error> {
         let most = self.saving.most;
-        Ok(most != 0 && self.counts()?.recorded.saturating_sub(self.saving.saved) >= most)
+        if most == 0 {
+            return Ok(false);
+        }
+        let ahead = self.counts()?.recorded.saturating_sub(self.saving.saved);
+        Ok(ahead != 0 && ahead.saturating_add(calls) > most)
     }
 
     /// Answers a query as its call would be answered, refusals too. It is no call: nothing changes, and it is not recorded. It takes no memory.
@@ -804,6 +808,46 @@ impl Record {
         Ok((reply, ordinal))
     }
 
+    /// Makes calls of the worker in their order, and adds the replies of those that are made. The ordinal is then that of the last.
+    fn calls(
+        &mut self,
+        worker: u32,
+        calls: &[Call],
+        replies: &mut Vec<Reply>,
+        ordinal: &mut Option<u64>,
+    ) -> Result<(), Error> {
+        replies
+            .try_reserve(calls.len())
+            .map_err(|_| Error::NoMemory)?;
+        let (mut numbers, mut told) = ([raw::Call::BLANK; BATCH], [raw::Reply::BLANK; BATCH]);
+        for calls in calls.chunks(BATCH) {
+            let (mut made, mut last) = (0, 0);
+            for (numbers, call) in numbers.iter_mut().zip(calls) {
+                *numbers = call.numbers();
+            }
+            let numbers = &numbers[..calls.len()];
+            let status = self
+                .raw
+                .calls(worker, numbers, &mut told, &mut made, &mut last);
+            self.after_calls(&told[..made], replies);
+            if made > 0 {
+                *ordinal = Some(last);
+            }
+            Error::unless_done(status)?;
+        }
+        Ok(())
+    }
+
+    /// Adds the replies of calls that were made. Each cut is of two entries at most.
+    fn after_calls(&mut self, told: &[raw::Reply], replies: &mut Vec<Reply>) {
+        for reply in told {
+            self.after_call();
+            let reply = Reply::of(reply);
+            self.labels.replied(&reply);
+            replies.push(reply);
+        }
+    }
+
     /// Makes the call on a line for the worker: its answer and its ordinal.
     fn line(&mut self, worker: u32, line: &[u8]) -> Result<(String, u64), LineError> {
         let mut ordinal = 0;
@@ -927,9 +971,31 @@ impl Seat<'_> {
     /// # Errors
     /// `Empty`, `Bad`; `NoMemory` for any call, `Spent`, `Busy`, `Unsaved`.
     pub fn line(&mut self, line: impl AsRef<[u8]>) -> Result<String, LineError> {
-        let locked = self.shared.lock_in_bound();
+        let locked = self.shared.lock_in_bound(1);
         let locked = locked.map_err(LineError::of_bound)?;
         self.turn(locked).line(line)
+    }
+
+    /// Makes the calls in their order, and none of another worker comes between them. Their replies are added to `replies`, refusals too.
+    ///
+    /// ```
+    /// use pidtab::{Call, Reply, Shared};
+    ///
+    /// let shared = Shared::open(32768, 1)?;
+    /// let mut replies = Vec::new();
+    /// let calls = [Call::Mk { parent: 0 }, Call::Getpid { caller: 1 }];
+    /// shared.seat()?.calls(&calls, &mut replies)?;
+    /// assert_eq!(replies, [Reply::Control(1), Reply::Number(1)]);
+    /// # Ok::<(), pidtab::Error>(())
+    /// ```
+    ///
+    /// With a bound of [`Shared::bound_unsaved`] it waits until there is room for all of them, or all that was recorded is saved.
+    ///
+    /// # Errors
+    /// `NoMemory` and `Spent`: the calls before that one were made, and their replies are added. `Busy` and `Unsaved`: none was made.
+    pub fn calls(&mut self, calls: &[Call], replies: &mut Vec<Reply>) -> Result<(), Error> {
+        let locked = self.shared.lock_in_bound(calls.len())?;
+        self.turn(locked).calls(calls, replies)
     }
 
     /// The lock, for several calls in one go: none of another worker comes between them. All others wait while the guard lives.
@@ -954,7 +1020,7 @@ impl Sealed for Seat<'_> {}
 
 impl Calls for Seat<'_> {
     fn call(&mut self, call: Call) -> Result<Reply, Error> {
-        let locked = self.shared.lock_in_bound()?;
+        let locked = self.shared.lock_in_bound(1)?;
         self.turn(locked).call(call)
     }
 }
@@ -980,6 +1046,14 @@ impl Turn<'_> {
     /// As [`Seat::ordinal`].
     pub fn ordinal(&self) -> Option<u64> {
         *self.ordinal
+    }
+
+    /// As [`Seat::calls`].
+    ///
+    /// # Errors
+    /// `NoMemory`, `Spent`, `Busy`.
+    pub fn calls(&mut self, calls: &[Call], replies: &mut Vec<Reply>) -> Result<(), Error> {
+        self.locked.calls(self.worker, calls, replies, self.ordinal)
     }
 
     /// As [`Seat::line`].

@@ -1,5 +1,5 @@
 //! The saver of a table that threads work on: who waits for it, whom it holds up, and that busy threads let it have the lock.
-use pidtab::{Calls, Error, LineError, Saved, SavedFault, Seat, Shared};
+use pidtab::{Call, Calls, Error, LineError, Saved, SavedFault, Seat, Shared};
 use std::fs;
 use std::io::{self, Write};
 use std::sync::atomic::{AtomicBool, AtomicU32, AtomicU64, Ordering};
@@ -109,6 +109,23 @@ fn never_too_far() {
         }
     });
     assert_eq!(calls, u64::from(THREADS) * EACH);
+}
+
+/// The same by turns. One that is longer than the bound is made where all is saved.
+#[test]
+fn no_turn_too_far() {
+    let (shared, disk) = (open(), Disk::default());
+    shared.bound_unsaved(BOUND);
+    let calls = beside_the_saver(&shared, &disk, 0, || {
+        let (mut seat, mut replies) = (shared.seat().expect("a seat"), Vec::new());
+        for length in [1, 7, 2 * BOUND, 3].repeat(EACH as usize / 40) {
+            let turn = vec![Call::Getpid { caller: 1 }; length as usize];
+            assert_eq!(seat.calls(&turn, &mut replies), Ok(()));
+            let ordinal = seat.ordinal().expect("an ordinal");
+            assert!(ordinal < disk.calls() + length.max(BOUND));
+        }
+    });
+    assert_eq!(calls, u64::from(THREADS) * (11 + 2 * BOUND) * (EACH / 40));
 }
 
 /// What was loaded is saved.

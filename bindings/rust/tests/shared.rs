@@ -360,3 +360,78 @@ fn readers_beside_a_writer() {
     });
     assert_eq!(counts(&shared), (0, 600));
 }
+
+/// Calls of which some are refused.
+fn mixed(count: usize) -> Vec<Call> {
+    let calls = [
+        Call::Mk { parent: 0 },
+        Call::Fork {
+            caller: 1,
+            new_space: true,
+        },
+        Call::Getpid { caller: 2 },
+        Call::Nspid {
+            caller: 1,
+            number: 2,
+        },
+        Call::Getpid { caller: 999 },
+        Call::Count { id: 0 },
+    ];
+    calls.into_iter().cycle().take(count).collect()
+}
+
+/// Turns, also longer than what goes to the library at a time, beside as many single calls.
+#[test]
+fn turns_as_single_calls() {
+    let (shared, other) = (open(2), open(2));
+    let (mut seat, mut alone) = (shared.seat().expect("a seat"), other.seat().expect("a seat"));
+    let mut wanted = Vec::new();
+    for length in [0, 1, 64, 65, 200] {
+        let (calls, mut replies) = (mixed(length), vec![Reply::Done]);
+        assert_eq!(seat.calls(&calls, &mut replies), Ok(()));
+        wanted = vec![Reply::Done];
+        wanted.extend(calls.iter().map(|it| alone.call(*it).expect("a reply")));
+        assert_eq!(replies, wanted);
+        assert_eq!(seat.ordinal(), alone.ordinal());
+    }
+    assert!(matches!(wanted[5], Reply::Refused { .. }));
+    assert_eq!(shared.entries(0, 999), other.entries(0, 999));
+    assert_eq!(shared.dump(), other.dump());
+}
+
+/// Where the stamps are used up, the calls before are made and told.
+#[test]
+fn a_turn_behind_the_last_stamp() {
+    let shared = Shared::options(32768, 1).first_stamp(u64::MAX - 70);
+    let shared = shared.open().expect("a table");
+    let (mut seat, mut replies) = (shared.seat().expect("a seat"), Vec::new());
+    assert_eq!(seat.calls(&mixed(99), &mut replies), Err(Error::Spent));
+    assert_eq!((replies.len(), seat.ordinal()), (70, Some(69)));
+    assert_eq!(seat.calls(&mixed(3), &mut replies), Err(Error::Spent));
+    assert_eq!(seat.lock().calls(&[], &mut replies), Ok(()));
+    assert_eq!((replies.len(), counts(&shared)), (70, (0, 70)));
+}
+
+/// No call of another worker comes between those of a turn, and the history keeps its bound.
+#[test]
+fn turns_of_threads() {
+    let shared = Shared::options(32768, 4).keep(1000).open();
+    let shared = shared.expect("a table");
+    thread::scope(|scope| {
+        for _ in 0..4 {
+            scope.spawn(|| {
+                let (mut seat, calls) = (shared.seat().expect("a seat"), mixed(10));
+                for turn in 0..300 {
+                    let mut replies = Vec::new();
+                    assert_eq!(seat.calls(&calls, &mut replies), Ok(()));
+                    assert_eq!((replies.len(), seat.ordinal().expect("one") % 10), (10, 9), "{turn}");
+                }
+            });
+        }
+    });
+    assert_eq!(counts(&shared), (11_000, 12_000));
+    let entries = shared.entries(11_000, 1000).expect("entries");
+    for turn in entries.chunks(10) {
+        assert!(turn.iter().all(|it| it.worker == turn[0].worker));
+    }
+}
