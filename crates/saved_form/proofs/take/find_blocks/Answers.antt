@@ -1,4 +1,4 @@
-use Rattle.std.proofs.Common.{◌≡◌, ℕ, ◌+◌, ◌-◌, ◌*◌, List, subst, arith}
+use Rattle.std.proofs.Common.{◌≡◌, ℕ, ◌+◌, ◌-◌, ◌*◌, List, subst, arith, rules}
 use Rattle.saved_form.specs.Taking.{IsWrongAt, blocks_said, AreRight}
 use Rattle.saved_form.proofs.Whole.{right_front}
 use Rattle.saved_form.proofs.take.find_blocks.Goals as goal
@@ -25,3 +25,6 @@ returns-in-Err-clause-lacking c whole =
     let next : ℕ = c.in-Err.place + 1 in
     let split : blocks_said bytes ≡ next + (blocks_said bytes - next) = omega (arith, c.in-Err.ensures.wrong.0) in
     c.in-Err.ensures.wrong.2 (right_front next (blocks_said bytes - next) c.args.sum bytes (subst (λ n. AreRight n c.args.sum bytes) split whole.right))
+
+pub returns-in-Ok-3-clause-found : goal.returns-in-Ok-3-clause-found
+returns-in-Ok-3-clause-found c = search rules
