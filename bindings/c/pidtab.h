@@ -313,6 +313,10 @@ uint32_t pidtab_stat(const struct pidtab *table, uint32_t caller, uint32_t numbe
  * length. */
 uint32_t pidtab_call_line(const struct pidtab_call *call, void *line, size_t room, size_t *size);
 
+/* Writes the reply as the answer of the script language, likewise: as pidtab_line answers. What its kind does not tell is not looked at.
+ * DONE; OUT_OF_RANGE where the numbers are no reply; NO_ROOM where the answer is longer than the room, and then too size is its length. */
+uint32_t pidtab_reply_line(const struct pidtab_reply *reply, void *answer, size_t room, size_t *size);
+
 /* Each call as a function: a number, or minus an errno, which is the status or that of the refusal. What tells no number
  * is 0. pidtab_call tells a status from a refusal, and one refusal from another. What a line could not say is -EINVAL, and no call.
  *

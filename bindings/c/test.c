@@ -79,6 +79,24 @@ static void what_is_no_call(void)
 	pidtab_close(&table);
 }
 
+/* Of which numbers there is no answer. A room that is too short stays as it is. */
+static void replies_as_lines(void)
+{
+	static const struct pidtab_reply none[] = {
+		{ .kind = 10 }, { .kind = PIDTAB_REFUSED }, { .kind = PIDTAB_REFUSED, .refusal = 20 }, { .kind = PIDTAB_LEVELS, .count = PIDTAB_LEVELS_MAX + 1 },
+		{ .kind = PIDTAB_FORKED, .first = (uint64_t)1 << 32 }, { .kind = PIDTAB_FORKED, .second = (uint64_t)1 << 32 },
+		{ .kind = PIDTAB_NUMBER, .first = (uint64_t)1 << 32 }, { .kind = PIDTAB_REAPED, .first = 2, .second = PIDTAB_KILLED + 1 },
+	};
+	struct pidtab_reply reply = { .kind = PIDTAB_REAPED, .first = 7, .second = PIDTAB_KILLED, .refusal = 99, .count = 77 };
+	char answer[PIDTAB_LONGEST_ANSWER + 1] = "kept";
+	size_t size = 77;
+
+	for (size_t i = 0; i < sizeof none / sizeof *none; i++)
+		CHECK(pidtab_reply_line(&none[i], answer, sizeof answer, &size) == PIDTAB_OUT_OF_RANGE && size == 77 && strcmp(answer, "kept") == 0);
+	CHECK(pidtab_reply_line(&reply, answer, 14, &size) == PIDTAB_NO_ROOM && size == 15 && strcmp(answer, "kept") == 0);
+	CHECK(pidtab_reply_line(&reply, answer, 15, &size) == PIDTAB_DONE && size == 15 && memcmp(answer, "reaped 7 killed", 15) == 0);
+}
+
 /* What no line has is no call: nothing is cut off a number. */
 static void numbers_that_do_not_fit(void)
 {
@@ -213,6 +231,7 @@ int main(void)
 {
 	each_function();
 	what_is_no_call();
+	replies_as_lines();
 	numbers_that_do_not_fit();
 	want_of_memory();
 	threads();

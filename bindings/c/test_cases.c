@@ -257,6 +257,7 @@ static void make_call(const char *line)
 	CHECK(pidtab_call_line(&call, said, PIDTAB_LONGEST_CALL, &size) == PIDTAB_DONE && size == strlen(line) && memcmp(said, line, size) == 0);
 	say(said, &reply);
 	CHECK(strcmp(said, told) == 0);
+	CHECK(pidtab_reply_line(&reply, said, PIDTAB_LONGEST_ANSWER, &size) == PIDTAB_DONE && size == strlen(told) && memcmp(said, told, size) == 0);
 	for (const char *const *it = queries; *it; it++)
 		if (strcspn(line, " ") == strlen(*it) && strncmp(line, *it, strlen(*it)) == 0)
 			asked = PIDTAB_DONE;

@@ -117,6 +117,7 @@ func (it *caseWorld) call(line string) string {
 	it.check(err)
 	it.told = entry.Reply
 	it.same(of(entry.Call.Line()), told{line, nil})
+	it.same(of(entry.Reply.Line()), told{answer, nil})
 	it.same([]any{entry.Worker, sayReply(entry.Reply)}, []any{uint32(it.at), answer})
 	asked := told{Reply{}, ErrOutOfRange}
 	for _, query := range queryWords {

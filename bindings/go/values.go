@@ -91,6 +91,19 @@ func (reply Reply) Err() error {
 	return refusalOf(&numbers)
 }
 
+// Line is the reply as the answer of the script language, as Line of a table answers. ErrOutOfRange where the kind, or what it tells, is out of its
+// range.
+func (reply Reply) Line() (string, error) {
+	var line [C.PIDTAB_LONGEST_ANSWER]C.uint8_t
+	var size C.size_t
+	numbers := reply.numbers()
+	status := C.pidtab_reply_line(&numbers, unsafe.Pointer(&line[0]), C.size_t(len(line)), &size)
+	if err := faultOf(uint32(status)); err != nil {
+		return "", err
+	}
+	return text(line[:size]), nil
+}
+
 // Line is the call as a line of the script language: Line of a table makes the same call of it. It needs no table. ErrOutOfRange where there is no
 // such operation, or it does not take such a choice or number.
 func (call Call) Line() (string, error) {

@@ -165,6 +165,27 @@ uint32_t pidtab_call_line(const struct pidtab_call *call, void *line, size_t roo
 	return status;
 }
 
+/* So does a reply's answer. */
+uint32_t pidtab_reply_line(const struct pidtab_reply *reply, void *answer, size_t room, size_t *size)
+{
+	instance *it = new_instance();
+	uint32_t status;
+
+	if (!it)
+		return PIDTAB_NO_MEMORY;
+	put(it, REPLY, reply, sizeof *reply);
+	status = Z_pidtabZ_reply_line(it);
+	if (status == PIDTAB_DONE) {
+		*size = told_size(it);
+		if (*size > room)
+			status = PIDTAB_NO_ROOM;
+		else
+			get(it, LINE, answer, *size);
+	}
+	free_instance(it);
+	return status;
+}
+
 uint32_t proved_open(struct pidtab *table, uint32_t pid_max)
 {
 	instance *it;

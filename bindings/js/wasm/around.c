@@ -102,6 +102,11 @@ uint32_t EXPORTED(call_line)(void)
 	return pidtab_call_line(&at.call, at.line, LINE_ROOM, &at.size);
 }
 
+uint32_t EXPORTED(reply_line)(uint32_t room)
+{
+	return pidtab_reply_line(&at.reply, at.answer, room < ANSWER_ROOM ? room : ANSWER_ROOM, &at.size);
+}
+
 uint32_t EXPORTED(record_open)(uint32_t pid_max, uint32_t workers)
 {
 	return pidtab_record_open(&held.record, pid_max, at.numbers[0], workers);

@@ -267,6 +267,7 @@ LATER_FUNCTIONS: dict[str, Function] = {
     "pidtab_load": (U32, [TABLE, ctypes.c_char_p, SIZE_T, FAULT]),
     "pidtab_ask": (U32, [TABLE, CALL_BYTES, REPLY]),
     "pidtab_stat": (U32, [TABLE, U32, U32, TASK]),
+    "pidtab_reply_line": (U32, [REPLY, BYTES, SIZE_T, SIZE]),
 }
 
 # Those on a table behind a lock.

@@ -299,6 +299,12 @@ extern "C" {
     fn pidtab_stat(table: *const Held, caller: u32, number: u32, task: *mut Task) -> u32;
     fn pidtab_call_line(call: *const Call, line: *mut c_void, room: usize, size: *mut usize)
         -> u32;
+    fn pidtab_reply_line(
+        reply: *const Reply,
+        answer: *mut c_void,
+        room: usize,
+        size: *mut usize,
+    ) -> u32;
     fn pidtab_record_open(record: *mut Held, pid_max: u32, first_stamp: u64, workers: u32) -> u32;
     fn pidtab_record_close(record: *mut Held) -> u32;
     fn pidtab_record_call(

@@ -1,3 +1,4 @@
 pub mod Numbers
 pub mod CallNumbers
 pub mod Tasks
+pub mod Replies

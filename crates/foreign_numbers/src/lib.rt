@@ -8,5 +8,6 @@ pub mod choices;
 pub mod kinds;
 pub mod numbers;
 pub mod operations;
+pub mod replies;
 pub mod status;
 pub mod task;
