@@ -126,6 +126,22 @@ pub enum Reply {
 }
 
 impl Reply {
+    /// The reply as the answer of the script language, without a newline, as `line` of a table answers. It needs no table. None for one that no table
+    /// gives: of more than 33 levels, say.
+    ///
+    /// ```
+    /// use pidtab::{Child, Reply};
+    ///
+    /// let reply = Reply::Forked(Child { number: 1, root: 2 });
+    /// assert_eq!(reply.line().as_deref(), Some("child 1 root 2"));
+    /// ```
+    pub fn line(&self) -> Option<String> {
+        let numbers = self.numbers();
+        texts::reply_line(|room, size| raw::reply_line(&numbers, room, size))
+    }
+}
+
+impl Reply {
     /// The error of a reply that is none of the call's others, so a refusal.
     fn refused<T>(self) -> Result<T, Error> {
         match self {

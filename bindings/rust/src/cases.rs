@@ -109,6 +109,7 @@ impl World {
             ),
             (self.at, line, answer.clone())
         );
+        assert_eq!(entry.reply.line().as_deref(), Some(answer.as_str()));
         let is_query = QUERIES.contains(&line.split(' ').next().expect("a word"));
         let asked = if is_query {
             Ok(entry.reply.clone())

@@ -544,6 +544,13 @@ impl Drop for Table {
     }
 }
 
+/// Writes the reply as the answer of the script language.
+pub(crate) fn reply_line(reply: &Reply, answer: &mut [u8], size: &mut usize) -> u32 {
+    let (most, answer) = (answer.len(), answer.as_mut_ptr().cast());
+    // SAFETY: both are lent to this call alone, and the room is as long as is said.
+    unsafe { pidtab_reply_line(reply, answer, most, size) }
+}
+
 /// Writes the call as a line of the script language.
 pub(crate) fn call_line(call: &Call, line: &mut [u8], size: &mut usize) -> u32 {
     let (room, most) = (line.as_mut_ptr().cast(), line.len());

@@ -5,8 +5,8 @@
 use crate::calls::sealed::Sealed;
 use crate::labels::Labels;
 use crate::{
-    raw, texts, Call, Calls, Error, LineError, Listing, ReplayError, Reply, SavedError, Stat, Table,
-    TextError,
+    raw, texts, Call, Calls, Error, LineError, Listing, ReplayError, Reply, SavedError, Stat,
+    Table, TextError,
 };
 use std::ops::{Deref, DerefMut};
 use std::sync::atomic::{AtomicBool, AtomicU32, AtomicU64, Ordering};

@@ -14,6 +14,13 @@ pub(crate) fn answer(
     Ok(String::from_utf8_lossy(&answer[..size]).into_owned())
 }
 
+/// The answer that the library writes of a reply, for which it has room; none where the numbers are no reply.
+pub(crate) fn reply_line(write: impl FnOnce(&mut [u8], &mut usize) -> u32) -> Option<String> {
+    let (mut answer, mut size) = ([0u8; raw::LONGEST_ANSWER], 0);
+    let status = write(&mut answer, &mut size);
+    (status == raw::DONE).then(|| String::from_utf8_lossy(&answer[..size]).into_owned())
+}
+
 /// The line that the library writes of a call, for which it has room.
 pub(crate) fn call_line(write: impl FnOnce(&mut [u8], &mut usize) -> u32) -> String {
     let (mut line, mut size) = ([0u8; raw::LONGEST_CALL], 0);
