@@ -6,3 +6,6 @@ returns-clause-ok g c = search rules
 
 pub returns-clause-fault : goal.returns-clause-fault
 returns-clause-fault g c = search rules
+
+pub returns-in-Ok-clause-ok : goal.returns-in-Ok-clause-ok
+returns-in-Ok-clause-ok g c = search rules
