@@ -354,6 +354,27 @@ replicated: ## * tests one table on many hosts (some 10 minutes); where there is
 	$(call tested,python3,bindings/python/cluster,PIDTAB='$(PIDTAB)' PIDTAB_LIBRARY='$(SHARED)' \
 		python3 -B -m unittest discover -v -s bindings/python/cluster -t bindings/python)
 
+.PHONY: chaos chaos-switch chaos-wrong
+
+# In namespaces of its own, with a switch in user space between them. What it lacks it says. The tests are those of its parts and of its judge.
+CHAOS_SECONDS = 180
+CHAOS_SEED = 1
+CHAOS = cd bindings/python && PIDTAB='$(abspath $(PIDTAB))' PIDTAB_LIBRARY='$(abspath $(SHARED))' python3 -B
+chaos: built chaos-switch ## as root: one table on many hosts under cut networks, kills, losses of power and clocks that jump (some 5 minutes), CHAOS_SECONDS and CHAOS_SEED
+	@{ $(CHAOS) -m unittest discover -v -s chaos -t .; } > out/chaos-test.log 2>&1 || { echo 'make chaos failed: see out/chaos-test.log' >&2; exit 1; }
+	@$(CHAOS) -m chaos.run --switch '$(abspath $(OUT))/chaos-switch' --folder '$(abspath $(OUT))/chaos' --seconds '$(CHAOS_SECONDS)' --seed '$(CHAOS_SEED)' \
+		|| { echo 'make chaos failed: where a verdict is above, the files of the run are in out/chaos' >&2; exit 1; }
+
+# Each is to be found.
+chaos-wrong: built chaos-switch ## as root: has `make chaos` find 14 wrong versions of the package, and members that do not sync (some 20 minutes)
+	@$(CHAOS) -m chaos.wrong '$(abspath $(OUT))/chaos-switch' $(CHAOS_WRONG)
+
+chaos-switch:
+	@test -e '$(SHARED)' || { echo 'no library $(SHARED): build it with `make lib`' >&2; exit 1; }
+	@command -v '$(firstword $(CC))' > /dev/null || { echo 'no C compiler $(firstword $(CC)): install one, or name it by CC=..' >&2; exit 1; }
+	@mkdir -p $(OUT)
+	@$(CC) -std=gnu11 -O2 -Wall -Wextra -Werror -o $(OUT)/chaos-switch bindings/python/chaos/switch.c
+
 .PHONY: service service-test install-service
 
 # The daemon is in Rust. Its crates are those of Debian's packages, and nothing is fetched. What cargo says is in out/service.log.
