@@ -92,7 +92,7 @@ def read_symbols(page: bytes) -> Iterator[tuple[bytes, int, int]]:
     for at in range(headers, headers + size * count, size):
         kind, offset, length = struct.unpack_from("<I4xQ16xQ", page, at)
         if kind == DYNAMIC:
-            table = {**dict(struct.iter_unpack("<QQ", page[offset : offset + length])), **table}
+            table = {name: value for name, value in struct.iter_unpack("<QQ", page[offset : offset + length]) if name}
     (symbols,) = struct.unpack_from("<I", page, table[HASH] + 4)
     for at in range(table[SYMBOLS], table[SYMBOLS] + 24 * symbols, 24):
         name, value, length = struct.unpack_from("<I4xQQ", page, at)

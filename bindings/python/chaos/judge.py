@@ -5,6 +5,7 @@ It knows docs/CLUSTER.md and the files of a run (`README.md`), and nothing of th
 
 import subprocess
 import sys
+from bisect import bisect_left
 from collections.abc import Iterable, Iterator, Sequence
 from pathlib import Path
 from typing import NamedTuple
@@ -146,19 +147,29 @@ def check_cuts(faults: Faults, run: Run, log: Log) -> None:
     """An entry is deleted only behind two snapshots that have it, and is in an archive then."""
     puts = {it.key: it for it in run.puts}
     archived = {position: data for it in run.archives for position, data in it.items()}
+    bounds = cut_bounds(log)
     for it in run.deletes:
         put = puts.get(it.key)
         if put is None:
             faults.add("record", f"{it.key} is deleted, and was never put")
             continue
-        behind = [at for at, of in log.announced if at < it.revision and of >= put.revision]
-        if len(behind) < 2:
-            faults.add("cut", f"entry {put.revision} is deleted at {it.revision} behind {len(behind)} snapshots")
+        _, bound = bounds[bisect_left(bounds, (it.revision, 0)) - 1]
+        if put.revision > bound:
+            faults.add("cut", f"entry {put.revision} is deleted at {it.revision}, and the older snapshot is of {bound}")
         if run.archives and archived.get(put.revision) != put.value:
             faults.add("archive", f"entry {put.revision} is deleted, and in no archive as it was")
     for position, of in log.announced:
         if of not in log.wanted:
             faults.add("snapshot", f"entry {position} announces one of {of}, where none was asked for")
+
+
+def cut_bounds(log: Log) -> list[tuple[int, int]]:
+    """Behind which position entries may be deleted, and up to which: that of the older one of the newest two snapshots that are announced by then."""
+    bounds, newest = [(0, 0)], [0, 0]
+    for position, of in log.announced:
+        newest = sorted([*newest, of])[1:]
+        bounds.append((position, newest[0]))
+    return bounds
 
 
 def check_lives(faults: Faults, run: Run) -> None:

@@ -59,6 +59,11 @@ class Members:
             streams: dict[str, Any] = {"stdin": subprocess.DEVNULL, "stdout": said, "stderr": said}
             self._running[place] = subprocess.Popen(command, pass_fds=self._network.spaces, **streams)
 
+    def start_all(self) -> None:
+        """Starts all that do not run."""
+        for place in PLACES:
+            self.start(place)
+
     def kill(self, place: int) -> None:
         """Kills a member that runs. One that has ended by itself is none that was to."""
         child = self._running.pop(place, None)

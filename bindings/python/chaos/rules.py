@@ -28,11 +28,11 @@ class Claim(NamedTuple):
 
 
 class Counted(NamedTuple):
-    """An entry that counts: its position, the place of its first line among all, and how many it has."""
+    """An entry that counts: its position, and the places of its lines among all, from the first one on and before the last one."""
 
     position: int
     first: int
-    count: int
+    last: int
 
 
 class Log:
@@ -90,7 +90,7 @@ class Log:
         self._sessions[session] = number
         self._sessions.move_to_end(session)
         self.claims.append(Claim(position, int(found[4]), found[5].decode()))
-        self.counted.append(Counted(position, len(self.lines), count))
+        self.counted.append(Counted(position, len(self.lines), len(self.lines) + count))
         self.lines += lines
 
 
@@ -114,7 +114,7 @@ class Played:
 
     def list_sum(self, position: int) -> str:
         """The SHA-256 of the list of the table behind a position."""
-        made = sum(it.count for it in self.log.counted if it.position <= position)
+        made = max((it.last for it in self.log.counted if it.position <= position), default=0)
         if made not in self._lists:
             listed = ask_program(self._program, "list", self.log.pid_max, self.log.lines[:made])
             self._lists[made] = hashlib.sha256(listed).hexdigest()
@@ -138,5 +138,5 @@ class Played:
 
     def _shown(self, it: Counted) -> bytes:
         """The lines of an entry, each with its answer behind it."""
-        pairs = zip(self.log.lines[it.first : it.first + it.count], self.answers[it.first : it.first + it.count])
+        pairs = zip(self.log.lines[it.first : it.last], self.answers[it.first : it.last])
         return b"".join(line + b"\n" + answer + b"\n" for line, answer in pairs)

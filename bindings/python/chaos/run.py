@@ -11,7 +11,7 @@ import random
 import shutil
 import sys
 import time
-from collections.abc import Callable, Iterator, Sequence
+from collections.abc import Iterator, Sequence
 from contextlib import contextmanager, suppress
 from pathlib import Path
 
@@ -19,7 +19,7 @@ from chaos import clocks
 from chaos.hosts import GONE, Host, Keeper
 from chaos.judge import judge
 from chaos.kernel import mount, run_alone
-from chaos.members import COUNT, PLACES, Members
+from chaos.members import COUNT, Members
 from chaos.network import WELL, Network
 from chaos.record import Row
 from chaos.recorder import Recorder
@@ -104,8 +104,7 @@ class Run:
 
     def begin(self, world: World) -> None:
         """Starts all, and waits for the hosts."""
-        for it in PLACES:
-            world.members.start(it)
+        world.members.start_all()
         world.members.wait_until_ready()
         end = time.monotonic() + LONGEST_BEGIN
         for host, patience in zip(world.hosts, PATIENCES):
@@ -152,8 +151,7 @@ class Run:
     def heal(self, world: World) -> None:
         """Has all be as it should."""
         world.network.set_all(WELL)
-        for it in PLACES:
-            world.members.start(it)
+        world.members.start_all()
         for host in world.hosts:
             host.start()
         for keeper in world.keepers:
@@ -183,11 +181,15 @@ def make_folder(folder: Path) -> None:
         (folder / name).mkdir(parents=True)
 
 
-def clear_folder(folder: Path, keeps: Callable[[Path], bool]) -> None:
-    """Removes files of a folder."""
+def clear_folder(folder: Path, kept: Sequence[str]) -> None:
+    """Removes all files of a folder but some."""
     for path in folder.iterdir():
-        if not keeps(path):
-            shutil.rmtree(path) if path.is_dir() else path.unlink()
+        if path.name in kept:
+            continue
+        if path.is_dir():
+            shutil.rmtree(path)
+        else:
+            path.unlink()
 
 
 def read_command_line() -> argparse.Namespace:
@@ -228,9 +230,10 @@ def main() -> int:
         with suppress(OSError):
             os.rmdir(given.folder / "disks")
     if status == 0:
-        clear_folder(given.folder, lambda it: it.name in ("events", "verdict"))
+        clear_folder(given.folder, ("events", "verdict"))
     elif status > 1:
-        clear_folder(given.folder, lambda it: False)
+        print("chaos: it was ended, and has no verdict", file=sys.stderr)
+        clear_folder(given.folder, ())
     return status
 
 

@@ -137,7 +137,7 @@ class Folder:
 
     def write(self) -> None:
         """Writes the files."""
-        changes = [*self.puts.values(), *self.deletes]
+        changes: list[Put | Delete] = [*self.puts.values(), *self.deletes]
         (self.path / "log").write_text("".join(map(write_change, changes)))
         write_rows(self.path / "left", [{"at": it} for it in self.left])
         write_rows(self.path / "events", self.events)
@@ -198,6 +198,9 @@ class Well(Judged):
 
     def test_a_read_of_this_host_alone_of_what_another_was_answered(self) -> None:
         self.check_well(lambda it: it.row("h0.1", "read", "batch h1.1 2").update(seen=False, now=False))
+
+    def test_cut_just_behind_the_second_snapshot(self) -> None:
+        self.check_well(lambda it: it.deletes.__setitem__(6, Delete(17, "web:12")))
 
     def test_calls_that_are_not_known(self) -> None:
         self.check_well(lambda it: it.rows["h1.1"].__setitem__(3, {"what": "unknown", "id": "batch h1.1 2", "t1": 400, "sent": True}))
@@ -328,7 +331,7 @@ class Read(Judged):
         self.check("cut", plant)
 
     def test_cut_before_the_second_snapshot(self) -> None:
-        self.check("cut", lambda it: it.deletes.__setitem__(0, Delete(15, "web:5")))
+        self.check("cut", lambda it: it.deletes.__setitem__(0, Delete(16, "web:5")))
 
     def test_cut_and_in_no_archive(self) -> None:
         self.check("archive", lambda it: it.archived.remove(9))

@@ -16,7 +16,8 @@ from pathlib import Path
 from chaos import clocks
 from chaos.disks import Disk
 from chaos.network import CUT, WELL, Network, Rule, address_of
-from cluster.etcds import HOST, free_ports
+from cluster.etcds import free_ports
+from cluster.relay import HOST
 
 PACKAGE = Path(__file__).resolve().parents[1]
 SOURCE = Path(__file__).resolve().parent / "switch.c"

@@ -169,7 +169,7 @@ def kill_members(world: World) -> Trouble:
     """All members are killed."""
     for it in PLACES:
         world.members.kill(it)
-    return Trouble("all", lambda: [world.members.start(it) for it in PLACES], holds=True)
+    return Trouble("all", world.members.start_all, holds=True)
 
 
 def kill_host(world: World) -> Trouble:
@@ -215,7 +215,7 @@ def power_members(world: World) -> Trouble:
         world.members.kill(it)
     for it in PLACES:
         world.members.lose_power(it)
-    return Trouble("all", lambda: [world.members.start(it) for it in PLACES], holds=True)
+    return Trouble("all", world.members.start_all, holds=True)
 
 
 def compact(world: World) -> Trouble:
