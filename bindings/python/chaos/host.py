@@ -29,8 +29,9 @@ TROUBLE = 0.05
 CANCELLED = 0.03
 LATEST = 3.0
 
-# The most lines of a batch of each client.
+# The most lines of a batch of each client, and how long it may wait before the next one, in seconds: so a run of an hour has some 5,000,000 calls.
 BATCHES = (1, 6, 24)
+PAUSES = (0.0, 0.05)
 
 # Seconds between two forks of the task that all hosts are told of, and between two rounds of reads.
 BEAT = 0.1
@@ -140,12 +141,17 @@ class Host:
         self.rows.add("end", position=position, digest=self.table.digest_at(position), list=listed)
 
 
+def lines_of(load: Load, count: int) -> list[str]:
+    """The next lines of a client, but none that ends the root init, and all tasks with it."""
+    return [line for line in load.lines(count) if not line.startswith("exit 1 ")]
+
+
 def make_calls(host: Host, most: int) -> None:
     """A client with tasks of its own."""
     load = Load(host.name())
-    while not host.stopping.is_set():
+    while not host.stopping.wait(random.choice(PAUSES)):
         name = host.name()
-        lines = load.lines(random.randrange(1, most + 1))
+        lines = lines_of(load, random.randrange(1, most + 1))
         answers = host.ask(name, lines, random.random() < CANCELLED)
         if answers is None:
             # It does not know its tasks any more.
@@ -158,9 +164,10 @@ def beat(host: Host) -> None:
     """Forks a task that never ends, sees it, and tells all hosts of it."""
     while not host.stopping.wait(BEAT):
         name = host.name()
-        answers = host.ask(name, ["fork 1"])
+        # Other clients may have moved the root init into a cgroup with a limit.
+        answers = host.ask(name, ["move 1 0", "fork 1"])
         if answers is not None:
-            task = Task(int(answers[0].split(" ")[3]), name)
+            task = Task(int(answers[1].split(" ")[3]), name)
             host.read(task, now=False)
             host.told.tell(host.number, task)
         host.note_place()
