@@ -142,8 +142,8 @@ class Host:
 
 
 def lines_of(load: Load, count: int) -> list[str]:
-    """The next lines of a client, but none that ends the root init, and all tasks with it."""
-    return [line for line in load.lines(count) if not line.startswith("exit 1 ")]
+    """The next lines of a client, but none that ends the root init, or has its children be in a namespace that may fall: then some would end."""
+    return [line for line in load.lines(count) if not line.startswith(("exit 1 ", "join 1 "))]
 
 
 def make_calls(host: Host, most: int) -> None:

@@ -108,6 +108,9 @@ class Host(Child):
                 said = self._said.get(timeout=max(0.0, end - time.monotonic()))
             except queue.Empty:
                 said = SILENT
+        if said == GONE:
+            # Who asks again finds the same.
+            self._said.put(GONE)
         if said != word:
             self.note({"what": "fault", "why": f"{self.life} is {said}, and does not say {word}"})
 

@@ -40,7 +40,7 @@ WRONG = {
     "log_a_read_that_does_not_wait": Wrong("slow", 20, "stale"),
     "log_a_cancel_is_not_looked_at": Wrong("compact", 10, "made"),
     "log_never_said_to_be_sent": Wrong("kill_members,kill_host", 60, "made"),
-    "log_no_second_try": Wrong("compact", 10, "lost fault"),
+    "log_no_second_try": Wrong("kill_members,slow", 30, "lost fault late"),
     "etcd_in_the_order_of_keys": Wrong("kill_host", 20, "wrong digest fault"),
     "etcd_a_page_read_beyond_its_bound": Wrong("kill_host,stop_host,slow,compact", 60, "wrong digest fault"),
     "etcd_a_watch_leaves_one_out": Wrong("kill_member", 20, "wrong digest doubled fault"),
