@@ -13,7 +13,7 @@ T = TypeVar("T")
 
 
 class Rule(NamedTuple):
-    """What happens to the frames from one place to another: how many of 1,000 are lost and doubled, and microseconds by which all, and some, are late."""
+    """What happens to the frames from one place to another: how many of 1,000 are lost and doubled, and by how many microseconds they are late."""
 
     loss: int = 0
     delay: int = 0

@@ -1,7 +1,7 @@
 """A run of chaos: `python3 -m chaos.run --switch PATH [--seconds N] [--seed N] [--troubles NAME,..] [--folder FOLDER]`, as root.
 
-Its last line is the judge's verdict, and its status is 0 where all is well. What it has made is gone then, but for the files of the folder: those of a
-run that is not well stay there.
+Its last line is the judge's verdict, and its status is 0 where all is well. What it has made is gone then, but the files in the folder of a run that
+is not well.
 """
 
 import argparse
@@ -199,7 +199,7 @@ def read_command_line() -> argparse.Namespace:
     parser.add_argument("--folder", type=Path, default=Path("out/chaos"), help="where the files of the run are")
     parser.add_argument("--seconds", type=float, default=180.0, help="for so long there are troubles")
     parser.add_argument("--seed", type=int, default=1, help="another one has other troubles")
-    parser.add_argument("--troubles", type=lambda it: it.split(","), default=[], help="the names of troubles, with commas between them; all by default")
+    parser.add_argument("--troubles", type=lambda it: it.split(","), default=[], help="names of troubles, with commas; all by default")
     parser.add_argument("--member", action="append", default=[], help="a word more for each member of etcd")
     given = parser.parse_args()
     given.troubles = given.troubles or list(all_troubles())

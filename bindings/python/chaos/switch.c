@@ -1,7 +1,7 @@
 /* A switch between the TAP devices of network namespaces. Each directed pair of them has a rule of its own: how many of 1,000 frames are lost or
  * doubled, how long each is held, in microseconds, and by how much more at random, which puts them out of order.
  *
- *     switch SEED NAMESPACE..     each NAMESPACE is a file, as /proc/PID/ns/net; the device `tap0` of the one with place N has the address 10.77.0.N+1
+ *     switch SEED NAMESPACE..     each is a file, as /proc/PID/ns/net; that of place N, from 0 on, has a device `tap0` with the address 10.77.0.N+1
  *
  * It says `ready`, and then reads rules from standard input, a line each: FROM TO LOSS DELAY JITTER DOUBLED. Where that ends, it says what it did. */
 #define _GNU_SOURCE
@@ -164,7 +164,8 @@ static void take_rule(const char *line)
 {
 	int from, to;
 	struct rule it;
-	if (sscanf(line, "%d %d %d %d %d %d", &from, &to, &it.loss, &it.delay, &it.jitter, &it.doubled) != 6 || from < 0 || to < 0 || from >= places || to >= places) {
+	int read = sscanf(line, "%d %d %d %d %d %d", &from, &to, &it.loss, &it.delay, &it.jitter, &it.doubled);
+	if (read != 6 || from < 0 || to < 0 || from >= places || to >= places) {
 		fprintf(stderr, "switch: no rule: %s\n", line);
 		exit(1);
 	}

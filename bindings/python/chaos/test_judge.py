@@ -187,7 +187,7 @@ class Well(Judged):
         self.assertEqual(
             verdict,
             "well: 7 calls answered in 4 batches, 2 reads, 0 not known, 1 entries repeated, 2 snapshots, 7 of 12 entries cut, 1 troubles of 1 kinds, "
-            "2 lives of hosts; longest wait 0.0 s",
+            "2 lives of hosts; longest wait 0.0 s, and 0.0 s beside what held it up",
         )
 
     def test_a_host_is_killed_before_its_answer(self) -> None:
@@ -210,7 +210,7 @@ class Well(Judged):
             it.row("h0.1", "answered", "batch h0.1 2").update(t1=500 + 3 * LONGEST_WAIT)
             it.events.append({"what": "trouble", "name": "cut_off", "from": 600, "to": 600 + 2 * LONGEST_WAIT, "holds": True})
 
-        self.assertIn("longest wait 60.0 s", self.check_well(plant))
+        self.assertIn("longest wait 54.0 s, and 18.0 s beside", self.check_well(plant))
 
     def test_other_settings_behind_the_first(self) -> None:
         def plant(it: Folder) -> None:

@@ -5,6 +5,7 @@ An edit of `cluster/wrong` is planted in a copy, and the run has the troubles in
 
 import re
 import shutil
+import signal
 import subprocess
 import sys
 import tempfile
@@ -12,6 +13,7 @@ from collections.abc import Sequence
 from pathlib import Path
 from typing import NamedTuple
 
+from chaos.kernel import Ended, ends_by_signals
 from cluster.test_wrong import plant
 
 PACKAGE = Path(__file__).resolve().parents[1]
@@ -37,14 +39,14 @@ WRONG = {
     "log_a_session_of_two_hosts": Wrong("compact", 10, "lost fault"),
     "log_an_answer_to_another": Wrong("compact", 10, "wrong lost fault"),
     "log_answered_before_it_is_there": Wrong("compact", 10, "wrong"),
-    "log_a_read_that_does_not_wait": Wrong("slow", 20, "stale"),
+    "log_a_read_that_does_not_wait": Wrong("slow", 40, "stale"),
     "log_a_cancel_is_not_looked_at": Wrong("compact", 10, "made"),
     "log_never_said_to_be_sent": Wrong("kill_members,kill_host", 60, "made"),
     "log_no_second_try": Wrong("kill_members,slow", 30, "lost fault late"),
     "etcd_in_the_order_of_keys": Wrong("kill_host", 20, "wrong digest fault"),
     "etcd_a_page_read_beyond_its_bound": Wrong("kill_host,stop_host,slow,compact", 60, "wrong digest fault"),
     "etcd_a_watch_leaves_one_out": Wrong("kill_member", 20, "wrong digest doubled fault"),
-    "etcd_an_end_by_one_member": Wrong("deaf,one_way,leader_from_member", 60, "stale"),
+    "etcd_an_end_by_one_member": Wrong("deaf,kill_member", 90, "stale"),
     "etcd_a_watch_at_a_dead_member": Wrong("lost_member", 50, "late"),
     "members_that_do_not_sync": Wrong("power_members", 40, "lost record log digest fault", ("--unsafe-no-fsync",)),
 }
@@ -89,7 +91,11 @@ def find(name: str, switch: Path) -> bool:
 def main() -> int:
     """Plants those that are named, or all."""
     switch, names = Path(sys.argv[1]).absolute(), sys.argv[2:] or list(WRONG)
-    return 0 if all([find(name, switch) for name in names]) else 1
+    try:
+        with ends_by_signals():
+            return 0 if all([find(name, switch) for name in names]) else 1
+    except Ended:
+        return 128 + signal.SIGTERM
 
 
 if __name__ == "__main__":
