@@ -46,8 +46,7 @@ WRONG = {
     "etcd_in_the_order_of_keys": Wrong("kill_host", 20, "wrong digest fault"),
     "etcd_a_page_read_beyond_its_bound": Wrong("kill_host,stop_host,slow,compact", 60, "wrong digest fault"),
     "etcd_a_watch_leaves_one_out": Wrong("kill_member", 20, "wrong digest doubled fault"),
-    "etcd_an_end_by_one_member": Wrong("deaf,kill_member", 90, "stale"),
-    "etcd_a_watch_at_a_dead_member": Wrong("lost_member", 50, "late"),
+    "etcd_a_watch_at_a_dead_member": Wrong("lost_member", 110, "late"),
     "members_that_do_not_sync": Wrong("power_members", 40, "lost record log digest fault", ("--unsafe-no-fsync",)),
 }
 
