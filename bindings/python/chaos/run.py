@@ -85,8 +85,8 @@ class Run:
         with self.notes_faults():
             self.begin(world)
             self.make_troubles(world)
-        self.heal(world)
         with self.notes_faults():
+            self.heal(world)
             self.end(world)
         self.note({"what": "switch", "said": network.close()})
         is_well, verdict = judge(self.folder, os.environ["PIDTAB"])
