@@ -39,11 +39,7 @@ pub extern "C" fn pidtab_call_line(call: &CallNumbers, room: &mut [u8], size: &m
 /// `OUT_OF_RANGE` where the numbers are no reply; then `NO_ROOM` where the room is shorter than the answer, and then
 /// `size` is the answer's length too. It needs no table and no memory.
 #[unsafe(no_mangle)]
-pub extern "C" fn pidtab_reply_line(
-    reply: &ReplyNumbers,
-    room: &mut [u8],
-    size: &mut usize,
-) -> u32
+pub extern "C" fn pidtab_reply_line(reply: &ReplyNumbers, room: &mut [u8], size: &mut usize) -> u32
     ensures done { result ≡ DONE
         → (told : Reply) × (reply_in reply.now ≡ Some told) × (take size.new room.new ≡ reply_text told) }
     ensures fits { result ≡ DONE → size.new ≤ length room.new }
