@@ -26,7 +26,7 @@ fn tasks() {
     let mut table = Table::open(32768).expect("a table");
     table.fork(1, true).expect("a child");
     let told = table.stat(1, 2).expect("a task").to_json();
-    let wanted = r#"{"numbers":[2,1],"parent":1,"group":1,"session":1,"space":1,"control":0,"state":"live","status":null,"executed":false,"subreaper":false}"#;
+    let wanted = r#"{"numbers":[2,1],"root":2,"parent":1,"group":1,"session":1,"space":1,"control":0,"state":"live","status":null,"executed":false,"subreaper":false}"#;
     assert_eq!(told, wanted);
     table.exec(2).expect("a program");
     table.subreaper(2, true).expect("a subreaper");
