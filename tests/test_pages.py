@@ -110,7 +110,8 @@ class Examples(unittest.TestCase):
 
     def test_python_in_files(self) -> None:
         need_shared()
-        shown = sorted((PACKAGES / "examples").glob("*.py"))
+        # One needs a server, which `cluster.test_postgres` has.
+        shown = sorted(it for it in (PACKAGES / "examples").glob("*.py") if it.stem != "postgres_log")
         self.assertEqual([it.stem for it in shown], ["follow", "saved", "shared", "text"])
         for path in shown:
             with self.subTest(path.name), tempfile.TemporaryDirectory() as folder:

@@ -53,13 +53,11 @@ PYTHONS = {
     "README.md": r"\bPython (\d+\.\d+)\b",
     "CONTRIBUTING.md": r"\bPython (\d+\.\d+) or later",
     "docs/LIBRARY.md": r"\bPython (\d+\.\d+) or later",
-    "docs/TESTED.md": r"`make linux` needs Python (\d+\.\d+)",
     "linux/README.md": r"\bPython (\d+\.\d+) or later",
 }
 PYTHONS_OF_THE_GATE = {
     "CONTRIBUTING.md": r"\bPython (\d+\.\d+) is enough for the gate",
     "docs/GATE.md": r"\bPython (\d+\.\d+) or later",
-    "docs/TESTED.md": r"`make test` and `make hostile` need a C compiler and Python (\d+\.\d+) or later",
 }
 
 # The folders of what the gate runs by Python.
