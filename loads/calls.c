@@ -1,8 +1,8 @@
 /* Calls of the library for C by numbers, for callgrind: calls TABLE LOAD N.
  *
- * TABLE is plain, record or shared (with its lock taken for each call); LOAD is getpid, the same as a query that is no call (ask), the
- * same with 100 in a turn (turns; N is how many turns, and no table is plain), or cycle: a fork, an exit and a wait. The difference of the instructions at two lengths, divided by that of the lengths, is the cost; the
- * loop is in it.
+ * TABLE is plain, record or shared (with its lock taken for each call). LOAD is getpid; ask, the same as a query that is no call; turns, the same
+ * with 100 in a turn, where N is how many turns, and no table is plain; or cycle: a fork, an exit and a wait. The difference of the instructions at
+ * two lengths, divided by that of the lengths, is the cost; the loop is in it.
  *
  *   cc -O2 -Iout loads/calls.c out/libpidtab.a -pthread -o out/calls
  *   valgrind --tool=callgrind --callgrind-out-file=/dev/null out/calls record getpid 12000
