@@ -1,5 +1,5 @@
 -- What each step of the making leaves as it was.
-use Rattle.std.proofs.Common.{◌≡◌, ◌≢◌, inl, inr, ℕ, false, List, [], Option, Some, None, is_some, refl, sym, ap, ◌∙◌, option_map, unwrap_or}
+use Rattle.std.proofs.Common.{◌≡◌, ◌≢◌, inl, inr, ℕ, false, List, [], ◌∷◌, Option, Some, None, is_some, refl, sym, ap, ◌∙◌, option_map, unwrap_or}
 use Rattle.std.proofs.lemmas.Bool.{cases_eq}
 use Rattle.std.specs.Prelude.{slice_index_or, position, ◌==◌, option_and_then}
 use Rattle.std.specs.Option.{option_map_or, option_eq}
@@ -7,7 +7,7 @@ use Rattle.pid_types.proofs.General.{held}
 use Rattle.pid_types.specs.declared.plain.Name.{Name}
 use Rattle.pid_types.specs.declared.plain.Row.{Row}
 use Rattle.pid_types.specs.State.{root_name}
-use Rattle.pid_numbers.specs.Numbering.{Numbering, Namespace, Identifier, namespace_at, id_at, identifier_at, path_at, has_fallen_at, cursor_put, moved, number_in}
+use Rattle.pid_numbers.specs.Numbering.{Numbering, Namespace, Identifier, namespace_at, id_at, identifier_at, path_at, has_fallen_at, cursor_put, moved, number_in, new_namespace}
 use Rattle.task_tree.specs.declared.Task.{Task}
 use Rattle.task_tree.specs.Tree.{task_at, parent_of}
 use Rattle.groups_sessions.specs.Membership.{Membership, membership_at, group_of, session_of}
@@ -15,9 +15,13 @@ use Rattle.pids_charge.specs.Charges.{id_at as home_id}
 use Rattle.task_table.specs.Store.{Store, bare}
 use Rattle.task_table.specs.View.{name_of, name_at, row_of, row_with, state_of}
 use Rattle.task_table.specs.Collect.{collect}
+use Rattle.task_table.specs.Lawful.{IsLawful}
 use Rattle.task_table.proofs.LookUps.{named}
 use Rattle.task_table.proofs.Rows.{row-ext}
 use Rattle.task_table.proofs.Newborn.{Comes, KeepsNamespaces, born, named_in, name-kept, other_rows, home_kept, some_of}
+use Rattle.table_build.specs.Kept.{KeepsUngrouped}
+use Rattle.table_build.specs.Settling.{KeepsGrouping}
+use Rattle.table_build.specs.Grouping.{IsGrouping}
 use Rattle.table_build.specs.Stages.{without_cursor, KeepsSpaces, KeepsPlaces, KeepsBearers, MovesCursors, AddsRow, lone_row}
 use Rattle.table_build.specs.declared.names.RecentName.{RecentName}
 use Rattle.table_build.specs.Recent.{Bears, IsRecent}
@@ -226,6 +230,65 @@ bearers-none s = record { each = λ k some. (some, refl) }
 
 pub places-none : (s : Store) → KeepsPlaces s s
 places-none s = record { spaces = record { order = refl; bound = refl; each = λ p. refl }; controls = refl }
+
+pub ungrouped-none : (s : Store) → IsUngrouped s → KeepsUngrouped s s
+ungrouped-none s u = record { ungrouped = u; places = places-none s; names = bearers-none s }
+
+pub ungrouped-both : (a b c : Store) → KeepsUngrouped a b → KeepsUngrouped b c → KeepsUngrouped a c
+ungrouped-both a b c k l = record { ungrouped = l.ungrouped; places = places-both a b c k.places l.places; names = bearers-both a b c k.names l.names }
+
+pub grouping-none : (s : Store) → IsGrouping s → KeepsGrouping s s
+grouping-none s g = record { grouping = g; places = places-none s; names = bearers-none s }
+
+pub grouping-both : (a b c : Store) → KeepsGrouping a b → KeepsGrouping b c → KeepsGrouping a c
+grouping-both a b c k l = record { grouping = l.grouping; places = places-both a b c k.places l.places; names = bearers-both a b c k.names l.names }
+
+-- a store that was just made is ungrouped
+pub ungrouped-new : (s : Store) → IsLawful s → ((k : ℕ) → task_at s.tree k ≡ None) → s.members ≡ [] → ((i : ℕ) → identifier_at s.numbering i ≡ None)
+    → namespace_at s.numbering 0 ≡ Some (new_namespace 0 (0 ∷ [])) → ((p : ℕ) → p ≢ 0 → namespace_at s.numbering p ≡ None) → IsUngrouped s
+ungrouped-new s laws tasks members names root others = record {
+  orphans = λ k. laws.absent k (tasks k);
+  alone = λ k g e. absurd (let z : None ≡ Some g = sym (ap (λ (ms : List (Option Membership)). group_of ms k) members) ∙ e in cc);
+  borne = λ k u e. absurd (let z : None ≡ Some u = sym (names k) ∙ e in cc);
+  standing = λ p. elim (cases_eq p 0) [
+    | inl same ↦ ap (λ (o : Option Namespace). option_map_or (λ (n : Namespace). n.fallen) o false) (ap (namespace_at s.numbering) same ∙ root)
+    | inr not ↦ ap (λ (o : Option Namespace). option_map_or (λ (n : Namespace). n.fallen) o false) (others p not)
+  ];
+}
+
+-- control groups have nothing to do with groups
+pub ungrouped-charges : (s t : Store) → t ≡ record s { charges = t.charges } → IsUngrouped s → IsUngrouped t
+ungrouped-charges s t rest u = record {
+  orphans = λ k. ap (λ (x : Store). parent_of x.tree k) rest ∙ u.orphans k;
+  alone = λ k g e. u.alone k g (sym (ap (λ (x : Store). group_of x.members k) rest) ∙ e);
+  borne = λ k i e. ap (λ (x : Store). is_some (task_at x.tree k)) rest ∙ u.borne k i (sym (ap (λ (x : Store). identifier_at x.numbering k) rest) ∙ e);
+  standing = λ p. ap (λ (x : Store). has_fallen_at x.numbering p) rest ∙ u.standing p;
+}
+
+-- nor has a namespace that came and stands
+pub ungrouped-space : (s t : Store) (key id : ℕ) (path : List ℕ) → namespace_at t.numbering key ≡ Some (new_namespace id path)
+    → ((p : ℕ) → p ≢ key → namespace_at t.numbering p ≡ namespace_at s.numbering p) → t.numbering.names ≡ s.numbering.names → t ≡ record s { numbering = t.numbering }
+    → IsUngrouped s → IsUngrouped t
+ungrouped-space s t key id path made others names rest u = record {
+  orphans = λ k. ap (λ (x : Store). parent_of x.tree k) rest ∙ u.orphans k;
+  alone = λ k g e. u.alone k g (sym (ap (λ (x : Store). group_of x.members k) rest) ∙ e);
+  borne = λ k i e. ap (λ (x : Store). is_some (task_at x.tree k)) rest ∙ u.borne k i (sym (ap (λ (ns : List (Option Identifier)). slice_index_or ns k None) names) ∙ e);
+  standing = λ p. elim (cases_eq p key) [
+    | inl same ↦ ap (λ (o : Option Namespace). option_map_or (λ (n : Namespace). n.fallen) o false) (ap (namespace_at t.numbering) same ∙ made)
+    | inr not ↦ ap (λ (o : Option Namespace). option_map_or (λ (n : Namespace). n.fallen) o false) (others p not) ∙ u.standing p
+  ];
+}
+
+-- the places are the same where the namespaces and the control groups are
+pub places-same : (s t : Store) → t.numbering ≡ s.numbering → t.charges.controls ≡ s.charges.controls → KeepsPlaces s t
+places-same s t numbering controls = record {
+  spaces = record {
+    order = ap (λ (b : Numbering). b.order) numbering;
+    bound = ap (λ (b : Numbering). b.pid_max) numbering;
+    each = λ p. ap (λ (b : Numbering). option_map without_cursor (namespace_at b p)) numbering;
+  };
+  controls = controls;
+}
 
 -- the rows of a state whose names, paths and rows by key are the same
 pub state-rows : (s t : Store) → t.numbering.pid_max ≡ s.numbering.pid_max → t.numbering.names ≡ s.numbering.names → ((p : ℕ) → path_at t.numbering p ≡ path_at s.numbering p)

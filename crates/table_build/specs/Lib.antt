@@ -9,3 +9,5 @@ pub mod Sorted
 pub mod Follows
 pub mod Parts
 pub mod Tables
+pub mod Kept
+pub mod Settling

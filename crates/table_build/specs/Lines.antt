@@ -18,6 +18,12 @@ HasFew p = length p.placeholders.items ≤ 2 ^ 32
 abbrev pub KeepsFew : Placed → Placed → Type 0
 KeepsFew before after = HasFew before → HasFew after
 
+-- the lists are the same, but for placeholders
+pub record KeepsLists (before after : Placed) : Type 0 where
+  pub few : KeepsFew before after
+  pub keys : after.keys ≡ before.keys
+  pub groups : after.groups ≡ before.groups
+
 -- the task with the key has the row, and is no placeholder
 pub record IsLine (s : Store) (p : Placed) (key : ℕ) (row : Row) : Type 0 where
   pub shown : row_with s key ≡ Some row

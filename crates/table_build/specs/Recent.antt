@@ -19,3 +19,8 @@ pub record Bears (s : Store) (key : ℕ) (name : Name) : Type 0 where
 -- who was found last bears the name still
 abbrev pub IsRecent : Store → RecentName → Type 0
 IsRecent s last = (key : ℕ) → last.key ≡ Some key → Bears s key last.name
+
+-- a name may be looked for
+pub record MayFind (s : Store) (last : RecentName) : Type 0 where
+  pub borne : AreBorne s
+  pub recent : IsRecent s last

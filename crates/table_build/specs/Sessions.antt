@@ -6,13 +6,21 @@ use Rattle.task_table.specs.Store.{Store}
 use Rattle.task_table.specs.View.{row_with}
 use Rattle.table_build.specs.declared.placed.Placed.{Placed}
 use Rattle.table_build.specs.declared.sessions.RecentNames.{RecentNames}
-use Rattle.table_build.specs.Lines.{is_held}
+use Rattle.table_build.specs.Kept.{KeepsUngrouped}
+use Rattle.table_build.specs.Lines.{KeepsFew, SameLines, is_held}
 use Rattle.table_build.specs.Recent.{Bears, IsRecent}
 
 -- all tasks have their rows and marks still, and whoever has come bears the name
 pub record AddsPlaceholder (old new : Store) (before after : Placed) (name : Name) : Type 0 where
   pub kept : (k : ℕ) (r : Row) → row_with old k ≡ Some r → (row_with new k ≡ Some r) × (is_held after k ≡ is_held before k)
   pub come : (k : ℕ) (r : Row) → row_with new k ≡ Some r → (row_with old k ≡ Some r) ⊎ (r.name ≡ name)
+
+-- the task with the key bears the name, and may have come as a placeholder; the rest is kept
+pub record PutsBearer (old new : Store) (before after : Placed) (name : Name) (key : ℕ) : Type 0 where
+  pub keeps : KeepsUngrouped old new
+  pub bears : Bears new key name
+  pub lines : SameLines old new before after
+  pub rows : AddsPlaceholder old new before after name
 
 -- the task with the key alone is another one's: it keeps its name, and is in the session with the name if it is a placeholder
 pub record Seats (old new : Store) (p : Placed) (key : ℕ) (session : Name) : Type 0 where
@@ -27,6 +35,7 @@ pub record AddsGroup (old new : Store) (before after : Placed) (key : ℕ) (row 
   pub bears : Bears new group row.group
   pub added : after.groups.items ≡ before.groups.items ++ group ∷ []
   pub keys : after.keys ≡ before.keys
+  pub few : KeepsFew before after
   pub kept : (k : ℕ) (r : Row) → k ≢ key → k ≢ group → row_with old k ≡ Some r
       → (row_with new k ≡ Some r) × (is_held after k ≡ is_held before k)
   pub seat : is_held after group ≡ true → (r : Row) → row_with new group ≡ Some r → r.session ≡ row.session

@@ -65,6 +65,12 @@ pub record MovesCursors (old new : Store) : Type 0 where
   pub members : new.members ≡ old.members
   pub charges : new.charges ≡ old.charges
 
+-- nothing is different but the namespaces
+pub record ChangesSpaces (old new : Store) : Type 0 where
+  pub names : new.numbering.names ≡ old.numbering.names
+  pub bound : new.numbering.pid_max ≡ old.numbering.pid_max
+  pub rest : new ≡ record old { numbering = new.numbering }
+
 -- who bears a name bears it still
 pub record KeepsBearers (old new : Store) : Type 0 where
   pub each : (k : ℕ) → IsSome (task_at old.tree k) → IsSome (task_at new.tree k) × (name_at new.numbering k ≡ name_at old.numbering k)

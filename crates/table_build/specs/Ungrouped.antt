@@ -5,6 +5,7 @@ use Rattle.task_tree.specs.Tree.{parent_of}
 use Rattle.groups_sessions.specs.Membership.{group_of}
 use Rattle.task_table.specs.Store.{Store}
 use Rattle.table_build.specs.Recent.{AreBorne}
+use Rattle.table_build.specs.Stages.{ChangesSpaces}
 
 -- no task has a parent, each is in the group of its own name, each name is a task's, and each namespace stands
 pub record IsUngrouped (s : Store) : Type 0 where
@@ -12,3 +13,8 @@ pub record IsUngrouped (s : Store) : Type 0 where
   pub alone : (k g : ℕ) → group_of s.members k ≡ Some g → g ≡ k
   pub borne : AreBorne s
   pub standing : (p : ℕ) → has_fallen_at s.numbering p ≡ false
+
+-- nothing is different but the namespaces, which stand
+pub record AddsSpaces (old new : Store) : Type 0 where
+  pub spaces : ChangesSpaces old new
+  pub ungrouped : IsUngrouped new

@@ -1,17 +1,17 @@
 //! The tasks of a text begin. Each is live, without a parent, and in a group and a session of its own name.
 ghost use Rattle.std.specs.Prelude.{◌≡◌, ◌≢◌, ◌<◌, ℕ, [], length, map, false};
-ghost use Rattle.std.specs.Prelude.{None, OnOk, IfOk, IfErr, IsSome, IsTrue, option_map, slice_get};
+ghost use Rattle.std.specs.Prelude.{OnOk, IfOk, IfErr, IsSome, IsTrue, option_map, slice_get};
 ghost use Rattle.pid_types.specs.Controls.{control_at};
 ghost use Rattle.pid_types.specs.Names.{root_number};
 ghost use Rattle.pid_types.specs.Sound.{IsRising, IsSound};
 ghost use Rattle.table_text.specs.Reading.{saved_state};
 ghost use Rattle.table_build.specs.Parts.{HasPlaces, IsPart};
 ghost use Rattle.table_build.specs.Follows.{MayBear};
-ghost use Rattle.task_table.specs.View.{row_with};
 ghost use Rattle.table_build.specs.Lines.{AreLines};
 ghost use Rattle.table_build.specs.Sorted.{IsNotBelow};
 ghost use Rattle.table_build.specs.Ungrouped.{IsUngrouped};
-ghost use Rattle.table_build.specs.Stages.{AddsRow, KeepsBearers, KeepsPlaces, begun};
+ghost use Rattle.table_build.specs.Kept.{AddsTask, HasNobody, KeepsUngrouped};
+ghost use Rattle.table_build.specs.Stages.{begun};
 
 use crate::fault::BuildFault;
 use crate::lines::task_line;
@@ -45,10 +45,7 @@ fn is_unsorted(saved: &Saved, index: usize) -> bool
 /// The task of a line begins.
 fn begin_task(store: &mut Tasks, row: &Row, line: u64) -> Result<TaskKey, BuildFault>
     requires ungrouped { IsUngrouped store.old }
-    ensures ungrouped { OnOk result (IsUngrouped store.new) }
-    ensures added { IfOk result (λ key. AddsRow store.old store.new key (begun row.now)) }
-    ensures places { OnOk result (KeepsPlaces store.old store.new) }
-    ensures names { OnOk result (KeepsBearers store.old store.new) }
+    ensures added { IfOk result (λ key. AddsTask store.old store.new key (begun row.now)) }
     ensures refused { IfErr result (λ fault. fault ≢ BuildFault.NoMemory
         → IsSome (control_at store.old.charges.controls row.now.home)
         → MayBear store.old.numbering row.now.name → ⊥) }
@@ -68,10 +65,8 @@ fn begin_task(store: &mut Tasks, row: &Row, line: u64) -> Result<TaskKey, BuildF
 
 /// The tasks of all lines begin.
 pub fn begin_tasks(alloc: Global, store: &mut Tasks, saved: &Saved) -> Result<Placed, BuildFault>
-    requires ungrouped { IsUngrouped store.old }
-    requires nobody { (k : ℕ) → row_with store.old k ≡ None }
-    ensures ungrouped { OnOk result (IsUngrouped store.new) }
-    ensures places { OnOk result (KeepsPlaces store.old store.new) }
+    requires { HasNobody store.old }
+    ensures keeps { OnOk result (KeepsUngrouped store.old store.new) }
     ensures lines { IfOk result (λ placed. AreLines store.new placed
         (λ j. option_map begun (slice_get saved.now.rows j))) }
     ensures keys { IfOk result (λ placed. length placed.keys.items ≡ length saved.now.rows) }

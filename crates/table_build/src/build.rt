@@ -1,14 +1,14 @@
 //! A store with all that a text says.
-ghost use Rattle.std.specs.Prelude.{◌≡◌, ◌≢◌, ℕ, None, map, IfOk, IfErr, OnOk};
+ghost use Rattle.std.specs.Prelude.{◌≡◌, ◌≢◌, map, IfOk, IfErr, OnOk};
 ghost use Rattle.pid_types.specs.Sound.{IsSound};
-ghost use Rattle.task_table.specs.View.{row_with, spaces_of, state_of};
+ghost use Rattle.task_table.specs.View.{spaces_of, state_of};
 ghost use Rattle.task_table.specs.Whole.{HasParents};
 ghost use Rattle.table_text.specs.Reading.{saved_state};
 ghost use Rattle.table_build.specs.Bare.{bare, steady};
+ghost use Rattle.table_build.specs.Kept.{HasNobody};
 ghost use Rattle.table_build.specs.Parts.{HasPlaces};
 ghost use Rattle.table_build.specs.Stages.{KeepsPlaces};
 ghost use Rattle.table_build.specs.Tables.{IsOfTables};
-ghost use Rattle.table_build.specs.Ungrouped.{IsUngrouped};
 
 use crate::begin::begin_tasks;
 use crate::controls::put_controls;
@@ -25,8 +25,7 @@ use task_table::view::laws;
 
 /// A store with the control groups and the namespaces of the text, and no task.
 fn put_places(alloc: Global, saved: &Saved) -> Result<Tasks, BuildFault>
-    ensures ungrouped { IfOk result (λ store. IsUngrouped store) }
-    ensures nobody { IfOk result (λ store. (k : ℕ) → row_with store k ≡ None) }
+    ensures nobody { IfOk result (λ store. HasNobody store) }
     ensures controls { IfOk result (λ store. store.charges.controls ≡ saved.now.controls.items) }
     ensures spaces { IfOk result (λ store. spaces_of store.numbering ≡ map bare saved.now.spaces.items) }
     ensures bound { IfOk result (λ store. store.numbering.pid_max ≡ saved.now.pid_max) }
@@ -45,8 +44,7 @@ fn put_places(alloc: Global, saved: &Saved) -> Result<Tasks, BuildFault>
 
 /// The tasks of the text are put into a store that has none.
 fn put_tasks(alloc: Global, store: &mut Tasks, saved: &Saved) -> Result<(), BuildFault>
-    requires ungrouped { IsUngrouped store.old }
-    requires nobody { (k : ℕ) → row_with store.old k ≡ None }
+    requires { HasNobody store.old }
     ensures rows { OnOk result ((state_of store.new).rows ≡ saved.now.rows) }
     ensures places { OnOk result (KeepsPlaces store.old store.new) }
     ensures kin { OnOk result (HasParents store.new) }

@@ -5,7 +5,6 @@ ghost use Rattle.table_build.specs.Follows.{AreUpToLast, AreGoodControls, MayFol
 ghost use Rattle.std.specs.List.{AllByRecursion};
 ghost use Rattle.pid_types.specs.declared.plain.Control.{Control};
 ghost use Rattle.pids_charge.specs.Charges.{stands, id_at};
-ghost use Rattle.table_build.specs.Ungrouped.{IsUngrouped};
 
 use crate::fault::BuildFault;
 use crate::lines::control_line;
@@ -58,9 +57,7 @@ fn make_control(
 
 /// Puts a control group behind those that are there, whose ids are up to the last one.
 fn put_control(store: &mut Tasks, control: &Control, last: u64, line: u64) -> Result<(), BuildFault>
-    requires ungrouped { IsUngrouped store.old }
     requires below { AllByRecursion (λ g. g.id ≤ last) store.old.charges.controls }
-    ensures ungrouped { OnOk result (IsUngrouped store.new) }
     ensures below { OnOk result (AllByRecursion (λ g. g.id ≤ control.now.id) store.new.charges.controls) }
     ensures put { OnOk result (store.new.charges.controls ≡ store.old.charges.controls ++ control.now ∷ []) }
     ensures refused { IfErr result (λ fault. fault ≢ BuildFault.NoMemory
@@ -99,11 +96,9 @@ fn check_root(saved: &Saved) -> Result<(), BuildFault>
 
 /// Puts the control group of a line behind those of the lines before.
 fn put_next(store: &mut Tasks, saved: &Saved, index: usize) -> Result<(), BuildFault>
-    requires ungrouped { IsUngrouped store.old }
     requires put { store.old.charges.controls ≡ take index saved.now.controls.items }
     requires below { AreUpToLast store.old.charges.controls saved.now.controls.items index }
     requires index { (0 < index) × (index < length saved.now.controls.items) }
-    ensures ungrouped { OnOk result (IsUngrouped store.new) }
     ensures put { OnOk result (store.new.charges.controls ≡ take (index + 1) saved.now.controls.items) }
     ensures below { OnOk result (AreUpToLast store.new.charges.controls saved.now.controls.items (index + 1)) }
     ensures rest { store.new ≡ record store.old { charges = store.new.charges } }
@@ -121,9 +116,7 @@ fn put_next(store: &mut Tasks, saved: &Saved, index: usize) -> Result<(), BuildF
 
 /// Puts all control groups: the first line is that of the root, and the ids rise.
 pub fn put_controls(store: &mut Tasks, saved: &Saved) -> Result<(), BuildFault>
-    requires ungrouped { IsUngrouped store.old }
     requires root { store.old.charges.controls ≡ record { id = 0; parent = None; limit = None } ∷ [] }
-    ensures ungrouped { OnOk result (IsUngrouped store.new) }
     ensures put { OnOk result (store.new.charges.controls ≡ saved.now.controls.items) }
     ensures rest { store.new ≡ record store.old { charges = store.new.charges } }
     ensures refused { IfErr result (λ fault. fault ≢ BuildFault.NoMemory

@@ -9,7 +9,7 @@ ghost use Rattle.pid_numbers.specs.Restore.{is_flagged};
 ghost use Rattle.table_text.specs.Reading.{saved_state};
 ghost use Rattle.task_table.specs.View.{spaces_of, state_of};
 ghost use Rattle.table_build.specs.Bare.{AddsFlag, AreFlagged, HasCursor, MayHaveFall, MayHaveFalls, bare, steady};
-ghost use Rattle.table_build.specs.Stages.{MovesCursors};
+ghost use Rattle.table_build.specs.Stages.{ChangesSpaces, MovesCursors};
 
 use crate::fault::BuildFault;
 use crate::flags::{has_flag, set_flag};
@@ -130,8 +130,7 @@ pub fn put_falls(alloc: Global, store: &mut Tasks, saved: &Saved) -> Result<(), 
     requires listed { map steady (spaces_of store.old.numbering) ≡ map bare saved.now.spaces.items }
     ensures listed { OnOk result (map steady (spaces_of store.new.numbering) ≡ map steady saved.now.spaces.items) }
     ensures rows { OnOk result ((state_of store.new).rows ≡ (state_of store.old).rows) }
-    ensures bound { store.new.numbering.pid_max ≡ store.old.numbering.pid_max }
-    ensures rest { store.new ≡ record store.old { numbering = store.new.numbering } }
+    ensures rest { ChangesSpaces store.old store.new }
     ensures refused { IfErr result (λ fault. fault ≢ BuildFault.NoMemory → IsSound (saved_state saved.now)
         → (state_of store.old).rows ≡ saved.now.rows → ⊥) }
 {

@@ -12,8 +12,9 @@ ghost use Rattle.table_build.specs.Ungrouped.{IsUngrouped};
 ghost use Rattle.table_build.specs.Bare.{HasCursors};
 ghost use Rattle.table_build.specs.Follows.{MayBear};
 ghost use Rattle.table_build.specs.Parts.{IsPart, IsUnborne};
-ghost use Rattle.table_build.specs.Recent.{AreBorne, Bears, IsRecent};
-ghost use Rattle.table_build.specs.Stages.{AddsRow, KeepsBearers, KeepsPlaces, MovesCursors, lone_row};
+ghost use Rattle.table_build.specs.Kept.{AddsTask};
+ghost use Rattle.table_build.specs.Recent.{Bears, IsRecent, MayFind};
+ghost use Rattle.table_build.specs.Stages.{MovesCursors, lone_row};
 
 use crate::fault::BuildFault;
 use arrayvec::ArrayVec;
@@ -26,9 +27,7 @@ use translate::shown::{blank_row, write_name};
 
 /// The next draws begin at the numbers: the first one in the namespace, the others in those around it.
 fn put_cursors(store: &mut Tasks, space: SpaceKey, numbers: &[Pid])
-    requires ungrouped { IsUngrouped store.old }
-    requires there { IsSome (namespace_at store.old.numbering space) }
-    ensures ungrouped { IsUngrouped store.new }
+    requires { IsSome (namespace_at store.old.numbering space) }
     ensures moved { MovesCursors store.old store.new }
     ensures put { HasCursors store.new.numbering (path_at store.old.numbering space) numbers.now (length numbers.now) }
 {
@@ -94,10 +93,7 @@ pub fn put_name(
     requires ungrouped { IsUngrouped store.old }
     requires live { lives task ≡ true }
     requires home { stands store.old.charges task.home ≡ true }
-    ensures ungrouped { OnOk result (IsUngrouped store.new) }
-    ensures added { IfOk result (λ key. AddsRow store.old store.new key (lone_row store.old name.now task)) }
-    ensures places { OnOk result (KeepsPlaces store.old store.new) }
-    ensures names { OnOk result (KeepsBearers store.old store.new) }
+    ensures added { IfOk result (λ key. AddsTask store.old store.new key (lone_row store.old name.now task)) }
     ensures refused { IfErr result (λ fault. fault ≢ BuildFault.NoMemory
         → MayBear store.old.numbering name.now → ⊥) }
 {
@@ -148,8 +144,7 @@ pub fn find_name(
     last: &mut RecentName,
     line: u64,
 ) -> Result<Option<TaskKey>, BuildFault>
-    requires borne { AreBorne store.now }
-    requires recent { IsRecent store.now last.old }
+    requires { MayFind store.now last.old }
     ensures recent { OnOk result (IsRecent store.now last.new) }
     ensures found { IfOk result (λ found. IfSome found (λ key. Bears store.now key name.now)) }
     ensures nobody { IfOk result (λ found. found ≡ None → IsUnborne store.now name.now) }

@@ -1,6 +1,6 @@
 //! Which tasks were placed in a store that is made of a text.
 ghost use Rattle.std.specs.Prelude.{◌≡◌, ◌≢◌, ◌++◌, ◌∷◌, [], ℕ, true, OnOk};
-ghost use Rattle.table_build.specs.Lines.{KeepsFew, is_held};
+ghost use Rattle.table_build.specs.Lines.{KeepsLists, is_held};
 
 use crate::flags::{has_flag, set_flag};
 use pid_types::keys::TaskKey;
@@ -58,10 +58,8 @@ impl Placed {
     /// A task is a placeholder.
     pub fn add_placeholder(&mut self, key: TaskKey) -> Result<(), AllocError>
         ensures held { OnOk result (is_held self.new key ≡ true) }
-        ensures few { KeepsFew self.old self.new }
         ensures others { (k : ℕ) → k ≢ key → is_held self.new k ≡ is_held self.old k }
-        ensures keys { self.new.keys ≡ self.old.keys }
-        ensures groups { self.new.groups ≡ self.old.groups }
+        ensures lists { KeepsLists self.old self.new }
     {
         set_flag(&mut self.placeholders, key)
     }

@@ -12,11 +12,13 @@ ghost use Rattle.task_tree.specs.Tree.{task_at};
 ghost use Rattle.table_build.specs.Follows.{MayBear};
 ghost use Rattle.pid_types.specs.declared.plain.Row.{Row};
 ghost use Rattle.task_table.specs.View.{name_at, row_with};
-ghost use Rattle.table_build.specs.Lines.{AreGroups, AreLines, IsLine, KeepsFew, SameLines, SetsLine, is_held};
-ghost use Rattle.table_build.specs.Recent.{Bears, IsRecent};
+ghost use Rattle.table_build.specs.Lines.{AreGroups, AreLines, IsLine, KeepsFew, KeepsLists, SameLines, SetsLine};
+ghost use Rattle.table_build.specs.Lines.{is_held};
+ghost use Rattle.table_build.specs.Kept.{KeepsUngrouped};
+ghost use Rattle.table_build.specs.Recent.{IsRecent};
 ghost use Rattle.table_build.specs.Parts.{AreSeated, IsPart};
-ghost use Rattle.table_build.specs.Sessions.{AddsGroup, AddsPlaceholder, AreRecent, Seats};
-ghost use Rattle.table_build.specs.Stages.{KeepsBearers, KeepsPlaces, SetsRow, begun, seated};
+ghost use Rattle.table_build.specs.Sessions.{AddsGroup, AreRecent, PutsBearer, Seats};
+ghost use Rattle.table_build.specs.Stages.{SetsRow, begun, seated};
 ghost use Rattle.table_build.specs.Ungrouped.{IsUngrouped};
 
 use crate::fault::BuildFault;
@@ -39,15 +41,9 @@ fn begin_placeholder(
     line: u64,
 ) -> Result<TaskKey, BuildFault>
     requires ungrouped { IsUngrouped store.old }
-    ensures ungrouped { OnOk result (IsUngrouped store.new) }
-    ensures bears { IfOk result (λ key. Bears store.new key name.now) }
+    ensures put { IfOk result (PutsBearer store.old store.new placed.old placed.new name.now) }
     ensures held { IfOk result (λ key. is_held placed.new key ≡ true) }
-    ensures lines { OnOk result (SameLines store.old store.new placed.old placed.new) }
-    ensures few { KeepsFew placed.old placed.new }
-    ensures lists { (placed.new.keys ≡ placed.old.keys) × (placed.new.groups ≡ placed.old.groups) }
-    ensures names { OnOk result (KeepsBearers store.old store.new) }
-    ensures places { OnOk result (KeepsPlaces store.old store.new) }
-    ensures rows { OnOk result (AddsPlaceholder store.old store.new placed.old placed.new name.now) }
+    ensures lists { KeepsLists placed.old placed.new }
     ensures refused { IfErr result (λ fault. fault ≢ BuildFault.NoMemory
         → IsSome (control_at store.old.charges.controls 0) → MayBear store.old.numbering name.now → ⊥) }
 {
@@ -76,15 +72,9 @@ fn bearer(
 ) -> Result<TaskKey, BuildFault>
     requires ungrouped { IsUngrouped store.old }
     requires recent { IsRecent store.old last.old }
-    ensures ungrouped { OnOk result (IsUngrouped store.new) }
+    ensures put { IfOk result (PutsBearer store.old store.new placed.old placed.new name.now) }
     ensures recent { OnOk result (IsRecent store.new last.new) }
-    ensures bears { IfOk result (λ key. Bears store.new key name.now) }
-    ensures lines { OnOk result (SameLines store.old store.new placed.old placed.new) }
-    ensures few { KeepsFew placed.old placed.new }
-    ensures lists { (placed.new.keys ≡ placed.old.keys) × (placed.new.groups ≡ placed.old.groups) }
-    ensures names { OnOk result (KeepsBearers store.old store.new) }
-    ensures places { OnOk result (KeepsPlaces store.old store.new) }
-    ensures rows { OnOk result (AddsPlaceholder store.old store.new placed.old placed.new name.now) }
+    ensures lists { KeepsLists placed.old placed.new }
     ensures refused { IfErr result (λ fault. fault ≢ BuildFault.NoMemory → (text : State) → IsSound text
         → IsPart store.old text → IsIn name.now (names_in_use text.rows) → ⊥) }
 {
@@ -103,11 +93,9 @@ fn enter_session(
     line: u64,
 ) -> Result<(), BuildFault>
     requires ungrouped { IsUngrouped store.old }
-    ensures ungrouped { OnOk result (IsUngrouped store.new) }
+    ensures keeps { OnOk result (KeepsUngrouped store.old store.new) }
     ensures entered { (row : Row) → row_with store.old key ≡ Some row → OnOk result (SetsRow store.old store.new key
         (record row { group = row.name; session = name_at store.old.numbering session })) }
-    ensures names { OnOk result (KeepsBearers store.old store.new) }
-    ensures places { OnOk result (KeepsPlaces store.old store.new) }
     ensures refused { OnErr result (IsSome (task_at store.old.tree key) → IsSome (task_at store.old.tree session) → ⊥) }
 {
     if store.tree().task(key).is_none() || store.tree().task(session).is_none() {
@@ -129,10 +117,8 @@ fn seat_placeholder(
 ) -> Result<(), BuildFault>
     requires ungrouped { IsUngrouped store.old }
     requires there { IsSome (task_at store.old.tree group) }
-    ensures ungrouped { OnOk result (IsUngrouped store.new) }
+    ensures keeps { OnOk result (KeepsUngrouped store.old store.new) }
     ensures lines { OnOk result (SameLines store.old store.new placed.now placed.now) }
-    ensures names { OnOk result (KeepsBearers store.old store.new) }
-    ensures places { OnOk result (KeepsPlaces store.old store.new) }
     ensures seat { OnOk result (Seats store.old store.new placed.now group (name_at store.old.numbering session)) }
     ensures refused { OnErr result (IsSome (task_at store.old.tree session) → ⊥) }
 {
@@ -162,13 +148,10 @@ fn put_in_session(
     requires ungrouped { IsUngrouped store.old }
     requires recent { AreRecent store.old last.old }
     requires begun { IsLine store.old placed.old key (begun row.now) }
-    ensures ungrouped { OnOk result (IsUngrouped store.new) }
+    ensures keeps { OnOk result (KeepsUngrouped store.old store.new) }
     ensures recent { OnOk result (AreRecent store.new last.new) }
     ensures set { OnOk result (SetsLine store.old store.new placed.old placed.new key (seated row.now)) }
     ensures group { OnOk result (AddsGroup store.old store.new placed.old placed.new key row.now) }
-    ensures few { OnOk result (KeepsFew placed.old placed.new) }
-    ensures names { OnOk result (KeepsBearers store.old store.new) }
-    ensures places { OnOk result (KeepsPlaces store.old store.new) }
     ensures part { (text : State) → IsPart store.old text → IsIn row.now text.rows
         → OnOk result (IsPart store.new text) }
     ensures refused { IfErr result (λ fault. fault ≢ BuildFault.NoMemory → (text : State) → IsSound text
@@ -192,14 +175,13 @@ pub fn enter_sessions(
     requires lines { AreLines store.old placed.old (λ j. option_map begun (slice_get saved.now.rows j)) }
     requires groups { placed.old.groups.items ≡ [] }
     requires keys { length placed.old.keys.items ≡ length saved.now.rows }
-    ensures ungrouped { OnOk result (IsUngrouped store.new) }
+    ensures keeps { OnOk result (KeepsUngrouped store.old store.new) }
     ensures lines { OnOk result (AreLines store.new placed.new
         (λ j. option_map seated (slice_get saved.now.rows j))) }
     ensures groups { OnOk result (AreGroups store.new placed.new saved.now.rows) }
     ensures keys { OnOk result (length placed.new.keys.items ≡ length saved.now.rows) }
     ensures all { OnOk result (length placed.new.groups.items ≡ length saved.now.rows) }
     ensures few { OnOk result (KeepsFew placed.old placed.new) }
-    ensures places { OnOk result (KeepsPlaces store.old store.new) }
     ensures part { IsPart store.old (saved_state saved.now) → OnOk result (IsPart store.new (saved_state saved.now)) }
     ensures seated { HasGoodGroups saved.now.rows → OnOk result
         (AreSeated store.new placed.new saved.now.rows) }

@@ -9,13 +9,13 @@ ghost use Rattle.table_text.specs.Reading.{saved_state};
 ghost use Rattle.pid_types.specs.declared.plain.Row.{Row};
 ghost use Rattle.task_tree.specs.Tree.{parent_of, task_at};
 ghost use Rattle.task_table.specs.View.{name_at, row_with};
-ghost use Rattle.task_table.specs.Whole.{HasParents};
-ghost use Rattle.table_build.specs.Grouping.{AllStand, HasRealParents, IsGroupIn, IsGrouping, IsSeenByParent};
-ghost use Rattle.table_build.specs.Grouping.{MaySettle};
-ghost use Rattle.table_build.specs.Lines.{AreGroups, AreLines, HasFew, SameLines, is_held};
+ghost use Rattle.table_build.specs.Grouping.{HasRealParents, IsGroupIn, IsGrouping, IsSeenByParent, MaySettle};
+ghost use Rattle.table_build.specs.Lines.{AreGroups, AreLines, HasFew, is_held};
 ghost use Rattle.table_build.specs.Parts.{AreSeated, IsPart};
-ghost use Rattle.table_build.specs.Recent.{AreBorne, Bears, IsRecent};
-ghost use Rattle.table_build.specs.Stages.{KeepsBearers, KeepsPlaces, SetsRow, seated};
+ghost use Rattle.table_build.specs.Recent.{Bears, IsRecent, MayFind};
+ghost use Rattle.table_build.specs.Settling.{ChangesTask, IsSettled, IsToSettle, KeepsGrouping, KeepsSettled};
+ghost use Rattle.table_build.specs.Settling.{KeepsSettling};
+ghost use Rattle.table_build.specs.Stages.{SetsRow, seated};
 
 use crate::fault::BuildFault;
 use crate::lines::task_line;
@@ -31,12 +31,9 @@ use translate::shown::blank_row;
 /// The task goes to its group, all of whose members are in its session.
 fn join_group(store: &mut Tasks, key: TaskKey, group: TaskKey, line: u64) -> Result<(), BuildFault>
     requires grouping { IsGrouping store.old }
-    ensures grouping { OnOk result (IsGrouping store.new) }
-    ensures joined { (row : Row) → row_with store.old key ≡ Some row → OnOk result (SetsRow store.old store.new key
-        (record row { group = name_at store.old.numbering group })) }
+    ensures joined { OnOk result (ChangesTask store.old store.new key
+        (λ row. record row { group = name_at store.old.numbering group })) }
     ensures tree { store.new.tree ≡ store.old.tree }
-    ensures names { OnOk result (KeepsBearers store.old store.new) }
-    ensures places { OnOk result (KeepsPlaces store.old store.new) }
     ensures refused { OnErr result ((row : Row) → row_with store.old key ≡ Some row
         → IsSome (task_at store.old.tree group)
         → IsGroupIn store.old (name_at store.old.numbering group) row.session → ⊥) }
@@ -58,13 +55,11 @@ fn join_group(store: &mut Tasks, key: TaskKey, group: TaskKey, line: u64) -> Res
 /// The task becomes a child of its parent.
 fn adopt(store: &mut Tasks, key: TaskKey, parent: TaskKey, line: u64) -> Result<(), BuildFault>
     requires grouping { IsGrouping store.old }
-    ensures grouping { OnOk result (IsGrouping store.new) }
-    ensures adopted { (row : Row) → row_with store.old key ≡ Some row → OnOk result (SetsRow store.old store.new key
-        (record row { parent = Some (name_at store.old.numbering parent) })) }
+    ensures adopted { OnOk result (ChangesTask store.old store.new key
+        (λ row. record row { parent = Some (name_at store.old.numbering parent) })) }
     ensures parent { OnOk result (parent_of store.new.tree key ≡ Some parent) }
     ensures parents { (k : ℕ) → k ≢ key → parent_of store.new.tree k ≡ parent_of store.old.tree k }
     ensures rest { store.new ≡ record store.old { tree = store.new.tree } }
-    ensures names { OnOk result (KeepsBearers store.old store.new) }
     ensures refused { OnErr result ((row : Row) → row_with store.old key ≡ Some row → row.parent ≡ None
         → row.life ≡ Life.Live → IsSome (task_at store.old.tree parent) → ⊥) }
 {
@@ -100,13 +95,10 @@ fn is_seen_by_parent(store: &Tasks, key: TaskKey) -> bool
 /// The task ends, and waits for its parent.
 fn end_task(store: &mut Tasks, key: TaskKey, end: Ended, line: u64) -> Result<(), BuildFault>
     requires grouping { IsGrouping store.old }
-    ensures grouping { OnOk result (IsGrouping store.new) }
-    ensures ended { (row : Row) → row_with store.old key ≡ Some row → OnOk result (SetsRow store.old store.new key
-        (record row { life = Life.Zombie end })) }
+    ensures ended { OnOk result (ChangesTask store.old store.new key (λ row. record row { life = Life.Zombie end })) }
     ensures parents { (k : ℕ) → parent_of store.new.tree k ≡ parent_of store.old.tree k }
     ensures rest { (store.new.numbering ≡ store.old.numbering) × (store.new.members ≡ store.old.members)
         × (store.new.charges.controls ≡ store.old.charges.controls) }
-    ensures names { OnOk result (KeepsBearers store.old store.new) }
     ensures refused { OnErr result ((row : Row) → row_with store.old key ≡ Some row → row.life ≡ Life.Live
         → IsSeenByParent store.old key → ⊥) }
 {
@@ -130,8 +122,7 @@ fn named_parent(
     last: &mut RecentName,
     line: u64,
 ) -> Result<TaskKey, BuildFault>
-    requires borne { AreBorne store.now }
-    requires recent { IsRecent store.now last.old }
+    requires { MayFind store.now last.old }
     ensures recent { OnOk result (IsRecent store.now last.new) }
     ensures named { IfOk result (λ key. Bears store.now key name.now) }
     ensures real { IfOk result (λ key. is_held placed.now key ≡ false) }
@@ -155,16 +146,9 @@ fn give_parent(
     last: &mut RecentName,
     line: u64,
 ) -> Result<(), BuildFault>
-    requires grouping { IsGrouping store.old }
-    requires recent { IsRecent store.old last.old }
-    requires joined { row_with store.old key ≡ Some (record row.now { parent = None; life = Life.Live }) }
-    requires real { HasRealParents store.old placed.now }
-    ensures grouping { OnOk result (IsGrouping store.new) }
-    ensures recent { OnOk result (IsRecent store.new last.new) }
+    requires { IsToSettle store.old placed.now key row.now last.old }
+    ensures keeps { OnOk result (KeepsSettling store.old store.new placed.now last.new) }
     ensures given { OnOk result (SetsRow store.old store.new key (record row.now { life = Life.Live })) }
-    ensures real { OnOk result (HasRealParents store.new placed.now) }
-    ensures names { OnOk result (KeepsBearers store.old store.new) }
-    ensures places { OnOk result (KeepsPlaces store.old store.new) }
     ensures refused { OnErr result ((text : State) → MaySettle store.old placed.now row.now text → ⊥) }
 {
     let Some(name) = &row.parent else {
@@ -187,16 +171,9 @@ fn settle_task(
     last: &mut RecentName,
     line: u64,
 ) -> Result<(), BuildFault>
-    requires grouping { IsGrouping store.old }
-    requires recent { IsRecent store.old last.old }
-    requires joined { row_with store.old key ≡ Some (record row.now { parent = None; life = Life.Live }) }
-    requires real { HasRealParents store.old placed.now }
-    ensures grouping { OnOk result (IsGrouping store.new) }
-    ensures recent { OnOk result (IsRecent store.new last.new) }
+    requires { IsToSettle store.old placed.now key row.now last.old }
+    ensures keeps { OnOk result (KeepsSettling store.old store.new placed.now last.new) }
     ensures settled { OnOk result (SetsRow store.old store.new key row.now) }
-    ensures real { OnOk result (HasRealParents store.new placed.now) }
-    ensures names { OnOk result (KeepsBearers store.old store.new) }
-    ensures places { OnOk result (KeepsPlaces store.old store.new) }
     ensures refused { OnErr result ((text : State) → MaySettle store.old placed.now row.now text → ⊥) }
 {
     give_parent(store, placed, key, row, last, line)?;
@@ -216,10 +193,9 @@ pub fn settle_tasks(store: &mut Tasks, placed: &Placed, saved: &Saved) -> Result
     requires real { HasRealParents store.old placed.now }
     requires keys { length placed.now.keys.items ≡ length saved.now.rows }
     requires all { length placed.now.groups.items ≡ length saved.now.rows }
-    ensures grouping { OnOk result (IsGrouping store.new) }
+    ensures keeps { OnOk result (KeepsGrouping store.old store.new) }
     ensures lines { OnOk result (AreLines store.new placed.now (slice_get saved.now.rows)) }
     ensures real { OnOk result (HasRealParents store.new placed.now) }
-    ensures places { OnOk result (KeepsPlaces store.old store.new) }
     ensures refused { OnErr result (IsSound (saved_state saved.now) → IsPart store.old (saved_state saved.now)
         → AreSeated store.old placed.now saved.now.rows → ⊥) }
 {
@@ -240,16 +216,10 @@ pub fn settle_tasks(store: &mut Tasks, placed: &Placed, saved: &Saved) -> Result
 
 /// The task with the key goes, if it is a placeholder.
 fn drop_placeholder(store: &mut Tasks, placed: &Placed, key: TaskKey)
-    requires kin { HasParents store.old }
-    requires standing { AllStand store.old }
-    requires real { HasRealParents store.old placed.now }
-    ensures kin { HasParents store.new }
-    ensures standing { AllStand store.new }
-    ensures real { HasRealParents store.new placed.now }
-    ensures lines { SameLines store.old store.new placed.now placed.now }
+    requires { IsSettled store.old placed.now }
+    ensures keeps { KeepsSettled store.old store.new placed.now }
     ensures gone { is_held placed.now key ≡ true → row_with store.new key ≡ None }
     ensures stays { (k : ℕ) → row_with store.old k ≡ None → row_with store.new k ≡ None }
-    ensures places { KeepsPlaces store.old store.new }
 {
     if !placed.is_placeholder(key) {
         return;
@@ -264,15 +234,10 @@ fn drop_placeholder(store: &mut Tasks, placed: &Placed, key: TaskKey)
 
 /// The placeholders go. Their names stay, as groups and sessions.
 pub fn remove_placeholders(store: &mut Tasks, placed: &Placed)
-    requires kin { HasParents store.old }
-    requires standing { AllStand store.old }
-    requires real { HasRealParents store.old placed.now }
+    requires settled { IsSettled store.old placed.now }
     requires few { HasFew placed.now }
-    ensures kin { HasParents store.new }
-    ensures standing { AllStand store.new }
-    ensures lines { SameLines store.old store.new placed.now placed.now }
+    ensures keeps { KeepsSettled store.old store.new placed.now }
     ensures gone { (k : ℕ) → is_held placed.now k ≡ true → row_with store.new k ≡ None }
-    ensures places { KeepsPlaces store.old store.new }
 {
     for place in 0..placed.placeholders.len() {
         if let Ok(key) = u32::try_from(place) {

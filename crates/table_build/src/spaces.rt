@@ -5,7 +5,7 @@ ghost use Rattle.pid_types.specs.declared.plain.Space.{Space};
 ghost use Rattle.task_table.specs.View.{spaces_of};
 ghost use Rattle.table_build.specs.Bare.{bare};
 ghost use Rattle.table_build.specs.Follows.{AreGoodSpaces, AreIdsUpTo, MayStandBehind};
-ghost use Rattle.table_build.specs.Ungrouped.{IsUngrouped};
+ghost use Rattle.table_build.specs.Ungrouped.{AddsSpaces, IsUngrouped};
 
 use crate::fault::BuildFault;
 use crate::lines::space_line;
@@ -26,14 +26,11 @@ fn is_root(space: &Space) -> bool
 fn put_space(store: &mut Tasks, space: &Space, last: u64, line: u64) -> Result<(), BuildFault>
     requires ungrouped { IsUngrouped store.old }
     requires below { AreIdsUpTo last (spaces_of store.old.numbering) }
-    ensures ungrouped { OnOk result (IsUngrouped store.new) }
     ensures put { OnOk result (spaces_of store.new.numbering ≡ spaces_of store.old.numbering ++ bare space.now ∷ []) }
     ensures above { OnOk result (last < space.now.id) }
-    ensures names { store.new.numbering.names ≡ store.old.numbering.names }
-    ensures bound { store.new.numbering.pid_max ≡ store.old.numbering.pid_max }
     ensures refused { IfErr result (λ fault. fault ≢ BuildFault.NoMemory
         → MayStandBehind (spaces_of store.old.numbering) last space.now → ⊥) }
-    ensures rest { store.new ≡ record store.old { numbering = store.new.numbering } }
+    ensures rest { AddsSpaces store.old store.new }
 {
     laws(store);
     let Some(around) = space.parent else {
@@ -82,13 +79,10 @@ fn put_next(store: &mut Tasks, saved: &Saved, index: usize) -> Result<(), BuildF
     requires below { (s : Space) → slice_get saved.now.spaces.items (index - 1) ≡ Some s
         → AreIdsUpTo s.id (spaces_of store.old.numbering) }
     requires index { (0 < index) × (index < length saved.now.spaces.items) }
-    ensures ungrouped { OnOk result (IsUngrouped store.new) }
     ensures put { OnOk result (spaces_of store.new.numbering ≡ map bare (take (index + 1) saved.now.spaces.items)) }
     ensures below { OnOk result ((s : Space) → slice_get saved.now.spaces.items index ≡ Some s
         → AreIdsUpTo s.id (spaces_of store.new.numbering)) }
-    ensures names { store.new.numbering.names ≡ store.old.numbering.names }
-    ensures bound { store.new.numbering.pid_max ≡ store.old.numbering.pid_max }
-    ensures rest { store.new ≡ record store.old { numbering = store.new.numbering } }
+    ensures rest { AddsSpaces store.old store.new }
     ensures refused { IfErr result (λ fault. fault ≢ BuildFault.NoMemory
         → AreGoodSpaces saved.now.spaces.items → ⊥) }
 {
@@ -101,11 +95,8 @@ pub fn put_spaces(store: &mut Tasks, saved: &Saved) -> Result<(), BuildFault>
     requires ungrouped { IsUngrouped store.old }
     requires root { spaces_of store.old.numbering
         ≡ record { id = 0; parent = None; cursor = 0; fallen = false } ∷ [] }
-    ensures ungrouped { OnOk result (IsUngrouped store.new) }
     ensures put { OnOk result (spaces_of store.new.numbering ≡ map bare saved.now.spaces.items) }
-    ensures names { store.new.numbering.names ≡ store.old.numbering.names }
-    ensures bound { store.new.numbering.pid_max ≡ store.old.numbering.pid_max }
-    ensures rest { store.new ≡ record store.old { numbering = store.new.numbering } }
+    ensures rest { AddsSpaces store.old store.new }
     ensures refused { IfErr result (λ fault. fault ≢ BuildFault.NoMemory
         → AreGoodSpaces saved.now.spaces.items → ⊥) }
 {

@@ -1,6 +1,6 @@
 use Rattle.std.proofs.Common.{◌≡◌, ℕ, ◌<◌, length, [], option_map, slice_get, ◌-◌, Some}
-use Rattle.table_build.specs.Ungrouped.{IsUngrouped}
-use Rattle.table_build.specs.Stages.{KeepsPlaces, begun}
+use Rattle.table_build.specs.Kept.{KeepsUngrouped}
+use Rattle.table_build.specs.Stages.{begun}
 use Rattle.table_build.specs.Lines.{AreLines}
 use Rattle.table_text.specs.Reading.{saved_state}
 use Rattle.table_build.specs.Parts.{HasPlaces, IsPart}
@@ -9,8 +9,7 @@ use Rattle.table_build.proofs.begin.begin_tasks.Given as goal
 
 abbrev pub invariant-loop-index : goal.invariant-loop-index
 invariant-loop-index l = record {
-  ungrouped : IsUngrouped l.store;
-  places : KeepsPlaces l.initial.store l.store;
+  keeps : KeepsUngrouped l.initial.store l.store;
   lines : AreLines l.store l.placed (λ j. option_map begun (slice_get l.saved.rows j));
   keys : length l.placed.keys.items ≡ l.index;
   groups : l.placed.groups.items ≡ [];

@@ -17,8 +17,8 @@ returns-clause-state c =
     let f = c.in_ok-put_falls.ensures in
     let m = c.put_cursors.ensures.moved in
     let rows = c.put_cursors.ensures.rows ∙ f.rows ∙ c.in_ok-put_tasks.ensures.rows in
-    let controls = ap (λ x. x.controls) m.charges ∙ ap (λ s. s.charges.controls) f.rest ∙ p.controls ∙ c.in_ok-store.ensures.controls in
-    let bound = m.spaces.bound ∙ f.bound ∙ p.spaces.bound ∙ c.in_ok-store.ensures.bound in
+    let controls = ap (λ x. x.controls) m.charges ∙ ap (λ s. s.charges.controls) f.rest.rest ∙ p.controls ∙ c.in_ok-store.ensures.controls in
+    let bound = m.spaces.bound ∙ f.rest.bound ∙ p.spaces.bound ∙ c.in_ok-store.ensures.bound in
     λ i. record { rows = rows i; spaces = c.put_cursors.ensures.put i; controls = controls i; pid_max = bound i }
 
 pub returns-in_err-put_tasks-clause-refused : goal.returns-in_err-put_tasks-clause-refused

@@ -4,6 +4,7 @@ use Rattle.task_table.proofs.Results.{if_err}
 use Rattle.task_tree.specs.Tree.{task_at}
 use Rattle.task_table.specs.Store.{Store}
 use Rattle.task_table.specs.View.{row_of}
+use Rattle.table_build.proofs.Steps.{ungrouped-charges, ungrouped-new}
 use Rattle.table_build.proofs.build.put_places.Goals as goal
 
 pub returns-in_err-store-clause-refused : goal.returns-in_err-store-clause-refused
@@ -19,19 +20,25 @@ returns-in_err-put_spaces-clause-refused c =
     if_err c.from_residual-in_err-put_spaces.result _ c.in_err-put_spaces.field-0.0 c.from_residual-in_err-put_spaces.ensures.1 (λ not tables.
     c.in_err-put_spaces.ensures.refused not (record { tree = tables.sound.coherent.spaces; root = tables.sound.coherent.root }))
 
-pub returns-clause-ungrouped : goal.returns-clause-ungrouped
-returns-clause-ungrouped c = c.in_ok-put_spaces.ensures.ungrouped
+pub put_spaces-requires-clause-ungrouped : goal.put_spaces-requires-clause-ungrouped
+put_spaces-requires-clause-ungrouped c =
+    let s = c.in_ok-store.ensures in
+    ungrouped-charges c.in_ok-store.store c.put_controls.new.store c.in_ok-put_controls.ensures.rest
+    (ungrouped-new c.in_ok-store.store c.laws.ensures s.tasks s.members s.names s.root s.others)
 
 pub returns-clause-nobody : goal.returns-clause-nobody
-returns-clause-nobody c = λ k.
-    ap (option_map (row_of c.put_spaces.new.store k))
-    (ap (λ (s : Store). task_at s.tree k) c.in_ok-put_spaces.ensures.rest ∙ ap (λ (s : Store). task_at s.tree k) c.in_ok-put_controls.ensures.rest ∙ c.in_ok-store.ensures.tasks k)
+returns-clause-nobody c = record {
+  ungrouped = c.in_ok-put_spaces.ensures.rest.ungrouped;
+  nobody = λ k.
+      ap (option_map (row_of c.put_spaces.new.store k))
+      (ap (λ (s : Store). task_at s.tree k) c.in_ok-put_spaces.ensures.rest.spaces.rest ∙ ap (λ (s : Store). task_at s.tree k) c.in_ok-put_controls.ensures.rest ∙ c.in_ok-store.ensures.tasks k);
+}
 
 pub returns-clause-controls : goal.returns-clause-controls
-returns-clause-controls c = ap (λ (s : Store). s.charges.controls) c.in_ok-put_spaces.ensures.rest ∙ c.in_ok-put_controls.ensures.put
+returns-clause-controls c = ap (λ (s : Store). s.charges.controls) c.in_ok-put_spaces.ensures.rest.spaces.rest ∙ c.in_ok-put_controls.ensures.put
 
 pub returns-clause-spaces : goal.returns-clause-spaces
 returns-clause-spaces c = c.in_ok-put_spaces.ensures.put
 
 pub returns-clause-kin : goal.returns-clause-kin
-returns-clause-kin c = λ k p e. absurd (let z : None ≡ Some p = sym (c.in_ok-put_spaces.ensures.ungrouped.orphans k) ∙ e in cc)
+returns-clause-kin c = λ k p e. absurd (let z : None ≡ Some p = sym (c.in_ok-put_spaces.ensures.rest.ungrouped.orphans k) ∙ e in cc)

@@ -11,7 +11,7 @@ returns-clause-rows c =
     let placed = c.enter_sessions.new.placed in
     let rows = c.args.saved.now.rows in
     let few = c.in_ok-enter_sessions.ensures.keys in
-    let lines = lines-same c.settle_tasks.new.store s placed placed (slice_get rows) c.in_ok-settle_tasks.ensures.lines c.remove_placeholders.ensures.lines refl in
+    let lines = lines-same c.settle_tasks.new.store s placed placed (slice_get rows) c.in_ok-settle_tasks.ensures.lines c.remove_placeholders.ensures.keeps.lines refl in
     rows-are s c.laws.ensures placed rows lines few c.remove_placeholders.ensures.gone (rows-rise s c.laws.ensures placed rows lines few c.in_ok-placed.ensures.sorted)
 
 pub returns-in_err-placed-clause-refused : goal.returns-in_err-placed-clause-refused
@@ -30,11 +30,11 @@ returns-in_err-settle_tasks-clause-refused c =
 
 pub settle_tasks-requires-clause-grouping : goal.settle_tasks-requires-clause-grouping
 settle_tasks-requires-clause-grouping c =
-    let u = c.in_ok-enter_sessions.ensures.ungrouped in
+    let u = c.in_ok-enter_sessions.ensures.keeps.ungrouped in
     record { kin = λ k p e. absurd (let z : None ≡ Some p = sym (u.orphans k) ∙ e in cc); borne = u.borne; standing = u.standing }
 
 pub settle_tasks-requires-clause-real : goal.settle_tasks-requires-clause-real
-settle_tasks-requires-clause-real c = λ k q e. absurd (let z : None ≡ Some q = sym (c.in_ok-enter_sessions.ensures.ungrouped.orphans k) ∙ e in cc)
+settle_tasks-requires-clause-real c = λ k q e. absurd (let z : None ≡ Some q = sym (c.in_ok-enter_sessions.ensures.keeps.ungrouped.orphans k) ∙ e in cc)
 
 pub returns-clause-places : goal.returns-clause-places
 returns-clause-places c =
@@ -42,8 +42,8 @@ returns-clause-places c =
     let s2 = c.enter_sessions.new.store in
     let s3 = c.settle_tasks.new.store in
     let s4 = c.remove_placeholders.new.store in
-    places-both c.args.store.now s1 s4 c.in_ok-placed.ensures.places
-    (places-both s1 s2 s4 c.in_ok-enter_sessions.ensures.places (places-both s2 s3 s4 c.in_ok-settle_tasks.ensures.places c.remove_placeholders.ensures.places))
+    places-both c.args.store.now s1 s4 c.in_ok-placed.ensures.keeps.places
+    (places-both s1 s2 s4 c.in_ok-enter_sessions.ensures.keeps.places (places-both s2 s3 s4 c.in_ok-settle_tasks.ensures.keeps.places c.remove_placeholders.ensures.keeps.places))
 
 pub returns-clause-kin : goal.returns-clause-kin
-returns-clause-kin c = c.remove_placeholders.ensures.kin
+returns-clause-kin c = c.remove_placeholders.ensures.keeps.settled.kin

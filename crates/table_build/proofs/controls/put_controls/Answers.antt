@@ -7,7 +7,7 @@ pub loop-index-init : goal.loop-index-init
 loop-index-init c =
     let e = c.in_ok-check_root.ensures in
     let first = root-first c.args.saved.now.controls.items c.args.store.now.charges.controls e.some e.root c.requires.root in
-    record { ungrouped = c.requires.ungrouped; below = first.1; put = first.0; rest = refl; some = omega arith }
+    record { below = first.1; put = first.0; rest = refl; some = omega arith }
 
 pub returns-in_err-check_root-clause-refused : goal.returns-in_err-check_root-clause-refused
 returns-in_err-check_root-clause-refused c = if_err c.from_residual.result _ c.in_err-check_root.field-0.0 c.from_residual.ensures.1 c.in_err-check_root.ensures.refused

@@ -5,13 +5,13 @@ use Rattle.table_build.proofs.Places.{at_place}
 use Rattle.table_build.proofs.Draws.{cursors-next, next-of, none-past, path-apart, path-first, still-there}
 use Rattle.table_build.proofs.LineSteps.{get-is}
 use Rattle.task_table.proofs.Keys.{path-there}
-use Rattle.table_build.proofs.Steps.{moved-none, moved-both, cursor-moved, same_ids, same_paths, ungrouped-moved}
+use Rattle.table_build.proofs.Steps.{moved-none, moved-both, cursor-moved, same_ids, same_paths}
 use Rattle.table_build.proofs.names.put_cursors.Goals as goal
 
 pub loop-number-init : goal.loop-number-init
 loop-number-init c = record {
   moved = moved-none c.args.store.now;
-  next = sym (path-first c.args.store.now.numbering c.laws.ensures.numbering c.args.space c.requires.there);
+  next = sym (path-first c.args.store.now.numbering c.laws.ensures.numbering c.args.space c.requires);
   put = λ j s n lt. absurd (omega (arith, lt));
 }
 
@@ -40,7 +40,6 @@ pub returns-in_default : goal.returns-in_default
 returns-in_default c =
     let i = c.loop-number.invariant in
     record {
-      ungrouped = ungrouped-moved c.args.store.now c.loop-number.store i.moved c.requires.ungrouped;
       moved = i.moved;
       put = λ j s n lt on is. i.put j s n (none-past (path_at c.args.store.now.numbering c.args.space) c.loop-number.number-index j s (sym i.next ∙ c.in_default.is) on) on is;
     }
@@ -57,7 +56,6 @@ pub returns : goal.returns
 returns c =
     let i = c.loop-number.invariant in
     record {
-      ungrouped = ungrouped-moved c.args.store.now c.loop-number.store i.moved c.requires.ungrouped;
       moved = i.moved;
       put = λ j s n lt on is. i.put j s n (let past = c.loop-number-test.false in omega (arith, lt, past)) on is;
     }

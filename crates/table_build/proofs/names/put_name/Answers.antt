@@ -7,7 +7,8 @@ use Rattle.pid_numbers.specs.Numbering.{Numbering, draw_in, id_at, namespace_at,
 use Rattle.pids_charge.specs.Charges.{Charges}
 use Rattle.task_table.proofs.Newborn.{Comes, named_in}
 use Rattle.table_build.specs.Stages.{AddsRow, KeepsSpaces, lone_row}
-use Rattle.table_build.proofs.Steps.{added, added-behind, bearers-both, bearers-come, bearers-moved, come-spaces, keeps-namespaces, same_ids, same_paths, spaces-both, ungrouped-come}
+use Rattle.table_build.specs.Ungrouped.{IsUngrouped}
+use Rattle.table_build.proofs.Steps.{added, added-behind, bearers-both, bearers-come, bearers-moved, come-spaces, keeps-namespaces, same_ids, same_paths, spaces-both, ungrouped-come, ungrouped-moved}
 use Rattle.table_build.proofs.Draws.{drawn-name, still-there}
 use Rattle.task_table.proofs.Results.{if_err}
 use Rattle.table_build.specs.declared.fault.BuildFault.TheVariants.{NoMemory}
@@ -18,11 +19,14 @@ kept c =
     let e = c.in_ok-key.ensures in
     come-spaces c.put_cursors.new.store.numbering c.fork.new.self.numbering (path_at c.put_cursors.new.store.numbering c.in-Some.space) c.as_slice-4.result.now e.order e.begun.bound e.namespaces
 
+moved : (c : goal.After-laws-3) → IsUngrouped c.put_cursors.new.store
+moved c = ungrouped-moved c.args.store.now c.put_cursors.new.store c.put_cursors.ensures.moved c.requires.ungrouped
+
 comes : (c : goal.After-laws-3) → Comes c.put_cursors.new.store c.fork.new.self c.in_ok-key.key None c.args.task c.in-Some.space c.as_slice-4.result.now
 comes c = record {
   before = c.laws-2.ensures;
   after = c.laws-3.ensures;
-  kin = λ k p f. let z = sym (c.put_cursors.ensures.ungrouped.orphans k) ∙ f in absurd (cc);
+  kin = λ k p f. let z = sym ((moved c).orphans k) ∙ f in absurd (cc);
   begun = c.in_ok-key.ensures.begun;
   keeps = keeps-namespaces c.put_cursors.new.store.numbering c.fork.new.self.numbering (kept c);
 }
@@ -34,8 +38,8 @@ named c =
     let items = ap reverse same ∙ reverse-reverse c.args.name.now.numbers.items in
     λ i. record { space = c.args.name.now.space; numbers = record { items = items i } }
 
-pub returns-clause-added : goal.returns-clause-added
-returns-clause-added c =
+adds : (c : goal.After-laws-3) → AddsRow c.args.store.now c.fork.new.self c.in_ok-key.key (lone_row c.args.store.now c.args.name.now c.args.task)
+adds c =
     let m = c.put_cursors.ensures.moved in
     let id : id_at c.fork.new.self.numbering c.in-Some.space ≡ Some c.args.name.now.space =
     same_ids c.put_cursors.new.store.numbering c.fork.new.self.numbering (kept c) c.in-Some.space
@@ -46,9 +50,6 @@ returns-clause-added c =
     ∙ ap (λ (v : Charges). lone_row (record c.args.store.now { charges = v }) c.args.name.now c.args.task) m.charges in
     added-behind c.args.store.now c.put_cursors.new.store c.fork.new.self c.in_ok-key.key (lone_row c.args.store.now c.args.name.now c.args.task) m
     (subst (λ (r : Row). AddsRow c.put_cursors.new.store c.fork.new.self c.in_ok-key.key r) row (added (comes c) c.args.name.now.space id))
-
-pub returns-clause-ungrouped : goal.returns-clause-ungrouped
-returns-clause-ungrouped c = ungrouped-come (comes c) (kept c) c.put_cursors.ensures.ungrouped
 
 pub returns-in_default-clause-refused : goal.returns-in_default-clause-refused
 returns-in_default-clause-refused c = λ _ may. c.in_default.ensures may.space (ap (λ b. id_at b may.space) c.numbers.ensures ∙ may.named)
@@ -83,20 +84,23 @@ returns-then-not-are_same-clause-refused c = λ _ may.
 pub returns-in_err-key-clause-refused : goal.returns-in_err-key-clause-refused
 returns-in_err-key-clause-refused c = if_err c.from_residual.result _ NoMemory c.from_residual.ensures.1 (λ not. absurd (not refl))
 
-pub returns-clause-names : goal.returns-clause-names
-returns-clause-names c =
-    bearers-both c.args.store.now c.put_cursors.new.store c.fork.new.self (bearers-moved c.args.store.now c.put_cursors.new.store c.put_cursors.ensures.moved) (bearers-come (comes c))
-
-pub returns-clause-places : goal.returns-clause-places
-returns-clause-places c =
+pub returns-clause-added : goal.returns-clause-added
+returns-clause-added c =
     let m = c.put_cursors.ensures.moved in
     record {
-      spaces = spaces-both c.args.store.now.numbering c.put_cursors.new.store.numbering c.fork.new.self.numbering m.spaces (kept c);
-      controls = c.in_ok-key.ensures.begun.home.controls ∙ ap (λ (v : Charges). v.controls) m.charges;
+      keeps = record {
+        ungrouped = ungrouped-come (comes c) (kept c) (moved c);
+        places = record {
+          spaces = spaces-both c.args.store.now.numbering c.put_cursors.new.store.numbering c.fork.new.self.numbering m.spaces (kept c);
+          controls = c.in_ok-key.ensures.begun.home.controls ∙ ap (λ (v : Charges). v.controls) m.charges;
+        };
+        names = bearers-both c.args.store.now c.put_cursors.new.store c.fork.new.self (bearers-moved c.args.store.now c.put_cursors.new.store m) (bearers-come (comes c));
+      };
+      adds = adds c;
     }
 
 pub fork-requires-clause-parents : goal.fork-requires-clause-parents
-fork-requires-clause-parents c = λ k p e. absurd (let z = sym (c.put_cursors.ensures.ungrouped.orphans k) ∙ e in cc)
+fork-requires-clause-parents c = λ k p e. absurd (let z = sym ((ungrouped-moved c.args.store.now c.put_cursors.new.store c.put_cursors.ensures.moved c.requires.ungrouped).orphans k) ∙ e in cc)
 
 -- the namespace is there still
 stays : (b c : Numbering) (space i : ℕ) → KeepsSpaces b c → id_at b space ≡ Some i → IsSome (namespace_at c space)

@@ -15,16 +15,20 @@ use Rattle.table_build.proofs.sessions.enter_session.Goals as goal
 went : (c : goal.After-laws-2) → IsRegrouped c.args.store.now c.move_to.new.self c.args.key (record { group = c.args.key; session = c.args.session })
 went c = record { members = c.move_to.ensures.members; numbers = c.move_to.ensures.numbers; tree = c.move_to.ensures.rest.0; charges = c.move_to.ensures.rest.1 }
 
-pub returns-clause-ungrouped : goal.returns-clause-ungrouped
-returns-clause-ungrouped c =
+pub returns-clause-keeps : goal.returns-clause-keeps
+returns-clause-keeps c =
     let there : is_some (membership_at c.args.store.now.members c.args.key) ≡ true =
     c.laws.ensures.agree.members c.args.key ∙ ap (λ t. is_some (task_at t c.args.key)) (sym c.tree.ensures) ∙ ap is_some (sym c.task.ensures) ∙ c.if-is_none.ensures in
     let low = in_range c.args.store.now.members c.args.key there in
     record {
-      orphans = λ k. ap (λ t. parent_of t k) c.move_to.ensures.rest.0 ∙ c.requires.ungrouped.orphans k;
-      alone = λ k g at. still_alone c.args.store.now.members c.args.key c.args.session low c.requires.ungrouped.alone k g (sym (ap (λ m. group_of m k) c.move_to.ensures.members) ∙ at);
-      borne = borne-less c.args.store.now c.move_to.new.self c.move_to.ensures.rest.0 c.move_to.ensures.numbers c.requires.ungrouped.borne;
-      standing = standing-less c.args.store.now.numbering c.move_to.new.self.numbering c.laws.ensures.numbering c.requires.ungrouped.standing c.move_to.ensures.numbers;
+      ungrouped = record {
+        orphans = λ k. ap (λ t. parent_of t k) c.move_to.ensures.rest.0 ∙ c.requires.ungrouped.orphans k;
+        alone = λ k g at. still_alone c.args.store.now.members c.args.key c.args.session low c.requires.ungrouped.alone k g (sym (ap (λ m. group_of m k) c.move_to.ensures.members) ∙ at);
+        borne = borne-less c.args.store.now c.move_to.new.self c.move_to.ensures.rest.0 c.move_to.ensures.numbers c.requires.ungrouped.borne;
+        standing = standing-less c.args.store.now.numbering c.move_to.new.self.numbering c.laws.ensures.numbering c.requires.ungrouped.standing c.move_to.ensures.numbers;
+      };
+      places = places-less c.args.store.now c.move_to.new.self c.laws.ensures.numbering c.requires.ungrouped.standing c.move_to.ensures.numbers c.move_to.ensures.rest.1;
+      names = bearers-stay c.args.store.now c.move_to.new.self c.laws.ensures c.laws-2.ensures c.move_to.ensures.rest.0 c.move_to.ensures.numbers;
     }
 
 pub returns-clause-entered : goal.returns-clause-entered
@@ -32,9 +36,3 @@ returns-clause-entered c = λ row e.
     let v = task-of c.args.store.now c.args.key row e in
     subst (λ (n : Name). SetsRow c.args.store.now c.move_to.new.self c.args.key (record row { group = n; session = name_at c.args.store.now.numbering c.args.session })) (ap (λ (r : Row). r.name) v.2)
     (regrouped-row c.args.store.now c.move_to.new.self c.laws.ensures c.laws-2.ensures (λ k p f. let z = sym (c.requires.ungrouped.orphans k) ∙ f in absurd (cc)) c.args.key (record { group = c.args.key; session = c.args.session }) (went c) row e)
-
-pub returns-clause-names : goal.returns-clause-names
-returns-clause-names c = bearers-stay c.args.store.now c.move_to.new.self c.laws.ensures c.laws-2.ensures c.move_to.ensures.rest.0 c.move_to.ensures.numbers
-
-pub returns-clause-places : goal.returns-clause-places
-returns-clause-places c = places-less c.args.store.now c.move_to.new.self c.laws.ensures.numbering c.requires.ungrouped.standing c.move_to.ensures.numbers c.move_to.ensures.rest.1

@@ -1,7 +1,7 @@
 use Rattle.std.proofs.Common.{◌≡◌, ℕ, ◌+◌, ◌≤◌, List, [], ◌∷◌, length, Some, refl, ap, sym, ◌∙◌, arith, length-append, slice_get, option_map, ◌-◌, subst}
 use Rattle.table_build.specs.Lines.{stage}
 use Rattle.table_build.specs.Stages.{begun, seated}
-use Rattle.table_build.proofs.Steps.{places-both, places-none}
+use Rattle.table_build.proofs.Steps.{ungrouped-both, ungrouped-none}
 use Rattle.table_build.proofs.LineSteps.{get-found, groups-none, groups-push, line-at, lines-set, lines-shown, stage-begin, stage-end, stage-here, stage-others, stage-todo}
 use Rattle.table_text.specs.Reading.{saved_state}
 use Rattle.task_table.proofs.Results.{if_err}
@@ -12,8 +12,7 @@ use Rattle.table_build.proofs.sessions.enter_sessions.Goals as goal
 pub loop-index-init : goal.loop-index-init
 loop-index-init c = record {
   rowed = λ some. absurd (omega (arith, some));
-  ungrouped = c.requires.ungrouped;
-  places = places-none c.args.store.now;
+  keeps = ungrouped-none c.args.store.now c.requires.ungrouped;
   recent = record { session = λ k e. let z = sym c.none.ensures ∙ e in absurd (cc); group = λ k e. let z = sym c.none-2.ensures ∙ e in absurd (cc) };
   lines = lines-shown c.args.store.now c.args.placed.now (λ j. option_map begun (slice_get c.args.saved.now.rows j)) (stage seated begun c.args.saved.now.rows 0) c.requires.lines
       (λ j k e. stage-begin seated begun c.args.saved.now.rows j);
@@ -44,20 +43,19 @@ loop-index-preserved c =
     let rows = c.args.saved.now.rows in
     record {
       rowed = λ _. subst (λ n. slice_get c.args.saved.now.rows n ≡ Some c.write_next.new.row) (let e : c.loop-index.index ≡ c.loop-index.index + 1 - 1 = omega arith in e) c.write_next.ensures;
-      ungrouped = e.ungrouped;
-      places = places-both c.args.store.now c.loop-index.store c.put_in_session.new.store i.places e.places;
+      keeps = ungrouped-both c.args.store.now c.loop-index.store c.put_in_session.new.store i.keeps e.keeps;
       recent = e.recent;
       lines = lines-set c.loop-index.store c.put_in_session.new.store c.loop-index.placed c.put_in_session.new.placed (stage seated begun rows c.loop-index.index) (stage seated begun rows (c.loop-index.index + 1))
           c.loop-index.index c.in-Some.key.now (seated c.write_next.new.row) i.lines e.set e.group.keys (key-here c) (stage-here seated begun rows c.loop-index.index c.write_next.new.row c.write_next.ensures)
           (λ j not. stage-others seated begun rows c.loop-index.index j not);
-      groups = groups-push c.loop-index.store c.put_in_session.new.store c.loop-index.placed c.put_in_session.new.placed rows c.in-Some.key.now c.write_next.new.row i.groups e.names e.group
+      groups = groups-push c.loop-index.store c.put_in_session.new.store c.loop-index.placed c.put_in_session.new.placed rows c.in-Some.key.now c.write_next.new.row i.groups e.keeps.names e.group
           (ap (slice_get rows) i.count ∙ c.write_next.ensures);
       count = ap length e.group.added ∙ length-append c.loop-index.placed.groups.items (e.group.group ∷ []) ∙ ap (λ n. n + 1) i.count;
-      few = λ few. e.few (i.few few);
+      few = λ few. e.group.few (i.few few);
       part = λ had. e.part (saved_state c.args.saved.now) (i.part had) (at_place rows c.loop-index.index c.write_next.new.row c.write_next.ensures);
       seats = λ good.
           seats-next c.loop-index.store c.put_in_session.new.store c.loop-index.placed c.put_in_session.new.placed rows c.in-Some.key.now c.write_next.new.row good i.groups (i.seats good) e.group
-          (ap (slice_get rows) i.count ∙ c.write_next.ensures) e.set.here.real e.names;
+          (ap (slice_get rows) i.count ∙ c.write_next.ensures) e.set.here.real e.keeps.names;
       keys = e.group.keys ∙ i.keys;
     }
 
@@ -67,16 +65,15 @@ returns c =
     let rows = c.args.saved.now.rows in
     let all : length rows ≤ c.loop-index.index = (let a = c.loop-index-test.false in let b = c.len-index-end.ensures in omega (arith, a, b)) in
     record {
-      ungrouped = i.ungrouped;
+      keeps = i.keeps;
       lines = lines-shown c.loop-index.store c.loop-index.placed (stage seated begun rows c.loop-index.index) (λ j. option_map seated (slice_get rows j)) i.lines
           (λ j k e. sym (stage-end seated begun rows c.loop-index.index all j));
       groups = i.groups;
       keys = ap (λ v. length v.items) i.keys ∙ c.requires.keys;
       all = (let end = c.loop-index.auto.index-end in let len = c.len-index-end.ensures in let count = i.count in omega (arith, all, end, len, count));
       few = i.few;
-      places = i.places;
       part = i.part;
-      seated = λ good. record { alone = λ k r held e. own-group c.loop-index.store c.laws.ensures i.ungrouped k r e; seats = i.seats good };
+      seated = λ good. record { alone = λ k r held e. own-group c.loop-index.store c.laws.ensures i.keeps.ungrouped k r e; seats = i.seats good };
       refused = tt;
     }
 

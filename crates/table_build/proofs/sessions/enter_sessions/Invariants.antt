@@ -4,14 +4,13 @@ use Rattle.table_text.specs.Reading.{saved_state}
 use Rattle.table_build.specs.Parts.{HaveSeats, IsPart}
 use Rattle.table_build.specs.Lines.{AreGroups, AreLines, KeepsFew, stage}
 use Rattle.table_build.specs.Sessions.{AreRecent}
-use Rattle.table_build.specs.Stages.{KeepsPlaces, begun, seated}
-use Rattle.table_build.specs.Ungrouped.{IsUngrouped}
+use Rattle.table_build.specs.Stages.{begun, seated}
+use Rattle.table_build.specs.Kept.{KeepsUngrouped}
 use Rattle.table_build.proofs.sessions.enter_sessions.Given as goal
 
 abbrev pub invariant-loop-index : goal.invariant-loop-index
 invariant-loop-index l = record {
-  ungrouped : IsUngrouped l.store;
-  places : KeepsPlaces l.initial.store l.store;
+  keeps : KeepsUngrouped l.initial.store l.store;
   recent : AreRecent l.store l.last;
   lines : AreLines l.store l.placed (stage seated begun l.saved.rows l.index);
   groups : AreGroups l.store l.placed l.saved.rows;

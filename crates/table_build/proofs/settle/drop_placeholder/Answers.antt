@@ -21,24 +21,28 @@ returns c =
     let gone = ap (option_map (row_of t c.args.key)) (left.gone s t c.laws.ensures c.laws-2.ensures c.requires.kin c.args.key c.in-Some.task at alone g) in
     let others = left.row_left s t c.laws.ensures c.laws-2.ensures c.requires.kin c.args.key c.in-Some.task at alone g in
     record {
-      kin = left.parents-left s t c.laws.ensures c.laws-2.ensures c.requires.kin c.args.key c.in-Some.task at alone g;
-      standing = standing-less s.numbering t.numbering c.laws.ensures.numbering c.requires.standing r.numbers;
-      real = λ k q e. elim (cases_eq k c.args.key) [
-        | inl same ↦ absurd (let z : None ≡ Some q = sym r.parent ∙ ap (parent_of t.tree) (sym same) ∙ e in cc)
-        | inr not ↦ c.requires.real k q (sym (r.parents k not) ∙ e)
-      ];
-      lines = record {
-        forth = λ k row line.
-            let not : k ≢ c.args.key = (λ same. let z : true ≡ false = sym held ∙ ap (is_held c.args.placed.now) (sym same) ∙ line.real in cc) in
-            record { shown = others k not ∙ line.shown; real = line.real };
-        back = λ k row line.
-            let not : k ≢ c.args.key = (λ same. let z : true ≡ false = sym held ∙ ap (is_held c.args.placed.now) (sym same) ∙ line.real in cc) in
-            record { shown = sym (others k not) ∙ line.shown; real = line.real };
+      keeps = record {
+        settled = record {
+          kin = left.parents-left s t c.laws.ensures c.laws-2.ensures c.requires.kin c.args.key c.in-Some.task at alone g;
+          standing = standing-less s.numbering t.numbering c.laws.ensures.numbering c.requires.standing r.numbers;
+          real = λ k q e. elim (cases_eq k c.args.key) [
+            | inl same ↦ absurd (let z : None ≡ Some q = sym r.parent ∙ ap (parent_of t.tree) (sym same) ∙ e in cc)
+            | inr not ↦ c.requires.real k q (sym (r.parents k not) ∙ e)
+          ];
+        };
+        lines = record {
+          forth = λ k row line.
+              let not : k ≢ c.args.key = (λ same. let z : true ≡ false = sym held ∙ ap (is_held c.args.placed.now) (sym same) ∙ line.real in cc) in
+              record { shown = others k not ∙ line.shown; real = line.real };
+          back = λ k row line.
+              let not : k ≢ c.args.key = (λ same. let z : true ≡ false = sym held ∙ ap (is_held c.args.placed.now) (sym same) ∙ line.real in cc) in
+              record { shown = sym (others k not) ∙ line.shown; real = line.real };
+        };
+        places = record { spaces = spaces-stay s.numbering t.numbering c.laws.ensures.numbering c.requires.standing r.numbers; controls = r.home.controls };
       };
       gone = λ h. gone;
       stays = λ k none. elim (cases_eq k c.args.key) [
         | inl same ↦ ap (row_with t) same ∙ gone
         | inr not ↦ others k not ∙ none
       ];
-      places = record { spaces = spaces-stay s.numbering t.numbering c.laws.ensures.numbering c.requires.standing r.numbers; controls = r.home.controls };
     }

@@ -1,17 +1,25 @@
-use Rattle.std.proofs.Common.{None, ap, sym, ◌∙◌}
+use Rattle.std.proofs.Common.{None, ap, sym, ◌∙◌, rules}
 use Rattle.std.specs.Prelude.{slice_index_or}
 use Rattle.task_tree.specs.Tree.{task_at}
 use Rattle.table_build.proofs.Moves.{ended-row, homes-ended}
+use Rattle.table_build.proofs.Steps.{places-same}
 use Rattle.table_build.proofs.settle.end_task.Goals as goal
 
 pub returns-clause-ended : goal.returns-clause-ended
-returns-clause-ended c = λ row e.
+returns-clause-ended c =
     let f = c.finish.ensures in
-    ended-row c.args.store.now c.finish.new.self c.laws.ensures c.laws-2.ensures c.args.key c.in-Some.task c.args.end (ap (λ t. task_at t c.args.key) (sym c.tree.ensures) ∙ sym c.task.ensures ∙ c.in-Some.is) (record {
-      tasks = f.tasks;
-      parents = λ k. ap (λ ps. slice_index_or ps k None) f.parents;
-      numbering = f.rest.0;
-      members = f.rest.1;
-      controls = f.home.controls;
-      homes = homes-ended c.args.store.now.charges c.finish.new.self.charges c.in-Some.task.home f.home;
-    }) row e
+    record {
+      keeps = record {
+        grouping = search rules;
+        places = places-same c.args.store.now c.finish.new.self f.rest.0 f.home.controls;
+        names = search rules;
+      };
+      sets = λ row e. ended-row c.args.store.now c.finish.new.self c.laws.ensures c.laws-2.ensures c.args.key c.in-Some.task c.args.end (ap (λ t. task_at t c.args.key) (sym c.tree.ensures) ∙ sym c.task.ensures ∙ c.in-Some.is) (record {
+        tasks = f.tasks;
+        parents = λ k. ap (λ ps. slice_index_or ps k None) f.parents;
+        numbering = f.rest.0;
+        members = f.rest.1;
+        controls = f.home.controls;
+        homes = homes-ended c.args.store.now.charges c.finish.new.self.charges c.in-Some.task.home f.home;
+      }) row e;
+    }

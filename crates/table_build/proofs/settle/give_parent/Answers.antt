@@ -1,4 +1,8 @@
-use Rattle.std.proofs.Common.{◌∙◌, subst}
+use Rattle.std.proofs.Common.{◌≡◌, ◌∙◌, inl, inr, Some, false, ap, sym, subst}
+use Rattle.std.proofs.lemmas.Bool.{cases_eq}
+use Rattle.task_tree.specs.Tree.{parent_of}
+use Rattle.table_build.specs.Lines.{is_held}
+use Rattle.table_build.proofs.Steps.{recent-kept}
 use Rattle.pid_types.specs.declared.plain.Name.{Name}
 use Rattle.pid_types.specs.Membership.{IsIn}
 use Rattle.pid_types.specs.Names.{names_in_use}
@@ -13,3 +17,19 @@ returns-in_err-parent-clause-refused c =
     let used = subst (λ (n : Name). IsIn n (names_in_use text.rows)) r.2 (own_name_in_use text.rows r.0 r.1) in
     let b = may.borne r.0 r.1 in
     c.in_err-parent.ensures.refused text may.sound may.part used b.0 (record { there = b.1.there; named = b.1.named ∙ r.2 }) b.2)
+
+pub returns-clause-keeps : goal.returns-clause-keeps
+returns-clause-keeps c =
+    let p = c.in_ok-parent.ensures in
+    let a = c.in_ok-adopt.ensures in
+    record {
+      keeps = a.adopted.keeps;
+      recent = recent-kept c.args.store.now c.adopt.new.store c.named_parent.new.last a.adopted.keeps.names p.recent;
+      real = λ k q e. elim (cases_eq k c.args.key) [
+        | inl same ↦
+            let one : Some c.in_ok-parent.parent ≡ Some q = sym a.parent ∙ ap (parent_of c.adopt.new.store.tree) (sym same) ∙ e in
+            let is : c.in_ok-parent.parent ≡ q = cc in
+            subst (λ i. is_held c.args.placed.now i ≡ false) is p.real
+        | inr not ↦ c.requires.real k q (sym (a.parents k not) ∙ e)
+      ];
+    }

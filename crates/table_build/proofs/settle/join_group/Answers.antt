@@ -4,10 +4,11 @@ use Rattle.pid_types.specs.declared.plain.Row.{Row}
 use Rattle.std.specs.Prelude.{slice_set}
 use Rattle.groups_sessions.specs.Membership.{Membership, membership_at, session_of}
 use Rattle.task_tree.specs.Tree.{task_at, parent_of}
-use Rattle.task_table.specs.View.{name_at}
+use Rattle.task_table.specs.View.{name_at, row_with}
 use Rattle.task_table.proofs.Regrouped.{IsRegrouped}
 use Rattle.task_table.proofs.Seated.{session-name}
 use Rattle.task_table.proofs.InUse.{member}
+use Rattle.table_build.specs.Grouping.{IsGrouping}
 use Rattle.table_build.specs.Stages.{SetsRow}
 use Rattle.table_build.proofs.Steps.{task-of}
 use Rattle.table_build.proofs.Moves.{bearers-stay, borne-less, places-less, regrouped-row, standing-less}
@@ -24,15 +25,16 @@ went c m at = record {
   charges = c.set_group.ensures.rest.1;
 }
 
-pub returns-clause-grouping : goal.returns-clause-grouping
-returns-clause-grouping c = record {
+grouping : (c : goal.After-laws-2) → IsGrouping c.set_group.new.self
+grouping c = record {
   kin = λ k p e. ap (λ x. is_some (task_at x p)) c.set_group.ensures.rest.0 ∙ c.requires.grouping.kin k p (sym (ap (λ x. parent_of x k) c.set_group.ensures.rest.0) ∙ e);
   borne = borne-less c.args.store.now c.set_group.new.self c.set_group.ensures.rest.0 c.set_group.ensures.numbers c.requires.grouping.borne;
   standing = standing-less c.args.store.now.numbering c.set_group.new.self.numbering c.laws.ensures.numbering c.requires.grouping.standing c.set_group.ensures.numbers;
 }
 
-pub returns-clause-joined : goal.returns-clause-joined
-returns-clause-joined c = λ row e.
+sets : (c : goal.After-laws-2) (row : Row) → row_with c.args.store.now c.args.key ≡ Some row
+    → SetsRow c.args.store.now c.set_group.new.self c.args.key (record row { group = name_at c.args.store.now.numbering c.args.group })
+sets c row e =
     let v = task-of c.args.store.now c.args.key row e in
     let m = member c.args.store.now c.laws.ensures c.args.key v.0 v.1 in
     let name : name_at c.args.store.now.numbering m.0.session ≡ row.session =
@@ -40,11 +42,15 @@ returns-clause-joined c = λ row e.
     subst (λ (n : Name). SetsRow c.args.store.now c.set_group.new.self c.args.key (record row { group = name_at c.args.store.now.numbering c.args.group; session = n })) name
     (regrouped-row c.args.store.now c.set_group.new.self c.laws.ensures c.laws-2.ensures c.requires.grouping.kin c.args.key (record m.0 { group = c.args.group }) (went c m.0 m.1) row e)
 
-pub returns-clause-names : goal.returns-clause-names
-returns-clause-names c = bearers-stay c.args.store.now c.set_group.new.self c.laws.ensures c.laws-2.ensures c.set_group.ensures.rest.0 c.set_group.ensures.numbers
-
-pub returns-clause-places : goal.returns-clause-places
-returns-clause-places c = places-less c.args.store.now c.set_group.new.self c.laws.ensures.numbering c.requires.grouping.standing c.set_group.ensures.numbers c.set_group.ensures.rest.1
+pub returns-clause-joined : goal.returns-clause-joined
+returns-clause-joined c = record {
+  keeps = record {
+    grouping = grouping c;
+    places = places-less c.args.store.now c.set_group.new.self c.laws.ensures.numbering c.requires.grouping.standing c.set_group.ensures.numbers c.set_group.ensures.rest.1;
+    names = bearers-stay c.args.store.now c.set_group.new.self c.laws.ensures c.laws-2.ensures c.set_group.ensures.rest.0 c.set_group.ensures.numbers;
+  };
+  sets = λ row e. sets c row e;
+}
 
 pub returns-in-Some-clause-refused : goal.returns-in-Some-clause-refused
 returns-in-Some-clause-refused c = λ row e there inside.

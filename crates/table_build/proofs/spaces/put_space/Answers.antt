@@ -1,10 +1,12 @@
-use Rattle.std.proofs.Common.{◌≡◌, Some, false, [], ◌∷◌, ◌++◌, length, arith, ap, sym, ◌∙◌, refl}
+use Rattle.std.proofs.Common.{◌≡◌, Some, false, [], ◌∷◌, ◌++◌, length, arith, ap, sym, subst, ◌∙◌, refl}
 use Rattle.pid_numbers.specs.Numbering.{id_at, path_at}
 use Rattle.task_table.specs.View.{spaces_of}
 use Rattle.table_build.proofs.SpaceLists.{spaces-push}
 use Rattle.table_build.proofs.SpaceTrees.{key-there, order-below, path-long}
 use Rattle.task_table.proofs.Results.{if_err}
 use Rattle.table_build.specs.declared.fault.BuildFault.TheVariants.{NoMemory}
+use Rattle.table_build.specs.Ungrouped.{IsUngrouped}
+use Rattle.table_build.proofs.Steps.{ungrouped-space}
 use Rattle.table_build.proofs.spaces.put_space.Goals as goal
 
 pub returns-clause-put : goal.returns-clause-put
@@ -33,6 +35,19 @@ returns-then-level-ge-DEEPEST_SPACE-clause-refused c = λ _ may.
     let here = ap (λ b. length (path_at b c.in-Some-find_space.parent)) c.numbers-2.ensures in
     let deep = c.if-level-ge-DEEPEST_SPACE.true in
     omega (arith, long, most, level, here, deep)
+
+pub returns-clause-rest : goal.returns-clause-rest
+returns-clause-rest c =
+    let a = c.in_ok-add_space.ensures in
+    record {
+      spaces = record { names = a.names; bound = a.bound; rest = a.rest };
+      ungrouped = ungrouped-space c.args.store.now c.add_space.new.self c.in_ok-add_space.field-0 c.args.space.now.id _ a.made a.others a.names a.rest c.requires.ungrouped;
+    }
+
+pub returns-in_err-add_space-clause-rest : goal.returns-in_err-add_space-clause-rest
+returns-in_err-add_space-clause-rest c =
+    let a = c.in_err-add_space.ensures in
+    record { spaces = record { names = a.names; bound = a.bound; rest = a.rest }; ungrouped = subst IsUngrouped (sym a.err) c.requires.ungrouped }
 
 pub returns-in_err-add_space-clause-refused : goal.returns-in_err-add_space-clause-refused
 returns-in_err-add_space-clause-refused c = if_err c.from_residual.result _ NoMemory c.from_residual.ensures.1 (λ not. absurd (not refl))
