@@ -1,7 +1,7 @@
 """The crates: the rows of refusals and of the faults of a text."""
 
 from model import imported
-from names import camel
+from names import camel, wrapped
 from places import arms, definition, imports, variants
 
 CODE = "crates/pid_types/src/refusal.rt"
@@ -12,6 +12,8 @@ FAULT = "crates/table_load/src/fault.rt"
 FAULTS = "crates/table_load/specs/Faults.antt"
 NUMBERS = "crates/foreign_numbers/src/numbers.rt"
 NUMBERS_MODEL = "crates/foreign_numbers/specs/Numbers.antt"
+REPLIES = "crates/foreign_numbers/src/replies.rt"
+REPLIES_MODEL = "crates/foreign_numbers/specs/Replies.antt"
 SAVED = "crates/foreign_calls/src/saved_table.rt"
 SAVED_MODEL = "crates/foreign_calls/specs/Saved.antt"
 
@@ -41,9 +43,9 @@ def errors(tables):
     return lines
 
 
-def of_each(form):
+def of_each(form, id_of="_"):
     """A row for each refusal."""
-    return lambda tables: [form.format(code=refusal(it), number=it.number, word=it.word, error=it.error) for it in tables["refusals"]]
+    return lambda tables: [form.format(code=refusal(it, id_of), number=it.number, word=it.word, error=it.error) for it in tables["refusals"]]
 
 
 def of_errnos(form):
@@ -55,6 +57,22 @@ def entries(tables):
     """The refusals in the model."""
     told = [(camel(it.word) if it.id == "-" else f"({camel(it.word)} {IDS[it.id]})", it) for it in tables["refusals"]]
     return [f'refusal_entry {name} = record {{ number = {it.number}; error = {camel(it.error)}; word = codes "{it.word}" }}' for name, it in told]
+
+
+def of_numbers(tables):
+    """The refusal with each number."""
+    return [*of_each("        {number} => Some({code}),", "id")(tables), "        _ => None,"]
+
+
+def listed(tables):
+    """All refusals as a list in the model, which is broken in front of one."""
+    told = [camel(it.word) if it.id == "-" else f"{camel(it.word)} id" for it in tables["refusals"]]
+    return ["refusals_of id =", *[line.replace(",", "") for line in wrapped(", ∷ ".join([*told, "[]"]), "    ", 130)]]
+
+
+def all_refusals(tables):
+    """The import of all refusals."""
+    return [imported("pid_types.specs.declared.reply.Refusal", [camel(it.word) for it in tables["refusals"]])]
 
 
 def refused_by(form, otherwise):
@@ -90,13 +108,15 @@ ROWS = {
     (CODE, "error"): (arms("error("), errors),
     (CODE, "word"): (arms("word("), of_each('            {code} => b"{word}",')),
     (MODEL, "imports of Errno"): (imports("Errno"), lambda tables: [imported("pid_types.specs.declared.refusal.Errno", [camel(it.name) for it in used(tables)])]),
-    (MODEL, "imports of Refusal"): (imports("Refusal"), lambda tables: [imported("pid_types.specs.declared.reply.Refusal", [camel(it.word) for it in tables["refusals"]])]),
+    **{(path, "imports of Refusal"): (imports("Refusal"), all_refusals) for path in (MODEL, REPLIES_MODEL)},
     (MODEL, "errno_entry"): (definition("errno_entry"), of_errnos('errno_entry {name} = record {{ name = codes "{word}"; value = {value} }}')),
     (MODEL, "refusal_entry"): (definition("refusal_entry"), entries),
     (ANSWER, "push_refusal_words"): (arms("push_refusal_words<"), of_each('        {code} => push_bytes(text, b"{error} {word}"),')),
     (ANSWERS, "refused_by"): (definition("refused_by"), refused_by('codes " " ++ decimal {}', "[]")),
     (NUMBERS, "put_refusal"): (arms("put_refusal("), first_of),
     (NUMBERS_MODEL, "refused_by"): (definition("refused_by"), refused_by("{}", "0")),
+    (REPLIES, "read_refusal"): (arms("read_refusal("), of_numbers),
+    (REPLIES_MODEL, "refusals_of"): (definition("refusals_of"), listed),
     (FAULT, "from LoadFault"): (arms("from(fault: LoadFault)"), held("LoadFault", ["form"])),
     (FAULT, "from BuildFault"): (arms("from(fault: BuildFault)"), held("BuildFault", ["table"], OF_ALL)),
     (FAULTS, "of_load"): (definition("of_load"), held_model("of_load", "text", ["form"])),

@@ -6,6 +6,7 @@ use Rattle.pid_types.specs.declared.call.Which.{Which}
 use Rattle.pid_types.specs.declared.call.Which.TheVariants.{Any, Pid, OwnGroup, Group}
 use Rattle.pid_types.specs.declared.call.Kind.{Kind}
 use Rattle.pid_types.specs.declared.call.Kind.TheVariants as kind
+use Rattle.pid_types.specs.declared.plain.TheConstants.{LEVELS}
 use Rattle.pid_types.specs.declared.plain.Ended.TheVariants.{Exited, Killed}
 use Rattle.pid_types.specs.declared.reply.Refusal.{Refusal}
 use Rattle.pid_types.specs.declared.reply.Refusal.TheVariants.{NoNumber, PidsLimit}
@@ -78,11 +79,11 @@ call_of n =
 
 -- a reply of the kind that tells nothing else
 abbrev pub blank : ℕ → ReplyNumbers
-blank kind = record { kind = kind; errno = 0; refusal = 0; count = 0; first = 0; second = 0; levels = replicate 33 0 }
+blank kind = record { kind = kind; errno = 0; refusal = 0; count = 0; first = 0; second = 0; levels = replicate LEVELS 0 }
 
 -- the numbers, and zeroes behind them
 abbrev pub with_zeroes : List ℕ → List ℕ
-with_zeroes numbers = numbers ++ drop (length numbers) (replicate 33 0)
+with_zeroes numbers = numbers ++ drop (length numbers) (replicate LEVELS 0)
 
 -- the reply with a task's numbers
 abbrev pub levels_numbers : List ℕ → ReplyNumbers

@@ -1,11 +1,10 @@
 -- A reply, read from its numbers. What the kind does not tell is not looked at.
-use Rattle.std.specs.Prelude.{ℕ, ◌==◌, ◌^◌, List, [], ◌∷◌, take, find, Option, Some, None, option_map, option_and_then, nat_lt, if◌then◌else◌}
+use Rattle.std.specs.Prelude.{ℕ, ◌==◌, ◌^◌, List, [], ◌∷◌, take, find, Option, Some, None, option_map, option_and_then, nat_lt, nat_le, if◌then◌else◌}
+use Rattle.pid_types.specs.declared.plain.TheConstants.{LEVELS}
 use Rattle.pid_types.specs.declared.plain.Ended.{Ended}
 use Rattle.pid_types.specs.declared.plain.Ended.TheVariants.{Exited, Killed}
 use Rattle.pid_types.specs.declared.reply.Refusal.{Refusal}
-use Rattle.pid_types.specs.declared.reply.Refusal.TheVariants.{NoCaller, NoTask, NoChild, NoNumber, PidsLimit, SpaceFallen, TooDeep, Elsewhere, BadGroup}
-use Rattle.pid_types.specs.declared.reply.Refusal.TheVariants.{OtherSession, IsLeader, NoGroup, Executed, RootInit, NoControl, ControlBusy, RootControl}
-use Rattle.pid_types.specs.declared.reply.Refusal.TheVariants.{BadLimit, ControlDepth}
+use Rattle.pid_types.specs.declared.reply.Refusal.TheVariants.{NoCaller, NoTask, NoChild, NoNumber, PidsLimit, SpaceFallen, TooDeep, Elsewhere, BadGroup, OtherSession, IsLeader, NoGroup, Executed, RootInit, NoControl, ControlBusy, RootControl, BadLimit, ControlDepth}
 use Rattle.pid_types.specs.declared.reply.Reply.{Reply}
 use Rattle.pid_types.specs.declared.reply.Reply.TheVariants.{Forked, Done, Number, Levels, Reaped, NoneYet, Counted, Control, End, Refused}
 use Rattle.pid_types.specs.Refusals.{refusal_entry}
@@ -21,7 +20,7 @@ forked_of first second = option_and_then (λ child. option_map (λ root. Forked 
 
 -- a task's numbers: no more than there are levels
 abbrev pub levels_of : ReplyNumbers → Option Reply
-levels_of n = if nat_lt n.count 34 then Some (Levels (record { items = take n.count n.levels })) else None
+levels_of n = if nat_le n.count LEVELS then Some (Levels (record { items = take n.count n.levels })) else None
 
 -- how a child ended: by an exit, or killed
 abbrev pub ended_of : ℕ → Option Ended
@@ -34,8 +33,9 @@ reaped_of first second = option_and_then (λ child. option_map (λ ended. Reaped
 -- all refusals; those that have an id have this one
 abbrev pub refusals_of : ℕ → List Refusal
 refusals_of id =
-    NoCaller ∷ NoTask ∷ NoChild ∷ NoNumber id ∷ PidsLimit id ∷ SpaceFallen ∷ TooDeep ∷ Elsewhere ∷ BadGroup ∷ OtherSession
-    ∷ IsLeader ∷ NoGroup ∷ Executed ∷ RootInit ∷ NoControl ∷ ControlBusy ∷ RootControl ∷ BadLimit ∷ ControlDepth ∷ []
+    NoCaller ∷ NoTask ∷ NoChild ∷ NoNumber id ∷ PidsLimit id ∷ SpaceFallen ∷ TooDeep ∷ Elsewhere ∷ BadGroup
+    ∷ OtherSession ∷ IsLeader ∷ NoGroup ∷ Executed ∷ RootInit ∷ NoControl ∷ ControlBusy ∷ RootControl ∷ BadLimit
+    ∷ ControlDepth ∷ []
 
 -- the refusal with the number
 abbrev pub refusal_of : ℕ → ℕ → Option Refusal

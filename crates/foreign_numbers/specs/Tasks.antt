@@ -1,5 +1,6 @@
 -- A task as numbers.
 use Rattle.std.specs.Prelude.{ℕ, length, replicate, Result, Ok, Err}
+use Rattle.pid_types.specs.declared.plain.TheConstants.{LEVELS}
 use Rattle.pid_types.specs.declared.plain.Ended.TheVariants.{Exited, Killed}
 use Rattle.pid_types.specs.declared.plain.Life.{Life}
 use Rattle.pid_types.specs.declared.plain.Life.TheVariants.{Live, Zombie}
@@ -56,7 +57,7 @@ no_stat_numbers refusal = record {
   space = 0;
   control = 0;
   root = 0;
-  levels = replicate 33 0;
+  levels = replicate LEVELS 0;
 }
 
 -- what is told of the task

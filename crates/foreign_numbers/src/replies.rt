@@ -36,14 +36,12 @@ fn read_forked(first: u64, second: u64) -> Option<Reply>
 fn read_levels(n: &ReplyNumbers) -> Option<Reply>
     ensures { result ≡ levels_of n.now }
 {
-    if n.count > 33 {
+    let count = n.count as usize;
+    if count > LEVELS {
         return None;
     }
     let mut numbers = ArrayVec::<u32, LEVELS>::new();
-    if numbers
-        .try_extend_from_slice(&n.levels[..n.count as usize])
-        .is_err()
-    {
+    if numbers.try_extend_from_slice(&n.levels[..count]).is_err() {
         unreachable!()
     }
     Some(Reply::Levels(numbers))
