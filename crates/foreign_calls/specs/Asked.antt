@@ -1,9 +1,13 @@
--- The query that numbers say.
-use Rattle.std.specs.Prelude.{Option, Some, None, if◌then◌else◌}
+-- The query that numbers say, and its answer.
+use Rattle.std.specs.Prelude.{◌≡◌, ◌≢◌, ◌↔◌, ℕ, Option, Some, None, IsSome, if◌then◌else◌}
 use Rattle.pid_types.specs.declared.call.Call.{Call}
+use Rattle.pid_types.specs.declared.reply.Reply.{Reply}
 use Rattle.model_laws.specs.Refusals.{is_query}
 use Rattle.saved_form.specs.declared.numbers.CallNumbers.{CallNumbers}
-use Rattle.foreign_numbers.specs.Numbers.{call_of}
+use Rattle.saved_form.specs.declared.numbers.ReplyNumbers.{ReplyNumbers}
+use Rattle.foreign_numbers.specs.Numbers.{call_of, numbers_of}
+use Rattle.foreign_numbers.specs.declared.status.TheConstants.{DONE, OUT_OF_RANGE}
+use Rattle.foreign_calls.specs.Records.{Has}
 
 -- the call, if it is a query
 abbrev pub only_query : Option Call → Option Call
@@ -13,3 +17,10 @@ only_query (Some call) = if is_query call then Some call else None
 -- the query that the numbers say
 abbrev pub query_of : CallNumbers → Option Call
 query_of n = only_query (call_of n)
+
+-- the query that the numbers say has this answer of what is held, or the numbers of the reply stay as they were
+pub record AnswersQuery {X : Type 0}
+    (held : Option X) (answer : X → Call → Reply) (call : CallNumbers) (old new : ReplyNumbers) (status : ℕ) : Type 0 where
+  pub done : status ≡ DONE → (asked : Call) × (query_of call ≡ Some asked) × Has held (λ x. new ≡ numbers_of (answer x asked))
+  pub not_done : status ≢ DONE → new ≡ old
+  pub out_of_range : (status ≡ OUT_OF_RANGE) ↔ IsSome held × (query_of call ≡ None)

@@ -1,6 +1,8 @@
+pub mod Held
 pub mod Made
 pub mod Lines
 pub mod Records
+pub mod Rooms
 pub mod Entries
 pub mod Asked
 pub mod Replays

@@ -1,9 +1,29 @@
--- What a call leaves of a table without a history.
-use Rattle.std.specs.Prelude.{◌≡◌, Option, Some, IfSome}
+-- What a call leaves of a table without a history, and what is told of it.
+use Rattle.std.specs.Prelude.{◌≡◌, ◌≢◌, ◌↔◌, ◌-◌, ◌^◌, ℕ, [], ◌∷◌, Option, Some, IfSome, IsTrue}
 use Rattle.pid_types.specs.declared.call.Call.{Call}
 use Rattle.pid_types.specs.declared.reply.Reply.{Reply}
+use Rattle.pid_types.specs.Step.{may_grow}
+use Rattle.saved_form.specs.declared.numbers.ReplyNumbers.{ReplyNumbers}
 use Rattle.stamped_table.specs.Stamped.{Stamped, after_call, reply_to}
+use Rattle.foreign_numbers.specs.Numbers.{numbers_of}
+use Rattle.foreign_numbers.specs.declared.status.TheConstants.{DONE, SPENT, NO_MEMORY}
+use Rattle.foreign_calls.specs.Held.{IsDoneOr}
 
 -- the call was made, once: it has left what is held, and this is its reply
 abbrev pub Makes : Option Stamped → Call → Reply → Option Stamped → Type 0
 Makes old call reply new = IfSome old (λ s. (new ≡ Some (after_call s call)) × (reply ≡ reply_to s call))
+
+-- the reply is told as numbers, which stay as they were unless the status is DONE
+pub record TellsReply (told : Reply) (old new : ReplyNumbers) (status : ℕ) : Type 0 where
+  pub reply : status ≡ DONE → new ≡ numbers_of told
+  pub not_done : status ≢ DONE → new ≡ old
+
+-- no stamp is left: the one of the next call would be the greatest number, which no call has
+abbrev pub IsSpent : ℕ → Type 0
+IsSpent stamp = stamp ≡ 2 ^ 64 - 1
+
+-- a call on a table is made, unless no stamp is left for it, or no memory for what it makes
+pub record IsCallStatus (s : Stamped) (call : Call) (status : ℕ) : Type 0 where
+  pub spent : (status ≡ SPENT) ↔ IsSpent s.stamp
+  pub no_memory : status ≡ NO_MEMORY → IsTrue (may_grow call)
+  pub statuses : IsDoneOr status (SPENT ∷ NO_MEMORY ∷ [])

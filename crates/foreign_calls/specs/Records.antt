@@ -1,9 +1,13 @@
 -- What C's functions find and leave of a record.
-use Rattle.std.specs.Prelude.{◌≡◌, ◌<◌, ◌≤◌, ◌⊎◌, ℕ, length, Option, Some, None, option_map}
+use Rattle.std.specs.Prelude.{◌≡◌, ◌≢◌, ◌↔◌, ◌<◌, ◌≤◌, ◌⊎◌, ℕ, [], ◌∷◌, length, Option, Some, None, IsSome, IsTrue, option_map}
 use Rattle.pid_types.specs.declared.call.Call.{Call}
 use Rattle.pid_types.specs.Settings.{HasGoodPidMax}
+use Rattle.pid_types.specs.Step.{may_grow}
 use Rattle.kept_table.specs.Calls.{after_call, begun, cut_at, to_cut, IsWithoutFirst}
-use Rattle.kept_table.specs.Chronicle.{Chronicle, total, recorded}
+use Rattle.kept_table.specs.Chronicle.{Chronicle, total, recorded, next_stamp}
+use Rattle.foreign_numbers.specs.declared.status.TheConstants.{DONE, OUT_OF_RANGE, SPENT, NO_MEMORY}
+use Rattle.foreign_calls.specs.Held.{IsDoneOr, NeedsOpen}
+use Rattle.foreign_calls.specs.Made.{IsSpent}
 
 -- there is a value, and this is true of it
 abbrev pub Has : {X : Type 0} → Option X → (X → Type 0) → Type 0
@@ -44,6 +48,26 @@ pub record IsRecordedKeeping (keep : ℕ) (c : Chronicle) (worker : ℕ) (call :
   pub bound : IsBounded keep c d
   pub place : ordinal ≡ total c
 
+-- a worker's call is made, unless there is no such worker, no stamp is left for it, or no memory for what it makes or for its entry
+pub record IsWorkerStatus (c : Chronicle) (worker : ℕ) (call : Call) (status : ℕ) : Type 0 where
+  pub out_of_range : (status ≡ OUT_OF_RANGE) ↔ (length c.cut ≤ worker)
+  pub spent : (status ≡ SPENT) ↔ (worker < length c.cut) × IsSpent (next_stamp c)
+  pub no_memory : status ≡ NO_MEMORY → 0 < c.room → IsTrue (may_grow call)
+  pub statuses : IsDoneOr status (OUT_OF_RANGE ∷ SPENT ∷ NO_MEMORY ∷ [])
+
+-- the worker's call was made and recorded, or the status says why not, and nothing shows of it
+pub record RecordsCall (c : Chronicle) (worker : ℕ) (call : Call) (before ordinal status : ℕ) (d : Chronicle) : Type 0 where
+  pub done : status ≡ DONE → IsRecorded c worker call ordinal (Some d)
+  pub not_done : status ≢ DONE → (roomless d ≡ roomless c) × (ordinal ≡ before)
+  pub why : IsWorkerStatus c worker call status
+
+-- a call that numbers say is made on what is held, unless nothing is held, they say none, or a worker's call is not made
+pub record IsSaidStatus (held : Option Chronicle) (worker : ℕ) (said : Option Call) (status : ℕ) : Type 0 where
+  pub out_of_range : (status ≡ OUT_OF_RANGE) ↔ Has held (λ c. (said ≡ None) ⊎ (length c.cut ≤ worker))
+  pub spent : (status ≡ SPENT) ↔ IsSome said × Has held (λ c. (worker < length c.cut) × IsSpent (next_stamp c))
+  pub no_memory : status ≡ NO_MEMORY → (made : Call) × (said ≡ Some made) × Has held (λ c. 0 < c.room → IsTrue (may_grow made))
+  pub needs_open : NeedsOpen held status (OUT_OF_RANGE ∷ SPENT ∷ NO_MEMORY ∷ [])
+
 -- the history was cut away: the present state is the opening, ordinals go on, and each worker's calls stay counted
 pub record IsCut (c d : Chronicle) : Type 0 where
   pub left : d ≡ cut_at c (total c) d.cut d.room
@@ -53,3 +77,8 @@ pub record IsCut (c d : Chronicle) : Type 0 where
 -- the same of what is held
 abbrev pub Cuts : Option Chronicle → Option Chronicle → Type 0
 Cuts old new = Has old (λ c. Has new (λ d. IsCut c d))
+
+-- the history was cut away where the status is DONE, and else all stays as it was
+pub record CutsIfDone (c d : Chronicle) (status : ℕ) : Type 0 where
+  pub done : status ≡ DONE → IsCut c d
+  pub not_done : status ≢ DONE → d ≡ c

@@ -1,13 +1,15 @@
 -- What C is told of a text that no table is loaded from, and what a record is that goes on from one.
-use Rattle.std.specs.Prelude.{◌≡◌, ◌<◌, ◌≤◌, ℕ, List, length, sum, true}
+use Rattle.std.specs.Prelude.{◌≡◌, ◌≢◌, ◌<◌, ◌≤◌, ℕ, List, length, sum, true}
 use Rattle.pid_types.specs.State.{State}
 use Rattle.table_text.specs.Texts.{text_of}
 use Rattle.table_text.specs.Ranges.{IsWord}
-use Rattle.table_text.specs.Reading.{IsHeldState}
+use Rattle.table_text.specs.Reading.{IsHeldState, IsNoText}
 use Rattle.table_load.specs.declared.fault.RestoreFault.{RestoreFault}
 use Rattle.table_load.specs.declared.fault.RestoreFault.TheVariants as why
+use Rattle.table_load.specs.Texts.{IsTextOfNoTable}
 use Rattle.kept_table.specs.Calls.{resumed}
 use Rattle.kept_table.specs.Chronicle.{Chronicle, next_stamp}
+use Rattle.foreign_numbers.specs.declared.status.TheConstants.{BAD_TEXT}
 use Rattle.foreign_calls.specs.declared.saved_table.FaultNumbers.{FaultNumbers}
 
 -- no fault of a text
@@ -28,6 +30,13 @@ fault_numbers (why.BadName n) = record { line = n; kind = 8 }
 fault_numbers (why.TakenNumber n) = record { line = n; kind = 9 }
 fault_numbers (why.NoInit n) = record { line = n; kind = 10 }
 fault_numbers (why.Impossible n) = record { line = n; kind = 12 }
+
+-- BAD_TEXT is told of no text of a table, with a kind of fault; kinds 1 and 2 are told of no text of a state at all; else there is no fault
+pub record TellsFault (text : List ℕ) (fault : FaultNumbers) (status : ℕ) : Type 0 where
+  pub bad_text : status ≡ BAD_TEXT → (1 ≤ fault.kind) × (fault.kind ≤ 12)
+  pub refused : status ≡ BAD_TEXT → IsTextOfNoTable text
+  pub form : status ≡ BAD_TEXT → fault.kind ≤ 2 → IsNoText text
+  pub none : status ≢ BAD_TEXT → fault ≡ no_fault
 
 -- a count for each worker of a record
 pub record HasWorkers (counts : List ℕ) : Type 0 where

@@ -1,12 +1,11 @@
 //! Queries: they are answered as calls are, and change nothing.
 //!
 //! A query is a getpid, getppid, getpgid, getsid, nspid, next or count.
-ghost use Rattle.std.specs.Prelude.{◌≡◌, ◌≢◌, ◌↔◌, ◌⊎◌, IsTrue, Some, None, IfSome};
-ghost use Rattle.pid_types.specs.declared.call.Call.{Call};
+ghost use Rattle.std.specs.Prelude.{◌≡◌, [], ◌∷◌, IsTrue, Some, IfSome};
 ghost use Rattle.kept_table.specs.Calls.{outcome};
 ghost use Rattle.model_laws.specs.Refusals.{is_query};
-ghost use Rattle.foreign_calls.specs.Asked.{query_of};
-ghost use Rattle.foreign_numbers.specs.Numbers.{numbers_of};
+ghost use Rattle.foreign_calls.specs.Asked.{query_of, AnswersQuery};
+ghost use Rattle.foreign_calls.specs.Held.{IsDoneOr};
 ghost use Rattle.stamped_table.specs.Stamped.{reply_to};
 
 use foreign_numbers::numbers::{CallNumbers, ReplyNumbers, put_reply, read_call};
@@ -50,11 +49,8 @@ fn read_query(n: &CallNumbers) -> Option<Call>
 
 /// Answers the query that the numbers say on the table. The result is the status.
 pub fn ask_table(held: &StampedTable, call: &CallNumbers, reply: &mut ReplyNumbers) -> u32
-    ensures done { result ≡ DONE → (asked : Call) × (query_of call.now ≡ Some asked)
-        × (reply.new ≡ numbers_of (reply_to held.now asked)) }
-    ensures not_done { result ≢ DONE → reply.new ≡ reply.old }
-    ensures out_of_range { (result ≡ OUT_OF_RANGE) ↔ (query_of call.now ≡ None) }
-    ensures statuses { (result ≡ DONE) ⊎ (result ≡ OUT_OF_RANGE) }
+    ensures answers { AnswersQuery (Some held.now) reply_to call.now reply.old reply.new result }
+    ensures statuses { IsDoneOr result (OUT_OF_RANGE ∷ []) }
 {
     let Some(asked) = read_query(call) else {
         return OUT_OF_RANGE;
@@ -65,11 +61,9 @@ pub fn ask_table(held: &StampedTable, call: &CallNumbers, reply: &mut ReplyNumbe
 
 /// Answers the query that the numbers say on the record, which is not recorded. The result is the status.
 pub fn ask_record(held: &Kept, call: &CallNumbers, reply: &mut ReplyNumbers) -> u32
-    ensures done { result ≡ DONE → (asked : Call) × (query_of call.now ≡ Some asked)
-        × (reply.new ≡ numbers_of (outcome held.now asked).reply) }
-    ensures not_done { result ≢ DONE → reply.new ≡ reply.old }
-    ensures out_of_range { (result ≡ OUT_OF_RANGE) ↔ (query_of call.now ≡ None) }
-    ensures statuses { (result ≡ DONE) ⊎ (result ≡ OUT_OF_RANGE) }
+    ensures answers { AnswersQuery (Some held.now) (λ c asked. (outcome c asked).reply)
+        call.now reply.old reply.new result }
+    ensures statuses { IsDoneOr result (OUT_OF_RANGE ∷ []) }
 {
     let Some(asked) = read_query(call) else {
         return OUT_OF_RANGE;

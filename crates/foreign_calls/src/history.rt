@@ -1,9 +1,10 @@
 //! The history of a record: its kept entries, cutting them away, and the lists of its states.
-ghost use Rattle.std.specs.Prelude.{◌≡◌, ◌≢◌, ◌↔◌, ◌⊎◌, None, IfOk};
+ghost use Rattle.std.specs.Prelude.{◌≡◌, ◌≢◌, ◌↔◌, [], ◌∷◌, None, IfOk};
 ghost use Rattle.kept_table.specs.Chronicle.{total, kept_entry};
 ghost use Rattle.foreign_calls.specs.Entries.{IsEntry};
 ghost use Rattle.table_lines.specs.Listed.{list_of_state};
-ghost use Rattle.foreign_calls.specs.Records.{IsCut};
+ghost use Rattle.foreign_calls.specs.Held.{IsDoneOr};
+ghost use Rattle.foreign_calls.specs.Records.{CutsIfDone};
 
 use foreign_numbers::call_numbers::tell_call;
 use foreign_numbers::numbers::{CallNumbers, ReplyNumbers, put_reply};
@@ -25,7 +26,7 @@ pub fn tell_entry(
     ensures not_done { result ≢ DONE
         → (worker.new ≡ worker.old) × (call.new ≡ call.old) × (reply.new ≡ reply.old) }
     ensures not_kept { (result ≡ NOT_KEPT) ↔ (kept_entry held.now ordinal ≡ None) }
-    ensures statuses { (result ≡ DONE) ⊎ (result ≡ NOT_KEPT) }
+    ensures statuses { IsDoneOr result (NOT_KEPT ∷ []) }
 {
     let Some(entry) = held.entry(ordinal) else {
         return NOT_KEPT;
@@ -38,9 +39,8 @@ pub fn tell_entry(
 
 /// Cuts the record's history. The result is the status.
 pub fn cut_on(held: &mut Kept) -> u32
-    ensures done { result ≡ DONE → IsCut held.old held.new }
-    ensures not_done { result ≢ DONE → held.new ≡ held.old }
-    ensures statuses { (result ≡ DONE) ⊎ (result ≡ NO_MEMORY) }
+    ensures cuts { CutsIfDone held.old held.new result }
+    ensures statuses { IsDoneOr result (NO_MEMORY ∷ []) }
 {
     match held.checkpoint() {
         Ok(()) => DONE,
@@ -50,11 +50,10 @@ pub fn cut_on(held: &mut Kept) -> u32
 
 /// Cuts the record's history, but only where exactly so many calls were recorded. The result is the status.
 pub fn cut_at(held: &mut Kept, seen: u64) -> u32
-    ensures done { result ≡ DONE → IsCut held.old held.new }
+    ensures cuts { CutsIfDone held.old held.new result }
     ensures seen { result ≡ DONE → total held.old ≡ seen }
-    ensures not_done { result ≢ DONE → held.new ≡ held.old }
     ensures again { (result ≡ AGAIN) ↔ (total held.old ≢ seen) }
-    ensures statuses { (result ≡ DONE) ⊎ ((result ≡ AGAIN) ⊎ (result ≡ NO_MEMORY)) }
+    ensures statuses { IsDoneOr result (AGAIN ∷ NO_MEMORY ∷ []) }
 {
     if held.total() != seen {
         return AGAIN;

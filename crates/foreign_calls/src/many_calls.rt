@@ -1,8 +1,9 @@
 //! Many calls of one worker on a record, in one turn.
-ghost use Rattle.std.specs.Prelude.{◌≡◌, ◌≢◌, ◌<◌, ◌≤◌, ◌↔◌, ◌⊎◌, ◌+◌, All, IsSome, IsTrue, length, drop};
+ghost use Rattle.std.specs.Prelude.{◌≡◌, ◌≢◌, ◌<◌, ◌≤◌, ◌↔◌, ◌⊎◌, ◌+◌, [], ◌∷◌, All, IsSome, IsTrue, length, drop};
 ghost use Rattle.pid_types.specs.Step.{may_grow};
 ghost use Rattle.kept_table.specs.Chronicle.{total, next_stamp};
 ghost use Rattle.foreign_numbers.specs.Numbers.{call_of};
+ghost use Rattle.foreign_calls.specs.Held.{IsDoneOr};
 ghost use Rattle.foreign_calls.specs.Records.{Has, roomless};
 ghost use Rattle.foreign_calls.specs.Replays.{IsSameAgain};
 ghost use Rattle.foreign_calls.specs.Turns.{turn, AreMade, CanMakeAll, MayGrowAt};
@@ -39,7 +40,7 @@ fn turn_on(
     ensures no_memory { result ≡ NO_MEMORY → 0 < held.old.room
         → Has (call_of call.now) (λ made. IsTrue (may_grow made)) }
     ensures spent { (result ≡ SPENT) ↔ (next_stamp held.old ≡ u64.MAX) }
-    ensures statuses { (result ≡ DONE) ⊎ ((result ≡ SPENT) ⊎ (result ≡ NO_MEMORY)) }
+    ensures statuses { IsDoneOr result (SPENT ∷ NO_MEMORY ∷ []) }
 {
     let Some(made) = read_call(call) else {
         unreachable!()
@@ -78,8 +79,7 @@ pub fn calls_on(
     ensures spent { (result ≡ SPENT) ⊎ (result ≡ NO_MEMORY)
         → ((result ≡ SPENT) ↔ (next_stamp held.new ≡ u64.MAX)) }
     ensures no_memory { result ≡ NO_MEMORY → made.new < held.old.room → MayGrowAt calls.now made.new }
-    ensures statuses { (result ≡ DONE) ⊎ ((result ≡ OUT_OF_RANGE) ⊎ ((result ≡ NO_ROOM)
-        ⊎ ((result ≡ SPENT) ⊎ (result ≡ NO_MEMORY)))) }
+    ensures statuses { IsDoneOr result (OUT_OF_RANGE ∷ NO_ROOM ∷ SPENT ∷ NO_MEMORY ∷ []) }
 {
     *made = 0;
     if worker as usize >= held.workers() || !are_calls(calls) {

@@ -1,5 +1,6 @@
 //! A table with its history, which a caller holds.
-ghost use Rattle.std.specs.Prelude.{◌≡◌, Some, None, IfOk, IfSome, is_some};
+ghost use Rattle.std.specs.Prelude.{◌≡◌, Some, None, IfOk, is_some};
+ghost use Rattle.foreign_calls.specs.Held.{Takes};
 ghost use Rattle.foreign_calls.specs.Records.{roomless, opened};
 
 use foreign_handles::handle::null;
@@ -25,9 +26,7 @@ pub struct PidtabRecord {
 impl PidtabRecord {
     /// What is held, which the handle has no more.
     pub fn take(&mut self, alloc: Global) -> Option<Box<Kept>>
-        ensures held { IfSome result (λ held. self.old.handle.held ≡ Some held.value) }
-        ensures none { result ≡ None → self.old.handle.held ≡ None }
-        ensures new { self.new.handle.held ≡ None }
+        ensures { Takes result (λ held. held.value) self.old.handle.held self.new.handle.held }
     {
         let PidtabRecord { handle, is_open } = mem::replace(
             self,

@@ -1,15 +1,15 @@
 //! Calls on a record, as numbers and as lines.
-ghost use Rattle.std.specs.Prelude.{◌≡◌, ◌≢◌, ◌+◌, ◌<◌, ◌≤◌, ◌↔◌, ◌⊎◌, IsTrue, Some, length, take, drop};
-ghost use Rattle.pid_types.specs.Step.{may_grow};
+ghost use Rattle.std.specs.Prelude.{◌≡◌, ◌≢◌, ◌+◌, ◌≤◌, Some, length, take};
 ghost use Rattle.pid_script.specs.Answers.{reply_text};
 ghost use Rattle.kept_table.specs.Calls.{outcome};
-ghost use Rattle.kept_table.specs.Chronicle.{total, next_stamp, last_reply};
-ghost use Rattle.foreign_numbers.specs.Numbers.{numbers_of};
-ghost use Rattle.foreign_calls.specs.Records.{roomless, IsRecorded, IsRecordedKeeping};
+ghost use Rattle.kept_table.specs.Chronicle.{last_reply};
+ghost use Rattle.foreign_calls.specs.Made.{TellsReply};
+ghost use Rattle.foreign_calls.specs.Records.{roomless, IsRecordedKeeping, IsWorkerStatus, RecordsCall};
+ghost use Rattle.foreign_calls.specs.Rooms.{KeepsRoom};
 
 use crate::texts::write_reply;
 use foreign_numbers::numbers::{ReplyNumbers, put_reply};
-use foreign_numbers::status::{DONE, NO_MEMORY, OUT_OF_RANGE, SPENT, status_of};
+use foreign_numbers::status::{DONE, OUT_OF_RANGE, status_of};
 use kept_table::{Kept, copy_reply};
 use pid_script::answer::LONGEST_ANSWER;
 use pid_types::call::Call;
@@ -18,14 +18,9 @@ use pid_types::reply::Reply;
 /// Makes the worker's call on the record, and tells its place in the history. The result is the status.
 #[inline(always)]
 pub fn make_on(held: &mut Kept, worker: usize, made: Call, ordinal: &mut u64) -> u32
-    ensures done { result ≡ DONE → IsRecorded held.old worker made ordinal.new (Some held.new) }
+    ensures records { RecordsCall held.old worker made ordinal.old ordinal.new result held.new }
     ensures reply { result ≡ DONE → last_reply held.new ≡ Some (outcome held.old made).reply }
-    ensures not_done { result ≢ DONE → (roomless held.new ≡ roomless held.old) × (ordinal.new ≡ ordinal.old) }
-    ensures out_of_range { (result ≡ OUT_OF_RANGE) ↔ (length held.old.cut ≤ worker) }
-    ensures spent { (result ≡ SPENT) ↔ (worker < length held.old.cut) × (next_stamp held.old ≡ u64.MAX) }
-    ensures no_memory { result ≡ NO_MEMORY → 0 < held.old.room → IsTrue (may_grow made) }
     ensures room { held.old.room ≤ held.new.room + 1 }
-    ensures statuses { (result ≡ DONE) ⊎ ((result ≡ OUT_OF_RANGE) ⊎ ((result ≡ SPENT) ⊎ (result ≡ NO_MEMORY))) }
 {
     if worker >= held.workers() {
         return OUT_OF_RANGE;
@@ -46,14 +41,8 @@ pub fn call_on(
     reply: &mut ReplyNumbers,
     ordinal: &mut u64,
 ) -> u32
-    ensures done { result ≡ DONE → IsRecorded held.old worker made ordinal.new (Some held.new) }
-    ensures reply { result ≡ DONE → reply.new ≡ numbers_of (outcome held.old made).reply }
-    ensures not_done { result ≢ DONE
-        → (roomless held.new ≡ roomless held.old) × (reply.new ≡ reply.old) × (ordinal.new ≡ ordinal.old) }
-    ensures out_of_range { (result ≡ OUT_OF_RANGE) ↔ (length held.old.cut ≤ worker) }
-    ensures spent { (result ≡ SPENT) ↔ (worker < length held.old.cut) × (next_stamp held.old ≡ u64.MAX) }
-    ensures no_memory { result ≡ NO_MEMORY → 0 < held.old.room → IsTrue (may_grow made) }
-    ensures statuses { (result ≡ DONE) ⊎ ((result ≡ OUT_OF_RANGE) ⊎ ((result ≡ SPENT) ⊎ (result ≡ NO_MEMORY))) }
+    ensures records { RecordsCall held.old worker made ordinal.old ordinal.new result held.new }
+    ensures reply { TellsReply (outcome held.old made).reply reply.old reply.new result }
 {
     let status = make_on(held, worker as usize, made, ordinal);
     if status != DONE {
@@ -76,13 +65,9 @@ pub fn call_keeping_on(
     ordinal: &mut u64,
 ) -> u32
     ensures done { result ≡ DONE → IsRecordedKeeping keep held.old worker made ordinal.new held.new }
-    ensures reply { result ≡ DONE → reply.new ≡ numbers_of (outcome held.old made).reply }
-    ensures not_done { result ≢ DONE
-        → (roomless held.new ≡ roomless held.old) × (reply.new ≡ reply.old) × (ordinal.new ≡ ordinal.old) }
-    ensures out_of_range { (result ≡ OUT_OF_RANGE) ↔ (length held.old.cut ≤ worker) }
-    ensures spent { (result ≡ SPENT) ↔ (worker < length held.old.cut) × (next_stamp held.old ≡ u64.MAX) }
-    ensures no_memory { result ≡ NO_MEMORY → 0 < held.old.room → IsTrue (may_grow made) }
-    ensures statuses { (result ≡ DONE) ⊎ ((result ≡ OUT_OF_RANGE) ⊎ ((result ≡ SPENT) ⊎ (result ≡ NO_MEMORY))) }
+    ensures not_done { result ≢ DONE → (roomless held.new ≡ roomless held.old) × (ordinal.new ≡ ordinal.old) }
+    ensures reply { TellsReply (outcome held.old made).reply reply.old reply.new result }
+    ensures status { IsWorkerStatus held.old worker made result }
 {
     let worker = worker as usize;
     if worker >= held.workers() {
@@ -108,16 +93,10 @@ pub fn line_on(
     ordinal: &mut u64,
 ) -> u32
     requires { LONGEST_ANSWER ≤ length answer.old }
-    ensures done { result ≡ DONE → IsRecorded held.old worker made ordinal.new (Some held.new) }
+    ensures records { RecordsCall held.old worker made ordinal.old ordinal.new result held.new }
     ensures reply { result ≡ DONE → take size.new answer.new ≡ reply_text (outcome held.old made).reply }
-    ensures fits { result ≡ DONE → size.new ≤ length answer.new }
-    ensures behind { result ≡ DONE → drop size.new answer.new ≡ drop size.new answer.old }
-    ensures not_done { result ≢ DONE → (roomless held.new ≡ roomless held.old)
-        × (answer.new ≡ answer.old) × (size.new ≡ size.old) × (ordinal.new ≡ ordinal.old) }
-    ensures out_of_range { (result ≡ OUT_OF_RANGE) ↔ (length held.old.cut ≤ worker) }
-    ensures spent { (result ≡ SPENT) ↔ (worker < length held.old.cut) × (next_stamp held.old ≡ u64.MAX) }
-    ensures no_memory { result ≡ NO_MEMORY → 0 < held.old.room → IsTrue (may_grow made) }
-    ensures statuses { (result ≡ DONE) ⊎ ((result ≡ OUT_OF_RANGE) ⊎ ((result ≡ SPENT) ⊎ (result ≡ NO_MEMORY))) }
+    ensures answer { KeepsRoom answer.old answer.new size.new result }
+    ensures same_size { result ≢ DONE → size.new ≡ size.old }
 {
     let status = make_on(held, worker as usize, made, ordinal);
     if status != DONE {

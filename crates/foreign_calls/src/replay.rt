@@ -1,6 +1,7 @@
 //! Saved entries on a record: their calls are made again, and their replies compared.
-ghost use Rattle.std.specs.Prelude.{◌≡◌, ◌≢◌, ◌<◌, ◌≤◌, ◌↔◌, ◌⊎◌, IsTrue, Some, None, length, slice_get};
+ghost use Rattle.std.specs.Prelude.{◌≡◌, ◌≢◌, ◌↔◌, [], ◌∷◌, IsTrue, length, slice_get};
 ghost use Rattle.kept_table.specs.Chronicle.{next_stamp};
+ghost use Rattle.foreign_calls.specs.Held.{IsDoneOr};
 ghost use Rattle.foreign_calls.specs.Records.{Has, roomless};
 ghost use Rattle.foreign_calls.specs.Replays.{IsSameAgain, IsOtherNow, Replays, CannotMake, StopsBefore, StopsAt};
 
@@ -24,8 +25,7 @@ fn replay_one(held: &mut Kept, saved: &EntryNumbers) -> u32
     ensures not_made { result ≢ DONE → result ≢ DIFFERS → roomless held.new ≡ roomless held.old }
     ensures out_of_range { (result ≡ OUT_OF_RANGE) ↔ CannotMake held.old saved.now }
     ensures spent { result ≢ OUT_OF_RANGE → (result ≡ SPENT) ↔ (next_stamp held.old ≡ u64.MAX) }
-    ensures statuses { (result ≡ DONE) ⊎ ((result ≡ DIFFERS) ⊎ ((result ≡ OUT_OF_RANGE)
-        ⊎ ((result ≡ SPENT) ⊎ (result ≡ NO_MEMORY)))) }
+    ensures statuses { IsDoneOr result (DIFFERS ∷ OUT_OF_RANGE ∷ SPENT ∷ NO_MEMORY ∷ []) }
 {
     let Some(made) = read_call(&saved.call) else {
         return OUT_OF_RANGE;
@@ -53,8 +53,7 @@ pub fn replay_on(held: &mut Kept, saved: &[EntryNumbers], place: &mut usize) -> 
         ↔ Has (slice_get saved.now place.new) (λ n. CannotMake held.new n) }
     ensures spent { result ≢ DONE → result ≢ DIFFERS → result ≢ OUT_OF_RANGE
         → (result ≡ SPENT) ↔ (next_stamp held.new ≡ u64.MAX) }
-    ensures statuses { (result ≡ DONE) ⊎ ((result ≡ DIFFERS) ⊎ ((result ≡ OUT_OF_RANGE)
-        ⊎ ((result ≡ SPENT) ⊎ (result ≡ NO_MEMORY)))) }
+    ensures statuses { IsDoneOr result (DIFFERS ∷ OUT_OF_RANGE ∷ SPENT ∷ NO_MEMORY ∷ []) }
 {
     for i in 0..saved.len() {
         let status = replay_one(held, &saved[i]);

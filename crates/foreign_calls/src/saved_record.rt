@@ -1,13 +1,15 @@
 //! A record as a text: the text of its present state is made, and a record goes on from such a text.
-ghost use Rattle.std.specs.Prelude.{◌≡◌, ◌≢◌, ◌<◌, ◌≤◌, ◌↔◌, ◌⊎◌, IsSome, None, IfOk, IfErr, OnOk, sum, true};
+ghost use Rattle.std.specs.Prelude.{◌≡◌, ◌≢◌, ◌<◌, ◌≤◌, ◌⊎◌, [], ◌∷◌, None, IfOk, IfErr, OnOk, sum, true};
 ghost use Rattle.pid_types.specs.Sound.{IsBelow};
 ghost use Rattle.table_load.specs.Texts.{IsTextOfNoTable};
 ghost use Rattle.table_text.specs.Reading.{saved_state, IsNoText};
 ghost use Rattle.table_text.specs.Texts.{text_of};
 ghost use Rattle.kept_table.specs.Calls.{resumed};
 ghost use Rattle.kept_table.specs.Chronicle.{next_stamp};
+ghost use Rattle.foreign_calls.specs.Held.{Opens};
 ghost use Rattle.foreign_calls.specs.Records.{Has};
-ghost use Rattle.foreign_calls.specs.Saved.{no_fault, HasWorkers, HasTooManyCalls, TellsTooManyCalls, IsResumed};
+ghost use Rattle.foreign_calls.specs.Saved.{no_fault, HasWorkers, HasTooManyCalls, TellsTooManyCalls};
+ghost use Rattle.foreign_calls.specs.Saved.{IsResumed, TellsFault};
 
 use crate::record::{MOST_WORKERS, PidtabRecord};
 use crate::saved_table::{FaultNumbers, put_fault};
@@ -118,20 +120,15 @@ impl PidtabRecord {
         counts: &[u64],
         fault: &mut FaultNumbers,
     ) -> u32
+        ensures opens { Opens self.old.handle.held self.new.handle.held result
+            (OUT_OF_RANGE ∷ BAD_TEXT ∷ NO_MEMORY ∷ []) }
         ensures done { result ≡ DONE → Has self.new.handle.held (λ c. IsResumed text.now counts.now c) }
         ensures workers { result ≡ DONE → HasWorkers counts.now }
-        ensures not_done { result ≢ DONE → self.new.handle.held ≡ self.old.handle.held }
-        ensures busy { (result ≡ BUSY) ↔ IsSome self.old.handle.held }
         ensures no_workers { self.old.handle.held ≡ None → (HasWorkers counts.now → ⊥) → result ≡ OUT_OF_RANGE }
         ensures out_of_range { result ≡ OUT_OF_RANGE → HasWorkers counts.now → HasTooManyCalls text.now counts.now }
         ensures too_many { self.old.handle.held ≡ None → HasWorkers counts.now → TellsTooManyCalls text.now counts.now
             → (result ≡ OUT_OF_RANGE) ⊎ (result ≡ NO_MEMORY) }
-        ensures bad_text { result ≡ BAD_TEXT → (1 ≤ fault.new.kind) × (fault.new.kind ≤ 12) }
-        ensures refused { result ≡ BAD_TEXT → IsTextOfNoTable text.now }
-        ensures form { result ≡ BAD_TEXT → fault.new.kind ≤ 2 → IsNoText text.now }
-        ensures no_fault { result ≢ BAD_TEXT → fault.new ≡ no_fault }
-        ensures statuses { (result ≡ DONE) ⊎ ((result ≡ BUSY) ⊎ ((result ≡ OUT_OF_RANGE)
-            ⊎ ((result ≡ BAD_TEXT) ⊎ (result ≡ NO_MEMORY)))) }
+        ensures fault { TellsFault text.now fault.new result }
     {
         *fault = FaultNumbers { line: 0, kind: 0 };
         if self.is_open {

@@ -1,13 +1,13 @@
 //! A table that is opened as a text says, and why one is not.
-ghost use Rattle.std.specs.Prelude.{◌≡◌, ◌≢◌, ◌<◌, ◌≤◌, ◌↔◌, ◌⊎◌, IsSome, None, IfOk};
-ghost use Rattle.std.specs.Prelude.{IfErr};
+ghost use Rattle.std.specs.Prelude.{◌≡◌, ◌≢◌, ◌≤◌, ◌↔◌, ◌⊎◌, [], ◌∷◌, IfOk, IfErr};
 ghost use Rattle.table_load.specs.declared.fault.RestoreFault.TheVariants.{NoMemory};
 ghost use Rattle.table_load.specs.Faults.{IsOfForm};
 ghost use Rattle.table_load.specs.Texts.{IsTextOfNoTable};
 ghost use Rattle.table_text.specs.Reading.{IsNoText};
 ghost use Rattle.table_text.specs.Texts.{text_of};
+ghost use Rattle.foreign_calls.specs.Held.{Opens};
 ghost use Rattle.foreign_calls.specs.Records.{Has};
-ghost use Rattle.foreign_calls.specs.Saved.{no_fault, fault_numbers};
+ghost use Rattle.foreign_calls.specs.Saved.{no_fault, fault_numbers, TellsFault};
 ghost use Rattle.stamped_table.specs.Stamped.{IsInOrder};
 
 use crate::table::Pidtab;
@@ -81,15 +81,10 @@ fn boxed_load(alloc: Global, text: &[u8]) -> Result<Box<StampedTable>, RestoreFa
 impl Pidtab {
     /// Opens a table as the text says. The result is the status: `BUSY`; `BAD_TEXT`, and `fault` says why; `NO_MEMORY`.
     pub fn load(&mut self, alloc: Global, text: &[u8], fault: &mut FaultNumbers) -> u32
+        ensures opens { Opens self.old.handle.held self.new.handle.held result (BAD_TEXT ∷ NO_MEMORY ∷ []) }
         ensures done { result ≡ DONE → Has self.new.handle.held (λ s. text.now ≡ text_of s.stamp s.state) }
         ensures sound { result ≡ DONE → Has self.new.handle.held (λ s. IsInOrder s) }
-        ensures not_done { result ≢ DONE → self.new.handle.held ≡ self.old.handle.held }
-        ensures busy { (result ≡ BUSY) ↔ IsSome self.old.handle.held }
-        ensures bad_text { result ≡ BAD_TEXT → (1 ≤ fault.new.kind) × (fault.new.kind ≤ 12) }
-        ensures refused { result ≡ BAD_TEXT → IsTextOfNoTable text.now }
-        ensures form { result ≡ BAD_TEXT → fault.new.kind ≤ 2 → IsNoText text.now }
-        ensures no_fault { result ≢ BAD_TEXT → fault.new ≡ no_fault }
-        ensures statuses { (result ≡ DONE) ⊎ ((result ≡ BUSY) ⊎ ((result ≡ BAD_TEXT) ⊎ (result ≡ NO_MEMORY))) }
+        ensures fault { TellsFault text.now fault.new result }
     {
         *fault = FaultNumbers { line: 0, kind: 0 };
         if self.is_open {

@@ -1,5 +1,6 @@
 //! A table without a history, which a caller holds.
-ghost use Rattle.std.specs.Prelude.{◌≡◌, ◌↔◌, ◌⊎◌, Some, None, Err, IfOk, IfErr, OnOk, IfSome, is_some};
+ghost use Rattle.std.specs.Prelude.{◌≡◌, ◌↔◌, ◌⊎◌, Some, None, Err, IfOk, IfErr, OnOk, is_some};
+ghost use Rattle.foreign_calls.specs.Held.{Takes};
 ghost use Rattle.pid_types.specs.Settings.{HasGoodPidMax};
 ghost use Rattle.pid_types.specs.State.{root_state};
 
@@ -23,9 +24,7 @@ pub struct Pidtab {
 impl Pidtab {
     /// What is held, which the handle has no more.
     pub fn take(&mut self, alloc: Global) -> Option<Box<StampedTable>>
-        ensures held { IfSome result (λ held. self.old.handle.held ≡ Some held.value) }
-        ensures none { result ≡ None → self.old.handle.held ≡ None }
-        ensures new { self.new.handle.held ≡ None }
+        ensures { Takes result (λ held. held.value) self.old.handle.held self.new.handle.held }
     {
         let Pidtab { handle, is_open } = mem::replace(
             self,

@@ -1,13 +1,13 @@
 //! Calls on a table without a history, as numbers and as lines.
-ghost use Rattle.std.specs.Prelude.{◌≡◌, ◌≢◌, ◌≤◌, ◌↔◌, ◌⊎◌, IsTrue, length, take, drop};
-ghost use Rattle.pid_types.specs.Step.{may_grow};
+ghost use Rattle.std.specs.Prelude.{◌≡◌, ◌≢◌, ◌≤◌, length, take};
 ghost use Rattle.pid_script.specs.Answers.{reply_text};
-ghost use Rattle.foreign_numbers.specs.Numbers.{numbers_of};
+ghost use Rattle.foreign_calls.specs.Made.{IsCallStatus, TellsReply};
+ghost use Rattle.foreign_calls.specs.Rooms.{KeepsRoom};
 ghost use Rattle.stamped_table.specs.Stamped.{after_call, reply_to};
 
 use crate::texts::write_reply;
 use foreign_numbers::numbers::{ReplyNumbers, put_reply};
-use foreign_numbers::status::{DONE, NO_MEMORY, SPENT, status_of};
+use foreign_numbers::status::{DONE, status_of};
 use pid_script::answer::LONGEST_ANSWER;
 use pid_types::call::Call;
 use pid_types::reply::Reply;
@@ -16,11 +16,9 @@ use stamped_table::StampedTable;
 /// Makes the call, and tells its reply as numbers. The result is the status.
 pub fn call_table(held: &mut StampedTable, made: Call, reply: &mut ReplyNumbers) -> u32
     ensures done { result ≡ DONE → held.new ≡ after_call held.old made }
-    ensures reply { result ≡ DONE → reply.new ≡ numbers_of (reply_to held.old made) }
-    ensures not_done { result ≢ DONE → (held.new ≡ held.old) × (reply.new ≡ reply.old) }
-    ensures spent { (result ≡ SPENT) ↔ (held.old.stamp ≡ u64.MAX) }
-    ensures no_memory { result ≡ NO_MEMORY → IsTrue (may_grow made) }
-    ensures statuses { (result ≡ DONE) ⊎ ((result ≡ SPENT) ⊎ (result ≡ NO_MEMORY)) }
+    ensures not_done { result ≢ DONE → held.new ≡ held.old }
+    ensures reply { TellsReply (reply_to held.old made) reply.old reply.new result }
+    ensures status { IsCallStatus held.old made result }
 {
     let mut told = Reply::Done;
     match held.make(made, &mut told) {
@@ -37,13 +35,9 @@ pub fn line_table(held: &mut StampedTable, made: Call, answer: &mut [u8], size: 
     requires { LONGEST_ANSWER ≤ length answer.old }
     ensures done { result ≡ DONE → held.new ≡ after_call held.old made }
     ensures reply { result ≡ DONE → take size.new answer.new ≡ reply_text (reply_to held.old made) }
-    ensures fits { result ≡ DONE → size.new ≤ length answer.new }
-    ensures behind { result ≡ DONE → drop size.new answer.new ≡ drop size.new answer.old }
-    ensures not_done { result ≢ DONE
-        → (held.new ≡ held.old) × (answer.new ≡ answer.old) × (size.new ≡ size.old) }
-    ensures spent { (result ≡ SPENT) ↔ (held.old.stamp ≡ u64.MAX) }
-    ensures no_memory { result ≡ NO_MEMORY → IsTrue (may_grow made) }
-    ensures statuses { (result ≡ DONE) ⊎ ((result ≡ SPENT) ⊎ (result ≡ NO_MEMORY)) }
+    ensures answer { KeepsRoom answer.old answer.new size.new result }
+    ensures not_done { result ≢ DONE → (held.new ≡ held.old) × (size.new ≡ size.old) }
+    ensures status { IsCallStatus held.old made result }
 {
     let mut told = Reply::Done;
     if let Err(fault) = held.make(made, &mut told) {

@@ -1,12 +1,11 @@
 //! Text in the room that is given for it.
-ghost use Rattle.std.specs.Prelude.{◌≡◌, ◌≢◌, ◌<◌, ◌≤◌, ◌↔◌, ◌⊎◌, length, take, drop};
-ghost use Rattle.std.specs.Prelude.{Some, None};
-ghost use Rattle.pid_types.specs.declared.call.Call.{Call};
-ghost use Rattle.pid_types.specs.declared.reply.Reply.{Reply};
+ghost use Rattle.std.specs.Prelude.{◌≡◌, ◌<◌, ◌≤◌, ◌↔◌, [], ◌∷◌, length, take, drop};
 ghost use Rattle.pid_script.specs.Answers.{reply_text};
 ghost use Rattle.pid_script.specs.Lines.{line_of};
 ghost use Rattle.foreign_numbers.specs.Numbers.{call_of};
 ghost use Rattle.foreign_numbers.specs.Replies.{reply_in};
+ghost use Rattle.foreign_calls.specs.Held.{IsDoneOr};
+ghost use Rattle.foreign_calls.specs.Rooms.{KeepsRoom, PutsLine};
 
 use arrayvec::ArrayVec;
 use foreign_numbers::numbers::{CallNumbers, ReplyNumbers, read_call};
@@ -47,11 +46,9 @@ pub fn write_reply(answer: &mut [u8], call: Call, reply: Reply) -> usize
 pub fn write_text(text: &[u8], room: &mut [u8], size: &mut usize) -> u32
     ensures size { size.new ≡ length text.now }
     ensures done { result ≡ DONE → take size.new room.new ≡ text.now }
-    ensures fits { result ≡ DONE → size.new ≤ length room.new }
-    ensures behind { result ≡ DONE → drop size.new room.new ≡ drop size.new room.old }
-    ensures not_done { result ≢ DONE → room.new ≡ room.old }
+    ensures room { KeepsRoom room.old room.new size.new result }
     ensures no_room { (result ≡ NO_ROOM) ↔ (length room.old < length text.now) }
-    ensures statuses { (result ≡ DONE) ⊎ (result ≡ NO_ROOM) }
+    ensures statuses { IsDoneOr result (NO_ROOM ∷ []) }
 {
     *size = text.len();
     if room.len() < text.len() {
@@ -63,17 +60,7 @@ pub fn write_text(text: &[u8], room: &mut [u8], size: &mut usize) -> u32
 
 /// Puts the line of the script language that says the call at the front of the room. The result is the status.
 pub fn write_call_line(call: &CallNumbers, room: &mut [u8], size: &mut usize) -> u32
-    ensures done { result ≡ DONE
-        → (said : Call) × (call_of call.now ≡ Some said) × (take size.new room.new ≡ line_of said) }
-    ensures fits { result ≡ DONE → size.new ≤ length room.new }
-    ensures behind { result ≡ DONE → drop size.new room.new ≡ drop size.new room.old }
-    ensures not_done { result ≢ DONE → room.new ≡ room.old }
-    ensures out_of_range { (result ≡ OUT_OF_RANGE) ↔ (call_of call.now ≡ None) }
-    ensures no_room { result ≡ NO_ROOM
-        → (said : Call) × (call_of call.now ≡ Some said) × (size.new ≡ length (line_of said))
-        × (length room.old < size.new) }
-    ensures same_size { result ≡ OUT_OF_RANGE → size.new ≡ size.old }
-    ensures statuses { (result ≡ DONE) ⊎ ((result ≡ OUT_OF_RANGE) ⊎ (result ≡ NO_ROOM)) }
+    ensures { PutsLine (call_of call.now) line_of room.old room.new size.old size.new result }
 {
     let Some(said) = read_call(call) else {
         return OUT_OF_RANGE;
@@ -83,17 +70,7 @@ pub fn write_call_line(call: &CallNumbers, room: &mut [u8], size: &mut usize) ->
 
 /// Puts the answer of the script language that the reply is at the front of the room. The result is the status.
 pub fn write_reply_line(reply: &ReplyNumbers, room: &mut [u8], size: &mut usize) -> u32
-    ensures done { result ≡ DONE
-        → (told : Reply) × (reply_in reply.now ≡ Some told) × (take size.new room.new ≡ reply_text told) }
-    ensures fits { result ≡ DONE → size.new ≤ length room.new }
-    ensures behind { result ≡ DONE → drop size.new room.new ≡ drop size.new room.old }
-    ensures not_done { result ≢ DONE → room.new ≡ room.old }
-    ensures out_of_range { (result ≡ OUT_OF_RANGE) ↔ (reply_in reply.now ≡ None) }
-    ensures no_room { result ≡ NO_ROOM
-        → (told : Reply) × (reply_in reply.now ≡ Some told) × (size.new ≡ length (reply_text told))
-        × (length room.old < size.new) }
-    ensures same_size { result ≡ OUT_OF_RANGE → size.new ≡ size.old }
-    ensures statuses { (result ≡ DONE) ⊎ ((result ≡ OUT_OF_RANGE) ⊎ (result ≡ NO_ROOM)) }
+    ensures { PutsLine (reply_in reply.now) reply_text room.old room.new size.old size.new result }
 {
     let Some(told) = read_reply(reply) else {
         return OUT_OF_RANGE;

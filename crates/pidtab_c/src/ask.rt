@@ -1,19 +1,17 @@
 //! Queries for C: they are answered as calls are, and change nothing.
 //!
 //! A query is a getpid, getppid, getpgid, getsid, nspid, next or count.
-ghost use Rattle.std.specs.Prelude.{◌≡◌, ◌≢◌, ◌↔◌, ◌⊎◌, IsSome, Some, None};
-ghost use Rattle.pid_types.specs.declared.call.Call.{Call};
+ghost use Rattle.std.specs.Prelude.{[], ◌∷◌};
 ghost use Rattle.kept_table.specs.Calls.{outcome};
-ghost use Rattle.foreign_calls.specs.Asked.{query_of};
-ghost use Rattle.foreign_numbers.specs.Numbers.{numbers_of};
-ghost use Rattle.foreign_calls.specs.Records.{Has};
+ghost use Rattle.foreign_calls.specs.Asked.{AnswersQuery};
+ghost use Rattle.foreign_calls.specs.Held.{OnlyReads};
 ghost use Rattle.stamped_table.specs.Stamped.{reply_to};
 
 use foreign_calls::ask::{ask_record, ask_table};
 use foreign_calls::record::PidtabRecord;
 use foreign_calls::table::Pidtab;
 use foreign_numbers::numbers::{CallNumbers, ReplyNumbers};
-use foreign_numbers::status::{CLOSED, DONE, OUT_OF_RANGE};
+use foreign_numbers::status::{CLOSED, OUT_OF_RANGE};
 
 /// Answers the query that the numbers say, as the table's next call would be answered. It is no call: it uses no stamp,
 /// and changes nothing.
@@ -27,13 +25,8 @@ pub extern "C" fn pidtab_ask(
     call: &CallNumbers,
     reply: &mut ReplyNumbers,
 ) -> u32
-    ensures same { table.new.handle.held ≡ table.old.handle.held }
-    ensures done { result ≡ DONE → (asked : Call) × (query_of call.now ≡ Some asked)
-        × Has table.old.handle.held (λ s. reply.new ≡ numbers_of (reply_to s asked)) }
-    ensures not_done { result ≢ DONE → reply.new ≡ reply.old }
-    ensures closed { (result ≡ CLOSED) ↔ (table.old.handle.held ≡ None) }
-    ensures out_of_range { (result ≡ OUT_OF_RANGE) ↔ IsSome table.old.handle.held × (query_of call.now ≡ None) }
-    ensures statuses { (result ≡ DONE) ⊎ ((result ≡ CLOSED) ⊎ (result ≡ OUT_OF_RANGE)) }
+    ensures reads { OnlyReads table.old.handle.held table.new.handle.held result (OUT_OF_RANGE ∷ []) }
+    ensures answers { AnswersQuery table.old.handle.held reply_to call.now reply.old reply.new result }
 {
     if !table.is_open {
         return CLOSED;
@@ -51,13 +44,9 @@ pub extern "C" fn pidtab_record_ask(
     call: &CallNumbers,
     reply: &mut ReplyNumbers,
 ) -> u32
-    ensures same { table.new.handle.held ≡ table.old.handle.held }
-    ensures done { result ≡ DONE → (asked : Call) × (query_of call.now ≡ Some asked)
-        × Has table.old.handle.held (λ c. reply.new ≡ numbers_of (outcome c asked).reply) }
-    ensures not_done { result ≢ DONE → reply.new ≡ reply.old }
-    ensures closed { (result ≡ CLOSED) ↔ (table.old.handle.held ≡ None) }
-    ensures out_of_range { (result ≡ OUT_OF_RANGE) ↔ IsSome table.old.handle.held × (query_of call.now ≡ None) }
-    ensures statuses { (result ≡ DONE) ⊎ ((result ≡ CLOSED) ⊎ (result ≡ OUT_OF_RANGE)) }
+    ensures reads { OnlyReads table.old.handle.held table.new.handle.held result (OUT_OF_RANGE ∷ []) }
+    ensures answers { AnswersQuery table.old.handle.held (λ c asked. (outcome c asked).reply)
+        call.now reply.old reply.new result }
 {
     if !table.is_open {
         return CLOSED;

@@ -1,11 +1,13 @@
 //! The history of a record, for C: how many calls were recorded, the kept entries, and cutting them away.
-ghost use Rattle.std.specs.Prelude.{◌≡◌, ◌≢◌, ◌+◌, ◌<◌, ◌≤◌, ◌↔◌, ◌⊎◌, ℕ, None, IfSome, length, take, drop};
+ghost use Rattle.std.specs.Prelude.{◌≡◌, ◌≢◌, ◌+◌, ◌≤◌, ◌↔◌, ◌⊎◌, [], ◌∷◌, None, IfSome, length};
 ghost use Rattle.kept_table.specs.Calls.{to_cut, IsWithoutFirst};
 ghost use Rattle.kept_table.specs.Chronicle.{total, recorded, recorded_by_all, kept_entry};
 ghost use Rattle.kept_table.specs.Promise.{KeepsPromise};
 ghost use Rattle.foreign_calls.specs.Entries.{IsEntry};
 ghost use Rattle.table_lines.specs.Listed.{list_of_state};
+ghost use Rattle.foreign_calls.specs.Held.{OnlyReads, ChangesIfDone};
 ghost use Rattle.foreign_calls.specs.Records.{Has, Cuts};
+ghost use Rattle.foreign_calls.specs.Rooms.{PutsText};
 
 use foreign_calls::history::{cut_at, cut_on, opening_text, present_text, tell_entry};
 use foreign_calls::record::PidtabRecord;
@@ -25,14 +27,12 @@ pub extern "C" fn pidtab_record_counts(
     first_kept: &mut u64,
     recorded: &mut u64,
 ) -> u32
-    ensures same { table.new.handle.held ≡ table.old.handle.held }
+    ensures reads { OnlyReads table.old.handle.held table.new.handle.held result [] }
     ensures promise { IfSome table.old.handle.held (λ c. KeepsPromise c) }
     ensures workers { IfSome table.old.handle.held (λ c. total c ≡ recorded_by_all (length c.cut) c) }
     ensures done { result ≡ DONE
         → Has table.old.handle.held (λ c. (recorded.new ≡ total c) × (first_kept.new ≡ c.first_kept)) }
     ensures not_done { result ≢ DONE → (recorded.new ≡ recorded.old) × (first_kept.new ≡ first_kept.old) }
-    ensures closed { (result ≡ CLOSED) ↔ (table.old.handle.held ≡ None) }
-    ensures statuses { (result ≡ DONE) ⊎ (result ≡ CLOSED) }
 {
     if !table.is_open {
         return CLOSED;
@@ -52,13 +52,11 @@ pub extern "C" fn pidtab_record_worker(
     worker: u32,
     calls: &mut u64,
 ) -> u32
-    ensures same { table.new.handle.held ≡ table.old.handle.held }
+    ensures reads { OnlyReads table.old.handle.held table.new.handle.held result (OUT_OF_RANGE ∷ []) }
     ensures done { result ≡ DONE → Has table.old.handle.held (λ c. calls.new ≡ recorded c worker) }
     ensures not_done { result ≢ DONE → calls.new ≡ calls.old }
-    ensures closed { (result ≡ CLOSED) ↔ (table.old.handle.held ≡ None) }
     ensures out_of_range { (result ≡ OUT_OF_RANGE)
         ↔ Has table.old.handle.held (λ c. length c.cut ≤ worker) }
-    ensures statuses { (result ≡ DONE) ⊎ ((result ≡ CLOSED) ⊎ (result ≡ OUT_OF_RANGE)) }
 {
     if !table.is_open {
         return CLOSED;
@@ -85,15 +83,13 @@ pub extern "C" fn pidtab_record_entry(
     call: &mut CallNumbers,
     reply: &mut ReplyNumbers,
 ) -> u32
-    ensures same { table.new.handle.held ≡ table.old.handle.held }
+    ensures reads { OnlyReads table.old.handle.held table.new.handle.held result (NOT_KEPT ∷ []) }
     ensures done { result ≡ DONE
         → Has table.old.handle.held (λ c. IsEntry c ordinal worker.new call.new reply.new) }
     ensures not_done { result ≢ DONE
         → (worker.new ≡ worker.old) × (call.new ≡ call.old) × (reply.new ≡ reply.old) }
-    ensures closed { (result ≡ CLOSED) ↔ (table.old.handle.held ≡ None) }
     ensures not_kept { (result ≡ NOT_KEPT)
         ↔ Has table.old.handle.held (λ c. kept_entry c ordinal ≡ None) }
-    ensures statuses { (result ≡ DONE) ⊎ ((result ≡ CLOSED) ⊎ (result ≡ NOT_KEPT)) }
 {
     if !table.is_open {
         return CLOSED;
@@ -108,10 +104,8 @@ pub extern "C" fn pidtab_record_entry(
 /// memory: no function of this library makes one.
 #[unsafe(no_mangle)]
 pub extern "C" fn pidtab_record_checkpoint(table: &mut PidtabRecord) -> u32
+    ensures changes { ChangesIfDone table.old.handle.held table.new.handle.held result (NO_MEMORY ∷ []) }
     ensures done { result ≡ DONE → Cuts table.old.handle.held table.new.handle.held }
-    ensures not_done { result ≢ DONE → table.new.handle.held ≡ table.old.handle.held }
-    ensures closed { (result ≡ CLOSED) ↔ (table.old.handle.held ≡ None) }
-    ensures statuses { (result ≡ DONE) ⊎ ((result ≡ CLOSED) ⊎ (result ≡ NO_MEMORY)) }
 {
     if !table.is_open {
         return CLOSED;
@@ -125,12 +119,10 @@ pub extern "C" fn pidtab_record_checkpoint(table: &mut PidtabRecord) -> u32
 /// `CLOSED` where there is no open record; then `AGAIN` where more calls, or fewer, were recorded by now; `NO_MEMORY`.
 #[unsafe(no_mangle)]
 pub extern "C" fn pidtab_record_checkpoint_at(table: &mut PidtabRecord, seen: u64) -> u32
+    ensures changes { ChangesIfDone table.old.handle.held table.new.handle.held result (AGAIN ∷ NO_MEMORY ∷ []) }
     ensures done { result ≡ DONE → Cuts table.old.handle.held table.new.handle.held }
     ensures seen { result ≡ DONE → Has table.old.handle.held (λ c. total c ≡ seen) }
-    ensures not_done { result ≢ DONE → table.new.handle.held ≡ table.old.handle.held }
-    ensures closed { (result ≡ CLOSED) ↔ (table.old.handle.held ≡ None) }
     ensures again { (result ≡ AGAIN) ↔ Has table.old.handle.held (λ c. total c ≢ seen) }
-    ensures statuses { (result ≡ DONE) ⊎ ((result ≡ CLOSED) ⊎ ((result ≡ AGAIN) ⊎ (result ≡ NO_MEMORY))) }
 {
     if !table.is_open {
         return CLOSED;
@@ -144,13 +136,11 @@ pub extern "C" fn pidtab_record_checkpoint_at(table: &mut PidtabRecord, seen: u6
 /// `CLOSED` where there is no open record. It costs the calls that are cut away, once more.
 #[unsafe(no_mangle)]
 pub extern "C" fn pidtab_record_keep(table: &mut PidtabRecord, keep: u64) -> u32
+    ensures changes { ChangesIfDone table.old.handle.held table.new.handle.held result [] }
     ensures done { result ≡ DONE → Has table.old.handle.held (λ c. Has table.new.handle.held (λ d.
         IsWithoutFirst (to_cut c keep) c d)) }
     ensures bound { result ≡ DONE → Has table.old.handle.held (λ c. Has table.new.handle.held (λ d.
         (length d.entries ≤ keep) ⊎ (length d.entries + 2 ≤ length c.entries))) }
-    ensures not_done { result ≢ DONE → table.new.handle.held ≡ table.old.handle.held }
-    ensures closed { (result ≡ CLOSED) ↔ (table.old.handle.held ≡ None) }
-    ensures statuses { (result ≡ DONE) ⊎ (result ≡ CLOSED) }
 {
     if !table.is_open {
         return CLOSED;
@@ -171,18 +161,9 @@ pub extern "C" fn pidtab_record_list(
     room: &mut [u8],
     size: &mut usize,
 ) -> u32
-    ensures same { table.new.handle.held ≡ table.old.handle.held }
-    ensures done { result ≡ DONE
-        → Has table.old.handle.held (λ c. take size.new room.new ≡ list_of_state c.present) }
-    ensures fits { result ≡ DONE → size.new ≤ length room.new }
-    ensures behind { result ≡ DONE → drop size.new room.new ≡ drop size.new room.old }
-    ensures not_done { result ≢ DONE → room.new ≡ room.old }
-    ensures size { (result ≡ DONE) ⊎ (result ≡ NO_ROOM)
-        → Has table.old.handle.held (λ c. size.new ≡ length (list_of_state c.present)) }
-    ensures same_size { (result ≡ CLOSED) ⊎ (result ≡ NO_MEMORY) → size.new ≡ size.old }
-    ensures closed { (result ≡ CLOSED) ↔ (table.old.handle.held ≡ None) }
-    ensures no_room { result ≡ NO_ROOM → length room.old < size.new }
-    ensures statuses { (result ≡ DONE) ⊎ ((result ≡ CLOSED) ⊎ ((result ≡ NO_ROOM) ⊎ (result ≡ NO_MEMORY))) }
+    ensures reads { OnlyReads table.old.handle.held table.new.handle.held result (NO_ROOM ∷ NO_MEMORY ∷ []) }
+    ensures text { PutsText table.old.handle.held (λ c. list_of_state c.present)
+        room.old room.new size.old size.new result }
 {
     if !table.is_open {
         return CLOSED;
@@ -203,18 +184,9 @@ pub extern "C" fn pidtab_record_opening(
     room: &mut [u8],
     size: &mut usize,
 ) -> u32
-    ensures same { table.new.handle.held ≡ table.old.handle.held }
-    ensures done { result ≡ DONE
-        → Has table.old.handle.held (λ c. take size.new room.new ≡ list_of_state c.opening) }
-    ensures fits { result ≡ DONE → size.new ≤ length room.new }
-    ensures behind { result ≡ DONE → drop size.new room.new ≡ drop size.new room.old }
-    ensures not_done { result ≢ DONE → room.new ≡ room.old }
-    ensures size { (result ≡ DONE) ⊎ (result ≡ NO_ROOM)
-        → Has table.old.handle.held (λ c. size.new ≡ length (list_of_state c.opening)) }
-    ensures same_size { (result ≡ CLOSED) ⊎ (result ≡ NO_MEMORY) → size.new ≡ size.old }
-    ensures closed { (result ≡ CLOSED) ↔ (table.old.handle.held ≡ None) }
-    ensures no_room { result ≡ NO_ROOM → length room.old < size.new }
-    ensures statuses { (result ≡ DONE) ⊎ ((result ≡ CLOSED) ⊎ ((result ≡ NO_ROOM) ⊎ (result ≡ NO_MEMORY))) }
+    ensures reads { OnlyReads table.old.handle.held table.new.handle.held result (NO_ROOM ∷ NO_MEMORY ∷ []) }
+    ensures text { PutsText table.old.handle.held (λ c. list_of_state c.opening)
+        room.old room.new size.old size.new result }
 {
     if !table.is_open {
         return CLOSED;

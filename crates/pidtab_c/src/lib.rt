@@ -9,8 +9,8 @@
 //! is as it was. A function tests for its statuses in the order in which its comment names them.
 #![tactic(auto)]
 
-ghost use Rattle.std.specs.Prelude.{◌≡◌, ◌≢◌, ◌<◌, ◌≤◌, ◌↔◌, ◌⊎◌, IsSome, IsTrue, Some, None};
-ghost use Rattle.std.specs.Prelude.{IfSome, length, take, drop};
+ghost use Rattle.std.specs.Prelude.{◌≡◌, ◌≢◌, ◌≤◌, ◌↔◌, [], ◌∷◌, IsSome, IsTrue, Some, None};
+ghost use Rattle.std.specs.Prelude.{IfSome, length, take};
 ghost use Rattle.pid_types.specs.Settings.{HasGoodPidMax};
 ghost use Rattle.pid_types.specs.State.{root_state};
 ghost use Rattle.pid_types.specs.Step.{may_grow};
@@ -21,9 +21,11 @@ ghost use Rattle.pid_script.specs.Reading.{parsed};
 ghost use Rattle.pid_script.specs.declared.line.Line.TheVariants as says;
 ghost use Rattle.table_lines.specs.Listed.{list_of_state};
 ghost use Rattle.foreign_numbers.specs.Numbers.{call_of, numbers_of};
-ghost use Rattle.foreign_calls.specs.Lines.{IsCall};
+ghost use Rattle.foreign_calls.specs.Held.{OnlyReads, ChangesIfDone, Opens};
+ghost use Rattle.foreign_calls.specs.Lines.{IsCall, RefusesLine};
 ghost use Rattle.foreign_calls.specs.Records.{Has};
 ghost use Rattle.foreign_calls.specs.Made.{Makes};
+ghost use Rattle.foreign_calls.specs.Rooms.{KeepsRoom, PutsText};
 ghost use Rattle.stamped_table.specs.Stamped.{IsInOrder};
 
 mod ask;
@@ -67,12 +69,10 @@ pub extern "C" fn pidtab_version() -> u32
 /// `BUSY` where it is open already, then `OUT_OF_RANGE` for a `pid_max` outside 301 to 4194304; `NO_MEMORY`.
 #[unsafe(no_mangle)]
 pub extern "C" fn pidtab_open(alloc: Global, table: &mut Pidtab, pid_max: u32) -> u32
+    ensures opens { Opens table.old.handle.held table.new.handle.held result (OUT_OF_RANGE ∷ NO_MEMORY ∷ []) }
     ensures done { result ≡ DONE → table.new.handle.held ≡ Some (record { state = root_state pid_max; stamp = 1 }) }
     ensures good { result ≡ DONE → HasGoodPidMax pid_max }
-    ensures not_done { result ≢ DONE → table.new.handle.held ≡ table.old.handle.held }
-    ensures busy { (result ≡ BUSY) ↔ IsSome table.old.handle.held }
     ensures out_of_range { (result ≡ OUT_OF_RANGE) ↔ (table.old.handle.held ≡ None) × (HasGoodPidMax pid_max → ⊥) }
-    ensures statuses { (result ≡ DONE) ⊎ ((result ≡ BUSY) ⊎ ((result ≡ OUT_OF_RANGE) ⊎ (result ≡ NO_MEMORY))) }
 {
     if table.is_open {
         return BUSY;
@@ -108,24 +108,16 @@ pub extern "C" fn pidtab_line(
     answer: &mut [u8],
     size: &mut usize,
 ) -> u32
+    ensures changes { ChangesIfDone table.old.handle.held table.new.handle.held result
+        (EMPTY_LINE ∷ BAD_LINE ∷ NO_ROOM ∷ SPENT ∷ NO_MEMORY ∷ []) }
     ensures done { result ≡ DONE → (call : Call) × (reply : Reply) × (parsed line.now ≡ says.Call call)
         × Makes table.old.handle.held call reply table.new.handle.held × (take size.new answer.new ≡ reply_text reply) }
-    ensures fits { result ≡ DONE → size.new ≤ length answer.new }
-    ensures behind { result ≡ DONE → drop size.new answer.new ≡ drop size.new answer.old }
-    ensures not_done { result ≢ DONE → (table.new.handle.held ≡ table.old.handle.held) × (answer.new ≡ answer.old) }
-    ensures size { result ≢ DONE → result ≢ NO_ROOM → size.new ≡ size.old }
-    ensures closed { (result ≡ CLOSED) ↔ (table.old.handle.held ≡ None) }
-    ensures empty { (result ≡ EMPTY_LINE) ↔ IsSome table.old.handle.held × (parsed line.now ≡ says.Empty) }
-    ensures bad { (result ≡ BAD_LINE) ↔ IsSome table.old.handle.held × (parsed line.now ≡ says.Bad) }
-    ensures no_room { (result ≡ NO_ROOM)
-        ↔ IsSome table.old.handle.held × IsCall (parsed line.now) × (length answer.old < LONGEST_ANSWER) }
-    ensures longest { result ≡ NO_ROOM → size.new ≡ LONGEST_ANSWER }
+    ensures answer { KeepsRoom answer.old answer.new size.new result }
+    ensures line { RefusesLine table.old.handle.held line.now answer.old size.old size.new result }
     ensures spent { (result ≡ SPENT) ↔ Has table.old.handle.held (λ s. s.stamp ≡ u64.MAX)
         × IsCall (parsed line.now) × (LONGEST_ANSWER ≤ length answer.old) }
     ensures no_memory { result ≡ NO_MEMORY
         → (call : Call) × (parsed line.now ≡ says.Call call) × IsTrue (may_grow call) }
-    ensures statuses { (result ≡ DONE) ⊎ ((result ≡ CLOSED) ⊎ ((result ≡ EMPTY_LINE) ⊎ ((result ≡ BAD_LINE)
-        ⊎ ((result ≡ NO_ROOM) ⊎ ((result ≡ SPENT) ⊎ (result ≡ NO_MEMORY)))))) }
 {
     if !table.is_open {
         return CLOSED;
@@ -154,18 +146,10 @@ pub extern "C" fn pidtab_list(
     room: &mut [u8],
     size: &mut usize,
 ) -> u32
-    ensures same { table.new.handle.held ≡ table.old.handle.held }
+    ensures reads { OnlyReads table.old.handle.held table.new.handle.held result (NO_ROOM ∷ NO_MEMORY ∷ []) }
     ensures sound { IfSome table.old.handle.held (λ s. IsInOrder s) }
-    ensures done { result ≡ DONE → IfSome table.old.handle.held (λ s. take size.new room.new ≡ list_of_state s.state) }
-    ensures fits { result ≡ DONE → size.new ≤ length room.new }
-    ensures behind { result ≡ DONE → drop size.new room.new ≡ drop size.new room.old }
-    ensures not_done { result ≢ DONE → room.new ≡ room.old }
-    ensures size { (result ≡ DONE) ⊎ (result ≡ NO_ROOM)
-        → IfSome table.old.handle.held (λ s. size.new ≡ length (list_of_state s.state)) }
-    ensures same_size { (result ≡ CLOSED) ⊎ (result ≡ NO_MEMORY) → size.new ≡ size.old }
-    ensures closed { (result ≡ CLOSED) ↔ (table.old.handle.held ≡ None) }
-    ensures no_room { result ≡ NO_ROOM → length room.old < size.new }
-    ensures statuses { (result ≡ DONE) ⊎ ((result ≡ CLOSED) ⊎ ((result ≡ NO_ROOM) ⊎ (result ≡ NO_MEMORY))) }
+    ensures text { PutsText table.old.handle.held (λ s. list_of_state s.state)
+        room.old room.new size.old size.new result }
 {
     if !table.is_open {
         return CLOSED;
@@ -187,16 +171,15 @@ pub extern "C" fn pidtab_call(
     call: &CallNumbers,
     reply: &mut ReplyNumbers,
 ) -> u32
+    ensures changes { ChangesIfDone table.old.handle.held table.new.handle.held result
+        (OUT_OF_RANGE ∷ SPENT ∷ NO_MEMORY ∷ []) }
     ensures done { result ≡ DONE → (made : Call) × (told : Reply) × (call_of call.now ≡ Some made)
         × Makes table.old.handle.held made told table.new.handle.held × (reply.new ≡ numbers_of told) }
-    ensures not_done { result ≢ DONE → (table.new.handle.held ≡ table.old.handle.held) × (reply.new ≡ reply.old) }
-    ensures closed { (result ≡ CLOSED) ↔ (table.old.handle.held ≡ None) }
+    ensures not_done { result ≢ DONE → reply.new ≡ reply.old }
     ensures out_of_range { (result ≡ OUT_OF_RANGE) ↔ IsSome table.old.handle.held × (call_of call.now ≡ None) }
     ensures spent { (result ≡ SPENT)
         ↔ Has table.old.handle.held (λ s. s.stamp ≡ u64.MAX) × IsSome (call_of call.now) }
     ensures no_memory { result ≡ NO_MEMORY → (made : Call) × (call_of call.now ≡ Some made) × IsTrue (may_grow made) }
-    ensures statuses { (result ≡ DONE) ⊎ ((result ≡ CLOSED) ⊎ ((result ≡ OUT_OF_RANGE)
-        ⊎ ((result ≡ SPENT) ⊎ (result ≡ NO_MEMORY)))) }
 {
     if !table.is_open {
         return CLOSED;

@@ -1,6 +1,7 @@
 //! Many calls on a record in one turn, for C.
-ghost use Rattle.std.specs.Prelude.{◌≡◌, ◌+◌, ◌<◌, ◌↔◌, ◌⊎◌, None, length, drop};
+ghost use Rattle.std.specs.Prelude.{◌≡◌, ◌+◌, ◌<◌, ◌↔◌, ◌⊎◌, [], ◌∷◌, None, length, drop};
 ghost use Rattle.kept_table.specs.Chronicle.{total, next_stamp};
+ghost use Rattle.foreign_calls.specs.Held.{NeedsOpen};
 ghost use Rattle.foreign_calls.specs.Records.{Has};
 ghost use Rattle.foreign_calls.specs.Turns.{AreMade, CanMakeAll, MayGrowAt};
 
@@ -30,6 +31,8 @@ pub extern "C" fn pidtab_record_calls(
     made: &mut usize,
     ordinal: &mut u64,
 ) -> u32
+    ensures needs_open { NeedsOpen table.old.handle.held result
+        (OUT_OF_RANGE ∷ NO_ROOM ∷ SPENT ∷ NO_MEMORY ∷ []) }
     ensures made { (result ≡ CLOSED) ⊎ Has table.old.handle.held (λ c.
         Has table.new.handle.held (λ d. AreMade c worker calls.now replies.new made.new d)) }
     ensures behind { drop made.new replies.new ≡ drop made.new replies.old }
@@ -39,7 +42,6 @@ pub extern "C" fn pidtab_record_calls(
     ensures place { 0 < made.new → Has table.new.handle.held (λ d. ordinal.new + 1 ≡ total d) }
     ensures no_place { made.new ≡ 0 → ordinal.new ≡ ordinal.old }
     ensures not_open { result ≡ CLOSED → table.new.handle.held ≡ None }
-    ensures closed { (result ≡ CLOSED) ↔ (table.old.handle.held ≡ None) }
     ensures out_of_range { (result ≡ OUT_OF_RANGE)
         ↔ Has table.old.handle.held (λ c. CanMakeAll c worker calls.now → ⊥) }
     ensures no_room { (result ≡ NO_ROOM) ↔ Has table.old.handle.held (λ c. CanMakeAll c worker calls.now)
@@ -48,8 +50,6 @@ pub extern "C" fn pidtab_record_calls(
         → ((result ≡ SPENT) ↔ Has table.new.handle.held (λ d. next_stamp d ≡ u64.MAX)) }
     ensures no_memory { result ≡ NO_MEMORY
         → Has table.old.handle.held (λ c. made.new < c.room → MayGrowAt calls.now made.new) }
-    ensures statuses { (result ≡ DONE) ⊎ ((result ≡ CLOSED) ⊎ ((result ≡ OUT_OF_RANGE) ⊎ ((result ≡ NO_ROOM)
-        ⊎ ((result ≡ SPENT) ⊎ (result ≡ NO_MEMORY))))) }
 {
     *made = 0;
     if !table.is_open {

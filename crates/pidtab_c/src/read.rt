@@ -1,7 +1,8 @@
 //! Many kept entries of a record at once, for C.
-ghost use Rattle.std.specs.Prelude.{◌≡◌, ◌≢◌, ◌+◌, ◌-◌, ◌<◌, ◌≤◌, ◌↔◌, ◌⊎◌, ℕ, None, length, min, slice_get};
+ghost use Rattle.std.specs.Prelude.{◌≡◌, ◌≢◌, ◌+◌, ◌-◌, ◌<◌, ◌≤◌, ◌↔◌, ℕ, [], ◌∷◌, length, min, slice_get};
 ghost use Rattle.kept_table.specs.Chronicle.{total};
 ghost use Rattle.foreign_calls.specs.Entries.{TellsEntry, IsWithin};
+ghost use Rattle.foreign_calls.specs.Held.{OnlyReads};
 ghost use Rattle.foreign_calls.specs.Records.{Has};
 
 use foreign_calls::read::{EntryNumbers, read_on};
@@ -21,16 +22,14 @@ pub extern "C" fn pidtab_record_read(
     entries: &mut [EntryNumbers],
     count: &mut usize,
 ) -> u32
-    ensures same { table.new.handle.held ≡ table.old.handle.held }
+    ensures reads { OnlyReads table.old.handle.held table.new.handle.held result (NOT_KEPT ∷ []) }
     ensures count { result ≡ DONE → Has table.old.handle.held (λ c.
         count.new ≡ min (length entries.old) (total c - from)) }
     ensures told { result ≡ DONE → Has table.old.handle.held (λ c. (k : ℕ) → k < count.new
         → TellsEntry c (from + k) (slice_get entries.new k)) }
     ensures behind { result ≡ DONE → (k : ℕ) → count.new ≤ k → slice_get entries.new k ≡ slice_get entries.old k }
     ensures not_done { result ≢ DONE → (entries.new ≡ entries.old) × (count.new ≡ count.old) }
-    ensures closed { (result ≡ CLOSED) ↔ (table.old.handle.held ≡ None) }
     ensures not_kept { (result ≡ NOT_KEPT) ↔ Has table.old.handle.held (λ c. IsWithin from c → ⊥) }
-    ensures statuses { (result ≡ DONE) ⊎ ((result ≡ CLOSED) ⊎ (result ≡ NOT_KEPT)) }
 {
     if !table.is_open {
         return CLOSED;

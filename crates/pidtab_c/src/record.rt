@@ -6,7 +6,8 @@
 //!
 //! The history grows by 184 bytes with each recorded call, until a checkpoint cuts it. Any status but `DONE` says that
 //! the record is as it was, but for the room that it keeps for entries, which nothing shows.
-ghost use Rattle.std.specs.Prelude.{◌≡◌, ◌≢◌, ◌↔◌, ◌⊎◌, IsSome, Some, None};
+ghost use Rattle.std.specs.Prelude.{◌≡◌, ◌↔◌, [], ◌∷◌, Some, None};
+ghost use Rattle.foreign_calls.specs.Held.{Opens};
 ghost use Rattle.foreign_calls.specs.Records.{without_room, CanOpen, opened};
 
 use foreign_calls::record::{MOST_WORKERS, PidtabRecord, boxed_record};
@@ -27,14 +28,12 @@ pub extern "C" fn pidtab_record_open(
     first_stamp: u64,
     workers: u32,
 ) -> u32
+    ensures opens { Opens table.old.handle.held table.new.handle.held result (OUT_OF_RANGE ∷ NO_MEMORY ∷ []) }
     ensures done { result ≡ DONE
         → without_room table.new.handle.held ≡ Some (opened pid_max first_stamp workers) }
     ensures good { result ≡ DONE → CanOpen pid_max first_stamp workers }
-    ensures not_done { result ≢ DONE → table.new.handle.held ≡ table.old.handle.held }
-    ensures busy { (result ≡ BUSY) ↔ IsSome table.old.handle.held }
     ensures out_of_range { (result ≡ OUT_OF_RANGE)
         ↔ (table.old.handle.held ≡ None) × (CanOpen pid_max first_stamp workers → ⊥) }
-    ensures statuses { (result ≡ DONE) ⊎ ((result ≡ BUSY) ⊎ ((result ≡ OUT_OF_RANGE) ⊎ (result ≡ NO_MEMORY))) }
 {
     if table.is_open {
         return BUSY;

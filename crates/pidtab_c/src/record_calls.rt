@@ -1,5 +1,5 @@
 //! Calls on a record, for C: as numbers and as lines.
-ghost use Rattle.std.specs.Prelude.{◌≡◌, ◌≢◌, ◌<◌, ◌≤◌, ◌↔◌, ◌⊎◌, IsSome, IsTrue, Some, None, length, take, drop};
+ghost use Rattle.std.specs.Prelude.{◌≡◌, ◌≢◌, ◌<◌, ◌≤◌, ◌↔◌, [], ◌∷◌, IsTrue, Some, length, take};
 ghost use Rattle.pid_types.specs.Step.{may_grow};
 ghost use Rattle.pid_types.specs.declared.call.Call.{Call};
 ghost use Rattle.pid_script.specs.Answers.{reply_text};
@@ -7,9 +7,11 @@ ghost use Rattle.pid_script.specs.Reading.{parsed};
 ghost use Rattle.pid_script.specs.declared.line.Line.TheVariants as says;
 ghost use Rattle.kept_table.specs.Calls.{outcome};
 ghost use Rattle.kept_table.specs.Chronicle.{next_stamp};
-ghost use Rattle.foreign_calls.specs.Lines.{IsCall};
+ghost use Rattle.foreign_calls.specs.Held.{NeedsOpen};
+ghost use Rattle.foreign_calls.specs.Lines.{IsCall, RefusesLine};
 ghost use Rattle.foreign_numbers.specs.Numbers.{call_of, numbers_of};
-ghost use Rattle.foreign_calls.specs.Records.{Has, without_room, IsRecorded, IsRecordedKeeping};
+ghost use Rattle.foreign_calls.specs.Records.{Has, without_room, IsRecorded, IsRecordedKeeping, IsSaidStatus};
+ghost use Rattle.foreign_calls.specs.Rooms.{KeepsRoom};
 
 use foreign_calls::record::PidtabRecord;
 use foreign_calls::record_calls::{call_keeping_on, call_on, line_on};
@@ -43,15 +45,7 @@ pub extern "C" fn pidtab_record_call(
     ensures not_done { result ≢ DONE
         → (without_room table.new.handle.held ≡ without_room table.old.handle.held)
         × (reply.new ≡ reply.old) × (ordinal.new ≡ ordinal.old) }
-    ensures closed { (result ≡ CLOSED) ↔ (table.old.handle.held ≡ None) }
-    ensures out_of_range { (result ≡ OUT_OF_RANGE)
-        ↔ Has table.old.handle.held (λ c. (call_of call.now ≡ None) ⊎ (length c.cut ≤ worker)) }
-    ensures spent { (result ≡ SPENT) ↔ IsSome (call_of call.now)
-        × Has table.old.handle.held (λ c. (worker < length c.cut) × (next_stamp c ≡ u64.MAX)) }
-    ensures no_memory { result ≡ NO_MEMORY → (made : Call) × (call_of call.now ≡ Some made)
-        × Has table.old.handle.held (λ c. 0 < c.room → IsTrue (may_grow made)) }
-    ensures statuses { (result ≡ DONE) ⊎ ((result ≡ CLOSED) ⊎ ((result ≡ OUT_OF_RANGE)
-        ⊎ ((result ≡ SPENT) ⊎ (result ≡ NO_MEMORY)))) }
+    ensures status { IsSaidStatus table.old.handle.held worker (call_of call.now) result }
 {
     if !table.is_open {
         return CLOSED;
@@ -83,15 +77,7 @@ pub extern "C" fn pidtab_record_call_keeping(
     ensures not_done { result ≢ DONE
         → (without_room table.new.handle.held ≡ without_room table.old.handle.held)
         × (reply.new ≡ reply.old) × (ordinal.new ≡ ordinal.old) }
-    ensures closed { (result ≡ CLOSED) ↔ (table.old.handle.held ≡ None) }
-    ensures out_of_range { (result ≡ OUT_OF_RANGE)
-        ↔ Has table.old.handle.held (λ c. (call_of call.now ≡ None) ⊎ (length c.cut ≤ worker)) }
-    ensures spent { (result ≡ SPENT) ↔ IsSome (call_of call.now)
-        × Has table.old.handle.held (λ c. (worker < length c.cut) × (next_stamp c ≡ u64.MAX)) }
-    ensures no_memory { result ≡ NO_MEMORY → (made : Call) × (call_of call.now ≡ Some made)
-        × Has table.old.handle.held (λ c. 0 < c.room → IsTrue (may_grow made)) }
-    ensures statuses { (result ≡ DONE) ⊎ ((result ≡ CLOSED) ⊎ ((result ≡ OUT_OF_RANGE)
-        ⊎ ((result ≡ SPENT) ⊎ (result ≡ NO_MEMORY)))) }
+    ensures status { IsSaidStatus table.old.handle.held worker (call_of call.now) result }
 {
     if !table.is_open {
         return CLOSED;
@@ -123,18 +109,11 @@ pub extern "C" fn pidtab_record_line(
     ensures done { result ≡ DONE → (made : Call) × (parsed line.now ≡ says.Call made)
         × Has table.old.handle.held (λ c. IsRecorded c worker made ordinal.new table.new.handle.held
         × (take size.new answer.new ≡ reply_text (outcome c made).reply)) }
-    ensures fits { result ≡ DONE → size.new ≤ length answer.new }
-    ensures behind { result ≡ DONE → drop size.new answer.new ≡ drop size.new answer.old }
+    ensures answer { KeepsRoom answer.old answer.new size.new result }
     ensures not_done { result ≢ DONE
         → (without_room table.new.handle.held ≡ without_room table.old.handle.held)
-        × (answer.new ≡ answer.old) × (ordinal.new ≡ ordinal.old) }
-    ensures size { result ≢ DONE → result ≢ NO_ROOM → size.new ≡ size.old }
-    ensures closed { (result ≡ CLOSED) ↔ (table.old.handle.held ≡ None) }
-    ensures empty { (result ≡ EMPTY_LINE) ↔ IsSome table.old.handle.held × (parsed line.now ≡ says.Empty) }
-    ensures bad { (result ≡ BAD_LINE) ↔ IsSome table.old.handle.held × (parsed line.now ≡ says.Bad) }
-    ensures no_room { (result ≡ NO_ROOM)
-        ↔ IsSome table.old.handle.held × IsCall (parsed line.now) × (length answer.old < LONGEST_ANSWER) }
-    ensures longest { result ≡ NO_ROOM → size.new ≡ LONGEST_ANSWER }
+        × (ordinal.new ≡ ordinal.old) }
+    ensures line { RefusesLine table.old.handle.held line.now answer.old size.old size.new result }
     ensures out_of_range { (result ≡ OUT_OF_RANGE)
         ↔ IsCall (parsed line.now) × (LONGEST_ANSWER ≤ length answer.old)
         × Has table.old.handle.held (λ c. length c.cut ≤ worker) }
@@ -143,8 +122,8 @@ pub extern "C" fn pidtab_record_line(
         × Has table.old.handle.held (λ c. (worker < length c.cut) × (next_stamp c ≡ u64.MAX)) }
     ensures no_memory { result ≡ NO_MEMORY → (made : Call) × (parsed line.now ≡ says.Call made)
         × Has table.old.handle.held (λ c. 0 < c.room → IsTrue (may_grow made)) }
-    ensures statuses { (result ≡ DONE) ⊎ ((result ≡ CLOSED) ⊎ ((result ≡ EMPTY_LINE) ⊎ ((result ≡ BAD_LINE)
-        ⊎ ((result ≡ NO_ROOM) ⊎ ((result ≡ OUT_OF_RANGE) ⊎ ((result ≡ SPENT) ⊎ (result ≡ NO_MEMORY))))))) }
+    ensures needs_open { NeedsOpen table.old.handle.held result
+        (EMPTY_LINE ∷ BAD_LINE ∷ NO_ROOM ∷ OUT_OF_RANGE ∷ SPENT ∷ NO_MEMORY ∷ []) }
 {
     if !table.is_open {
         return CLOSED;

@@ -1,6 +1,7 @@
 //! Saved entries on a record, for C: their calls are made again, and their replies compared.
-ghost use Rattle.std.specs.Prelude.{◌≡◌, ◌≢◌, ◌<◌, ◌≤◌, ◌↔◌, ◌⊎◌, None, length, slice_get};
+ghost use Rattle.std.specs.Prelude.{◌≡◌, ◌≢◌, ◌↔◌, [], ◌∷◌, None, length, slice_get};
 ghost use Rattle.kept_table.specs.Chronicle.{next_stamp};
+ghost use Rattle.foreign_calls.specs.Held.{NeedsOpen};
 ghost use Rattle.foreign_calls.specs.Records.{Has, roomless};
 ghost use Rattle.foreign_calls.specs.Replays.{Replays, CannotMake, StopsBefore, StopsAt};
 
@@ -23,6 +24,8 @@ pub extern "C" fn pidtab_record_replay(
     saved: &[EntryNumbers],
     place: &mut usize,
 ) -> u32
+    ensures needs_open { NeedsOpen table.old.handle.held result
+        (DIFFERS ∷ OUT_OF_RANGE ∷ SPENT ∷ NO_MEMORY ∷ []) }
     ensures done { result ≡ DONE → (place.new ≡ length saved.now) × Has table.old.handle.held (λ c.
         Has table.new.handle.held (λ d. Replays (roomless c) saved.now (roomless d))) }
     ensures differs { result ≡ DIFFERS → Has table.old.handle.held (λ c.
@@ -30,13 +33,10 @@ pub extern "C" fn pidtab_record_replay(
     ensures not_made { result ≢ DONE → result ≢ DIFFERS → result ≢ CLOSED → Has table.old.handle.held (λ c.
         Has table.new.handle.held (λ d. StopsBefore c saved.now place.new d)) }
     ensures not_open { result ≡ CLOSED → (table.new.handle.held ≡ None) × (place.new ≡ place.old) }
-    ensures closed { (result ≡ CLOSED) ↔ (table.old.handle.held ≡ None) }
     ensures out_of_range { result ≢ DONE → result ≢ DIFFERS → (result ≡ OUT_OF_RANGE)
         ↔ Has table.new.handle.held (λ d. Has (slice_get saved.now place.new) (λ n. CannotMake d n)) }
     ensures spent { result ≢ DONE → result ≢ DIFFERS → result ≢ OUT_OF_RANGE
         → (result ≡ SPENT) ↔ Has table.new.handle.held (λ d. next_stamp d ≡ u64.MAX) }
-    ensures statuses { (result ≡ DONE) ⊎ ((result ≡ CLOSED) ⊎ ((result ≡ DIFFERS) ⊎ ((result ≡ OUT_OF_RANGE)
-        ⊎ ((result ≡ SPENT) ⊎ (result ≡ NO_MEMORY))))) }
 {
     if !table.is_open {
         return CLOSED;

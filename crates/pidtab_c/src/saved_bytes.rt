@@ -12,6 +12,7 @@ ghost use Rattle.saved_form.specs.Taking.{IsTorn, IsWrongAt, IsTaken};
 ghost use Rattle.saved_form.specs.Ends.{StaysOpen, EndsHere, IsWrongHere, IsPassed, IsTornEnd};
 ghost use Rattle.saved_form.specs.declared.numbers.Head.{Head};
 ghost use Rattle.saved_form.specs.declared.numbers.EntryNumbers.{EntryNumbers};
+ghost use Rattle.foreign_calls.specs.Held.{IsDoneOr};
 ghost use Rattle.foreign_calls.specs.Records.{CanOpen};
 ghost use Rattle.foreign_calls.specs.SavedBytes.{CanOpenBy};
 
@@ -65,7 +66,7 @@ pub extern "C" fn pidtab_saved_put_head(
     ensures same_size { result ≡ OUT_OF_RANGE → size.new ≡ size.old }
     ensures out_of_range { (result ≡ OUT_OF_RANGE) ↔ (CanOpenBy head.now → ⊥) }
     ensures no_room { (result ≡ NO_ROOM) ↔ CanOpenBy head.now × (length room.old < 48) }
-    ensures statuses { (result ≡ DONE) ⊎ ((result ≡ OUT_OF_RANGE) ⊎ (result ≡ NO_ROOM)) }
+    ensures statuses { IsDoneOr result (OUT_OF_RANGE ∷ NO_ROOM ∷ []) }
 {
     if !can_open(head) {
         return OUT_OF_RANGE;
@@ -98,7 +99,7 @@ pub extern "C" fn pidtab_saved_put(
     ensures same_size { result ≡ OUT_OF_RANGE → size.new ≡ size.old }
     ensures out_of_range { (result ≡ OUT_OF_RANGE) ↔ (HasPlaces entry.now → ⊥) }
     ensures no_room { (result ≡ NO_ROOM) ↔ HasPlaces entry.now × (length room.old < entry_size entry.now) }
-    ensures statuses { (result ≡ DONE) ⊎ ((result ≡ OUT_OF_RANGE) ⊎ (result ≡ NO_ROOM)) }
+    ensures statuses { IsDoneOr result (OUT_OF_RANGE ∷ NO_ROOM ∷ []) }
 {
     if !has_places(entry) {
         return OUT_OF_RANGE;
@@ -149,8 +150,7 @@ pub extern "C" fn pidtab_saved_take_head(
     ensures other_version { (result ≡ OTHER_VERSION) ↔ IsOtherVersion bytes.now }
     ensures out_of_range { result ≡ OUT_OF_RANGE → (h : Head) × BeginsHead h bytes.now × (CanOpenBy h → ⊥) }
     ensures wrong_byte { (h : Head) → HeadFits h → BeginsHead h bytes.now → result ≢ WRONG_BYTE }
-    ensures statuses { (result ≡ DONE) ⊎ ((result ≡ NOT_SAVED) ⊎ ((result ≡ TORN) ⊎ ((result ≡ OTHER_VERSION)
-        ⊎ ((result ≡ WRONG_BYTE) ⊎ (result ≡ OUT_OF_RANGE))))) }
+    ensures statuses { IsDoneOr result (NOT_SAVED ∷ TORN ∷ OTHER_VERSION ∷ WRONG_BYTE ∷ OUT_OF_RANGE ∷ []) }
 {
     let taken = match take_head(bytes) {
         Ok(taken) => taken,
@@ -189,7 +189,7 @@ pub extern "C" fn pidtab_saved_take(
     ensures torn { result ≡ TORN → IsTorn sum.old bytes.now size.new }
     ensures is_torn { (wanted : ℕ) → IsTorn sum.old bytes.now wanted → (result ≡ TORN) × (size.new ≡ wanted) }
     ensures wrong_byte { result ≡ WRONG_BYTE → IsWrongAt sum.old bytes.now size.new }
-    ensures statuses { (result ≡ DONE) ⊎ ((result ≡ TORN) ⊎ (result ≡ WRONG_BYTE)) }
+    ensures statuses { IsDoneOr result (TORN ∷ WRONG_BYTE ∷ []) }
 {
     match take_entry(bytes, *sum) {
         Ok(taken) => {
@@ -239,7 +239,7 @@ pub extern "C" fn pidtab_saved_next(
     ensures nothing_passed { result ≡ WRONG_BYTE → (left_out.new ≡ left_out.old) × (size.new ≡ size.old) }
     ensures torn_is_left_out { (before : List ℕ) → IsPassed sum.old left_out.old before
         → IsTornEnd sum.old (before ++ bytes.now) → result ≢ WRONG_BYTE }
-    ensures statuses { (result ≡ DONE) ⊎ ((result ≡ TORN) ⊎ (result ≡ WRONG_BYTE)) }
+    ensures statuses { IsDoneOr result (TORN ∷ WRONG_BYTE ∷ []) }
 {
     match read_on(bytes, *sum, *left_out, is_end) {
         Next::Entry(taken) => {

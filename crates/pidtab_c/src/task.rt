@@ -1,6 +1,7 @@
 //! One read of a task for C, in one struct. It is no call: it uses no stamp, and changes nothing.
-ghost use Rattle.std.specs.Prelude.{◌≡◌, ◌≢◌, ◌↔◌, ◌⊎◌, None};
+ghost use Rattle.std.specs.Prelude.{◌≡◌, ◌≢◌, []};
 ghost use Rattle.translate.specs.Stat.{stat_at};
+ghost use Rattle.foreign_calls.specs.Held.{OnlyReads};
 ghost use Rattle.foreign_calls.specs.Records.{Has};
 ghost use Rattle.foreign_numbers.specs.Tasks.{task_numbers};
 
@@ -22,12 +23,10 @@ pub extern "C" fn pidtab_stat(
     number: u32,
     task: &mut TaskNumbers,
 ) -> u32
-    ensures same { table.new.handle.held ≡ table.old.handle.held }
+    ensures reads { OnlyReads table.old.handle.held table.new.handle.held result [] }
     ensures done { result ≡ DONE
         → Has table.old.handle.held (λ s. task.new ≡ task_numbers (stat_at s.state caller number)) }
     ensures not_done { result ≢ DONE → task.new ≡ task.old }
-    ensures closed { (result ≡ CLOSED) ↔ (table.old.handle.held ≡ None) }
-    ensures statuses { (result ≡ DONE) ⊎ (result ≡ CLOSED) }
 {
     if !table.is_open {
         return CLOSED;
@@ -48,12 +47,10 @@ pub extern "C" fn pidtab_record_stat(
     number: u32,
     task: &mut TaskNumbers,
 ) -> u32
-    ensures same { table.new.handle.held ≡ table.old.handle.held }
+    ensures reads { OnlyReads table.old.handle.held table.new.handle.held result [] }
     ensures done { result ≡ DONE
         → Has table.old.handle.held (λ c. task.new ≡ task_numbers (stat_at c.present caller number)) }
     ensures not_done { result ≢ DONE → task.new ≡ task.old }
-    ensures closed { (result ≡ CLOSED) ↔ (table.old.handle.held ≡ None) }
-    ensures statuses { (result ≡ DONE) ⊎ (result ≡ CLOSED) }
 {
     if !table.is_open {
         return CLOSED;

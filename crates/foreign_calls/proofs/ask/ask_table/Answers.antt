@@ -1,5 +1,5 @@
 use Rattle.std.proofs.Common.{rules}
 use Rattle.foreign_calls.proofs.ask.ask_table.Goals as goal
 
-pub returns-clause-done : goal.returns-clause-done
-returns-clause-done c = search rules
+pub returns-clause-answers : goal.returns-clause-answers
+returns-clause-answers c = search rules

@@ -11,5 +11,5 @@ returns-clause-size c = search rules
 pub returns-clause-done : goal.returns-clause-done
 returns-clause-done c = grind (arith, common_steps)
 
-pub returns-clause-behind : goal.returns-clause-behind
-returns-clause-behind c = grind (arith, common_steps)
+pub returns-clause-room : goal.returns-clause-room
+returns-clause-room c = record { fits = search rules; behind = grind (arith, common_steps); not_done = search rules }

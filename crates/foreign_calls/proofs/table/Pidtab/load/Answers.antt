@@ -7,5 +7,5 @@ returns-in-Ok-clause-done c = search rules
 pub returns-in-Ok-clause-sound : goal.returns-in-Ok-clause-sound
 returns-in-Ok-clause-sound c = search rules
 
-pub returns-in-Err-clause-form : goal.returns-in-Err-clause-form
-returns-in-Err-clause-form c = search rules
+pub returns-in-Err-clause-fault : goal.returns-in-Err-clause-fault
+returns-in-Err-clause-fault c = search rules
