@@ -14,10 +14,7 @@ func answer(line string, write func(unsafe.Pointer, C.size_t, unsafe.Pointer, *C
 	var answer [C.PIDTAB_LONGEST_ANSWER]C.uint8_t
 	var size C.size_t
 	status := write(unsafe.Pointer(&bytes[0]), C.size_t(len(line)), unsafe.Pointer(&answer[0]), &size)
-	if err := faultOf(uint32(status)); err != nil {
-		return "", err
-	}
-	return text(answer[:size]), nil
+	return written(status, answer[:], size)
 }
 
 // wholeText is the list, or the text of a table, that the library writes. It is given the room, how long that is, and the place for the size; where the room was too short, it is
@@ -30,11 +27,16 @@ func wholeText(write func(unsafe.Pointer, C.size_t, *C.size_t) C.uint32_t) (stri
 		if status == C.PIDTAB_NO_ROOM {
 			continue
 		}
-		if err := faultOf(uint32(status)); err != nil {
-			return "", err
-		}
-		return text(room[:size]), nil
+		return written(status, room, size)
 	}
+}
+
+// written is the text that the library wrote at the front of the room, if it did.
+func written(status C.uint32_t, room []C.uint8_t, size C.size_t) (string, error) {
+	if err := faultOf(uint32(status)); err != nil {
+		return "", err
+	}
+	return text(room[:size]), nil
 }
 
 // text is what the bytes say.

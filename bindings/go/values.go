@@ -98,10 +98,7 @@ func (reply Reply) Line() (string, error) {
 	var size C.size_t
 	numbers := reply.numbers()
 	status := C.pidtab_reply_line(&numbers, unsafe.Pointer(&line[0]), C.size_t(len(line)), &size)
-	if err := faultOf(uint32(status)); err != nil {
-		return "", err
-	}
-	return text(line[:size]), nil
+	return written(status, line[:], size)
 }
 
 // Line is the call as a line of the script language: Line of a table makes the same call of it. It needs no table. ErrOutOfRange where there is no
@@ -111,10 +108,7 @@ func (call Call) Line() (string, error) {
 	var size C.size_t
 	numbers := call.numbers()
 	status := C.pidtab_call_line(&numbers, unsafe.Pointer(&line[0]), C.size_t(len(line)), &size)
-	if err := faultOf(uint32(status)); err != nil {
-		return "", err
-	}
-	return text(line[:size]), nil
+	return written(status, line[:], size)
 }
 
 // numbers is the call as the library takes it.

@@ -546,16 +546,14 @@ impl Drop for Table {
 
 /// Writes the reply as the answer of the script language.
 pub(crate) fn reply_line(reply: &Reply, answer: &mut [u8], size: &mut usize) -> u32 {
-    let (most, answer) = (answer.len(), answer.as_mut_ptr().cast());
-    // SAFETY: both are lent to this call alone, and the room is as long as is said.
-    unsafe { pidtab_reply_line(reply, answer, most, size) }
+    // SAFETY: each pointer is that of a reference or of a slice with that length, which are lent to this call alone.
+    unsafe { pidtab_reply_line(reply, answer.as_mut_ptr().cast(), answer.len(), size) }
 }
 
 /// Writes the call as a line of the script language.
 pub(crate) fn call_line(call: &Call, line: &mut [u8], size: &mut usize) -> u32 {
-    let (room, most) = (line.as_mut_ptr().cast(), line.len());
-    // SAFETY: the line is a slice with this length; the function keeps no pointer, and no two of the three overlap.
-    unsafe { pidtab_call_line(call, room, most, size) }
+    // SAFETY: as in `reply_line`.
+    unsafe { pidtab_call_line(call, line.as_mut_ptr().cast(), line.len(), size) }
 }
 
 /// An open record: a table with its history.
