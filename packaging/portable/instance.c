@@ -144,46 +144,42 @@ uint32_t pidtab_version(void)
 	return PIDTAB_VERSION;
 }
 
-/* The call's line needs no table, and so an instance of its own. */
-uint32_t pidtab_call_line(const struct pidtab_call *call, void *line, size_t room, size_t *size)
+/* A new instance with these numbers in it, or null: a line of theirs needs no table. */
+static instance *instance_with(enum place what, const void *numbers, size_t size)
 {
 	instance *it = new_instance();
-	uint32_t status;
 
-	if (!it)
-		return PIDTAB_NO_MEMORY;
-	put(it, CALL, call, sizeof *call);
-	status = Z_pidtabZ_call_line(it);
+	if (it)
+		put(it, what, numbers, size);
+	return it;
+}
+
+/* The line that the instance has, which is freed. */
+static uint32_t line_of(instance *it, uint32_t status, enum place what, void *line, size_t room, size_t *size)
+{
 	if (status == PIDTAB_DONE) {
 		*size = told_size(it);
 		if (*size > room)
 			status = PIDTAB_NO_ROOM;
 		else
-			get(it, LINE, line, *size);
+			get(it, what, line, *size);
 	}
 	free_instance(it);
 	return status;
 }
 
-/* So does a reply's answer. */
+uint32_t pidtab_call_line(const struct pidtab_call *call, void *line, size_t room, size_t *size)
+{
+	instance *it = instance_with(CALL, call, sizeof *call);
+
+	return it ? line_of(it, Z_pidtabZ_call_line(it), LINE, line, room, size) : PIDTAB_NO_MEMORY;
+}
+
 uint32_t pidtab_reply_line(const struct pidtab_reply *reply, void *answer, size_t room, size_t *size)
 {
-	instance *it = new_instance();
-	uint32_t status;
+	instance *it = instance_with(REPLY, reply, sizeof *reply);
 
-	if (!it)
-		return PIDTAB_NO_MEMORY;
-	put(it, REPLY, reply, sizeof *reply);
-	status = Z_pidtabZ_reply_line(it);
-	if (status == PIDTAB_DONE) {
-		*size = told_size(it);
-		if (*size > room)
-			status = PIDTAB_NO_ROOM;
-		else
-			get(it, LINE, answer, *size);
-	}
-	free_instance(it);
-	return status;
+	return it ? line_of(it, Z_pidtabZ_reply_line(it, PIDTAB_LONGEST_ANSWER), ANSWER, answer, room, size) : PIDTAB_NO_MEMORY;
 }
 
 uint32_t proved_open(struct pidtab *table, uint32_t pid_max)
