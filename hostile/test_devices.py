@@ -263,6 +263,13 @@ class JobFiles(Devices):
         self.assert_work(1, b"", said, bad, self.room.name)
         self.assert_work(1, b"", cannot_read(self.room.name), self.room.name, bad)
 
+    def test_bad_line(self):
+        """The first line that is no call is told, also one that is too long for any, and one without a newline."""
+        cases = {b"fork\nmk 5\nlimit 0 5\n": 1, b"fork 1\nfork": 2, b"fork 1\n\nfork\nfork 1\n": 3, b"a" * 201: 1}
+        for text, line in cases.items():
+            bad = self.file("bad", text)
+            self.assert_work(1, b"", f"pidtab: {bad}: line {line}: bad line\n".encode(), bad, "/dev/null")
+
     def test_fifo(self):
         """A FIFO is read to its end, as a file is."""
         fifo = f"{self.room.name}/fifo"
@@ -291,9 +298,22 @@ class JobFiles(Devices):
         longer = self.file("longer", b"\n" * (MOST_JOB_BYTES + 1))
         self.assert_work(1, b"", f"pidtab: {longer}: too long\n".encode(), longest, longer)
 
+    def test_last_bytes_of_the_longest_file(self):
+        """A bad line is told where it ends within the bytes that a job may have."""
+        last = f"line {MOST_JOB_BYTES}: bad line"
+        cases = {b"\n" * (MOST_JOB_BYTES - 1) + b"a": last, b"\n" * (MOST_JOB_BYTES - 1) + b"a\n": "too long", b"a" * (MOST_JOB_BYTES + 1): "too long"}
+        for text, said in cases.items():
+            file = self.file("last", text)
+            self.assert_work(1, b"", f"pidtab: {file}: {said}\n".encode(), file, "/dev/null")
+
     def test_interrupted_read_of_the_second_file(self):
         settings = {"READ_BREAKS": 3}
         self.assert_work(1, b"", cannot_read("/dev/null"), self.job, "/dev/null", settings=settings)
+
+    def test_interrupted_read_in_a_line(self):
+        """The front of a line is no line where its read fails."""
+        front = self.file("front", b"fork 1\nfork")
+        self.assert_work(1, b"", cannot_read(front), front, "/dev/null", settings={"READ_BREAKS": 2})
 
 
 @contextlib.contextmanager

@@ -1,7 +1,7 @@
 //! The audit of receipts of which some are of entries that were cut away.
 ghost use Rattle.std.specs.Prelude.{◌≡◌, ℕ};
 
-use crate::records::{counts_of, recorded_of_second};
+use crate::records::{FORK, cut};
 use locked_table::{Record, Seat};
 use pid_types::call::Call;
 use pid_types::config::Config;
@@ -13,11 +13,6 @@ use std::process::Abort;
 use std::sync::ledger::{Blank, Ledger};
 use std::test::Fail;
 
-const FORK: Call = Call::Fork {
-    caller: 1,
-    new_space: false,
-};
-
 /// Makes a call, of which the callers know nothing more.
 fn receipt_for<L: Ledger>(
     rt: &impl Abort,
@@ -26,11 +21,6 @@ fn receipt_for<L: Ledger>(
     call: Call,
 ) -> Receipt {
     record.act(seat, call).expect(rt, "no receipt")
-}
-
-/// Cuts what was recorded away.
-fn cut<L: Ledger>(rt: &impl Abort, record: &mut Record<L, 2>) {
-    record.checkpoint().expect(rt, "no checkpoint");
 }
 
 /// One call of each worker, and a checkpoint between them; their receipts.
@@ -44,18 +34,6 @@ fn call_twice<L: Ledger>(
     cut(rt, record);
     let second = receipt_for(rt, record, &mut seats[1], Call::GetPid { caller: 2 });
     (first, second)
-}
-
-/// Whether the first entry is not kept.
-fn has_no_entry<L: Ledger>(kept: &Record<L, 2>) -> bool {
-    kept.entry(0).is_none()
-}
-
-/// What a record has after them.
-fn expect_cut<L: Ledger>(rt: &impl Abort, kept: &Record<L, 2>) {
-    assert!(rt; counts_of(kept) == [1, 2, 1]);
-    assert!(rt; recorded_of_second(kept) == 1);
-    assert!(rt; has_no_entry(kept));
 }
 
 /// What the audit of the receipts of both workers finds.
@@ -101,7 +79,6 @@ fn audit_after_checkpoint<L: Ledger>(
     let config = Config::default_values();
     let (mut record, mut seats) = Record::<L, 2>::new(alloc, blank, &config)?;
     let receipts = call_twice(rt, &mut record, &mut seats);
-    expect_cut(rt, &record);
     audit_receipts(rt, alloc, &record, receipts);
     Ok(())
 }

@@ -44,11 +44,6 @@ fn expect_beside_root(rt: &(impl AllocGlobal + Abort), line: &[u8], fault: Optio
     expect_fault(rt, joined(rt, &[HEAD, line, TAIL]).as_slice(), fault);
 }
 
-#[test]
-fn loads_the_first_state(rt: HostRuntime) {
-    expect_beside_root(&rt, b"", None);
-}
-
 static BAD_TASKS: [(&[u8], RestoreFault); 10] = [
     (
         b"task 2@0 parent 7@0 group 1@0 session 1@0 control 0 children 0 live\n",
@@ -94,12 +89,13 @@ static BAD_TASKS: [(&[u8], RestoreFault); 10] = [
 
 #[test]
 fn refuses_bad_tasks(rt: HostRuntime) {
+    expect_beside_root(&rt, b"", None);
     for (line, fault) in &BAD_TASKS {
         expect_beside_root(&rt, line, Some(*fault));
     }
 }
 
-static BAD_LISTS: [(&[u8], RestoreFault); 9] = [
+static BAD_LISTS: [(&[u8], RestoreFault); 11] = [
     (
         b"pidtab table 1 pid-max 300 stamp 9
 task 1@0 parent - group 1@0 session 1@0 control 0 children 0 live
@@ -177,19 +173,9 @@ control 0 parent - limit 7
 ",
         RestoreFault::Impossible(4),
     ),
-];
-
-#[test]
-fn refuses_bad_lists(rt: HostRuntime) {
-    for (said, fault) in &BAD_LISTS {
-        expect_fault(&rt, said, Some(*fault));
-    }
-}
-
-/// A number of the second namespace stands twice, below two root numbers.
-#[test]
-fn refuses_one_number_of_two_tasks(rt: HostRuntime) {
-    let said: &[u8] = b"pidtab table 1 pid-max 301 stamp 9
+    // A number of the second namespace stands twice, below two root numbers.
+    (
+        b"pidtab table 1 pid-max 301 stamp 9
 task 1@0 parent - group 1@0 session 1@0 control 0 children 0 live
 task 2,1@1 parent 1@0 group 1@0 session 1@0 control 0 children 1 live
 task 3,2@1 parent 2,1@1 group 1@0 session 1@0 control 0 children 1 live
@@ -197,16 +183,26 @@ task 4,2@1 parent 2,1@1 group 1@0 session 1@0 control 0 children 1 live
 space 0 parent - cursor 5
 space 1 parent 0 cursor 3
 control 0 parent - limit max
-";
-    expect_fault(&rt, said, Some(RestoreFault::TakenNumber(5)));
-    let bare: &[u8] = b"pidtab table 1 pid-max 301 stamp 9
+",
+        RestoreFault::TakenNumber(5),
+    ),
+    (
+        b"pidtab table 1 pid-max 301 stamp 9
 task 1@0 parent - group 1@0 session 1@0 control 0 children 0 live
 task 2,1@1 parent 1@0 group 2@0 session 1@0 control 0 children 1 live
 space 0 parent - cursor 5
 space 1 parent 0 cursor 3
 control 0 parent - limit max
-";
-    expect_fault(&rt, bare, Some(RestoreFault::TakenNumber(3)));
+",
+        RestoreFault::TakenNumber(3),
+    ),
+];
+
+#[test]
+fn refuses_bad_lists(rt: HostRuntime) {
+    for (said, fault) in &BAD_LISTS {
+        expect_fault(&rt, said, Some(*fault));
+    }
 }
 
 /// What a text says of 300 tasks, of which the first one's children go into a namespace that has gone.

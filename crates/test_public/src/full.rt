@@ -16,7 +16,8 @@ fn small(rt: &(impl AllocGlobal + Abort), children: u32) -> Running {
     table
 }
 
-fn fork(rt: &impl Abort, table: &mut Running, caller: Pid, new_space: bool) -> Pid {
+/// Makes a fork, and answers the root number of the child.
+pub(crate) fn fork(rt: &impl Abort, table: &mut Running, caller: Pid, new_space: bool) -> Pid {
     table.make(rt, Call::Fork { caller, new_space })
 }
 

@@ -1,12 +1,9 @@
 //! `CyclicIds`: worked draws.
 
-ghost use Rattle.std.specs.Prelude.{◌<◌, ◌≤◌};
-
 use cyclic_ids::{CyclicIds, GROUP_MARK, SESSION_MARK, TASK_MARK};
 use std::process::Abort;
 
 /// A call on the ids, and what it answers.
-#[derive(Drop)]
 enum Step {
     /// The next number is given to itself.
     Draw(Option<u32>),
@@ -72,10 +69,8 @@ fn is_answered(ids: &mut CyclicIds, step: &Step) -> bool {
 }
 
 /// Draws the numbers from 1 to the one given, makes the calls then, and compares what they answer.
-fn play(rt: &(impl AllocGlobal + Abort), pid_max: u32, drawn: u32, steps: &[Step])
-    requires least { 301 ≤ pid_max }
-    requires most { pid_max ≤ 4194304 }
-{
+fn play(rt: &(impl AllocGlobal + Abort), pid_max: u32, drawn: u32, steps: &[Step]) {
+    assert!(rt; pid_max >= 301 && pid_max <= 4_194_304);
     let mut ids = CyclicIds::new(rt.alloc(), pid_max);
     for n in 0..drawn {
         assert!(rt; draw(&mut ids) == n.checked_add(1));
@@ -85,101 +80,100 @@ fn play(rt: &(impl AllocGlobal + Abort), pid_max: u32, drawn: u32, steps: &[Step
     }
 }
 
-static EMPTY: [Step; 5] = [
-    Step::IsEmpty(true),
-    Step::Draw(Some(1)),
-    Step::IsEmpty(false),
-    Step::Release(1),
-    Step::IsEmpty(true),
+/// The bound of numbers, how many are drawn first, and the calls then.
+static CASES: [(u32, u32, &[Step]); 6] = [
+    // No number is in use, then one, then none again.
+    (
+        301,
+        0,
+        &[
+            Step::IsEmpty(true),
+            Step::Draw(Some(1)),
+            Step::IsEmpty(false),
+            Step::Release(1),
+            Step::IsEmpty(true),
+        ],
+    ),
+    // 1 to 300, and then only what is freed from 300 on.
+    (
+        301,
+        300,
+        &[
+            Step::Cursor(301),
+            Step::Draw(None),
+            Step::Release(7),
+            Step::Draw(None),
+            Step::Release(300),
+            Step::Cursor(301),
+            Step::Draw(Some(300)),
+            Step::Entry(300, 300),
+        ],
+    ),
+    // Past the bound a draw starts again at 300: 5, which is free, is not drawn.
+    (
+        303,
+        302,
+        &[
+            Step::Release(5),
+            Step::Release(301),
+            Step::Release(302),
+            Step::Draw(Some(301)),
+            Step::Release(300),
+            Step::Draw(Some(302)),
+            Step::Draw(Some(300)),
+            Step::Draw(None),
+        ],
+    ),
+    // A number that is given with marks has those, and no other.
+    (
+        301,
+        0,
+        &[
+            Step::Give(9, [true, false, true]),
+            Step::Entry(1, 9),
+            Step::Marked(TASK_MARK, Some(1)),
+            Step::HasMark(1, GROUP_MARK, false),
+            Step::HasMark(1, SESSION_MARK, true),
+            Step::Cursor(2),
+        ],
+    ),
+    // A mark is on a number that is in use, and on no other.
+    (
+        301,
+        2,
+        &[
+            Step::Marked(TASK_MARK, None),
+            Step::Set(2, GROUP_MARK, true),
+            Step::Set(3, GROUP_MARK, false),
+            Step::Marked(GROUP_MARK, Some(2)),
+            Step::HasMark(2, SESSION_MARK, false),
+            Step::Clear(2, GROUP_MARK),
+            Step::Marked(GROUP_MARK, None),
+        ],
+    ),
+    // 130 numbers are in three blocks of 64, of which one at a time stands beside the tree.
+    (
+        301,
+        130,
+        &[
+            Step::Set(70, TASK_MARK, true),
+            Step::Set(129, TASK_MARK, true),
+            Step::Marked(TASK_MARK, Some(70)),
+            Step::Release(70),
+            Step::Marked(TASK_MARK, Some(129)),
+            Step::Entry(5, 5),
+            Step::Entry(130, 130),
+            Step::Next(70, Some(71)),
+            Step::Next(131, None),
+            Step::Release(129),
+            Step::Next(129, Some(130)),
+        ],
+    ),
 ];
 
-/// No number is in use, then one, then none again.
 #[test]
-fn tells_whether_a_number_is_in_use(rt: HostRuntime) {
-    play(&rt, 301, 0, &EMPTY);
-}
-
-static TURNS: [Step; 8] = [
-    Step::Cursor(301),
-    Step::Draw(None),
-    Step::Release(7),
-    Step::Draw(None),
-    Step::Release(300),
-    Step::Cursor(301),
-    Step::Draw(Some(300)),
-    Step::Entry(300, 300),
-];
-
-/// 1 to 300, and then only what is freed from 300 on.
-#[test]
-fn draws_in_turn(rt: HostRuntime) {
-    play(&rt, 301, 300, &TURNS);
-}
-
-static RESTARTS: [Step; 8] = [
-    Step::Release(5),
-    Step::Release(301),
-    Step::Release(302),
-    Step::Draw(Some(301)),
-    Step::Release(300),
-    Step::Draw(Some(302)),
-    Step::Draw(Some(300)),
-    Step::Draw(None),
-];
-
-/// Past the bound a draw starts again at 300: 5, which is free, is not drawn.
-#[test]
-fn restarts_at_300(rt: HostRuntime) {
-    play(&rt, 303, 302, &RESTARTS);
-}
-
-static GIVEN: [Step; 6] = [
-    Step::Give(9, [true, false, true]),
-    Step::Entry(1, 9),
-    Step::Marked(TASK_MARK, Some(1)),
-    Step::HasMark(1, GROUP_MARK, false),
-    Step::HasMark(1, SESSION_MARK, true),
-    Step::Cursor(2),
-];
-
-/// A number that is given with marks has those, and no other.
-#[test]
-fn gives_with_marks(rt: HostRuntime) {
-    play(&rt, 301, 0, &GIVEN);
-}
-
-static MARKS: [Step; 7] = [
-    Step::Marked(TASK_MARK, None),
-    Step::Set(2, GROUP_MARK, true),
-    Step::Set(3, GROUP_MARK, false),
-    Step::Marked(GROUP_MARK, Some(2)),
-    Step::HasMark(2, SESSION_MARK, false),
-    Step::Clear(2, GROUP_MARK),
-    Step::Marked(GROUP_MARK, None),
-];
-
-/// A mark is on a number that is in use, and on no other.
-#[test]
-fn marks_numbers(rt: HostRuntime) {
-    play(&rt, 301, 2, &MARKS);
-}
-
-static BLOCKS: [Step; 11] = [
-    Step::Set(70, TASK_MARK, true),
-    Step::Set(129, TASK_MARK, true),
-    Step::Marked(TASK_MARK, Some(70)),
-    Step::Release(70),
-    Step::Marked(TASK_MARK, Some(129)),
-    Step::Entry(5, 5),
-    Step::Entry(130, 130),
-    Step::Next(70, Some(71)),
-    Step::Next(131, None),
-    Step::Release(129),
-    Step::Next(129, Some(130)),
-];
-
-/// 130 numbers are in three blocks of 64, of which one at a time stands beside the tree.
-#[test]
-fn draws_across_blocks(rt: HostRuntime) {
-    play(&rt, 301, 130, &BLOCKS);
+fn draws_numbers(rt: HostRuntime) {
+    for (pid_max, drawn, steps) in &CASES {
+        play(&rt, *pid_max, *drawn, steps);
+    }
 }

@@ -15,8 +15,6 @@ mod audits;
 #[cfg(test)]
 mod commands;
 #[cfg(test)]
-mod dialogues;
-#[cfg(test)]
 mod ends;
 #[cfg(test)]
 mod faults;
@@ -26,8 +24,6 @@ mod first;
 mod full;
 #[cfg(test)]
 mod ids;
-#[cfg(test)]
-mod jobs;
 #[cfg(test)]
 mod lines;
 #[cfg(test)]

@@ -90,12 +90,6 @@ static OF_PROCESSES: [(&[u8], Call); 12] = [
     ),
 ];
 
-#[test]
-fn reads_calls_of_processes(rt: HostRuntime) {
-    expect_calls(&rt, &OF_PROCESSES);
-    assert!(rt; parse_line(b"") == Line::Empty);
-}
-
 static OF_CONTROL: [(&[u8], Call); 15] = [
     (b"getpid 1", Call::GetPid { caller: 1 }),
     (b"getppid 1", Call::GetPpid { caller: 1 }),
@@ -158,11 +152,6 @@ static OF_CONTROL: [(&[u8], Call); 15] = [
     (b"count 1", Call::Count { id: 1 }),
 ];
 
-#[test]
-fn reads_queries_and_control_calls(rt: HostRuntime) {
-    expect_calls(&rt, &OF_CONTROL);
-}
-
 const LONGEST: &[u8] = b"setpgid 4294967295 -2147483648 -2147483648";
 
 static LONG: [(&[u8], Call); 1] = [(
@@ -175,7 +164,10 @@ static LONG: [(&[u8], Call); 1] = [(
 )];
 
 #[test]
-fn writes_the_longest_line(rt: HostRuntime) {
+fn reads_and_writes_lines(rt: HostRuntime) {
+    assert!(rt; parse_line(b"") == Line::Empty);
+    expect_calls(&rt, &OF_PROCESSES);
+    expect_calls(&rt, &OF_CONTROL);
     assert!(rt; LONGEST.len() == LONGEST_CALL);
     expect_calls(&rt, &LONG);
 }

@@ -1,9 +1,9 @@
 //! A table of many tasks, in many namespaces, sessions and groups.
 
+use crate::full::fork;
 use crate::running::Running;
 use pid_types::call::Call;
 use pid_types::config::Config;
-use pid_types::keys::Pid;
 use std::process::Abort;
 
 /// How many tasks there are.
@@ -33,10 +33,6 @@ fn make_space(rt: &impl Abort, table: &mut Running) {
             );
         }
     }
-}
-
-fn fork(rt: &impl Abort, table: &mut Running, caller: Pid, new_space: bool) -> Pid {
-    table.make(rt, Call::Fork { caller, new_space })
 }
 
 /// Such a table is saved and loaded.

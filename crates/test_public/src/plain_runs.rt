@@ -1,7 +1,7 @@
 //! Generated calls on two tables, the fast one and the plain one: each reply, the snapshots now and then, and the
 //! tables that are left are compared.
 //!
-//! The calls, 50,000 in five tests, are always the same. A difference is told with the run's seed, the call's place in
+//! The calls, 50,000 in ten runs, are always the same. A difference is told with the run's seed, the call's place in
 //! it and both replies. It is a fault too if a refusal that the runs are about was never met, or hardly anything
 //! changed. Together they meet each refusal.
 
@@ -65,66 +65,47 @@ fn expect_same(rt: &(impl AllocGlobal + Abort), settings: &[Setting; 2], wanted:
     tally.check(rt, wanted);
 }
 
-#[test]
-fn tables_agree_on_all_calls(rt: HostRuntime) {
-    let settings = [
-        from_root(1, Theme::Mixed, 32_768, 120),
-        from_root(2, Theme::Falls, 32_768, 150),
-    ];
-    let wanted = [
-        Refusal::NoCaller,
-        Refusal::NoTask,
-        Refusal::NoChild,
-        Refusal::SpaceFallen,
-        Refusal::Elsewhere,
-        Refusal::RootInit,
-    ];
-    expect_same(&rt, &settings, &wanted);
-}
+static OF_ALL_CALLS: [Refusal; 6] = [
+    Refusal::NoCaller,
+    Refusal::NoTask,
+    Refusal::NoChild,
+    Refusal::SpaceFallen,
+    Refusal::Elsewhere,
+    Refusal::RootInit,
+];
+
+static OF_GROUPS: [Refusal; 5] = [
+    Refusal::BadGroup,
+    Refusal::OtherSession,
+    Refusal::IsLeader,
+    Refusal::NoGroup,
+    Refusal::Executed,
+];
+
+static OF_CONTROLS: [Refusal; 6] = [
+    Refusal::PidsLimit(0),
+    Refusal::NoControl,
+    Refusal::ControlBusy,
+    Refusal::RootControl,
+    Refusal::BadLimit,
+    Refusal::ControlDepth,
+];
 
 #[test]
-fn tables_agree_on_numbers(rt: HostRuntime) {
-    let settings = [
-        from_root(4, Theme::Numbers, 301, 100),
-        from_root(5, Theme::Numbers, 310, 60),
-    ];
-    expect_same(&rt, &settings, &[Refusal::NoNumber(0)]);
-}
-
-#[test]
-fn tables_agree_on_groups(rt: HostRuntime) {
-    let settings = [
-        from_root(7, Theme::Groups, 330, 60),
-        from_root(8, Theme::Groups, 32_768, 120),
-    ];
-    let wanted = [
-        Refusal::BadGroup,
-        Refusal::OtherSession,
-        Refusal::IsLeader,
-        Refusal::NoGroup,
-        Refusal::Executed,
-    ];
-    expect_same(&rt, &settings, &wanted);
-}
-
-#[test]
-fn tables_agree_on_controls(rt: HostRuntime) {
-    let settings = [from_root(6, Theme::Controls, 32_768, 100), deep_controls()];
-    let wanted = [
-        Refusal::PidsLimit(0),
-        Refusal::NoControl,
-        Refusal::ControlBusy,
-        Refusal::RootControl,
-        Refusal::BadLimit,
-        Refusal::ControlDepth,
-    ];
-    expect_same(&rt, &settings, &wanted);
-}
-
-#[test]
-fn tables_agree_on_levels(rt: HostRuntime) {
-    let settings = [from_root(3, Theme::Falls, 4_194_304, 300), deep_spaces()];
-    expect_same(&rt, &settings, &[Refusal::TooDeep]);
+fn tables_agree(rt: HostRuntime) {
+    let mixed = from_root(1, Theme::Mixed, 32_768, 120);
+    let falls = from_root(2, Theme::Falls, 32_768, 150);
+    expect_same(&rt, &[mixed, falls], &OF_ALL_CALLS);
+    let narrow = from_root(4, Theme::Numbers, 301, 100);
+    let few = from_root(5, Theme::Numbers, 310, 60);
+    expect_same(&rt, &[narrow, few], &[Refusal::NoNumber(0)]);
+    let narrow = from_root(7, Theme::Groups, 330, 60);
+    let wide = from_root(8, Theme::Groups, 32_768, 120);
+    expect_same(&rt, &[narrow, wide], &OF_GROUPS);
+    let controls = from_root(6, Theme::Controls, 32_768, 100);
+    expect_same(&rt, &[controls, deep_controls()], &OF_CONTROLS);
+    let many = from_root(3, Theme::Falls, 4_194_304, 300);
+    expect_same(&rt, &[many, deep_spaces()], &[Refusal::TooDeep]);
 }
 
 /// Namespaces at the deepest level, of which the last ones fall and are made again.

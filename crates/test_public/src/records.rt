@@ -36,7 +36,7 @@ fn want_child(ordinal: u64, worker: usize, child: u32) -> Receipt {
     want(ordinal, worker, FORK, Reply::Forked { child, root: child })
 }
 
-/// Makes a call, and compares the receipt.
+/// Makes a call, and compares the receipt, and the reply that is lent.
 fn act<L: Ledger, const N: usize>(
     rt: &impl Abort,
     record: &mut Record<L, N>,
@@ -45,6 +45,12 @@ fn act<L: Ledger, const N: usize>(
 ) {
     let receipt = record.act(seat, want.call).expect(rt, "no receipt");
     assert!(rt; receipt == *want);
+    assert!(rt; lends(record, &want.reply));
+}
+
+/// Whether the record lends the reply.
+fn lends<L: Ledger, const N: usize>(record: &Record<L, N>, reply: &Reply) -> bool {
+    record.last_reply() == Some(reply)
 }
 
 /// Makes each call by its worker's seat, and compares the receipts.
@@ -149,7 +155,7 @@ fn assert_cut<L: Ledger>(rt: &impl Abort, record: &Record<L, 1>, total: u64) {
 }
 
 /// Cuts what was recorded away.
-fn cut<L: Ledger, const N: usize>(rt: &impl Abort, record: &mut Record<L, N>) {
+pub(crate) fn cut<L: Ledger, const N: usize>(rt: &impl Abort, record: &mut Record<L, N>) {
     record.checkpoint().expect(rt, "no memory");
 }
 
@@ -167,35 +173,27 @@ fn assert_state(rt: &impl Abort, state: &Plain, tasks: usize, counts: &[u64]) {
     }
 }
 
+/// Whether the record has no reply to lend, which is so where its history is empty.
+fn lends_none<L: Ledger>(record: &Record<L, 1>) -> bool {
+    record.last_reply().is_none()
+}
+
 /// Makes the calls before a checkpoint, the checkpoint, and the calls after it.
 fn act_around_checkpoint<L: Ledger>(
     rt: &impl Abort,
     record: &mut Record<L, 1>,
     seats: &mut [Seat<L, 1>],
 ) {
+    assert!(rt; lends_none(record));
     act_all(rt, record, seats, &before_checkpoint());
     assert_opening(rt, record, 1, &[1]);
     cut(rt, record);
+    assert!(rt; lends_none(record));
     assert_cut(rt, record, 3);
     assert_opening(rt, record, 2, &[2, 0]);
     act_all(rt, record, seats, &after_checkpoint());
     assert_cut(rt, record, 5);
     assert_opening(rt, record, 2, &[2, 0]);
-}
-
-fn checkpoint_of_record<L: Ledger>(rt: &impl Abort, alloc: Global, blank: Blank) -> Result<(), Fail>
-    requires name { blank.name ≡ L.name }
-    requires parts { (blank.parts ≡ L.parts) × (L.parts ≡ 1) }
-{
-    let config = Config::default_values();
-    let (mut record, mut seats) = Record::<L, 1>::new(alloc, blank, &config)?;
-    act_around_checkpoint(rt, &mut record, &mut seats);
-    Ok(())
-}
-
-#[test]
-fn checkpoints_a_record(rt: HostRuntime) -> Result<(), Fail> {
-    checkpoint_of_record::<Brand>(&rt, rt.alloc(), Blank::new(1))
 }
 
 /// Cuts what was recorded away, under the lock.
@@ -281,60 +279,6 @@ fn two_share_a_table(rt: HostRuntime) -> Result<(), Fail> {
     two_seats::<Brand, HostRuntime>(&rt, rt.alloc(), Blank::new(2))
 }
 
-/// Makes a call, and compares the reply that is lent.
-fn make<L: Ledger, const N: usize>(
-    rt: &impl Abort,
-    record: &mut Record<L, N>,
-    seat: &mut Seat<L, N>,
-    want: &Receipt,
-) {
-    record.make_call(seat, want.call).expect(rt, "no call");
-    let reply = record.last_reply().expect(rt, "no reply");
-    assert!(rt; *reply == want.reply);
-}
-
-/// Makes each call by its worker's seat, and compares the replies that are lent.
-fn make_all<L: Ledger, const N: usize>(
-    rt: &impl Abort,
-    record: &mut Record<L, N>,
-    seats: &mut [Seat<L, N>],
-    wanted: &[Receipt],
-) {
-    for want in wanted {
-        let seat = seats.get_mut(want.worker).expect(rt, "a seat");
-        make(rt, record, seat, want);
-    }
-}
-
-/// No reply is lent by an empty history, and else the last call's.
-fn lend_around_checkpoint<L: Ledger>(
-    rt: &impl Abort,
-    record: &mut Record<L, 1>,
-    seats: &mut [Seat<L, 1>],
-) {
-    assert!(rt; record.last_reply().is_none());
-    make_all(rt, record, seats, &before_checkpoint());
-    cut(rt, record);
-    assert!(rt; record.last_reply().is_none());
-    make_all(rt, record, seats, &after_checkpoint());
-    assert_cut(rt, record, 5);
-}
-
-fn lending_record<L: Ledger>(rt: &impl Abort, alloc: Global, blank: Blank) -> Result<(), Fail>
-    requires name { blank.name ≡ L.name }
-    requires parts { (blank.parts ≡ L.parts) × (L.parts ≡ 1) }
-{
-    let config = Config::default_values();
-    let (mut record, mut seats) = Record::<L, 1>::new(alloc, blank, &config)?;
-    lend_around_checkpoint(rt, &mut record, &mut seats);
-    Ok(())
-}
-
-#[test]
-fn lends_the_last_reply(rt: HostRuntime) -> Result<(), Fail> {
-    lending_record::<Brand>(&rt, rt.alloc(), Blank::new(1))
-}
-
 /// Makes room for two calls.
 fn reserve<L: Ledger>(rt: &impl Abort, record: &mut Record<L, 1>) {
     record.reserve_calls(2).expect(rt, "no memory");
@@ -353,42 +297,24 @@ fn act_in_room<L: Ledger>(
     assert!(rt; counts_of(record) == [0, 3, 3]);
 }
 
-/// Makes the calls at a new record.
-fn reserve_two<L: Ledger>(
-    rt: &impl Abort,
-    alloc: Global,
-    blank: Blank,
-    others: &[Receipt; 2],
-) -> Result<(), Fail>
-    requires name { blank.name ≡ L.name }
-    requires parts { (blank.parts ≡ L.parts) × (L.parts ≡ 1) }
-{
-    let config = Config::default_values();
-    let (mut record, mut seats) = Record::<L, 1>::new(alloc, blank, &config)?;
-    act_in_room(rt, &mut record, &mut seats, others);
-    Ok(())
-}
-
-#[test]
-fn ends_a_task_in_reserved_room(rt: HostRuntime) -> Result<(), Fail> {
+/// A task that leads a session ends.
+fn an_end() -> [Receipt; 2] {
     let exit = Call::Exit {
         caller: 2,
         status: 0,
     };
-    let others = [
+    [
         want(1, 0, Call::SetSid { caller: 2 }, Reply::Number(2)),
         want(2, 0, exit, Reply::Done),
-    ];
-    reserve_two::<Brand>(&rt, rt.alloc(), Blank::new(1), &others)
+    ]
 }
 
-#[test]
-fn forks_in_reserved_room(rt: HostRuntime) -> Result<(), Fail> {
-    let others = [
+/// A fork, and a call of the child.
+fn a_fork() -> [Receipt; 2] {
+    [
         want_child(1, 0, 3),
         want(2, 0, Call::GetPid { caller: 3 }, Reply::Number(3)),
-    ];
-    reserve_two::<Brand>(&rt, rt.alloc(), Blank::new(1), &others)
+    ]
 }
 
 /// The last stamp that there is.
@@ -419,31 +345,78 @@ fn spend<L: Ledger>(rt: &impl Abort, record: &mut Record<L, 1>, seats: &mut [Sea
     assert!(rt; counts_of(record) == [0, 1, 1]);
 }
 
-fn spent_record<L: Ledger>(rt: &impl Abort, alloc: Global, blank: Blank) -> Result<(), Fail>
+/// What is played on a record of one worker.
+#[derive(Clone, Copy)]
+enum Play {
+    /// Calls around a checkpoint.
+    Cut,
+    /// Calls in reserved room, of which one ends a task.
+    EndInRoom,
+    /// Calls in reserved room, of which one forks.
+    ForkInRoom,
+    /// A call at the last stamp, and one more.
+    Spend,
+}
+
+/// Plays on the record.
+fn play_on<L: Ledger>(
+    rt: &impl Abort,
+    record: &mut Record<L, 1>,
+    seats: &mut [Seat<L, 1>],
+    what: Play,
+) {
+    match what {
+        Play::Cut => act_around_checkpoint(rt, record, seats),
+        Play::EndInRoom => act_in_room(rt, record, seats, &an_end()),
+        Play::ForkInRoom => act_in_room(rt, record, seats, &a_fork()),
+        Play::Spend => spend(rt, record, seats),
+    }
+}
+
+/// Plays on a new record.
+fn play_on_new<L: Ledger>(
+    rt: &impl Abort,
+    alloc: Global,
+    blank: Blank,
+    first_stamp: u64,
+    what: Play,
+) -> Result<(), Fail>
     requires name { blank.name ≡ L.name }
     requires parts { (blank.parts ≡ L.parts) × (L.parts ≡ 1) }
 {
-    let config = Config::new(32768, LAST_STAMP)?;
+    let config = Config::new(32768, first_stamp)?;
     let (mut record, mut seats) = Record::<L, 1>::new(alloc, blank, &config)?;
-    spend(rt, &mut record, &mut seats);
+    play_on(rt, &mut record, &mut seats, what);
     Ok(())
 }
 
+/// With which stamp each record begins.
+static PLAYS: [(u64, Play); 4] = [
+    (1, Play::Cut),
+    (1, Play::EndInRoom),
+    (1, Play::ForkInRoom),
+    (LAST_STAMP, Play::Spend),
+];
+
 #[test]
-fn spends_its_last_stamp(rt: HostRuntime) -> Result<(), Fail> {
-    spent_record::<Brand>(&rt, rt.alloc(), Blank::new(1))
+fn keeps_a_history(rt: HostRuntime) -> Result<(), Fail> {
+    for (first_stamp, what) in &PLAYS {
+        play_on_new::<Brand>(&rt, rt.alloc(), Blank::new(1), *first_stamp, *what)?;
+    }
+    Ok(())
 }
+
+static SETTINGS: [(u32, u64, Option<ConfigFault>); 5] = [
+    (300, 0, Some(ConfigFault::BadPidMax)),
+    (301, 0, Some(ConfigFault::BadFirst)),
+    (301, 1, None),
+    (4_194_304, 1, None),
+    (4_194_305, 1, Some(ConfigFault::BadPidMax)),
+];
 
 #[test]
 fn refuses_bad_settings(rt: HostRuntime) {
-    let settings = [
-        (300, 0, Some(ConfigFault::BadPidMax)),
-        (301, 0, Some(ConfigFault::BadFirst)),
-        (301, 1, None),
-        (4_194_304, 1, None),
-        (4_194_305, 1, Some(ConfigFault::BadPidMax)),
-    ];
-    for (pid_max, first_stamp, fault) in settings {
-        assert!(rt; Config::new(pid_max, first_stamp).err() == fault);
+    for (pid_max, first_stamp, fault) in &SETTINGS {
+        assert!(rt; Config::new(*pid_max, *first_stamp).err() == *fault);
     }
 }

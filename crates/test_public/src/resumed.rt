@@ -84,14 +84,15 @@ fn go_on<L: Ledger>(
     Ok(())
 }
 
-#[test]
-fn goes_on_with_ordinals(rt: HostRuntime) -> Result<(), Fail> {
-    go_on::<Brand>(&rt, rt.alloc(), Blank::new(2), &[4, 2], 6)
-}
+/// How many calls of each worker were recorded before, and the ordinal of the next one.
+static BEFORE: [([u64; 2], u64); 2] = [([4, 2], 6), ([0, 0], 0)];
 
 #[test]
-fn begins_to_count(rt: HostRuntime) -> Result<(), Fail> {
-    go_on::<Brand>(&rt, rt.alloc(), Blank::new(2), &[0, 0], 0)
+fn goes_on_with_ordinals(rt: HostRuntime) -> Result<(), Fail> {
+    for (counts, first) in &BEFORE {
+        go_on::<Brand>(&rt, rt.alloc(), Blank::new(2), counts, *first)?;
+    }
+    Ok(())
 }
 
 /// The table goes on under the lock, and is closed.
@@ -123,17 +124,18 @@ fn goes_on_under_the_lock(rt: HostRuntime) -> Result<(), Fail> {
     go_on_under_lock::<Brand, HostRuntime>(&rt, rt.alloc(), Blank::new(2))
 }
 
+static COUNTS: [([u64; 2], bool); 5] = [
+    ([6, 0], true),
+    ([0, 6], true),
+    ([6, 1], false),
+    ([7, 0], false),
+    ([u64::MAX, u64::MAX], false),
+];
+
 #[test]
 fn refuses_counts_without_a_stamp(rt: HostRuntime) {
-    let counts = [
-        ([6, 0], true),
-        ([0, 6], true),
-        ([6, 1], false),
-        ([7, 0], false),
-        ([u64::MAX, u64::MAX], false),
-    ];
-    for (count, can) in counts {
-        assert!(rt; Kept::can_resume(7, &count) == can);
+    for (counts, can) in &COUNTS {
+        assert!(rt; Kept::can_resume(7, counts) == *can);
     }
     assert!(rt; !Kept::can_resume(0, &[]));
     assert!(rt; Kept::can_resume(1, &[]));

@@ -27,6 +27,7 @@ fn keeps(rt: &(impl AllocGlobal + Abort), script: &str) {
     let _loaded = left_by(rt, &Config::default_values(), script).reloaded(rt);
 }
 
+/// Children that go into namespaces which have gone, one inside the other.
 const ONE_INSIDE_THE_OTHER: &str = "fork 1 new
 fork 1
 join 1 2
@@ -46,13 +47,7 @@ wait 1 any
 fork 1
 ";
 
-/// Children that go into namespaces which have gone, one inside the other.
-#[test]
-fn loads_lost_namespaces(rt: HostRuntime) {
-    keeps(&rt, ONE_INSIDE_THE_OTHER);
-    keeps(&rt, ONE_DEEPER);
-}
-
+/// A group in a fallen namespace that no task bears the name of, not even its init.
 const A_BARE_GROUP: &str = "fork 1
 fork 2 new
 setpgid 3 0 0
@@ -71,13 +66,7 @@ wait 2 any
 exit 2 0
 ";
 
-/// A group in a fallen namespace that no task bears the name of, not even its init.
-#[test]
-fn loads_bare_groups_and_sessions(rt: HostRuntime) {
-    keeps(&rt, A_BARE_GROUP);
-    keeps(&rt, A_BARE_SESSION);
-}
-
+/// Tasks of a fallen namespace whose parent is outside: one that exited before, and two that were killed.
 const A_FALLEN_NAMESPACE: &str = "fork 1
 fork 2 new
 join 2 3
@@ -90,8 +79,17 @@ exit 3 9
 fork 1
 ";
 
-/// Tasks of a fallen namespace whose parent is outside: one that exited before, and two that were killed.
+static RARE: [&str; 5] = [
+    ONE_INSIDE_THE_OTHER,
+    ONE_DEEPER,
+    A_BARE_GROUP,
+    A_BARE_SESSION,
+    A_FALLEN_NAMESPACE,
+];
+
 #[test]
-fn loads_fallen_namespaces(rt: HostRuntime) {
-    keeps(&rt, A_FALLEN_NAMESPACE);
+fn loads_rare_tables(rt: HostRuntime) {
+    for script in &RARE {
+        keeps(&rt, script);
+    }
 }

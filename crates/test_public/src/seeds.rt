@@ -65,27 +65,18 @@ fn run_all(rt: &(impl AllocGlobal + Abort), theme: Theme, pid_max: u32, most_tas
     }
 }
 
-#[test]
-fn loads_tables_of_mixed_calls(rt: HostRuntime) {
-    run_all(&rt, Theme::Mixed, 32_768, 60);
-}
+/// What the calls are about, the bound of numbers, and how many tasks there are at most.
+static KINDS: [(Theme, u32, usize); 5] = [
+    (Theme::Mixed, 32_768, 60),
+    (Theme::Falls, 4_194_304, 100),
+    (Theme::Numbers, 301, 60),
+    (Theme::Controls, 32_768, 60),
+    (Theme::Groups, 330, 60),
+];
 
 #[test]
-fn loads_tables_with_falls(rt: HostRuntime) {
-    run_all(&rt, Theme::Falls, 4_194_304, 100);
-}
-
-#[test]
-fn loads_tables_with_worn_numbers(rt: HostRuntime) {
-    run_all(&rt, Theme::Numbers, 301, 60);
-}
-
-#[test]
-fn loads_tables_with_control_groups(rt: HostRuntime) {
-    run_all(&rt, Theme::Controls, 32_768, 60);
-}
-
-#[test]
-fn loads_tables_with_groups_and_sessions(rt: HostRuntime) {
-    run_all(&rt, Theme::Groups, 330, 60);
+fn loads_tables_of_seeded_calls(rt: HostRuntime) {
+    for (theme, pid_max, most_tasks) in &KINDS {
+        run_all(&rt, *theme, *pid_max, *most_tasks);
+    }
 }

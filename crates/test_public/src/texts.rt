@@ -166,17 +166,18 @@ end sha256 9e62c9511c0c5f1b1e5724af846eb4e017bfc6d02d8017ea73f0cf3254f76374
 ",
 );
 
+static CASES: [(&str, &str); 6] = [
+    THE_FIRST_STATE,
+    NESTED_NAMESPACES,
+    A_GROUP_THAT_NO_TASK_BEARS,
+    HOW_TASKS_ENDED,
+    TASK_MARKS,
+    LIMITS,
+];
+
 #[test]
 fn writes_each_part(rt: HostRuntime) {
-    let cases = [
-        THE_FIRST_STATE,
-        NESTED_NAMESPACES,
-        A_GROUP_THAT_NO_TASK_BEARS,
-        HOW_TASKS_ENDED,
-        TASK_MARKS,
-        LIMITS,
-    ];
-    for (script, text) in cases {
+    for (script, text) in &CASES {
         expect_text(&rt, script, text);
     }
 }

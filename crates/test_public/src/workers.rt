@@ -296,18 +296,13 @@ fn count_here(receipts: &[Receipt], reply: &Reply) -> usize {
     count
 }
 
-/// How many receipts have the reply.
-fn count_replies(works: &[Work], reply: &Reply) -> usize {
-    let mut count = 0usize;
-    for work in works {
-        count = count.saturating_add(count_here(work.receipts.as_slice(), reply));
-    }
-    count
-}
-
 /// Asserts that so many receipts have the reply.
 fn assert_replies(rt: &impl Abort, works: &[Work], reply: &Reply, count: usize) {
-    assert!(rt; count_replies(works, reply) == count);
+    let mut found = 0usize;
+    for work in works {
+        found = found.saturating_add(count_here(work.receipts.as_slice(), reply));
+    }
+    assert!(rt; found == count);
 }
 
 /// Adds a job of so many forks.
