@@ -1,5 +1,5 @@
 -- What is read of a text.
-use Rattle.std.specs.Prelude.{◌≡◌, ◌⊎◌, ℕ, ◌<◌, ◌≤◌, ◌^◌, List, [], ◌∷◌, ◌++◌, take, drop, length, IfSome}
+use Rattle.std.specs.Prelude.{◌≡◌, ◌⊎◌, ℕ, ◌<◌, ◌≤◌, ◌^◌, List, [], ◌∷◌, ◌++◌, take, drop, length, Option, IfSome, OnSome}
 use Rattle.std.specs.List.{flat_map}
 use Rattle.pid_types.specs.declared.plain.Name.{Name}
 use Rattle.pid_types.specs.declared.plain.Row.{Row}
@@ -27,6 +27,20 @@ IsOther b = (b < 48) ⊎ (57 < b)
 abbrev pub Stops : List ℕ → Type 0
 Stops [] = Unit {0}
 Stops (b ∷ bs) = IsOther b
+
+-- what is answered stands between the two places, and is of a kind. The place is within the text, whatever is answered
+pub record Reads {A : Type 0} (text : List ℕ) (from to : ℕ) (result : Option A) (part : A → List ℕ) (IsGood : A → Type 0) : Type 0 where
+  pub within : to ≤ length text
+  pub read : IfSome result (λ a. IsRead text from to (part a))
+  pub words : IfSome result IsGood
+
+-- the same, and the text stops behind it
+pub record ReadsToStop {A : Type 0} (text : List ℕ) (from to : ℕ) (result : Option A) (part : A → List ℕ)
+    (IsGood : A → Type 0) : Type 0 where
+  pub within : to ≤ length text
+  pub read : IfSome result (λ a. IsRead text from to (part a))
+  pub words : IfSome result IsGood
+  pub stops : OnSome result (Stops (drop to text))
 
 -- no number below the bound stands behind this label at the place, with what stops behind it
 abbrev pub LacksField : ℕ → List ℕ → List ℕ → ℕ → Type 0

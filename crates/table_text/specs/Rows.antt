@@ -1,5 +1,5 @@
 -- Rows in little room: the numbers of all names stand in one list.
-use Rattle.std.specs.Prelude.{◌≡◌, ℕ, ◌+◌, ◌≤◌, ◌++◌, List, take, drop, map, option_map, IfSome}
+use Rattle.std.specs.Prelude.{◌≡◌, ℕ, ◌+◌, ◌≤◌, ◌++◌, List, take, drop, length, map, option_map, IfSome, IfOk, Result}
 use Rattle.pid_types.specs.declared.plain.Name.{Name}
 use Rattle.pid_types.specs.declared.plain.Row.{Row}
 use Rattle.table_text.specs.Ranges.{Each}
@@ -46,3 +46,9 @@ AreWithin all lines = Each (IsLineWithin all) lines
 -- there are more numbers, behind those that were there
 abbrev pub IsGrown : List ℕ → List ℕ → Type 0
 IsGrown old new = (more : List ℕ) × (new ≡ old ++ more)
+
+-- the numbers that were there stay, and the place that is answered is the name's
+pub record PlacesName {E : Type 0} (old new : List ℕ) (result : Result Place E) (name : Name) : Type 0 where
+  pub grown : IsGrown old new
+  pub within : IfOk result (IsWithin (length new))
+  pub named : IfOk result (λ place. name_in new place ≡ name)

@@ -2,6 +2,7 @@
 //! one.
 ghost use Rattle.std.specs.Prelude.{◌≡◌, ◌++◌, ◌<◌, ◌≤◌, length, take, codes, IfSome, IfOk, OnOk, map};
 ghost use Rattle.std.specs.List.{flat_map};
+ghost use Rattle.std.specs.Result.{result_ok};
 ghost use Rattle.pid_script.specs.Answers.{joined};
 ghost use Rattle.pid_script.specs.Lists.{space_line};
 ghost use Rattle.table_text.specs.Texts.{name_word, parent_word, rest_line, task_line, control_line};
@@ -9,7 +10,8 @@ ghost use Rattle.table_text.specs.Texts.{settings_text, head_line, end_line, tex
 ghost use Rattle.table_text.specs.Ranges.{IsWord, Each, IsNameOfWords, IsRowOfWords, IsSpaceOfWords, IsControlOfWords};
 ghost use Rattle.table_text.specs.Ranges.{IsStateOfWords};
 ghost use Rattle.std.specs.Prelude.{IfNone, OnSome, IfErr, drop, true, false, ◌≢◌, [], ◌∷◌, ◌+◌, ◌-◌, ℕ, List};
-ghost use Rattle.table_text.specs.Reading.{IsRead, saved_state, Stops, LacksLine, LacksSettings, LacksHead};
+ghost use Rattle.table_text.specs.Reading.{IsRead, Reads, ReadsToStop, Stops, saved_state};
+ghost use Rattle.table_text.specs.Reading.{LacksLine, LacksSettings, LacksHead};
 ghost use Rattle.table_text.specs.Reading.{Lacks, LacksNumbers, LacksAny, LacksLines, IsNoText};
 ghost use Rattle.table_text.specs.Reading.{IsHeldName, IsHeldRow, IsHeldSpace, IsHeldControl};
 ghost use Rattle.table_text.specs.Rests.{IsRest};
@@ -53,11 +55,9 @@ struct Head {
 #[tactic(auto, unfolding(crate::specs::Texts::settings_text))]
 fn read_settings(text: &[u8], at: &mut usize) -> Option<Head>
     requires { at.old ≤ length text.now }
-    ensures within { at.new ≤ length text.now }
-    ensures read { IfSome result (λ head. IsRead text.now at.old at.new (settings_text head.pid_max head.stamp)) }
-    ensures words { IfSome result (λ head. IsWord head.pid_max × IsWord head.stamp) }
+    ensures read { ReadsToStop text.now at.old at.new result (λ head. settings_text head.pid_max head.stamp)
+        (λ head. IsWord head.pid_max × IsWord head.stamp) }
     ensures missing { IfNone result (LacksSettings settings_text text.now at.old) }
-    ensures stops { OnSome result (Stops (drop at.new text.now)) }
 {
     let pid_max = read_small_field(text, at, b" pid-max ")?;
     let stamp = read_field(text, at, b" stamp ")?;
@@ -68,9 +68,8 @@ fn read_settings(text: &[u8], at: &mut usize) -> Option<Head>
 #[tactic(auto, unfolding(crate::specs::Texts::head_line))]
 fn read_head(text: &[u8], at: &mut usize) -> Option<Head>
     requires { at.old ≤ length text.now }
-    ensures within { at.new ≤ length text.now }
-    ensures read { IfSome result (λ head. IsRead text.now at.old at.new (head_line head.pid_max head.stamp)) }
-    ensures words { IfSome result (λ head. IsWord head.pid_max × IsWord head.stamp) }
+    ensures read { Reads text.now at.old at.new result (λ head. head_line head.pid_max head.stamp)
+        (λ head. IsWord head.pid_max × IsWord head.stamp) }
     ensures missing { IfNone result (LacksHead head_line text.now at.old) }
 {
     read_word(text, at, b"pidtab table 1")?;
@@ -82,9 +81,8 @@ fn read_head(text: &[u8], at: &mut usize) -> Option<Head>
 /// Numbers with a comma between, from 1 to 33 of them, are written over others.
 fn read_numbers(text: &[u8], at: &mut usize, numbers: &mut ArrayVec<Pid, LEVELS>) -> Option<()>
     requires { at.old ≤ length text.now }
-    ensures within { at.new ≤ length text.now }
-    ensures read { OnSome result (IsRead text.now at.old at.new (joined 44 numbers.new.items)) }
-    ensures words { OnSome result (Each IsWord numbers.new.items) }
+    ensures read { Reads text.now at.old at.new result (λ _. joined 44 numbers.new.items)
+        (λ _. Each IsWord numbers.new.items) }
     ensures some { OnSome result (0 < length numbers.new.items) }
     ensures whole { OnSome result (length numbers.new.items < 33 → Lacks (codes ",") text.now at.new) }
     ensures missing { IfNone result (LacksNumbers text.now at.old) }
@@ -105,11 +103,9 @@ fn read_numbers(text: &[u8], at: &mut usize, numbers: &mut ArrayVec<Pid, LEVELS>
 #[tactic(auto, unfolding(crate::specs::Texts::name_word))]
 fn read_name(text: &[u8], at: &mut usize, label: &[u8], name: &mut Name) -> Option<()>
     requires { at.old ≤ length text.now }
-    ensures within { at.new ≤ length text.now }
-    ensures read { OnSome result (IsRead text.now at.old at.new (label.now ++ name_word name.new)) }
-    ensures words { OnSome result (IsNameOfWords name.new) }
+    ensures read { ReadsToStop text.now at.old at.new result (λ _. label.now ++ name_word name.new)
+        (λ _. IsNameOfWords name.new) }
     ensures missing { IfNone result (LacksAny IsHeldName (λ name. label.now ++ name_word name) text.now at.old) }
-    ensures stops { OnSome result (Stops (drop at.new text.now)) }
 {
     read_word(text, at, label)?;
     read_numbers(text, at, &mut name.numbers)?;
@@ -120,9 +116,8 @@ fn read_name(text: &[u8], at: &mut usize, label: &[u8], name: &mut Name) -> Opti
 /// The name of a task's parent, `-` for none, which is written over another.
 fn read_parent_name(text: &[u8], at: &mut usize, parent: &mut Option<Name>) -> Option<()>
     requires { at.old ≤ length text.now }
-    ensures within { at.new ≤ length text.now }
-    ensures read { OnSome result (IsRead text.now at.old at.new (codes " parent " ++ parent_word parent.new)) }
-    ensures words { OnSome result (IfSome parent.new IsNameOfWords) }
+    ensures read { Reads text.now at.old at.new result (λ _. codes " parent " ++ parent_word parent.new)
+        (λ _. IfSome parent.new IsNameOfWords) }
     ensures missing { IfNone result
         (LacksAny (λ p. IfSome p IsHeldName) (λ p. codes " parent " ++ parent_word p) text.now at.old) }
     ensures stops { OnSome result (IfSome parent.new (λ name. Stops (drop at.new text.now))) }
@@ -138,9 +133,8 @@ fn read_parent_name(text: &[u8], at: &mut usize, parent: &mut Option<Name>) -> O
 /// The rest of a task's line, behind its own name, which is written over that of another row.
 fn read_rest(text: &[u8], at: &mut usize, row: &mut Row) -> Option<()>
     requires { at.old ≤ length text.now }
-    ensures within { at.new ≤ length text.now }
-    ensures read { OnSome result (IsRead text.now at.old at.new (rest_line row.new)) }
-    ensures words { IsNameOfWords row.old.name → OnSome result (IsRowOfWords row.new) }
+    ensures read { Reads text.now at.old at.new result (λ _. rest_line row.new)
+        (λ _. IsNameOfWords row.old.name → IsRowOfWords row.new) }
     ensures name { row.new.name ≡ row.old.name }
     ensures missing { IfNone result (LacksLine IsHeldRow rest_line text.now at.old) }
 {
@@ -184,9 +178,7 @@ fn is_again(text: &[u8], at: usize, last: Rest) -> bool
 fn read_task(text: &[u8], at: &mut usize, row: &mut Row, last: &mut Rest) -> Option<()>
     requires at { at.old ≤ length text.now }
     requires last { IsRest text.now last.old row.old }
-    ensures within { at.new ≤ length text.now }
-    ensures read { OnSome result (IsRead text.now at.old at.new (task_line row.new)) }
-    ensures words { OnSome result (IsRowOfWords row.new) }
+    ensures read { Reads text.now at.old at.new result (λ _. task_line row.new) (λ _. IsRowOfWords row.new) }
     ensures last { OnSome result (IsRest text.now last.new row.new) }
     ensures missing { IfNone result (LacksLine IsHeldRow task_line text.now at.old) }
 {
@@ -220,9 +212,7 @@ fn no_row() -> Row {
 #[tactic(auto, unfolding(pid_script::specs::Lists::space_line))]
 fn read_space(text: &[u8], at: &mut usize) -> Option<Space>
     requires { at.old ≤ length text.now }
-    ensures within { at.new ≤ length text.now }
-    ensures read { IfSome result (λ space. IsRead text.now at.old at.new (space_line space)) }
-    ensures words { IfSome result IsSpaceOfWords }
+    ensures read { Reads text.now at.old at.new result space_line IsSpaceOfWords }
     ensures missing { IfNone result (LacksLine IsHeldSpace space_line text.now at.old) }
 {
     let id = read_field(text, at, b"space ")?;
@@ -242,9 +232,7 @@ fn read_space(text: &[u8], at: &mut usize) -> Option<Space>
 #[tactic(auto, unfolding(crate::specs::Texts::control_line))]
 fn read_control(text: &[u8], at: &mut usize) -> Option<Control>
     requires { at.old ≤ length text.now }
-    ensures within { at.new ≤ length text.now }
-    ensures read { IfSome result (λ control. IsRead text.now at.old at.new (control_line control)) }
-    ensures words { IfSome result IsControlOfWords }
+    ensures read { Reads text.now at.old at.new result control_line IsControlOfWords }
     ensures missing { IfNone result (LacksLine IsHeldControl control_line text.now at.old) }
 {
     let id = read_field(text, at, b"control ")?;
@@ -274,9 +262,7 @@ fn line_behind(lines: u64, more: usize) -> u64 {
 /// The lines of the tasks, behind so many lines.
 fn read_tasks(alloc: Global, text: &[u8], at: &mut usize, lines: u64) -> Result<Rows, LoadFault>
     requires { at.old ≤ length text.now }
-    ensures within { at.new ≤ length text.now }
-    ensures read { IfOk result (λ rows. IsRead text.now at.old at.new (flat_map task_line rows)) }
-    ensures words { IfOk result (λ rows. Each IsRowOfWords rows) }
+    ensures read { Reads text.now at.old at.new (result_ok result) (flat_map task_line) (Each IsRowOfWords) }
     ensures over { OnOk result (Lacks (codes "t") text.now at.new) }
     ensures missing { IfErr result
         (λ fault. fault ≢ NoMemory → LacksLines IsHeldRow task_line 116 text.now at.old) }
@@ -303,9 +289,8 @@ fn read_spaces(
     lines: u64,
 ) -> Result<Vec<Space>, LoadFault>
     requires { at.old ≤ length text.now }
-    ensures within { at.new ≤ length text.now }
-    ensures read { IfOk result (λ spaces. IsRead text.now at.old at.new (flat_map space_line spaces.items)) }
-    ensures words { IfOk result (λ spaces. Each IsSpaceOfWords spaces.items) }
+    ensures read { Reads text.now at.old at.new (result_ok result) (λ spaces. flat_map space_line spaces.items)
+        (λ spaces. Each IsSpaceOfWords spaces.items) }
     ensures over { OnOk result (Lacks (codes "s") text.now at.new) }
     ensures missing { IfErr result
         (λ fault. fault ≢ NoMemory → LacksLines IsHeldSpace space_line 115 text.now at.old) }
@@ -330,9 +315,8 @@ fn read_controls(
     lines: u64,
 ) -> Result<Vec<Control>, LoadFault>
     requires { at.old ≤ length text.now }
-    ensures within { at.new ≤ length text.now }
-    ensures read { IfOk result (λ controls. IsRead text.now at.old at.new (flat_map control_line controls.items)) }
-    ensures words { IfOk result (λ controls. Each IsControlOfWords controls.items) }
+    ensures read { Reads text.now at.old at.new (result_ok result) (λ controls. flat_map control_line controls.items)
+        (λ controls. Each IsControlOfWords controls.items) }
     ensures over { OnOk result (Lacks (codes "c") text.now at.new) }
     ensures missing { IfErr result
         (λ fault. fault ≢ NoMemory → LacksLines IsHeldControl control_line 99 text.now at.old) }

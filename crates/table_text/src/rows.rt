@@ -5,7 +5,7 @@ ghost use Rattle.std.specs.Prelude.{Some, IfSome, IfOk, OnOk, OnErr, IsTrue, nat
 ghost use Rattle.std.specs.List.{list_all};
 ghost use Rattle.pid_types.specs.declared.plain.Row.{Row};
 ghost use Rattle.table_text.specs.declared.rows.Line.{Line};
-ghost use Rattle.table_text.specs.Rows.{name_in, row_in, IsWithin, IsLineWithin, AreWithin, IsGrown};
+ghost use Rattle.table_text.specs.Rows.{name_in, row_in, IsWithin, IsLineWithin, AreWithin, IsGrown, PlacesName};
 
 use arrayvec::ArrayVec;
 use pid_types::keys::Pid;
@@ -204,9 +204,7 @@ fn stands_at(numbers: &[Pid], place: Place, name: &Name) -> bool
 
 /// The place of a name behind all others.
 fn add_name(numbers: &mut Vec<Pid>, name: &Name) -> Result<Place, AllocError>
-    ensures grown { IsGrown numbers.old.items numbers.new.items }
-    ensures within { IfOk result (λ place. IsWithin (length numbers.new.items) place) }
-    ensures named { IfOk result (λ place. name_in numbers.new.items place ≡ name.now) }
+    ensures { PlacesName numbers.old.items numbers.new.items result name.now }
 {
     let added = name.numbers.as_slice();
     let (Ok(start), Ok(count)) = (u32::try_from(numbers.len()), u8::try_from(added.len())) else {
@@ -223,9 +221,7 @@ fn add_name(numbers: &mut Vec<Pid>, name: &Name) -> Result<Place, AllocError>
 /// The place of a name: the last one, where it stands there, and else one behind all others.
 fn place_of(numbers: &mut Vec<Pid>, name: &Name, last: Place) -> Result<Place, AllocError>
     requires { IsWithin (length numbers.old.items) last }
-    ensures grown { IsGrown numbers.old.items numbers.new.items }
-    ensures within { IfOk result (λ place. IsWithin (length numbers.new.items) place) }
-    ensures named { IfOk result (λ place. name_in numbers.new.items place ≡ name.now) }
+    ensures { PlacesName numbers.old.items numbers.new.items result name.now }
 {
     if stands_at(numbers, last, name) {
         return Ok(last);

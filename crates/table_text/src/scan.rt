@@ -7,7 +7,7 @@ ghost use Rattle.pid_script.specs.Reading.{IsPlain};
 ghost use Rattle.pid_script.specs.Lists.{field, marked, parent_text, limit_text, life_text};
 ghost use Rattle.table_text.specs.Ranges.{IsWord, IsLifeOfWords};
 ghost use Rattle.table_text.specs.Reading.{IsRead, Lacks, LacksNumber, LacksField, LacksAny, IsSmall, Stops};
-ghost use Rattle.table_text.specs.Reading.{IsHeldLife, StopsBehind};
+ghost use Rattle.table_text.specs.Reading.{IsHeldLife, Reads, ReadsToStop, StopsBehind};
 
 use pid_script::number::read_u64;
 use pid_types::plain::{Ended, Life};
@@ -88,11 +88,8 @@ fn is_plain(digits: &[u8]) -> bool
 #[inline(never)]
 fn read_long(text: &[u8], at: &mut usize) -> Option<u64>
     requires { at.old ≤ length text.now }
-    ensures within { at.new ≤ length text.now }
-    ensures read { IfSome result (λ n. IsRead text.now at.old at.new (decimal n)) }
-    ensures words { IfSome result IsWord }
+    ensures read { ReadsToStop text.now at.old at.new result decimal IsWord }
     ensures missing { IfNone result (LacksNumber (2 ^ 64) text.now at.old) }
-    ensures stops { OnSome result (Stops (drop at.new text.now)) }
 {
     let end = digits_end(text, *at);
     let number = read_u64(&text[*at..end])?;
@@ -103,11 +100,8 @@ fn read_long(text: &[u8], at: &mut usize) -> Option<u64>
 /// A number below 2^64.
 pub fn read_number(text: &[u8], at: &mut usize) -> Option<u64>
     requires { at.old ≤ length text.now }
-    ensures within { at.new ≤ length text.now }
-    ensures read { IfSome result (λ n. IsRead text.now at.old at.new (decimal n)) }
-    ensures words { IfSome result IsWord }
+    ensures read { ReadsToStop text.now at.old at.new result decimal IsWord }
     ensures missing { IfNone result (LacksNumber (2 ^ 64) text.now at.old) }
-    ensures stops { OnSome result (Stops (drop at.new text.now)) }
 {
     let front = read_front(text, *at);
     let word = &text[*at..front.end];
@@ -121,11 +115,8 @@ pub fn read_number(text: &[u8], at: &mut usize) -> Option<u64>
 /// A number below 2^32.
 pub fn read_small(text: &[u8], at: &mut usize) -> Option<u32>
     requires { at.old ≤ length text.now }
-    ensures within { at.new ≤ length text.now }
-    ensures read { IfSome result (λ n. IsRead text.now at.old at.new (decimal n)) }
-    ensures words { IfSome result IsWord }
+    ensures read { ReadsToStop text.now at.old at.new result decimal IsWord }
     ensures missing { IfNone result (LacksNumber (2 ^ 32) text.now at.old) }
-    ensures stops { OnSome result (Stops (drop at.new text.now)) }
 {
     u32::try_from(read_number(text, at)?).ok()
 }
@@ -133,11 +124,8 @@ pub fn read_small(text: &[u8], at: &mut usize) -> Option<u32>
 /// The label, and a number below 2^64.
 pub fn read_field(text: &[u8], at: &mut usize, label: &[u8]) -> Option<u64>
     requires { at.old ≤ length text.now }
-    ensures within { at.new ≤ length text.now }
-    ensures read { IfSome result (λ n. IsRead text.now at.old at.new (field label.now n)) }
-    ensures words { IfSome result IsWord }
+    ensures read { ReadsToStop text.now at.old at.new result (field label.now) IsWord }
     ensures missing { IfNone result (LacksField (2 ^ 64) label.now text.now at.old) }
-    ensures stops { OnSome result (Stops (drop at.new text.now)) }
 {
     read_word(text, at, label)?;
     read_number(text, at)
@@ -146,11 +134,8 @@ pub fn read_field(text: &[u8], at: &mut usize, label: &[u8]) -> Option<u64>
 /// The label, and a number below 2^32.
 pub fn read_small_field(text: &[u8], at: &mut usize, label: &[u8]) -> Option<u32>
     requires { at.old ≤ length text.now }
-    ensures within { at.new ≤ length text.now }
-    ensures read { IfSome result (λ n. IsRead text.now at.old at.new (field label.now n)) }
-    ensures words { IfSome result IsWord }
+    ensures read { ReadsToStop text.now at.old at.new result (field label.now) IsWord }
     ensures missing { IfNone result (LacksField (2 ^ 32) label.now text.now at.old) }
-    ensures stops { OnSome result (Stops (drop at.new text.now)) }
 {
     read_word(text, at, label)?;
     read_small(text, at)
@@ -174,9 +159,7 @@ pub fn read_mark(text: &[u8], at: &mut usize, word: &[u8]) -> bool
 /// The parent of a namespace or a control group, `-` for none.
 pub fn read_parent(text: &[u8], at: &mut usize) -> Option<Option<u64>>
     requires { at.old ≤ length text.now }
-    ensures within { at.new ≤ length text.now }
-    ensures read { IfSome result (λ p. IsRead text.now at.old at.new (codes " parent " ++ parent_text p)) }
-    ensures words { IfSome result (λ n. IfSome n IsWord) }
+    ensures read { Reads text.now at.old at.new result (λ p. codes " parent " ++ parent_text p) (λ n. IfSome n IsWord) }
     ensures missing { IfNone result
         (LacksAny (λ p. IfSome p IsWord) (λ p. codes " parent " ++ parent_text p) text.now at.old) }
     ensures stops { IfSome result (λ p. IfSome p (λ n. Stops (drop at.new text.now))) }
@@ -190,9 +173,7 @@ pub fn read_parent(text: &[u8], at: &mut usize) -> Option<Option<u64>>
 /// The limit, `max` for none.
 pub fn read_limit(text: &[u8], at: &mut usize) -> Option<Option<u32>>
     requires { at.old ≤ length text.now }
-    ensures within { at.new ≤ length text.now }
-    ensures read { IfSome result (λ limit. IsRead text.now at.old at.new (codes " limit " ++ limit_text limit)) }
-    ensures words { IfSome result (λ n. IfSome n IsWord) }
+    ensures read { Reads text.now at.old at.new result (λ n. codes " limit " ++ limit_text n) (λ n. IfSome n IsWord) }
     ensures missing { IfNone result
         (LacksAny (λ n. IfSome n IsSmall) (λ n. codes " limit " ++ limit_text n) text.now at.old) }
     ensures stops { IfSome result (λ limit. IfSome limit (λ n. Stops (drop at.new text.now))) }
@@ -206,9 +187,7 @@ pub fn read_limit(text: &[u8], at: &mut usize) -> Option<Option<u32>>
 /// `live`, or how the task ended.
 pub fn read_life(text: &[u8], at: &mut usize) -> Option<Life>
     requires { at.old ≤ length text.now }
-    ensures within { at.new ≤ length text.now }
-    ensures read { IfSome result (λ life. IsRead text.now at.old at.new (codes " " ++ life_text life)) }
-    ensures words { IfSome result IsLifeOfWords }
+    ensures read { Reads text.now at.old at.new result (λ life. codes " " ++ life_text life) IsLifeOfWords }
     ensures missing { IfNone result (LacksAny IsHeldLife (λ life. codes " " ++ life_text life) text.now at.old) }
     ensures stops { IfSome result (λ life. StopsBehind life (drop at.new text.now)) }
 {

@@ -6,22 +6,22 @@ pub returns-in_err-parent-clause-missing : goal.returns-in_err-parent-clause-mis
 returns-in_err-parent-clause-missing c =
     if_none c.from_residual-in_err-parent.result _ (λ g x held is.
     no_control_parent c.args.text.now g held x c.args.at.now c.requires is
-    c.read_field.new.at _ c.in_ok-id.ensures.within c.in_ok-id.ensures.read c.in_ok-id.ensures.words c.in_ok-id.ensures.stops
+    c.read_field.new.at _ c.in_ok-id.ensures.read.within c.in_ok-id.ensures.read.read c.in_ok-id.ensures.read.words c.in_ok-id.ensures.read.stops
     c.in_err-parent.ensures.missing)
 
 pub returns-in_err-limit-clause-missing : goal.returns-in_err-limit-clause-missing
 returns-in_err-limit-clause-missing c =
     if_none c.from_residual-in_err-limit.result _ (λ g x held is.
     no_control_limit c.args.text.now g held x c.args.at.now c.requires is
-    c.read_field.new.at _ c.in_ok-id.ensures.within c.in_ok-id.ensures.read c.in_ok-id.ensures.words c.in_ok-id.ensures.stops
-    c.read_parent.new.at _ c.in_ok-parent.ensures.within c.in_ok-parent.ensures.read c.in_ok-parent.ensures.words c.in_ok-parent.ensures.stops
+    c.read_field.new.at _ c.in_ok-id.ensures.read.within c.in_ok-id.ensures.read.read c.in_ok-id.ensures.read.words c.in_ok-id.ensures.read.stops
+    c.read_parent.new.at _ c.in_ok-parent.ensures.read.within c.in_ok-parent.ensures.read.read c.in_ok-parent.ensures.read.words c.in_ok-parent.ensures.stops
     c.in_err-limit.ensures.missing)
 
 pub returns-in_err-read_word-clause-missing : goal.returns-in_err-read_word-clause-missing
 returns-in_err-read_word-clause-missing c =
     if_none c.from_residual-in_err-read_word.result _ (λ g x held is.
     no_control_end c.args.text.now g held x c.args.at.now c.requires is
-    c.read_field.new.at _ c.in_ok-id.ensures.within c.in_ok-id.ensures.read c.in_ok-id.ensures.words c.in_ok-id.ensures.stops
-    c.read_parent.new.at _ c.in_ok-parent.ensures.within c.in_ok-parent.ensures.read c.in_ok-parent.ensures.words c.in_ok-parent.ensures.stops
-    c.read_limit.new.at _ c.in_ok-limit.ensures.within c.in_ok-limit.ensures.read c.in_ok-limit.ensures.words c.in_ok-limit.ensures.stops
+    c.read_field.new.at _ c.in_ok-id.ensures.read.within c.in_ok-id.ensures.read.read c.in_ok-id.ensures.read.words c.in_ok-id.ensures.read.stops
+    c.read_parent.new.at _ c.in_ok-parent.ensures.read.within c.in_ok-parent.ensures.read.read c.in_ok-parent.ensures.read.words c.in_ok-parent.ensures.stops
+    c.read_limit.new.at _ c.in_ok-limit.ensures.read.within c.in_ok-limit.ensures.read.read c.in_ok-limit.ensures.read.words c.in_ok-limit.ensures.stops
     c.in_err-read_word.ensures.missing)

@@ -12,8 +12,8 @@ use Rattle.table_text.proofs.read.read_controls.Goals as goal
 pub loop-at-smaller : goal.loop-at-smaller
 loop-at-smaller c =
     let line = control_begins c.in-Some.control in
-    let further : c.loop-at.at < c.read_control.new.at = ahead c.args.text.now c.loop-at.at c.read_control.new.at _ _ line.0 c.loop-at.invariant.within c.in-Some.ensures.within c.in-Some.ensures.read line.1 in
-    omega (arith, further, c.in-Some.ensures.within)
+    let further : c.loop-at.at < c.read_control.new.at = ahead c.args.text.now c.loop-at.at c.read_control.new.at _ _ line.0 c.loop-at.invariant.within c.in-Some.ensures.read.within c.in-Some.ensures.read.read line.1 in
+    omega (arith, further, c.in-Some.ensures.read.within)
 
 pub loop-at-preserved : goal.loop-at-preserved
 loop-at-preserved c =
@@ -21,9 +21,9 @@ loop-at-preserved c =
     let items : c.push.new.self.items ≡ c.loop-at.controls.items ++ c.in-Some.control ∷ [] =
     pushed c.push.result _ c.loop-at.controls.items _ c.push.ensures.items (sym c.if-is_err.ensures.value) in
     record {
-      within = c.in-Some.ensures.within;
-      read = lines_more control_line c.args.text.now c.args.at.now c.loop-at.at c.read_control.new.at c.loop-at.controls.items _ c.in-Some.control items before.read c.in-Some.ensures.read;
-      words = subst (λ (xs : List Control). Each IsControlOfWords xs) (sym items) (Each-more IsControlOfWords c.loop-at.controls.items c.in-Some.control before.words c.in-Some.ensures.words);
+      within = c.in-Some.ensures.read.within;
+      read = lines_more control_line c.args.text.now c.args.at.now c.loop-at.at c.read_control.new.at c.loop-at.controls.items _ c.in-Some.control items before.read c.in-Some.ensures.read.read;
+      words = subst (λ (xs : List Control). Each IsControlOfWords xs) (sym items) (Each-more IsControlOfWords c.loop-at.controls.items c.in-Some.control before.words c.in-Some.ensures.read.words);
     }
 
 pub returns-in_default-clause-missing : goal.returns-in_default-clause-missing

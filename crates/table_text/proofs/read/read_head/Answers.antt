@@ -5,9 +5,12 @@ use Rattle.table_text.proofs.read.read_head.Goals as goal
 
 pub returns-clause-read : goal.returns-clause-read
 unfolding head_line
-returns-clause-read c =
-    IsRead-more c.args.text.now c.args.at.now _ _ _ _
-    (IsRead-more c.args.text.now c.args.at.now _ _ _ _ c.in_ok-read_word.ensures.read c.in_ok-head.ensures.read) c.in_ok-read_word-2.ensures.read
+returns-clause-read c = record {
+  within = c.in_ok-read_word-2.ensures.within;
+  read = IsRead-more c.args.text.now c.args.at.now _ _ _ _
+      (IsRead-more c.args.text.now c.args.at.now _ _ _ _ c.in_ok-read_word.ensures.read c.in_ok-head.ensures.read.read) c.in_ok-read_word-2.ensures.read;
+  words = c.in_ok-head.ensures.read.words;
+}
 
 pub returns-in_err-read_word-clause-missing : goal.returns-in_err-read_word-clause-missing
 returns-in_err-read_word-clause-missing c =
@@ -25,5 +28,5 @@ returns-in_err-read_word-2-clause-missing c =
     if_none c.from_residual-in_err-read_word-2.result _ (λ m n x small word is.
     no_head_end c.args.text.now m n small word x c.args.at.now c.requires is
     c.read_word.new.at c.in_ok-read_word.ensures.within c.in_ok-read_word.ensures.read
-    c.read_settings.new.at _ _ c.in_ok-head.ensures.within c.in_ok-head.ensures.read c.in_ok-head.ensures.words.0 c.in_ok-head.ensures.words.1
-    c.in_ok-head.ensures.stops c.in_err-read_word-2.ensures.missing)
+    c.read_settings.new.at _ _ c.in_ok-head.ensures.read.within c.in_ok-head.ensures.read.read c.in_ok-head.ensures.read.words.0 c.in_ok-head.ensures.read.words.1
+    c.in_ok-head.ensures.read.stops c.in_err-read_word-2.ensures.missing)

@@ -13,5 +13,5 @@ returns-in_err-name-clause-missing c =
     if_none c.from_residual-in_err-name.result _ (λ name rest held stops is.
     no_name_space c.args.text.now c.args.label.now name held rest stops c.args.at.now c.requires is
     c.read_word.new.at c.in_ok-read_word.ensures.within c.in_ok-read_word.ensures.read
-    c.read_numbers.new.at _ c.in_ok-read_numbers.ensures.within c.in_ok-read_numbers.ensures.read c.in_ok-read_numbers.ensures.some c.in_ok-read_numbers.ensures.words
+    c.read_numbers.new.at _ c.in_ok-read_numbers.ensures.read.within c.in_ok-read_numbers.ensures.read.read c.in_ok-read_numbers.ensures.some c.in_ok-read_numbers.ensures.read.words
     c.in_ok-read_numbers.ensures.stops c.in_ok-read_numbers.ensures.whole c.in_err-name.ensures.missing)

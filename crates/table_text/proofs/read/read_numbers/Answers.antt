@@ -13,13 +13,13 @@ loop-further-preserved c =
     let before = c.loop-further.invariant in
     let some : 0 < length c.loop-further.numbers.items = omega (arith, before.count, c.loop-further.auto) in
     record {
-      within = c.in_ok-read_small-2.ensures.within;
+      within = c.in_ok-read_small-2.ensures.read.within;
       count = omega (arith, before.count, c.push-in-loop-further.ensures.len);
       read = subst (λ (ns : List ℕ). IsRead c.args.text.now c.args.at.now c.read_small-in-loop-further.new.at (joined 44 ns)) (sym c.push-in-loop-further.ensures.items)
-          (numbers_more c.args.text.now c.args.at.now c.loop-further.at _ _ c.loop-further.numbers.items _ before.read c.if-not-read_mark.ensures.read c.in_ok-read_small-2.ensures.read some);
+          (numbers_more c.args.text.now c.args.at.now c.loop-further.at _ _ c.loop-further.numbers.items _ before.read c.if-not-read_mark.ensures.read c.in_ok-read_small-2.ensures.read.read some);
       words = subst (λ (ns : List ℕ). Each IsWord ns) (sym c.push-in-loop-further.ensures.items)
-          (Each-more IsWord c.loop-further.numbers.items _ before.words c.in_ok-read_small-2.ensures.words);
-      stops = c.in_ok-read_small-2.ensures.stops;
+          (Each-more IsWord c.loop-further.numbers.items _ before.words c.in_ok-read_small-2.ensures.read.words);
+      stops = c.in_ok-read_small-2.ensures.read.stops;
     }
 
 pub returns-in_err-read_small-clause-missing : goal.returns-in_err-read_small-clause-missing

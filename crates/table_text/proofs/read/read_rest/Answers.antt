@@ -4,20 +4,20 @@ use Rattle.table_text.proofs.Tasks.{no_task_parent, no_task_group, no_task_sessi
 use Rattle.table_text.proofs.read.read_rest.Goals as goal
 
 pub returns-clause-read : goal.returns-clause-read
-returns-clause-read c =
-    rest_read c.args.text.now _ c.args.at.now _ _ _ _ _ _ _ _ _ c.in_ok-read_parent_name.ensures.read c.in_ok-read_name.ensures.read
-    c.in_ok-read_name-2.ensures.read c.in_ok-row.ensures.read c.in_ok-row-2.ensures.read c.in_ok-row-3.ensures.read
-    c.read_mark-row.ensures.read c.read_mark-row-2.ensures.read c.in_ok-read_word.ensures.read
-
-pub returns-clause-words : goal.returns-clause-words
-returns-clause-words c = λ named. record {
-  name = named;
-  parent = c.in_ok-read_parent_name.ensures.words;
-  group = c.in_ok-read_name.ensures.words;
-  session = c.in_ok-read_name-2.ensures.words;
-  life = c.in_ok-row-3.ensures.words;
-  home = c.in_ok-row.ensures.words;
-  children_space = c.in_ok-row-2.ensures.words;
+returns-clause-read c = record {
+  within = c.in_ok-read_word.ensures.within;
+  read = rest_read c.args.text.now _ c.args.at.now _ _ _ _ _ _ _ _ _ c.in_ok-read_parent_name.ensures.read.read c.in_ok-read_name.ensures.read.read
+      c.in_ok-read_name-2.ensures.read.read c.in_ok-row.ensures.read.read c.in_ok-row-2.ensures.read.read c.in_ok-row-3.ensures.read.read
+      c.read_mark-row.ensures.read c.read_mark-row-2.ensures.read c.in_ok-read_word.ensures.read;
+  words = λ named. record {
+    name = named;
+    parent = c.in_ok-read_parent_name.ensures.read.words;
+    group = c.in_ok-read_name.ensures.read.words;
+    session = c.in_ok-read_name-2.ensures.read.words;
+    life = c.in_ok-row-3.ensures.read.words;
+    home = c.in_ok-row.ensures.read.words;
+    children_space = c.in_ok-row-2.ensures.read.words;
+  };
 }
 
 pub returns-in_err-read_parent_name-clause-missing : goal.returns-in_err-read_parent_name-clause-missing
@@ -30,57 +30,57 @@ pub returns-in_err-read_name-clause-missing : goal.returns-in_err-read_name-clau
 returns-in_err-read_name-clause-missing c =
     if_none c.from_residual-in_err-read_name.result _ (λ r x held is.
     no_task_group c.args.text.now r held x c.args.at.now c.requires is
-    c.read_parent_name.new.at _ c.in_ok-read_parent_name.ensures.within c.in_ok-read_parent_name.ensures.read c.in_ok-read_parent_name.ensures.words c.in_ok-read_parent_name.ensures.stops
+    c.read_parent_name.new.at _ c.in_ok-read_parent_name.ensures.read.within c.in_ok-read_parent_name.ensures.read.read c.in_ok-read_parent_name.ensures.read.words c.in_ok-read_parent_name.ensures.stops
     c.in_err-read_name.ensures.missing)
 
 pub returns-in_err-read_name-2-clause-missing : goal.returns-in_err-read_name-2-clause-missing
 returns-in_err-read_name-2-clause-missing c =
     if_none c.from_residual-in_err-read_name-2.result _ (λ r x held is.
     no_task_session c.args.text.now r held x c.args.at.now c.requires is
-    c.read_parent_name.new.at _ c.in_ok-read_parent_name.ensures.within c.in_ok-read_parent_name.ensures.read c.in_ok-read_parent_name.ensures.words c.in_ok-read_parent_name.ensures.stops
-    c.read_name.new.at _ c.in_ok-read_name.ensures.within c.in_ok-read_name.ensures.read c.in_ok-read_name.ensures.words c.in_ok-read_name.ensures.stops
+    c.read_parent_name.new.at _ c.in_ok-read_parent_name.ensures.read.within c.in_ok-read_parent_name.ensures.read.read c.in_ok-read_parent_name.ensures.read.words c.in_ok-read_parent_name.ensures.stops
+    c.read_name.new.at _ c.in_ok-read_name.ensures.read.within c.in_ok-read_name.ensures.read.read c.in_ok-read_name.ensures.read.words c.in_ok-read_name.ensures.read.stops
     c.in_err-read_name-2.ensures.missing)
 
 pub returns-in_err-row-clause-missing : goal.returns-in_err-row-clause-missing
 returns-in_err-row-clause-missing c =
     if_none c.from_residual-in_err-row.result _ (λ r x held is.
     no_task_home c.args.text.now r held x c.args.at.now c.requires is
-    c.read_parent_name.new.at _ c.in_ok-read_parent_name.ensures.within c.in_ok-read_parent_name.ensures.read c.in_ok-read_parent_name.ensures.words c.in_ok-read_parent_name.ensures.stops
-    c.read_name.new.at _ c.in_ok-read_name.ensures.within c.in_ok-read_name.ensures.read c.in_ok-read_name.ensures.words c.in_ok-read_name.ensures.stops
-    c.read_name-2.new.at _ c.in_ok-read_name-2.ensures.within c.in_ok-read_name-2.ensures.read c.in_ok-read_name-2.ensures.words c.in_ok-read_name-2.ensures.stops
+    c.read_parent_name.new.at _ c.in_ok-read_parent_name.ensures.read.within c.in_ok-read_parent_name.ensures.read.read c.in_ok-read_parent_name.ensures.read.words c.in_ok-read_parent_name.ensures.stops
+    c.read_name.new.at _ c.in_ok-read_name.ensures.read.within c.in_ok-read_name.ensures.read.read c.in_ok-read_name.ensures.read.words c.in_ok-read_name.ensures.read.stops
+    c.read_name-2.new.at _ c.in_ok-read_name-2.ensures.read.within c.in_ok-read_name-2.ensures.read.read c.in_ok-read_name-2.ensures.read.words c.in_ok-read_name-2.ensures.read.stops
     c.in_err-row.ensures.missing)
 
 pub returns-in_err-row-2-clause-missing : goal.returns-in_err-row-2-clause-missing
 returns-in_err-row-2-clause-missing c =
     if_none c.from_residual-in_err-row-2.result _ (λ r x held is.
     no_task_children c.args.text.now r held x c.args.at.now c.requires is
-    c.read_parent_name.new.at _ c.in_ok-read_parent_name.ensures.within c.in_ok-read_parent_name.ensures.read c.in_ok-read_parent_name.ensures.words c.in_ok-read_parent_name.ensures.stops
-    c.read_name.new.at _ c.in_ok-read_name.ensures.within c.in_ok-read_name.ensures.read c.in_ok-read_name.ensures.words c.in_ok-read_name.ensures.stops
-    c.read_name-2.new.at _ c.in_ok-read_name-2.ensures.within c.in_ok-read_name-2.ensures.read c.in_ok-read_name-2.ensures.words c.in_ok-read_name-2.ensures.stops
-    c.read_field.new.at _ c.in_ok-row.ensures.within c.in_ok-row.ensures.read c.in_ok-row.ensures.words c.in_ok-row.ensures.stops
+    c.read_parent_name.new.at _ c.in_ok-read_parent_name.ensures.read.within c.in_ok-read_parent_name.ensures.read.read c.in_ok-read_parent_name.ensures.read.words c.in_ok-read_parent_name.ensures.stops
+    c.read_name.new.at _ c.in_ok-read_name.ensures.read.within c.in_ok-read_name.ensures.read.read c.in_ok-read_name.ensures.read.words c.in_ok-read_name.ensures.read.stops
+    c.read_name-2.new.at _ c.in_ok-read_name-2.ensures.read.within c.in_ok-read_name-2.ensures.read.read c.in_ok-read_name-2.ensures.read.words c.in_ok-read_name-2.ensures.read.stops
+    c.read_field.new.at _ c.in_ok-row.ensures.read.within c.in_ok-row.ensures.read.read c.in_ok-row.ensures.read.words c.in_ok-row.ensures.read.stops
     c.in_err-row-2.ensures.missing)
 
 pub returns-in_err-row-3-clause-missing : goal.returns-in_err-row-3-clause-missing
 returns-in_err-row-3-clause-missing c =
     if_none c.from_residual-in_err-row-3.result _ (λ r x held is.
     no_task_life c.args.text.now r held x c.args.at.now c.requires is
-    c.read_parent_name.new.at _ c.in_ok-read_parent_name.ensures.within c.in_ok-read_parent_name.ensures.read c.in_ok-read_parent_name.ensures.words c.in_ok-read_parent_name.ensures.stops
-    c.read_name.new.at _ c.in_ok-read_name.ensures.within c.in_ok-read_name.ensures.read c.in_ok-read_name.ensures.words c.in_ok-read_name.ensures.stops
-    c.read_name-2.new.at _ c.in_ok-read_name-2.ensures.within c.in_ok-read_name-2.ensures.read c.in_ok-read_name-2.ensures.words c.in_ok-read_name-2.ensures.stops
-    c.read_field.new.at _ c.in_ok-row.ensures.within c.in_ok-row.ensures.read c.in_ok-row.ensures.words c.in_ok-row.ensures.stops
-    c.read_field-2.new.at _ c.in_ok-row-2.ensures.within c.in_ok-row-2.ensures.read c.in_ok-row-2.ensures.words c.in_ok-row-2.ensures.stops
+    c.read_parent_name.new.at _ c.in_ok-read_parent_name.ensures.read.within c.in_ok-read_parent_name.ensures.read.read c.in_ok-read_parent_name.ensures.read.words c.in_ok-read_parent_name.ensures.stops
+    c.read_name.new.at _ c.in_ok-read_name.ensures.read.within c.in_ok-read_name.ensures.read.read c.in_ok-read_name.ensures.read.words c.in_ok-read_name.ensures.read.stops
+    c.read_name-2.new.at _ c.in_ok-read_name-2.ensures.read.within c.in_ok-read_name-2.ensures.read.read c.in_ok-read_name-2.ensures.read.words c.in_ok-read_name-2.ensures.read.stops
+    c.read_field.new.at _ c.in_ok-row.ensures.read.within c.in_ok-row.ensures.read.read c.in_ok-row.ensures.read.words c.in_ok-row.ensures.read.stops
+    c.read_field-2.new.at _ c.in_ok-row-2.ensures.read.within c.in_ok-row-2.ensures.read.read c.in_ok-row-2.ensures.read.words c.in_ok-row-2.ensures.read.stops
     c.in_err-row-3.ensures.missing)
 
 pub returns-in_err-read_word-clause-missing : goal.returns-in_err-read_word-clause-missing
 returns-in_err-read_word-clause-missing c =
     if_none c.from_residual-in_err-read_word.result _ (λ r x held is.
     no_task_end c.args.text.now r held x c.args.at.now c.requires is
-    c.read_parent_name.new.at _ c.in_ok-read_parent_name.ensures.within c.in_ok-read_parent_name.ensures.read c.in_ok-read_parent_name.ensures.words c.in_ok-read_parent_name.ensures.stops
-    c.read_name.new.at _ c.in_ok-read_name.ensures.within c.in_ok-read_name.ensures.read c.in_ok-read_name.ensures.words c.in_ok-read_name.ensures.stops
-    c.read_name-2.new.at _ c.in_ok-read_name-2.ensures.within c.in_ok-read_name-2.ensures.read c.in_ok-read_name-2.ensures.words c.in_ok-read_name-2.ensures.stops
-    c.read_field.new.at _ c.in_ok-row.ensures.within c.in_ok-row.ensures.read c.in_ok-row.ensures.words c.in_ok-row.ensures.stops
-    c.read_field-2.new.at _ c.in_ok-row-2.ensures.within c.in_ok-row-2.ensures.read c.in_ok-row-2.ensures.words c.in_ok-row-2.ensures.stops
-    c.read_life.new.at _ c.in_ok-row-3.ensures.within c.in_ok-row-3.ensures.read c.in_ok-row-3.ensures.words c.in_ok-row-3.ensures.stops
+    c.read_parent_name.new.at _ c.in_ok-read_parent_name.ensures.read.within c.in_ok-read_parent_name.ensures.read.read c.in_ok-read_parent_name.ensures.read.words c.in_ok-read_parent_name.ensures.stops
+    c.read_name.new.at _ c.in_ok-read_name.ensures.read.within c.in_ok-read_name.ensures.read.read c.in_ok-read_name.ensures.read.words c.in_ok-read_name.ensures.read.stops
+    c.read_name-2.new.at _ c.in_ok-read_name-2.ensures.read.within c.in_ok-read_name-2.ensures.read.read c.in_ok-read_name-2.ensures.read.words c.in_ok-read_name-2.ensures.read.stops
+    c.read_field.new.at _ c.in_ok-row.ensures.read.within c.in_ok-row.ensures.read.read c.in_ok-row.ensures.read.words c.in_ok-row.ensures.read.stops
+    c.read_field-2.new.at _ c.in_ok-row-2.ensures.read.within c.in_ok-row-2.ensures.read.read c.in_ok-row-2.ensures.read.words c.in_ok-row-2.ensures.read.stops
+    c.read_life.new.at _ c.in_ok-row-3.ensures.read.within c.in_ok-row-3.ensures.read.read c.in_ok-row-3.ensures.read.words c.in_ok-row-3.ensures.stops
     c.read_mark-row.new.at _ c.read_mark-row.ensures.within c.read_mark-row.ensures.read c.read_mark-row.ensures.missing
     c.read_mark-row-2.new.at _ c.read_mark-row-2.ensures.within c.read_mark-row-2.ensures.read c.read_mark-row-2.ensures.missing
     c.in_err-read_word.ensures.missing)

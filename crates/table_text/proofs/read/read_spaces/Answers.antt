@@ -12,8 +12,8 @@ use Rattle.table_text.proofs.read.read_spaces.Goals as goal
 pub loop-at-smaller : goal.loop-at-smaller
 loop-at-smaller c =
     let line = space_begins c.in-Some.space in
-    let further : c.loop-at.at < c.read_space.new.at = ahead c.args.text.now c.loop-at.at c.read_space.new.at _ _ line.0 c.loop-at.invariant.within c.in-Some.ensures.within c.in-Some.ensures.read line.1 in
-    omega (arith, further, c.in-Some.ensures.within)
+    let further : c.loop-at.at < c.read_space.new.at = ahead c.args.text.now c.loop-at.at c.read_space.new.at _ _ line.0 c.loop-at.invariant.within c.in-Some.ensures.read.within c.in-Some.ensures.read.read line.1 in
+    omega (arith, further, c.in-Some.ensures.read.within)
 
 pub loop-at-preserved : goal.loop-at-preserved
 loop-at-preserved c =
@@ -21,9 +21,9 @@ loop-at-preserved c =
     let items : c.push.new.self.items ≡ c.loop-at.spaces.items ++ c.in-Some.space ∷ [] =
     pushed c.push.result _ c.loop-at.spaces.items _ c.push.ensures.items (sym c.if-is_err.ensures.value) in
     record {
-      within = c.in-Some.ensures.within;
-      read = lines_more space_line c.args.text.now c.args.at.now c.loop-at.at c.read_space.new.at c.loop-at.spaces.items _ c.in-Some.space items before.read c.in-Some.ensures.read;
-      words = subst (λ (xs : List Space). Each IsSpaceOfWords xs) (sym items) (Each-more IsSpaceOfWords c.loop-at.spaces.items c.in-Some.space before.words c.in-Some.ensures.words);
+      within = c.in-Some.ensures.read.within;
+      read = lines_more space_line c.args.text.now c.args.at.now c.loop-at.at c.read_space.new.at c.loop-at.spaces.items _ c.in-Some.space items before.read c.in-Some.ensures.read.read;
+      words = subst (λ (xs : List Space). Each IsSpaceOfWords xs) (sym items) (Each-more IsSpaceOfWords c.loop-at.spaces.items c.in-Some.space before.words c.in-Some.ensures.read.words);
     }
 
 pub returns-in_default-clause-missing : goal.returns-in_default-clause-missing

@@ -16,38 +16,37 @@ returns-in_err-read_name-clause-missing c =
 
 pub returns-then-is_again-clause-read : goal.returns-then-is_again-clause-read
 returns-then-is_again-clause-read c =
-    let last = c.args.last.now in
-    task_read c.args.text.now _ c.args.at.now c.read_name.new.at _ c.in_ok-read_name.ensures.read
-    (rest_named c.args.text.now c.read_name.new.at _ c.args.row.now c.read_name.new.name
-    (c.if-is_again.ensures.read refl (rest_line c.args.row.now) (c.requires.last.read (c.if-is_again.ensures.some refl))))
-
-pub returns-then-is_again-clause-words : goal.returns-then-is_again-clause-words
-returns-then-is_again-clause-words c =
-    words_named c.args.row.now c.read_name.new.name (c.requires.last.words (c.if-is_again.ensures.some refl)) c.in_ok-read_name.ensures.words
+    record {
+      within = c.if-is_again.ensures.within refl;
+      read = task_read c.args.text.now _ c.args.at.now c.read_name.new.at _ c.in_ok-read_name.ensures.read.read
+          (rest_named c.args.text.now c.read_name.new.at _ c.args.row.now c.read_name.new.name
+          (c.if-is_again.ensures.read refl (rest_line c.args.row.now) (c.requires.last.read (c.if-is_again.ensures.some refl))));
+      words = words_named c.args.row.now c.read_name.new.name (c.requires.last.words (c.if-is_again.ensures.some refl)) c.in_ok-read_name.ensures.read.words;
+    }
 
 pub returns-then-is_again-clause-last : goal.returns-then-is_again-clause-last
-returns-then-is_again-clause-last c = rest_kept c.args.text.now c.args.last.now c.args.row.now c.read_name.new.name c.requires.last c.in_ok-read_name.ensures.words
+returns-then-is_again-clause-last c = rest_kept c.args.text.now c.args.last.now c.args.row.now c.read_name.new.name c.requires.last c.in_ok-read_name.ensures.read.words
 
 pub returns-in_err-read_rest-clause-missing : goal.returns-in_err-read_rest-clause-missing
 returns-in_err-read_rest-clause-missing c =
     if_none c.from_residual-in_err-read_rest.result _ (λ r x held is.
     c.in_err-read_rest.ensures.missing r x held
     (at_rest c.args.text.now r held x c.args.at.now c.requires.at is
-    c.read_name.new.at _ c.in_ok-read_name.ensures.within c.in_ok-read_name.ensures.read c.in_ok-read_name.ensures.words c.in_ok-read_name.ensures.stops))
+    c.read_name.new.at _ c.in_ok-read_name.ensures.read.within c.in_ok-read_name.ensures.read.read c.in_ok-read_name.ensures.read.words c.in_ok-read_name.ensures.read.stops))
 
 pub returns-clause-read : goal.returns-clause-read
-returns-clause-read c =
-    task_read c.args.text.now c.read_rest.new.row c.args.at.now c.read_name.new.at c.read_rest.new.at
-    (subst (λ (n : Name). IsRead c.args.text.now c.args.at.now c.read_name.new.at (codes "task " ++ name_word n)) (sym c.in_ok-read_rest.ensures.name) c.in_ok-read_name.ensures.read)
-    c.in_ok-read_rest.ensures.read
-
-pub returns-clause-words : goal.returns-clause-words
-returns-clause-words c = c.in_ok-read_rest.ensures.words c.in_ok-read_name.ensures.words
+returns-clause-read c = record {
+  within = c.in_ok-read_rest.ensures.read.within;
+  read = task_read c.args.text.now c.read_rest.new.row c.args.at.now c.read_name.new.at c.read_rest.new.at
+      (subst (λ (n : Name). IsRead c.args.text.now c.args.at.now c.read_name.new.at (codes "task " ++ name_word n)) (sym c.in_ok-read_rest.ensures.name) c.in_ok-read_name.ensures.read.read)
+      c.in_ok-read_rest.ensures.read.read;
+  words = c.in_ok-read_rest.ensures.read.words c.in_ok-read_name.ensures.read.words;
+}
 
 pub returns-clause-last : goal.returns-clause-last
 returns-clause-last c = record {
-  order = order_read c.args.text.now c.read_name.new.at c.read_rest.new.at _ c.in_ok-read_name.ensures.within c.in_ok-read_rest.ensures.within c.in_ok-read_rest.ensures.read;
-  within = c.in_ok-read_rest.ensures.within;
-  read = λ some. c.in_ok-read_rest.ensures.read;
-  words = λ some. c.in_ok-read_rest.ensures.words c.in_ok-read_name.ensures.words;
+  order = order_read c.args.text.now c.read_name.new.at c.read_rest.new.at _ c.in_ok-read_name.ensures.read.within c.in_ok-read_rest.ensures.read.within c.in_ok-read_rest.ensures.read.read;
+  within = c.in_ok-read_rest.ensures.read.within;
+  read = λ some. c.in_ok-read_rest.ensures.read.read;
+  words = λ some. c.in_ok-read_rest.ensures.read.words c.in_ok-read_name.ensures.read.words;
 }

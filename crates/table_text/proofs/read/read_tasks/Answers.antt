@@ -24,8 +24,8 @@ loop-row-init c =
 pub loop-row-smaller : goal.loop-row-smaller
 loop-row-smaller c =
     let line = task_begins c.read_task.new.row in
-    let further : c.loop-row.at < c.read_task.new.at = ahead c.args.text.now c.loop-row.at c.read_task.new.at _ _ line.0 c.loop-row.invariant.within c.in-Some.ensures.within c.in-Some.ensures.read line.1 in
-    omega (arith, further, c.in-Some.ensures.within)
+    let further : c.loop-row.at < c.read_task.new.at = ahead c.args.text.now c.loop-row.at c.read_task.new.at _ _ line.0 c.loop-row.invariant.within c.in-Some.ensures.read.within c.in-Some.ensures.read.read line.1 in
+    omega (arith, further, c.in-Some.ensures.read.within)
 
 pub loop-row-preserved : goal.loop-row-preserved
 loop-row-preserved c =
@@ -34,9 +34,9 @@ loop-row-preserved c =
     let row = c.read_task.new.row in
     let all : c.add.new.self ≡ rows ++ row ∷ [] = c.in-Ok.ensures.added in
     record {
-      within = c.in-Some.ensures.within;
-      read = lines_more task_line c.args.text.now c.args.at.now c.loop-row.at c.read_task.new.at rows _ row all before.read c.in-Some.ensures.read;
-      words = subst (λ (xs : List Row). Each IsRowOfWords xs) (sym all) (Each-more IsRowOfWords rows row before.words c.in-Some.ensures.words);
+      within = c.in-Some.ensures.read.within;
+      read = lines_more task_line c.args.text.now c.args.at.now c.loop-row.at c.read_task.new.at rows _ row all before.read c.in-Some.ensures.read.read;
+      words = subst (λ (xs : List Row). Each IsRowOfWords xs) (sym all) (Each-more IsRowOfWords rows row before.words c.in-Some.ensures.read.words);
       rest = c.in-Some.ensures.last;
     }
 

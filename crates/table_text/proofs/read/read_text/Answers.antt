@@ -8,7 +8,7 @@ returns-in_err-rows-clause-err c =
     let p = err_from_is_err_and c.from_residual.result c.from_residual.ensures.1 in
     rw (p.1, p.2) (λ other stamp state word held is.
     no_text_tasks c.args.text.now stamp state word held is
-    c.read_head.new.at _ _ c.in-Some.ensures.within c.in-Some.ensures.read c.in-Some.ensures.words.0 c.in-Some.ensures.words.1
+    c.read_head.new.at _ _ c.in-Some.ensures.read.within c.in-Some.ensures.read.read c.in-Some.ensures.read.words.0 c.in-Some.ensures.read.words.1
     (c.in_err-rows.ensures.missing other))
 
 pub returns-in_err-spaces-clause-err : goal.returns-in_err-spaces-clause-err
@@ -16,8 +16,8 @@ returns-in_err-spaces-clause-err c =
     let p = err_from_is_err_and c.from_residual-in_err-spaces.result c.from_residual-in_err-spaces.ensures.1 in
     rw (p.1, p.2) (λ other stamp state word held is.
     no_text_spaces c.args.text.now stamp state word held is
-    c.read_head.new.at _ _ c.in-Some.ensures.within c.in-Some.ensures.read c.in-Some.ensures.words.0 c.in-Some.ensures.words.1
-    c.read_tasks.new.at _ c.in_ok-rows.ensures.within c.in_ok-rows.ensures.read c.in_ok-rows.ensures.words c.in_ok-rows.ensures.over
+    c.read_head.new.at _ _ c.in-Some.ensures.read.within c.in-Some.ensures.read.read c.in-Some.ensures.read.words.0 c.in-Some.ensures.read.words.1
+    c.read_tasks.new.at _ c.in_ok-rows.ensures.read.within c.in_ok-rows.ensures.read.read c.in_ok-rows.ensures.read.words c.in_ok-rows.ensures.over
     (c.in_err-spaces.ensures.missing other))
 
 pub returns-in_err-controls-clause-err : goal.returns-in_err-controls-clause-err
@@ -25,9 +25,9 @@ returns-in_err-controls-clause-err c =
     let p = err_from_is_err_and c.from_residual-in_err-controls.result c.from_residual-in_err-controls.ensures.1 in
     rw (p.1, p.2) (λ other stamp state word held is.
     no_text_controls c.args.text.now stamp state word held is
-    c.read_head.new.at _ _ c.in-Some.ensures.within c.in-Some.ensures.read c.in-Some.ensures.words.0 c.in-Some.ensures.words.1
-    c.read_tasks.new.at _ c.in_ok-rows.ensures.within c.in_ok-rows.ensures.read c.in_ok-rows.ensures.words c.in_ok-rows.ensures.over
-    c.read_spaces.new.at _ c.in_ok-spaces.ensures.within c.in_ok-spaces.ensures.read c.in_ok-spaces.ensures.words c.in_ok-spaces.ensures.over
+    c.read_head.new.at _ _ c.in-Some.ensures.read.within c.in-Some.ensures.read.read c.in-Some.ensures.read.words.0 c.in-Some.ensures.read.words.1
+    c.read_tasks.new.at _ c.in_ok-rows.ensures.read.within c.in_ok-rows.ensures.read.read c.in_ok-rows.ensures.read.words c.in_ok-rows.ensures.over
+    c.read_spaces.new.at _ c.in_ok-spaces.ensures.read.within c.in_ok-spaces.ensures.read.read c.in_ok-spaces.ensures.read.words c.in_ok-spaces.ensures.over
     (c.in_err-controls.ensures.missing other))
 
 pub returns-in_err-check_end-clause-err : goal.returns-in_err-check_end-clause-err
@@ -35,8 +35,8 @@ returns-in_err-check_end-clause-err c =
     let p = err_from_is_err_and c.from_residual-in_err-check_end.result c.from_residual-in_err-check_end.ensures.1 in
     rw (p.1, p.2) (λ other stamp state word held is.
     no_text_end c.args.text.now stamp state word held is
-    c.read_head.new.at _ _ c.in-Some.ensures.within c.in-Some.ensures.read c.in-Some.ensures.words.0 c.in-Some.ensures.words.1
-    c.read_tasks.new.at _ c.in_ok-rows.ensures.within c.in_ok-rows.ensures.read c.in_ok-rows.ensures.words c.in_ok-rows.ensures.over
-    c.read_spaces.new.at _ c.in_ok-spaces.ensures.within c.in_ok-spaces.ensures.read c.in_ok-spaces.ensures.words c.in_ok-spaces.ensures.over
-    c.read_controls.new.at _ c.in_ok-controls.ensures.within c.in_ok-controls.ensures.read c.in_ok-controls.ensures.words c.in_ok-controls.ensures.over
+    c.read_head.new.at _ _ c.in-Some.ensures.read.within c.in-Some.ensures.read.read c.in-Some.ensures.read.words.0 c.in-Some.ensures.read.words.1
+    c.read_tasks.new.at _ c.in_ok-rows.ensures.read.within c.in_ok-rows.ensures.read.read c.in_ok-rows.ensures.read.words c.in_ok-rows.ensures.over
+    c.read_spaces.new.at _ c.in_ok-spaces.ensures.read.within c.in_ok-spaces.ensures.read.read c.in_ok-spaces.ensures.read.words c.in_ok-spaces.ensures.over
+    c.read_controls.new.at _ c.in_ok-controls.ensures.read.within c.in_ok-controls.ensures.read.read c.in_ok-controls.ensures.read.words c.in_ok-controls.ensures.over
     (c.in_err-check_end.ensures.missing other))

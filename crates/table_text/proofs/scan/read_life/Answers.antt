@@ -12,5 +12,5 @@ returns-in_err-status-clause-missing c =
     if_none c.from_residual-in_err-status.result _
     (not_fitting (2 ^ 8) _ c.try_from.result None _ c.try_from.ensures c.in_err-status.ensures.value (λ large.
     no_life text c.args.at.now c.read_mark.new.at c.read_mark-2.new.at one (one ∙ two) (c.read_mark.ensures.missing c.if-read_mark.false) (c.read_mark-2.ensures.missing c.if-read_mark-2.false)
-    (large_status text (codes " exit ") c.read_mark-2.new.at c.read_field.new.at _ c.if-read_mark-2.ensures.within c.in_ok-read_field.ensures.within c.in_ok-read_field.ensures.read
-    c.in_ok-read_field.ensures.words c.in_ok-read_field.ensures.stops large)))
+    (large_status text (codes " exit ") c.read_mark-2.new.at c.read_field.new.at _ c.if-read_mark-2.ensures.within c.in_ok-read_field.ensures.read.within c.in_ok-read_field.ensures.read.read
+    c.in_ok-read_field.ensures.read.words c.in_ok-read_field.ensures.read.stops large)))

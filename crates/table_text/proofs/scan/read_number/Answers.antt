@@ -7,5 +7,10 @@ pub returns-then-is_plain-clause-read : goal.returns-then-is_plain-clause-read
 returns-then-is_plain-clause-read c =
     let front = c.read_front-front.ensures in
     let same : c.from.result ≡ c.read_front-front.result.number = omega (arith, c.from.ensures) in
-    number_read (2 ^ 32) c.args.text.now c.args.at.now c.read_front-front.result.end c.from.result front.from
-    (sym (short_some _ c.from.result (omega arith) (c.if-is_plain.ensures.0 (search rules)) front.digits (same ∙ front.value)))
+    record {
+      within = front.within;
+      read = number_read (2 ^ 32) c.args.text.now c.args.at.now c.read_front-front.result.end c.from.result front.from
+          (sym (short_some _ c.from.result (omega arith) (c.if-is_plain.ensures.0 (search rules)) front.digits (same ∙ front.value)));
+      words = search rules;
+      stops = front.stops (omega arith);
+    }
