@@ -45,12 +45,12 @@ fn act<L: Ledger, const N: usize>(
 ) {
     let receipt = record.act(seat, want.call).expect(rt, "no receipt");
     assert!(rt; receipt == *want);
-    assert!(rt; lends(record, &want.reply));
+    assert!(rt; lends(record, Some(&want.reply)));
 }
 
-/// Whether the record lends the reply.
-fn lends<L: Ledger, const N: usize>(record: &Record<L, N>, reply: &Reply) -> bool {
-    record.last_reply() == Some(reply)
+/// Whether the record lends the reply, or none.
+fn lends<L: Ledger, const N: usize>(record: &Record<L, N>, reply: Option<&Reply>) -> bool {
+    record.last_reply() == reply
 }
 
 /// Makes each call by its worker's seat, and compares the receipts.
@@ -173,22 +173,17 @@ fn assert_state(rt: &impl Abort, state: &Plain, tasks: usize, counts: &[u64]) {
     }
 }
 
-/// Whether the record has no reply to lend, which is so where its history is empty.
-fn lends_none<L: Ledger>(record: &Record<L, 1>) -> bool {
-    record.last_reply().is_none()
-}
-
 /// Makes the calls before a checkpoint, the checkpoint, and the calls after it.
 fn act_around_checkpoint<L: Ledger>(
     rt: &impl Abort,
     record: &mut Record<L, 1>,
     seats: &mut [Seat<L, 1>],
 ) {
-    assert!(rt; lends_none(record));
+    assert!(rt; lends(record, None));
     act_all(rt, record, seats, &before_checkpoint());
     assert_opening(rt, record, 1, &[1]);
     cut(rt, record);
-    assert!(rt; lends_none(record));
+    assert!(rt; lends(record, None));
     assert_cut(rt, record, 3);
     assert_opening(rt, record, 2, &[2, 0]);
     act_all(rt, record, seats, &after_checkpoint());
@@ -320,14 +315,9 @@ fn a_fork() -> [Receipt; 2] {
 /// The last stamp that there is.
 const LAST_STAMP: u64 = 18_446_744_073_709_551_614;
 
-/// Whether the record has one stamp left.
-fn has_last_stamp<L: Ledger>(record: &Record<L, 1>) -> bool {
-    record.next_stamp() == Some(LAST_STAMP)
-}
-
-/// Whether the record has no stamp left.
-fn has_no_stamp<L: Ledger>(record: &Record<L, 1>) -> bool {
-    record.next_stamp().is_none()
+/// The next stamp, of which the callers know nothing more.
+fn next_stamp_of<L: Ledger>(record: &Record<L, 1>) -> Option<u64> {
+    record.next_stamp()
 }
 
 /// The fault of a call, where it has one.
@@ -337,9 +327,9 @@ fn fault_of<L: Ledger>(record: &mut Record<L, 1>, seat: &mut Seat<L, 1>) -> Opti
 
 /// Spends the last stamp, and makes one call more.
 fn spend<L: Ledger>(rt: &impl Abort, record: &mut Record<L, 1>, seats: &mut [Seat<L, 1>]) {
-    assert!(rt; has_last_stamp(record));
+    assert!(rt; next_stamp_of(record) == Some(LAST_STAMP));
     act_all(rt, record, seats, &[want_child(0, 0, 2)]);
-    assert!(rt; has_no_stamp(record));
+    assert!(rt; next_stamp_of(record).is_none());
     let seat = seats.get_mut(0).expect(rt, "a seat");
     assert!(rt; fault_of(record, seat) == Some(CallFault::Spent));
     assert!(rt; counts_of(record) == [0, 1, 1]);

@@ -13,7 +13,6 @@ use std::marker::Brand;
 use std::process::Abort;
 use std::sync::Wait;
 use std::sync::ledger::{Blank, Ledger};
-use std::test::Fail;
 use table_load::load::load;
 
 /// The text of `docs/SCRIPT.md`, after six calls.
@@ -46,82 +45,76 @@ fn assert_resumed<L: Ledger>(
 ) {
     let all = counts[0].saturating_add(counts[1]);
     assert!(rt; counts_of(record) == [all, all, counts[0]]);
-    assert!(rt; begun_with(record) == (Some(7), 32768));
+    assert!(rt; begun_with(record) == (Some(7), 32768, true));
     assert!(rt; sizes_of(record) == (2, 1));
-    assert!(rt; goes_on(record));
     for (seat, count) in seats.iter().zip(counts) {
         assert!(rt; seat.calls() == *count);
     }
 }
 
-/// The next stamp, and the bound of numbers. The callers know nothing more of them.
-fn begun_with<L: Ledger>(record: &Record<L, 2>) -> (Option<u64>, u32) {
-    (record.next_stamp(), record.config().pid_max())
+/// The next stamp, the bound of numbers, and whether the record was resumed. The callers know nothing more of them.
+fn begun_with<L: Ledger>(record: &Record<L, 2>) -> (Option<u64>, u32, bool) {
+    (
+        record.next_stamp(),
+        record.config().pid_max(),
+        record.is_resumed(),
+    )
 }
 
-/// Whether the record was resumed.
-fn goes_on<L: Ledger>(record: &Record<L, 2>) -> bool {
-    record.is_resumed()
-}
-
-/// The record goes on with calls that are told from the ordinal on.
-fn go_on<L: Ledger>(
+/// The record that goes on from the text with these counts, and its seats. The callers know nothing more of them.
+fn begin<L: Ledger>(
     rt: &impl Abort,
     alloc: Global,
     blank: Blank,
     counts: &[u64; 2],
-    first: u64,
-) -> Result<(), Fail>
+) -> (Record<L, 2>, Vec<Seat<L, 2>>)
     requires name { blank.name ≡ L.name }
     requires parts { (blank.parts ≡ L.parts) × (L.parts ≡ 2) }
 {
     let loaded = load(alloc, TEXT).expect(rt, "a table");
     assert!(rt; Kept::can_resume(loaded.stamp, counts));
     let resumed = Record::<L, 2>::resume(alloc, blank, loaded.table, loaded.stamp, counts);
-    let (mut record, mut seats) = resumed?;
+    resumed.expect(rt, "no memory")
+}
+
+/// The record goes on with calls that are told from the ordinal on.
+fn go_on<L: Ledger>(rt: &impl Abort, alloc: Global, blank: Blank, counts: &[u64; 2], first: u64)
+    requires name { blank.name ≡ L.name }
+    requires parts { (blank.parts ≡ L.parts) × (L.parts ≡ 2) }
+{
+    let (mut record, mut seats) = begin::<L>(rt, alloc, blank, counts);
     assert_resumed(rt, &record, &seats, counts);
     act_all(rt, &mut record, &mut seats, &behind(first));
-    Ok(())
 }
 
 /// How many calls of each worker were recorded before, and the ordinal of the next one.
 static BEFORE: [([u64; 2], u64); 2] = [([4, 2], 6), ([0, 0], 0)];
 
 #[test]
-fn goes_on_with_ordinals(rt: HostRuntime) -> Result<(), Fail> {
+fn goes_on_with_ordinals(rt: HostRuntime) {
     for (counts, first) in &BEFORE {
-        go_on::<Brand>(&rt, rt.alloc(), Blank::new(2), counts, *first)?;
+        go_on::<Brand>(&rt, rt.alloc(), Blank::new(2), counts, *first);
     }
-    Ok(())
 }
 
 /// The table goes on under the lock, and is closed.
-fn go_on_under_lock<L: Ledger, R: Wait + Abort>(
-    rt: &R,
-    alloc: Global,
-    blank: Blank,
-) -> Result<(), Fail>
+fn go_on_under_lock<L: Ledger, R: Wait + Abort>(rt: &R, alloc: Global, blank: Blank)
     requires name { blank.name ≡ L.name }
     requires parts { (blank.parts ≡ L.parts) × (L.parts ≡ 2) }
 {
-    let loaded = load(alloc, TEXT).expect(rt, "a table");
-    let counts = [4, 2];
-    assert!(rt; Kept::can_resume(loaded.stamp, &counts));
-    let resumed = Record::<L, 2>::resume(alloc, blank, loaded.table, loaded.stamp, &counts);
-    let (record, mut seats) = resumed?;
+    let (record, mut seats) = begin::<L>(rt, alloc, blank, &BEFORE[0].0);
     let shared = Shared::of(record);
-    assert_resumed(rt, &shared.lock(rt), seats.as_slice(), &counts);
+    assert_resumed(rt, &shared.lock(rt), seats.as_slice(), &BEFORE[0].0);
     call_all(rt, &shared, &mut seats, &behind(6));
     assert!(rt; are_in_order(seats.as_slice()));
     let record = shared.close(seats);
     assert!(rt; counts_of(&record) == [6, 9, 5]);
     assert!(rt; recorded_of_second(&record) == 4);
-    Ok(())
 }
 
 #[test]
-fn goes_on_under_the_lock(rt: HostRuntime) -> Result<(), Fail> {
-    go_on_under_lock::<Brand, HostRuntime>(&rt, rt.alloc(), Blank::new(2))
+fn goes_on_under_the_lock(rt: HostRuntime) {
+    go_on_under_lock::<Brand, HostRuntime>(&rt, rt.alloc(), Blank::new(2));
 }
 
 static COUNTS: [([u64; 2], bool); 5] = [

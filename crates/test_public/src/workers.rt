@@ -472,12 +472,8 @@ fn keeps_answers_in_order(rt: HostRuntime) -> Result<(), Fail> {
 fn assert_in_order(rt: &impl Abort, desk: &CountingDesk, done: &Work) {
     assert!(rt; desk.calls == 3);
     assert!(rt; done.refused == 1);
-    assert_same(rt, done.receipts.as_slice(), desk.answers.as_slice());
+    assert!(rt; done.receipts.as_slice() == desk.answers.as_slice());
     assert!(rt; done.receipts.len() == 2);
     assert!(rt; done.receipts[0].call == FORK);
     assert!(rt; done.receipts[1].call == Call::Exec { caller: 2 });
-}
-
-fn assert_same(rt: &impl Abort, receipts: &[Receipt], answers: &[Receipt]) {
-    assert!(rt; receipts == answers);
 }
