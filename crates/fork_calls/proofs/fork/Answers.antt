@@ -1,4 +1,4 @@
-use Rattle.std.proofs.Common.{◌≡◌, ◌∙◌, sym, ap, if◌then◌else◌}
+use Rattle.std.proofs.Common.{◌≡◌, ◌∙◌, sym, ap, if◌then◌else◌, rules}
 use Rattle.std.specs.Option.{option_map_or}
 use Rattle.pid_types.specs.declared.reply.Refusal.TheVariants.{NoCaller}
 use Rattle.pid_types.specs.Outcome.{Outcome, refused, for_found}
@@ -23,3 +23,6 @@ returns-in-Err-clause-state c = sym (ap (λ (o : Outcome). o.state) (came_to c))
 
 pub returns-in-Err-clause-reply : goal.returns-in-Err-clause-reply
 returns-in-Err-clause-reply c = sym (ap (λ (o : Outcome). o.reply) (came_to c))
+
+pub fork_into-requires-clause-id : goal.fork_into-requires-clause-id
+fork_into-requires-clause-id c = search rules

@@ -1,5 +1,5 @@
 -- No namespace on the path is full, so only a control group can refuse; else one more task by key is one more row by number
-use Rattle.std.proofs.Common.{◌∙◌, refl, sym, ap}
+use Rattle.std.proofs.Common.{◌∙◌, refl, sym, ap, rules}
 use Rattle.pid_types.specs.Outcome.{Outcome, unless_found}
 use Rattle.pid_types.specs.Fork.{forked}
 use Rattle.task_table.specs.View.{name_at, row_of, state_of}
@@ -41,3 +41,6 @@ returns-clause-reply c =
     c.args.space c.args.found.now.task.children_space c.args.numbers.now c.in_ok-key.ensures.begun c.in_ok-key.ensures.order c.in_ok-key.ensures.namespaces c.requires.id c.requires.planned
     c.child_of-task.ensures room
     own refl
+
+pub returns-clause-err : goal.returns-clause-err
+returns-clause-err c = search rules

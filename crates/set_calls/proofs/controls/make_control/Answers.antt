@@ -1,6 +1,7 @@
-use Rattle.std.proofs.Common.{◌∙◌, is_some, sym, ap, ◌<◌}
+use Rattle.std.proofs.Common.{◌∙◌, is_some, sym, ap, ◌<◌, rules}
 use Rattle.pid_types.specs.Controls.{control_at}
 use Rattle.pid_types.specs.Outcome.{Outcome}
+use Rattle.pid_types.specs.Changes.{make_control}
 use Rattle.pids_charge.specs.Charges.{Charges, stands, id_at as home_id}
 use Rattle.set_calls.proofs.Answered.{all-of, is-made, after-making}
 use Rattle.set_calls.proofs.controls.make_control.Goals as goal
@@ -18,3 +19,7 @@ returns-in-Ok-clause-state c =
     let is = ap (λ (v : Charges). home_id v c.in-Some.above) (sym c.controls.ensures) ∙ c.in-Some.ensures.id in
     sym (ap (λ (o : Outcome). o.state) (is-made old c.laws.ensures above c.args.parent standing is there c.args.stamp (λ deep. let e = c.in-Ok.ensures.deep.1 deep in cc))
     ∙ after-making old c.laws.ensures above c.args.parent standing is there new c.laws-in-Ok.ensures c.make_control.ensures.rest c.args.stamp c.in-Ok.field-0 c.in-Ok.ensures.controls c.in-Ok.ensures.fresh c.in-Ok.ensures.others)
+
+pub returns-in-Err-ControlDepth-clause-reply : goal.returns-in-Err-ControlDepth-clause-reply
+unfolding make_control
+returns-in-Err-ControlDepth-clause-reply c = search rules
