@@ -39,6 +39,22 @@ Queues did bytes held = (sent : List ℕ) × Sends did sent × (bytes ≡ sent +
 abbrev pub Stops : (List Event → Type 0) → List ℕ → Type 0
 Stops did bytes = (sent left : List ℕ) × Stalls did sent × (bytes ≡ sent ++ left) × (0 < length left)
 
+-- these bytes were sent, or not all of them, since the sink has stopped
+pub record Writes {T : Type 0} (result : Result T RunScriptFault) (did : List Event → Type 0) (bytes : List ℕ)
+    (failed full : Bool) : Type 0 where
+  pub ok : OnOk result (Sends did bytes)
+  pub err : OnErr result (Stops did bytes)
+  pub fault : IfErr result (λ e. e ≡ fault.Write)
+  pub stopped : OnErr result (HasStopped failed full)
+
+-- the same of bytes of which some wait
+pub record Holds {T : Type 0} (result : Result T RunScriptFault) (did : List Event → Type 0) (bytes held : List ℕ)
+    (failed full : Bool) : Type 0 where
+  pub ok : OnOk result (Queues did bytes held)
+  pub err : OnErr result (Stops did bytes)
+  pub fault : IfErr result (λ e. e ≡ fault.Write)
+  pub stopped : OnErr result (HasStopped failed full)
+
 -- how these lines went: they took the script from p to q; or the sink has stopped, and took not all of their answers
 pub record Responds {T : Type 0} (may : Call → Bool) (result : Result T RunScriptFault) (p q : Progress) (did : List Event → Type 0)
     (made : List (Call × Reply) → Type 0) (lines : List Line) (failed full : Bool) : Type 0 where

@@ -1,10 +1,8 @@
 //! Answers that wait to be written.
-ghost use Rattle.std.specs.Prelude.{◌≡◌, ◌<◌, ◌++◌, [], length, OnOk, OnErr, IfErr};
-ghost use Rattle.script_session.specs.declared.tally.RunScriptFault.TheVariants.{Write};
+ghost use Rattle.std.specs.Prelude.{◌≡◌, ◌<◌, ◌++◌, [], length, OnOk};
 ghost use Rattle.pid_script.specs.Script.{with_newline};
-ghost use Rattle.script_session.specs.Progress.{HasStopped};
 ghost use Rattle.pid_script.specs.Answers.{answer_of, lent};
-ghost use Rattle.script_session.specs.Dialogue.{Queues, Sends, Stops};
+ghost use Rattle.script_session.specs.Dialogue.{Holds, Writes};
 
 use crate::tally::RunScriptFault;
 use arrayvec::ArrayVec;
@@ -18,10 +16,7 @@ const ROOM: usize = 8192;
 
 /// Writes all of the bytes.
 pub fn write_all<K: Sink>(sink: &mut K, bytes: &[u8]) -> Result<(), RunScriptFault>
-    ensures ok { OnOk result (Sends (K.did sink.old sink.new) bytes.now) }
-    ensures err { OnErr result (Stops (K.did sink.old sink.new) bytes.now) }
-    ensures fault { IfErr result (λ e. e ≡ Write) }
-    ensures stopped { OnErr result (HasStopped (K.has_failed sink.new) (K.is_full sink.new)) }
+    ensures { Writes result (K.did sink.old sink.new) bytes.now (K.has_failed sink.new) (K.is_full sink.new) }
 {
     let mut left = bytes;
     while !left.is_empty() {
@@ -62,11 +57,9 @@ impl Outbox {
 
     /// Writes what is held.
     pub fn flush<K: Sink>(&mut self, sink: &mut K) -> Result<(), RunScriptFault>
-        ensures ok { OnOk result (Sends (K.did sink.old sink.new) self.old) }
+        ensures written { Writes result (K.did sink.old sink.new) self.old
+            (K.has_failed sink.new) (K.is_full sink.new) }
         ensures empty { OnOk result (self.new ≡ []) }
-        ensures err { OnErr result (Stops (K.did sink.old sink.new) self.old) }
-        ensures fault { IfErr result (λ e. e ≡ Write) }
-        ensures stopped { OnErr result (HasStopped (K.has_failed sink.new) (K.is_full sink.new)) }
     {
         write_all(sink, self.held.as_slice())?;
         self.held.clear();
@@ -78,10 +71,8 @@ impl Outbox {
     #[inline(always)]
     pub fn push_line<K: Sink>(&mut self, sink: &mut K, line: &[u8]) -> Result<(), RunScriptFault>
         requires { length line.now < 8192 }
-        ensures ok { OnOk result (Queues (K.did sink.old sink.new) (self.old ++ with_newline line.now) self.new) }
-        ensures err { OnErr result (Stops (K.did sink.old sink.new) (self.old ++ with_newline line.now)) }
-        ensures fault { IfErr result (λ e. e ≡ Write) }
-        ensures stopped { OnErr result (HasStopped (K.has_failed sink.new) (K.is_full sink.new)) }
+        ensures { Holds result (K.did sink.old sink.new) (self.old ++ with_newline line.now) self.new
+            (K.has_failed sink.new) (K.is_full sink.new) }
     {
         if self.held.remaining_capacity() <= line.len() {
             self.flush(sink)?;
@@ -99,12 +90,9 @@ impl Outbox {
         sink: &mut K,
         answer: Result<&Reply, CallFault>,
     ) -> Result<(), RunScriptFault>
-        ensures ok { OnOk result (Queues (K.did sink.old sink.new)
-            (self.old ++ with_newline (answer_of (lent answer.entry))) self.new) }
-        ensures err { OnErr result (Stops (K.did sink.old sink.new)
-            (self.old ++ with_newline (answer_of (lent answer.entry)))) }
-        ensures fault { IfErr result (λ e. e ≡ Write) }
-        ensures stopped { OnErr result (HasStopped (K.has_failed sink.new) (K.is_full sink.new)) }
+        ensures { Holds result (K.did sink.old sink.new)
+            (self.old ++ with_newline (answer_of (lent answer.entry))) self.new
+            (K.has_failed sink.new) (K.is_full sink.new) }
     {
         if self.held.remaining_capacity() <= LONGEST_ANSWER {
             self.flush(sink)?;

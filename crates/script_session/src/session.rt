@@ -14,7 +14,8 @@ ghost use Rattle.pid_script.specs.Script.{with_newline, said_within, kept_after}
 ghost use Rattle.script_session.specs.Progress.{begun, HasStopped};
 ghost use Rattle.pid_script.specs.Script.{last_said, said_next};
 ghost use Rattle.pid_script.specs.Answers.{answer_of, lent, replied};
-ghost use Rattle.script_session.specs.Dialogue.{Converses, Queues, Responds, Stops};
+ghost use Rattle.script_session.specs.Dialogue.{Converses, Holds, Responds};
+ghost use Rattle.script_session.specs.Counts.{CountsLine, CountsPiece, MayCount};
 ghost use Rattle.script_session.specs.Session.{Acts, made_by, is_starved, ended_at, progress_of, IsTallied};
 ghost use Rattle.script_session.specs.Session.{Finishes, Leaves};
 
@@ -83,8 +84,7 @@ fn read_chunk<S: Source>(source: &mut S, chunk: &mut [u8]) -> Result<usize, RunS
 
 /// Counts a call.
 fn count_call(tally: &mut Tally, made: Result<(), CallFault>)
-    requires counted { IsTallied tally.old }
-    requires room { tally.old.lines + 1 < 2 ^ 64 }
+    requires { MayCount tally.old 1 }
     ensures lines { tally.new.lines ≡ tally.old.lines + 1 }
     ensures recorded { tally.new.recorded ≡ (if is_ok made then tally.old.recorded + 1 else tally.old.recorded) }
     ensures starved { tally.new.starved ≡ (if is_starved made then tally.old.starved + 1 else tally.old.starved) }
@@ -120,17 +120,11 @@ fn tell_answer<T: Table, K: Sink>(
     made: Result<(), CallFault>,
 ) -> Result<(), RunScriptFault>
     requires held { OnOk made (IsSome (T.held table.now)) }
-    requires counted { IsTallied session.old.tally }
-    requires room { session.old.tally.lines + 1 < 2 ^ 64 }
-    ensures ok { OnOk result (Queues (K.did sink.old sink.new)
-        (session.old.outbox ++ with_newline (answer_of (replied made (T.held table.now)))) session.new.outbox) }
-    ensures err { OnErr result (Stops (K.did sink.old sink.new)
-        (session.old.outbox ++ with_newline (answer_of (replied made (T.held table.now))))) }
-    ensures fault { IfErr result (λ e. e ≡ Write) }
-    ensures stopped { OnErr result (HasStopped (K.has_failed sink.new) (K.is_full sink.new)) }
-    ensures part { session.new.part ≡ session.old.part }
-    ensures counted { IsTallied session.new.tally }
-    ensures lines { session.new.tally.lines ≡ session.old.tally.lines + 1 }
+    requires counted { MayCount session.old.tally 1 }
+    ensures told { Holds result (K.did sink.old sink.new)
+        (session.old.outbox ++ with_newline (answer_of (replied made (T.held table.now)))) session.new.outbox
+        (K.has_failed sink.new) (K.is_full sink.new) }
+    ensures counted { CountsLine session.old session.new }
     ensures recorded { session.new.tally.recorded
         ≡ (if is_ok made then session.old.tally.recorded + 1 else session.old.tally.recorded) }
     ensures starved { session.new.tally.starved
@@ -149,16 +143,13 @@ fn answer_call<T: Table, K: Sink>(
     sink: &mut K,
     call: Call,
 ) -> Result<(), RunScriptFault>
-    requires counted { IsTallied session.old.tally }
-    requires room { session.old.tally.lines + 1 < 2 ^ 64 }
+    requires { MayCount session.old.tally 1 }
     ensures told { Responds T.may_starve result
         (progress_of (T.state table.old) (T.stamp table.old) session.old.tally session.old.outbox)
         (progress_of (T.state table.new) (T.stamp table.new) session.new.tally session.new.outbox)
         (K.did sink.old sink.new) (T.did table.old table.new) (Line.Call call ∷ [])
         (K.has_failed sink.new) (K.is_full sink.new) }
-    ensures part { session.new.part ≡ session.old.part }
-    ensures counted { IsTallied session.new.tally }
-    ensures lines { session.new.tally.lines ≡ session.old.tally.lines + 1 }
+    ensures counted { CountsLine session.old session.new }
 {
     let made = table.act(call);
     tell_answer(session, table, sink, made)
@@ -172,16 +163,13 @@ fn answer_line<T: Table, K: Sink>(
     sink: &mut K,
     line: Line,
 ) -> Result<(), RunScriptFault>
-    requires counted { IsTallied session.old.tally }
-    requires room { session.old.tally.lines + 1 < 2 ^ 64 }
+    requires { MayCount session.old.tally 1 }
     ensures told { Responds T.may_starve result
         (progress_of (T.state table.old) (T.stamp table.old) session.old.tally session.old.outbox)
         (progress_of (T.state table.new) (T.stamp table.new) session.new.tally session.new.outbox)
         (K.did sink.old sink.new) (T.did table.old table.new) (line ∷ [])
         (K.has_failed sink.new) (K.is_full sink.new) }
-    ensures part { session.new.part ≡ session.old.part }
-    ensures counted { IsTallied session.new.tally }
-    ensures lines { session.new.tally.lines ≡ session.old.tally.lines + 1 }
+    ensures counted { CountsLine session.old session.new }
 {
     match line {
         Line::Empty => {
@@ -205,8 +193,7 @@ fn answer_chunk<T: Table, K: Sink>(
     sink: &mut K,
     chunk: &[u8],
 ) -> Result<(), RunScriptFault>
-    requires counted { IsTallied session.old.tally }
-    requires room { session.old.tally.lines + length chunk.now < 2 ^ 64 }
+    requires { MayCount session.old.tally (length chunk.now) }
     ensures told { Responds T.may_starve result
         (progress_of (T.state table.old) (T.stamp table.old) session.old.tally session.old.outbox)
         (progress_of (T.state table.new) (T.stamp table.new) session.new.tally session.new.outbox)
@@ -233,8 +220,7 @@ fn answer_last<T: Table, K: Sink>(
     table: &mut T,
     sink: &mut K,
 ) -> Result<(), RunScriptFault>
-    requires counted { IsTallied session.old.tally }
-    requires room { session.old.tally.lines + 1 < 2 ^ 64 }
+    requires { MayCount session.old.tally 1 }
     ensures { Responds T.may_starve result
         (progress_of (T.state table.old) (T.stamp table.old) session.old.tally session.old.outbox)
         (progress_of (T.state table.new) (T.stamp table.new) session.new.tally session.new.outbox)
@@ -255,16 +241,13 @@ fn answer_read<T: Table, K: Sink>(
     sink: &mut K,
     piece: &[u8],
 ) -> Result<(), RunScriptFault>
-    requires counted { IsTallied session.old.tally }
-    requires room { session.old.tally.lines + length piece.now + 1 < 2 ^ 64 }
+    requires { MayCount session.old.tally (length piece.now + 1) }
     ensures told { Responds T.may_starve result
         (progress_of (T.state table.old) (T.stamp table.old) session.old.tally session.old.outbox)
         (progress_of (T.state table.new) (T.stamp table.new) session.new.tally session.new.outbox)
         (K.did sink.old sink.new) (T.did table.old table.new) (said_next session.old.part piece.now)
         (K.has_failed sink.new) (K.is_full sink.new) }
-    ensures part { OnOk result (0 < length piece.now → session.new.part ≡ kept_after session.old.part piece.now) }
-    ensures counted { 0 < length piece.now → IsTallied session.new.tally }
-    ensures lines { 0 < length piece.now → session.new.tally.lines ≤ session.old.tally.lines + length piece.now }
+    ensures kept { CountsPiece result session.old session.new piece.now }
 {
     if piece.is_empty() {
         return answer_last(session, table, sink);
@@ -279,17 +262,14 @@ fn answer_piece<T: Table, K: Sink>(
     sink: &mut K,
     piece: &[u8],
 ) -> Result<(), RunScriptFault>
-    requires counted { IsTallied session.old.tally }
-    requires room { session.old.tally.lines + length piece.now + 1 < 2 ^ 64 }
+    requires { MayCount session.old.tally (length piece.now + 1) }
     ensures told { Responds T.may_starve result
         (progress_of (T.state table.old) (T.stamp table.old) session.old.tally session.old.outbox)
         (progress_of (T.state table.new) (T.stamp table.new) session.new.tally session.new.outbox)
         (K.did sink.old sink.new) (T.did table.old table.new) (said_next session.old.part piece.now)
         (K.has_failed sink.new) (K.is_full sink.new) }
     ensures empty { OnOk result (session.new.outbox ≡ []) }
-    ensures part { OnOk result (0 < length piece.now → session.new.part ≡ kept_after session.old.part piece.now) }
-    ensures counted { 0 < length piece.now → IsTallied session.new.tally }
-    ensures lines { 0 < length piece.now → session.new.tally.lines ≤ session.old.tally.lines + length piece.now }
+    ensures kept { CountsPiece result session.old session.new piece.now }
 {
     answer_read(session, table, sink, piece)?;
     session.outbox.flush(sink)

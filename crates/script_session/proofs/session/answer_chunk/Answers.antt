@@ -28,14 +28,14 @@ loop-end-preserved g c =
     let end = first_end c.loop-end.session.part c.loop-end.rest.now (c.in-Some.end.now, c.in-Some.after.now) (sym c.in-Some.ensures) in
     let line = c.finish-line.result in
     let after = c.in-Some.after.now in
-    let next = c.in_ok-answer_line.ensures.part ∙ c.finish-line.ensures.next in
+    let next = c.in_ok-answer_line.ensures.counted.part ∙ c.finish-line.ensures.next in
     record {
       lines = before.lines ++ line ∷ [];
       answered = Answers-more (Sends-more (g.met.K.Sink.more _ _ _)) (g.met.T.Table.more _ _ _) _ _ _ before.lines (line ∷ []) before.answered c.in_ok-answer_line.ensures.told.ok;
       said = said_more before.lines line c.loop-end.session.part _ c.loop-end.rest.now after c.in-Some.end.now _ c.finish-line.ensures.value next end before.said;
       kept = ap (λ kept. kept_after kept after) next ∙ sym end.left ∙ before.kept;
-      counted = c.in_ok-answer_line.ensures.counted;
-      few = omega (arith, before.few, end.shorter, c.in_ok-answer_line.ensures.lines);
+      counted = c.in_ok-answer_line.ensures.counted.counted;
+      few = omega (arith, before.few, end.shorter, c.in_ok-answer_line.ensures.counted.lines);
     }
 
 pub returns-in_err-answer_line-clause-told : goal.returns-in_err-answer_line-clause-told

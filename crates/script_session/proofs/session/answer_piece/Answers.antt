@@ -11,7 +11,7 @@ returns-in_err-answer_read-clause-told g c =
 pub returns-clause-told : goal.returns-clause-told
 returns-clause-told g c =
     let sent = c.flush.ensures in
-    flushes c.flush.result (g.met.K.Sink.more _ _ _) c.in_ok-answer_read.ensures.told.ok sent.ok sent.empty sent.err sent.fault sent.stopped
+    flushes c.flush.result (g.met.K.Sink.more _ _ _) c.in_ok-answer_read.ensures.told.ok sent.written.ok sent.empty sent.written.err sent.written.fault sent.written.stopped
 
 pub returns-clause-empty : goal.returns-clause-empty
 returns-clause-empty g c = c.flush.ensures.empty

@@ -152,7 +152,7 @@ loop-turn-preserved g c =
     let same = turn_heard before.events asked (Some piece) es writes in
     let some : 0 < length piece = omega (arith, piece_len, c.if-count-eq0.false) in
     let heard_len = ap length same in
-    let lines = read.lines some in
+    let lines = read.kept.lines some in
     let now = turned before.on before.empty before.size piece {IsAll = g.T.Table.did c.args.table.now c.answer_piece.new.table} (g.met.T.Table.more _ _ _) _ (said_next part piece) more in
     record {
       events = turn before.events asked (Some piece) es;
@@ -163,9 +163,9 @@ loop-turn-preserved g c =
         ends = now.ends ∙ goes_on asked piece some;
         answered = subst (Answers _ _ _ _ _) (ap (λ ls. said_within (Some []) (heard before.events) ++ ls) (next_within part piece some) ∙ more_said (heard before.events) piece part before.part ∙ ap (said_within (Some [])) (sym same)) now.answered;
       };
-      part = more_kept (heard before.events) piece part _ before.part (read.part some) ∙ ap (kept_after (Some [])) (sym same);
+      part = more_kept (heard before.events) piece part _ before.part (read.kept.part some) ∙ ap (kept_after (Some [])) (sym same);
       empty = read.empty;
-      counted = read.counted some;
+      counted = read.kept.counted some;
       turns = turn_reads before.events asked (Some piece) es writes ∙ ap (λ n. n + 1) before.turns;
       few = omega (arith, before.few, lines, len, heard_len);
       long = omega (arith, before.long, len, piece_len, c.if-count-eq0.false, heard_len);
