@@ -1,4 +1,4 @@
-use Rattle.std.proofs.Common.{◌≡◌, ℕ, ◌<◌, inl, inr, refl, arith}
+use Rattle.std.proofs.Common.{◌≡◌, ◌<◌, inl, inr, refl, arith}
 use Rattle.saved_form.specs.Form.{entry_blocks, entry_size}
 use Rattle.saved_form.specs.declared.numbers.EntryNumbers.{EntryNumbers}
 use Rattle.pidtab_c.proofs.saved_bytes.pidtab_saved_next.Goals as goal
