@@ -3,7 +3,7 @@
 
 use pid_types::config::Config;
 use pid_types::device::{FromReader, ToWriter};
-use pid_workers::{RunScriptFault, Tally, run_limited};
+use pid_workers::{RunScriptFault, Tally, run};
 use std::process::Abort;
 use std::test::Fail;
 
@@ -17,7 +17,7 @@ fn expect_run(
     text: &[u8],
 ) {
     let mut written = Vec::new(rt.alloc());
-    let outcome = run_limited(
+    let outcome = run(
         rt.alloc(),
         &mut FromReader::new(script),
         &mut ToWriter::new(&mut written),
