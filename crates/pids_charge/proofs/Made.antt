@@ -7,7 +7,9 @@ use Rattle.pids_charge.proofs.Words.{Node}
 use Rattle.pids_charge.proofs.Linked as linked
 use Rattle.pids_charge.proofs.Climbs.{up_levels}
 use Rattle.pids_charge.proofs.Sums.{sum-zero}
-use Rattle.pids_charge.proofs.Views.{home_in, parent-is, there, nearest-self, kept_standing}
+use Rattle.pids_charge.proofs.Words.{Charges, charges_of, id_at, stands}
+use Rattle.pids_charge.specs.declared.Controls.TheInside.{Inside}
+use Rattle.pids_charge.proofs.Views.{home_in, parent-is, there, nearest-self, kept_standing, stand_in, id_in}
 use Rattle.pids_charge.proofs.Written.{reaches_there}
 use Rattle.pids_charge.proofs.Changed.{share}
 use Rattle.pids_charge.proofs.Leaves as leaves
@@ -48,6 +50,13 @@ module _ (nodes : Slab Node) (children : List (Option ℕ)) (ids : List (ℕ × 
   pub length-path : (s : ℕ) → (tree_of nodes).stand s ≡ true → length (control_path (map (control_in (tree_of nodes) (limit_in nodes)) ids) ((tree_of nodes).id s)) ≡ suc ((tree_of nodes).level s)
   unfolding control_path
   length-path s up = length-climb 64 s up (w.deep s)
+
+-- the path of a control group that stands is as long as its level says
+pub long-path : (s : Inside) {v : Charges} → charges_of s.nodes s.ids ≡ v → IsTree (tree_of s.nodes) → IsListed (tree_of s.nodes) s.children s.ids → (c : ℕ) → stands v c ≡ true
+    → length (control_path v.controls (id_at v c)) ≡ suc ((tree_of s.nodes).level c)
+long-path s {v} is w l c on =
+    ap (λ i. length (control_path v.controls i)) (id_in s is c on) ∙ sym (ap (λ (x : Charges). length (control_path x.controls ((tree_of s.nodes).id c))) is)
+    ∙ length-path s.nodes s.children s.ids w l c (stand_in s is c on)
 
 -- the node of a new control group
 abbrev pub node : ℕ → ℕ → ℕ → Node

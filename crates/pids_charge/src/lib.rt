@@ -7,7 +7,7 @@
 
 ghost use Rattle.std.specs.Prelude.{◌≡◌, ◌≢◌, ℕ, ◌+◌, ◌-◌, ◌<◌, ◌≤◌, ◌^◌, ◌==◌, ◌↔◌, not, true, false, [], ◌∷◌, ◌++◌};
 ghost use Rattle.std.specs.Prelude.{length, map, filter, option_map, option_and_then, Some, None, IsSome, MatchOption};
-ghost use Rattle.std.specs.Prelude.{OnOk, OnErr, IfOk, IfSome, Err};
+ghost use Rattle.std.specs.Prelude.{OnOk, OnErr, IfOk, IfSome, Err, nat_lt};
 ghost use Rattle.std.specs.Result.{result_err};
 ghost use Rattle.std.specs.List.{AllByRecursion};
 ghost use Rattle.pid_types.specs.Bounds.{deepest_control};
@@ -142,10 +142,10 @@ impl Controls {
             ↔ (deepest_control < length (control_path self.old.controls (id_at self.old parent))) }
         ensures err { OnErr result (self.new ≡ self.old) }
     {
-        let level = node_at(&self.nodes, parent).level + 1;
-        if level > DEEPEST_CONTROL {
+        if self.is_deepest(parent) {
             return Err(ControlFault::ControlDepth);
         }
+        let level = node_at(&self.nodes, parent).level + 1;
         let key = make_room(&mut self.nodes, &mut self.counters, &mut self.children)?;
         self.ids.push(stamp, key)?;
         self.nodes
@@ -153,6 +153,34 @@ impl Controls {
         self.counters[key as usize] = Counter::new(Some(parent));
         self.children.add(key, parent);
         Ok(key)
+    }
+
+    /// Whether the control group has level 64, so that none can be made below it. One read.
+    pub fn is_deepest(&self, c: ControlKey) -> bool
+        requires { stands self.now c ≡ true }
+        ensures { result ≡ nat_lt deepest_control (length (control_path self.now.controls (id_at self.now c))) }
+    {
+        let node = node_at(&self.nodes, c);
+        node.level >= DEEPEST_CONTROL
+    }
+
+    /// Whether a control group may be removed: `RootControl`, and then `ControlBusy` where a control group or a live
+    /// task is directly in it. A few reads.
+    pub fn may_remove(&self, c: ControlKey) -> Result<(), Refusal>
+        requires { stands self.now c ≡ true }
+        ensures { result_err result ≡ remove_refusal self.now c }
+    {
+        let node = node_at(&self.nodes, c);
+        if node.parent.is_none() {
+            return Err(Refusal::RootControl);
+        }
+        if node.live > 0 {
+            return Err(Refusal::ControlBusy);
+        }
+        if self.children.first(c).is_some() {
+            return Err(Refusal::ControlBusy);
+        }
+        Ok(())
     }
 
     /// Removes a control group: `rmdir(2)`. The refusals are `RootControl`, and then `ControlBusy` where a
@@ -187,6 +215,21 @@ impl Controls {
         Ok(())
     }
 
+    /// Whether a control group may have the limit: `RootControl`, and then `BadLimit` for one above 4194304. One read.
+    pub fn may_limit(&self, c: ControlKey, limit: Option<u32>) -> Result<(), Refusal>
+        requires { stands self.now c ≡ true }
+        ensures { result_err result ≡ limit_refusal self.now c limit }
+    {
+        let node = node_at(&self.nodes, c);
+        if node.parent.is_none() {
+            return Err(Refusal::RootControl);
+        }
+        if is_too_high(limit) {
+            return Err(Refusal::BadLimit);
+        }
+        Ok(())
+    }
+
     /// Sets the limit of a control group, at most 4194304, or takes it away: a write to `pids.max`. The
     /// refusals are `RootControl`, and then `BadLimit`. A limit below the count is no fault.
     pub fn set_limit(&mut self, c: ControlKey, limit: Option<u32>) -> Result<(), Refusal>
@@ -197,13 +240,8 @@ impl Controls {
         ensures tasks { all_tasks self.new ≡ all_tasks self.old }
         ensures err { OnErr result (self.new ≡ self.old) }
     {
+        self.may_limit(c, limit)?;
         let node = node_at(&self.nodes, c);
-        if node.parent.is_none() {
-            return Err(Refusal::RootControl);
-        }
-        if is_too_high(limit) {
-            return Err(Refusal::BadLimit);
-        }
         set_node(&mut self.nodes, c, Node { limit, ..node });
         self.counters[c as usize].limit = limit;
         Ok(())

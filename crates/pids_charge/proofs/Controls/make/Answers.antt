@@ -12,11 +12,7 @@ use Rattle.pids_charge.proofs.Controls.make.Goals.{After-node_at-level, After-in
 
 -- the path of the control group above is as long as its level says
 long : (c : After-node_at-level) → length (control_path c.args.self.now.controls (id_at c.args.self.now c.args.parent)) ≡ suc ((tree_of c.self.inside.nodes).level c.args.parent)
-long c =
-    let s = views.stand_in c.self.inside c.self.view_is c.args.parent c.requires.stands in
-    ap (λ i. length (control_path c.args.self.now.controls i)) (views.id_in c.self.inside c.self.view_is c.args.parent c.requires.stands)
-    ∙ sym (ap (λ (v : Charges). length (control_path v.controls ((tree_of c.self.inside.nodes).id c.args.parent))) c.self.view_is)
-    ∙ made.length-path c.self.inside.nodes c.self.inside.children c.self.inside.ids c.self.invariant.tree c.self.invariant.listed c.args.parent s
+long c = made.long-path c.self.inside c.self.view_is c.self.invariant.tree c.self.invariant.listed c.args.parent c.requires.stands
 
 -- and its level is read
 level : (c : After-node_at-level) → (tree_of c.self.inside.nodes).level c.args.parent ≡ c.node_at-level.result.level
@@ -24,13 +20,10 @@ level c = views.field-is (λ (n : Node). n.level) 0 c.self.inside.nodes c.args.p
 
 -- the new control group
 makes : (c : After-insert_reserved) → Makes c.self.inside.nodes c.insert_reserved.new.self c.in_ok-key.key c.args.parent c.args.stamp (c.node_at-level.result.level + 1)
-makes c = grind (arith, level, views.field-is, node, made.updates-from, views.stand_in)
+makes c = grind (arith, long, level, views.field-is, node, made.updates-from, views.stand_in)
 
 pub node_at-level-requires : goal.node_at-level-requires
 node_at-level-requires c = views.there_in c.self.inside c.self.view_is c.args.parent c.requires.stands
-
-pub returns-then-level-gt-DEEPEST_CONTROL-clause-deep : goal.returns-then-level-gt-DEEPEST_CONTROL-clause-deep
-returns-then-level-gt-DEEPEST_CONTROL-clause-deep c = grind (arith, long, level)
 
 pub invariant_of-self : goal.invariant_of-self
 invariant_of-self c = made.IsKept-room c.self.inside.nodes c.make_room.new.nodes c.make_room.new.nodes.capacity c.in_err-key.ensures.nodes c.self.inside.counters.items c.make_room.new.counters.items c.self.inside.children c.make_room.new.children c.self.inside.ids c.self.invariant c.in_err-key.ensures.counters c.in_err-key.ensures.children c.in_err-key.ensures.longer c.in_err-key.ensures.more c.in_err-key.ensures.small
@@ -41,7 +34,7 @@ returns-in_err-key-clause-err c =
     rw p.1 (ap (λ (s : Slab Node). charges_of s c.self.inside.ids) c.in_err-key.ensures.nodes ∙ c.self.view_is)
 
 pub returns-in_err-key-clause-deep : goal.returns-in_err-key-clause-deep
-returns-in_err-key-clause-deep c = grind (arith, long, level, err_from_is_err_and)
+returns-in_err-key-clause-deep c = grind (arith, err_from_is_err_and)
 
 pub push-requires : goal.push-requires
 push-requires c = made.below-ids (tree_of c.self.inside.nodes) (limit_in c.self.inside.nodes) c.args.stamp c.self.inside.ids (subst (λ (v : Charges). AllByRecursion (λ (g : Control). g.id < c.args.stamp) v.controls) (sym c.self.view_is) c.requires.above)
@@ -55,7 +48,7 @@ returns-in_err-push-clause-err c =
     rw p.1 (ap (λ ids. charges_of c.make_room.new.nodes ids) c.in_err-push.ensures.err ∙ ap (λ (s : Slab Node). charges_of s c.self.inside.ids) c.in_ok-key.ensures.nodes ∙ c.self.view_is)
 
 pub returns-in_err-push-clause-deep : goal.returns-in_err-push-clause-deep
-returns-in_err-push-clause-deep c = grind (arith, long, level, err_from_is_err_and)
+returns-in_err-push-clause-deep c = grind (arith, err_from_is_err_and)
 
 pub add-requires-clause-free : goal.add-requires-clause-free
 add-requires-clause-free c = grind (arith, made.no_child)
@@ -100,6 +93,6 @@ returns c =
           views.home_at-is new c.push.new.self k ∙ made.home-others m k d ∙ sym (views.home_at-is nodes ids k)
           ∙ ap (λ (v : Charges). home_at v k) c.self.view_is;
       tasks = omega (arith, views.all-of c.self.inside c.self.view_is, views.all-is new c.push.new.self, made.all-made m);
-      deep = grind (arith, long, level);
+      deep = grind (arith);
       err = search rules;
     }

@@ -1,5 +1,5 @@
 -- A limit is no part of the tree, and of the list of groups it changes the one with this id
-use Rattle.pids_charge.proofs.Words.{None, ap, arith, false, map, not, refl, sym, true, ◌∙◌, rules, get_or_read, limited as limited_to, Charges, home_at, id_at}
+use Rattle.pids_charge.proofs.Words.{None, ap, arith, map, sym, ◌∙◌, rules, get_or_read, limited as limited_to, Charges, home_at, id_at}
 use Rattle.pids_charge.proofs.Words.{control_in, limit_in, tree_of}
 use Rattle.pids_charge.proofs.Views as views
 use Rattle.pids_charge.proofs.Limited as limited
@@ -7,14 +7,6 @@ use Rattle.pids_charge.proofs.Controls.set_limit.Goals as goal
 
 pub node_at-node-requires : goal.node_at-node-requires
 node_at-node-requires c = views.there_in c.self.inside c.self.view_is c.args.c c.requires
-
-pub returns-then-is_none-clause-refusal : goal.returns-then-is_none-clause-refusal
-returns-then-is_none-clause-refusal c = sym (limited.refused c.self.inside c.self.view_is c.self.invariant.listed c.args.c c.requires c.args.limit false _
-    c.node_at-node.ensures (c.is_none.ensures ∙ ap not c.if-is_none.true) refl)
-
-pub returns-then-is_too_high-clause-refusal : goal.returns-then-is_too_high-clause-refusal
-returns-then-is_too_high-clause-refusal c = sym (limited.refused c.self.inside c.self.view_is c.self.invariant.listed c.args.c c.requires c.args.limit true true
-    c.node_at-node.ensures (c.is_none.ensures ∙ ap not c.if-is_none.false) (sym c.is_too_high.ensures ∙ c.if-is_too_high.true))
 
 pub index_mut-requires : goal.index_mut-requires
 index_mut-requires c = grind (arith, views.there, views.stand_in)
@@ -34,8 +26,7 @@ returns c =
     let ids = c.self.inside.ids in
     let up = views.stand_in c.self.inside c.self.view_is c.args.c c.requires in
     record {
-      refusal = sym (limited.refused c.self.inside c.self.view_is c.self.invariant.listed c.args.c c.requires c.args.limit true false
-          c.node_at-node.ensures (c.is_none.ensures ∙ ap not c.if-is_none.false) (sym c.is_too_high.ensures ∙ c.if-is_too_high.false));
+      refusal = search rules;
       controls =
           limited.controls-limited nodes c.set_node.new.nodes c.args.c c.node_at-node.result c.args.limit c.node_at-node.ensures c.set_node.ensures
           c.self.inside.counters.items c.self.inside.children ids c.self.invariant up
