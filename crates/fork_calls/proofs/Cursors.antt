@@ -15,7 +15,7 @@ use Rattle.task_table.specs.Store.{Store}
 use Rattle.task_table.specs.View.{parent_id, space_of, spaces_of, state_of}
 use Rattle.task_table.specs.Lawful.{HasLaws, IsLawful}
 use Rattle.task_table.proofs.Keys.{id_for, own_id, only, on_path, path-is, space_at-key, number-is_key}
-use Rattle.fork_calls.proofs.Draws.{IsPlanned, draw-key, beside-map}
+use Rattle.fork_calls.proofs.Draws.{IsPlanned, draw-key, map-draws, beside-map}
 use Rattle.task_table.proofs.Newborn.{KeepsNamespaces}
 
 -- a store's own state is planned so
@@ -27,6 +27,12 @@ IsPlanned-own s l = record {
   cursors = λ sp i t at e.
       ap (λ o. unwrap_or (option_map (λ (x : Space). x.cursor) o) 0) (space_at-key s.numbering l.numbering sp i e) ∙ ap (λ o. option_map_or (λ t. t.cursor) o 0) at;
 }
+
+-- what it draws along the path of a namespace is what its namespaces give
+pub drew-own : (s : Store) (l : IsLawful s) (space t : ℕ) → id_at s.numbering space ≡ Some t
+    → map (λ q. unwrap_or (draw_in s.numbering q) 0) (path_at s.numbering space) ≡ map (drawn (state_of s)) (path_up (spaces_of s.numbering) t)
+drew-own s l space t id =
+    sym (ap (map (drawn (state_of s))) (path-is s.numbering l.numbering space t 0 id (l.numbering.some space t id)) ∙ map-draws s l (state_of s) (IsPlanned-own s l) 0 space)
 
 module _ (b : Numbering) (h : HasLaws b) where
   -- whether an id is on a path is whether its key is

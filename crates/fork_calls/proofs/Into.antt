@@ -13,12 +13,10 @@ use Rattle.task_table.specs.Store.{Store, Begins}
 use Rattle.task_table.specs.View.{name_at, row_of, spaces_of, state_of}
 use Rattle.task_table.specs.Lawful.{IsLawful}
 use Rattle.task_table.specs.Whole.{HasParents}
-use Rattle.task_table.proofs.Keys.{path-is}
 use Rattle.fork_calls.specs.Outcomes.{forked_into}
-use Rattle.fork_calls.proofs.Draws.{map-draws}
 use Rattle.task_table.proofs.Newborn.{KeepsNamespaces}
 use Rattle.fork_calls.proofs.Born.{state-born, reply-born}
-use Rattle.fork_calls.proofs.Cursors.{IsPlanned-own, spaces-moved}
+use Rattle.fork_calls.proofs.Cursors.{drew-own, spaces-moved}
 
 module _ (s s' : Store) (l : IsLawful s) (l' : IsLawful s') (kin : HasParents s) (key from : ℕ) (task caller : Task) (at : task_at s.tree from ≡ Some caller) (space t : ℕ) (numbers : List ℕ)
     (begun : Begins s s' key (Some from) task (new_identifier space numbers))
@@ -39,7 +37,7 @@ module _ (s s' : Store) (l : IsLawful s) (l' : IsLawful s') (kin : HasParents s)
       go (Some n) is e = (keeps q n is).0 ∙ ap (option_map (λ t. t.id)) is ∙ e
 
   drew : numbers ≡ map (drawn (state_of s)) (path_up (spaces_of s.numbering) t)
-  drew = planned ∙ sym (ap (map (drawn (state_of s))) (path-is s.numbering l.numbering space t 0 id (l.numbering.some space t id)) ∙ map-draws s l (state_of s) (IsPlanned-own s l) 0 space)
+  drew = planned ∙ drew-own s l space t id
 
   cursors : with_cursors (state_of s) (path_up (spaces_of s.numbering) t) ≡ spaces_of s'.numbering
   cursors = spaces-moved s l s'.numbering keeps space t id (l.numbering.some space t id) order

@@ -7,3 +7,4 @@ pub mod Into
 pub mod Inside
 pub mod Inner
 pub mod Places
+mod Foretold

@@ -8,15 +8,17 @@ use Rattle.id_slab.specs.Ids.{key_of}
 use Rattle.id_slab.proofs.Keys.{entry_of}
 use Rattle.pid_types.specs.declared.plain.Row.{Row}
 use Rattle.pid_types.specs.declared.plain.Space.{Space}
-use Rattle.pid_types.specs.declared.reply.Refusal.TheVariants.{TooDeep, Elsewhere, SpaceFallen}
+use Rattle.pid_types.specs.declared.reply.Refusal.{Refusal}
+use Rattle.pid_types.specs.declared.reply.Refusal.TheVariants.{NoCaller, TooDeep, Elsewhere, SpaceFallen}
 use Rattle.pid_types.specs.Chains.{climb}
 use Rattle.pid_types.specs.State.{State}
-use Rattle.pid_types.specs.Names.{level, path_up, parent_space, space_at}
-use Rattle.pid_types.specs.Outcome.{Outcome, refused, refuse_if, unless_found}
-use Rattle.pid_types.specs.Fork.{forked, no_room, is_gone, with_space}
+use Rattle.pid_types.specs.Names.{level, live_row, path_up, parent_space, space_at}
+use Rattle.pid_types.specs.Outcome.{Outcome, for_found, refused, refuse_if, unless_found}
+use Rattle.pid_types.specs.Fork.{fork, forked, no_room, is_gone, with_space}
 use Rattle.pid_numbers.specs.Numbering.{id_at, path_at, has_fallen_at}
 use Rattle.task_table.specs.Store.{Store}
-use Rattle.task_table.specs.View.{space_of, spaces_of, state_of}
+use Rattle.task_table.specs.declared.view.Found.{Found}
+use Rattle.task_table.specs.View.{row_of, space_of, spaces_of, state_of}
 use Rattle.task_table.specs.Lawful.{IsLawful}
 use Rattle.task_table.proofs.Keys.{id_for, path-is, space_at-is, space_at-key}
 use Rattle.fork_calls.specs.Outcomes.{forked_into, space_refusal}
@@ -94,3 +96,13 @@ module _ (state : State) (stamp : ℕ) (caller : Row) (new_space : Bool) where
       go true false false false = refl
       go false a b true = refl
       go false a b false = refl
+
+-- a fork that the namespace refuses
+pub fork-refused : (s : Store) (stamp n : ℕ) (new_space : Bool) (found : Found) → live_row (state_of s).rows n ≡ Some (row_of s found.key found.task) → (refusal : Refusal)
+    → space_refusal (state_of s) (row_of s found.key found.task) new_space ≡ Some refusal → fork (state_of s) stamp n new_space ≡ refused (state_of s) refusal
+unfolding fork
+fork-refused s stamp n new_space found live refusal why =
+    let row = row_of s found.key found.task in
+    ap (λ o. for_found (state_of s) o NoCaller (λ caller. asked (state_of s) stamp caller new_space)) live ∙ asked-is (state_of s) stamp row new_space
+    ∙ ap (λ o. option_map_or (refused (state_of s)) o
+    (forked_into (state_of s) (if new_space then with_space (state_of s) row.children_space stamp else state_of s) row (if new_space then stamp else row.children_space))) why

@@ -3,6 +3,8 @@ use Rattle.std.specs.Prelude.{◌≡◌, ◌≢◌, ℕ, Bool, not, ◌==◌, na
 use Rattle.std.specs.Option.{option_map_or}
 use Rattle.pid_types.specs.declared.plain.Row.{Row}
 use Rattle.pid_types.specs.declared.reply.Refusal.{Refusal}
+use Rattle.pid_types.specs.declared.reply.Reply.{Reply}
+use Rattle.pid_types.specs.declared.reply.Reply.TheVariants.{Forked, Refused}
 use Rattle.pid_types.specs.declared.reply.Refusal.TheVariants.{TooDeep, Elsewhere, SpaceFallen}
 use Rattle.pid_types.specs.Bounds.{deepest_space}
 use Rattle.pid_types.specs.State.{State}
@@ -26,6 +28,11 @@ child_there s key task = forked_into (state_of s) (state_of s) (row_of s key tas
 abbrev pub child_below : Store → ℕ → Task → ℕ → Outcome
 child_below s key task stamp =
     forked_into (state_of s) (with_space (state_of s) task.children_space stamp) (row_of s key task) stamp
+
+-- the reply to a fork whose child gets these numbers, in the caller's namespace and in the root, where the limits do not refuse it
+abbrev pub planned_reply : Option Refusal → ℕ → ℕ → Reply
+planned_reply None child root = Forked child root
+planned_reply (Some refusal) child root = Refused refusal
 
 -- why a caller whose own namespace is the second one can have no new namespace below the first: it has the deepest level, or is not
 -- the caller's own

@@ -23,9 +23,12 @@ ghost use Rattle.pid_types.specs.Short.{reply_of};
 ghost use Rattle.pid_numbers.specs.Numbering.{id_at, path_at, draw_in, has_fallen_at, namespace_at, number_of};
 ghost use Rattle.pid_numbers.specs.Numbering.{identifier_at, Identifier};
 ghost use Rattle.task_tree.specs.declared.Task.{Task};
-ghost use Rattle.task_tree.specs.Tree.{task_at, lives};
+ghost use Rattle.task_tree.specs.Tree.{task_at};
 ghost use Rattle.task_table.specs.View.{name_at, row_of, state_of};
+ghost use Rattle.task_table.specs.Found.{IsCaller, IsFound};
 ghost use Rattle.task_table.specs.Whole.{IsWhole, HasParents};
+
+mod would;
 
 use arrayvec::ArrayVec;
 use pid_types::keys::{Pid, SpaceKey, TaskKey};
@@ -35,11 +38,11 @@ use std::alloc::AllocError;
 use task_table::Tasks;
 use task_table::view::{Found, find_live, laws};
 use task_tree::Task;
+pub use would::would_fork;
 
 /// The control group whose limit one task more beside the caller would pass.
 fn passed_limit(store: &Tasks, found: &Found) -> Option<Refusal>
-    requires there { task_at store.now.tree found.now.key ≡ Some found.now.task }
-    requires live { lives found.now.task ≡ true }
+    requires caller { IsCaller store.now found.now }
     ensures { result ≡ option_map Refusal.PidsLimit (passed_limit_of (state_of store.now)
         (row_of store.now found.now.key found.now.task).home) }
 {
@@ -116,9 +119,7 @@ fn fork_planned(
     numbers: &[Pid],
 ) -> Result<ShortReply, AllocError>
     requires whole { IsWhole store.old }
-    requires there { task_at store.old.tree found.now.key ≡ Some found.now.task }
-    requires live { lives found.now.task ≡ true }
-    requires own { id_at store.old.numbering found.now.space ≡ Some (name_at store.old.numbering found.now.key).space }
+    requires caller { IsCaller store.old found.now }
     requires id { id_at store.old.numbering space ≡ Some found.now.task.children_space }
     requires all { find (λ s. is_none (draw_in store.old.numbering s)) (path_at store.old.numbering space) ≡ None }
     requires planned { numbers.now ≡ map (λ s. unwrap_or (draw_in store.old.numbering s) 0)
@@ -142,9 +143,7 @@ fn fork_planned(
 /// The caller's child in a namespace that stands. The error is want of memory.
 fn fork_into(store: &mut Tasks, found: &Found, space: SpaceKey) -> Result<ShortReply, AllocError>
     requires whole { IsWhole store.old }
-    requires there { task_at store.old.tree found.now.key ≡ Some found.now.task }
-    requires live { lives found.now.task ≡ true }
-    requires own { id_at store.old.numbering found.now.space ≡ Some (name_at store.old.numbering found.now.key).space }
+    requires caller { IsCaller store.old found.now }
     requires id { id_at store.old.numbering space ≡ Some found.now.task.children_space }
     ensures state { OnOk result (state_of store.new ≡ (child_there store.old found.now.key found.now.task).state) }
     ensures reply { IfOk result (λ reply. reply_of reply
@@ -164,9 +163,7 @@ fn fork_into(store: &mut Tasks, found: &Found, space: SpaceKey) -> Result<ShortR
 /// memory.
 fn fork_into_root(store: &mut Tasks, found: &Found) -> Result<ShortReply, AllocError>
     requires whole { IsWhole store.old }
-    requires there { task_at store.old.tree found.now.key ≡ Some found.now.task }
-    requires live { lives found.now.task ≡ true }
-    requires own { id_at store.old.numbering found.now.space ≡ Some (name_at store.old.numbering found.now.key).space }
+    requires caller { IsCaller store.old found.now }
     requires id { id_at store.old.numbering 0 ≡ Some found.now.task.children_space }
     ensures state { OnOk result (state_of store.new ≡ (child_there store.old found.now.key found.now.task).state) }
     ensures reply { IfOk result (λ reply. reply_of reply
@@ -191,9 +188,7 @@ fn fork_new_planned(
 ) -> Result<ShortReply, AllocError>
     requires whole { IsWhole store.old }
     requires below { IsBelow stamp (state_of store.old) }
-    requires there { task_at store.old.tree found.now.key ≡ Some found.now.task }
-    requires live { lives found.now.task ≡ true }
-    requires own { id_at store.old.numbering found.now.space ≡ Some (name_at store.old.numbering found.now.key).space }
+    requires caller { IsCaller store.old found.now }
     requires id { id_at store.old.numbering found.now.space ≡ Some found.now.task.children_space }
     requires stands { is_gone (state_of store.old) found.now.task.children_space ≡ false }
     requires shallow { nat_le deepest_space (level (state_of store.old).spaces found.now.task.children_space) ≡ false }
@@ -223,9 +218,7 @@ fn fork_new_planned(
 fn fork_inside(store: &mut Tasks, found: &Found, stamp: u64) -> Result<ShortReply, AllocError>
     requires whole { IsWhole store.old }
     requires below { IsBelow stamp (state_of store.old) }
-    requires there { task_at store.old.tree found.now.key ≡ Some found.now.task }
-    requires live { lives found.now.task ≡ true }
-    requires own { id_at store.old.numbering found.now.space ≡ Some (name_at store.old.numbering found.now.key).space }
+    requires caller { IsCaller store.old found.now }
     requires id { id_at store.old.numbering found.now.space ≡ Some found.now.task.children_space }
     requires stands { is_gone (state_of store.old) found.now.task.children_space ≡ false }
     requires shallow { nat_le deepest_space (level (state_of store.old).spaces found.now.task.children_space) ≡ false }
@@ -286,8 +279,7 @@ fn standing(store: &Tasks, space: SpaceKey) -> Result<SpaceKey, Refusal>
 
 /// The namespace for the caller's children, or why it can have none there or in a new one below it.
 fn namespace_for(store: &Tasks, found: &Found, new_space: bool) -> Result<SpaceKey, Refusal>
-    requires there { task_at store.now.tree found.now.key ≡ Some found.now.task }
-    requires own { id_at store.now.numbering found.now.space ≡ Some (name_at store.now.numbering found.now.key).space }
+    requires found { IsFound store.now found.now }
     ensures ok { IfOk result (λ space. (space_refusal (state_of store.now)
         (row_of store.now found.now.key found.now.task) new_space ≡ None)
         × (id_at store.now.numbering space ≡ Some found.now.task.children_space)) }

@@ -7,18 +7,17 @@ use Rattle.std.specs.Prelude.{All, slice_index, ◌==◌, ◌⊎◌}
 use Rattle.std.proofs.lemmas.Bool.{ne_eqb}
 use Rattle.pid_types.specs.declared.call.Call.{Call}
 use Rattle.pid_types.specs.declared.entry.Entry.{Entry}
-use Rattle.pid_types.specs.Outcome.{Outcome}
 use Rattle.pid_types.specs.Replay.{state_after, calls_of}
 use Rattle.pid_types.specs.Settings.{Settings}
 use Rattle.pid_types.specs.State.{State}
 use Rattle.pid_types.specs.Step.{step}
 use Rattle.model_laws.specs.StepLaws.{BoundStays, RunsKeepSoundness}
 use Rattle.kept_table.specs.Calls.{after_call, counted, entry_of, outcome, IsWithoutFirst}
-use Rattle.kept_table.specs.Chronicle.{Chronicle, IsKept, by_worker, first_kept_stamp, next_stamp}
+use Rattle.kept_table.specs.Chronicle.{Chronicle, IsKept, by_worker, first_kept_stamp}
 use Rattle.kept_table.specs.Whole.{IsKeptCounted, IsKeptWhole, is_fresh, one_of, room_of, told}
 use Rattle.kept_past.specs.Past.{IsCutOnce, Past, moves_or, opening_of}
 use Rattle.kept_past.proofs.Along.{state_after-append}
-use Rattle.kept_table.proofs.Counts.{counted-cut, counted-push, recorded-cut}
+use Rattle.kept_table.proofs.Counts.{counted-cut, recorded-cut}
 use Rattle.kept_table.proofs.Invariant.{kept-once}
 
 by_worker_first : (w : ℕ) (e : Entry) (entries : List Entry) → by_worker w (e ∷ entries) ≡ one_of e.worker w + by_worker w entries

@@ -7,7 +7,7 @@ use Rattle.pid_types.specs.Replay.{state_after, calls_of}
 use Rattle.pid_types.specs.Settings.{Settings}
 use Rattle.pid_types.specs.State.{State, root_state}
 use Rattle.pid_types.specs.Step.{step}
-use Rattle.kept_table.specs.Chronicle.{Chronicle, first_kept_stamp, next_stamp, recorded, total}
+use Rattle.kept_table.specs.Chronicle.{Chronicle, first_kept_stamp, next_stamp, recorded}
 
 -- a record that was asked nothing: the root state, and no call of any worker
 abbrev pub begun : Settings → ℕ → ℕ → Chronicle

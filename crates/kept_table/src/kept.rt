@@ -309,6 +309,21 @@ impl Kept {
         self.table.ask(call, reply);
     }
 
+    /// Writes the reply that the call would get as the next one: [`PidTable::would`]. It is not recorded, and nothing
+    /// that is held changes. The error is `Spent`, where the stamps are used up; then the reply stays.
+    pub fn would(&self, call: Call, reply: &mut Reply) -> Result<(), CallFault>
+        ensures reply { OnOk result (reply.new ≡ (outcome self.now call).reply) }
+        ensures spent { (result ≡ Err CallFault.Spent) ↔ (next_stamp self.now ≡ u64.MAX) }
+        ensures only { result ≢ Err CallFault.NoMemory }
+    {
+        let Some(stamp) = self.next_stamp() else {
+            return Err(CallFault::Spent);
+        };
+        soundness_is_kept();
+        self.table.would(stamp, call, reply);
+        Ok(())
+    }
+
     /// Makes room for the entries of n more calls. Each recorded call uses up one of them. A new record holds the root
     /// init's state as its opening, which takes no memory. Where the opening is the present state behind a
     /// [`Kept::resume`], the first room costs a copy of the whole table, which becomes the opening.

@@ -1,5 +1,5 @@
 -- What an exit comes to in the model.
-use Rattle.std.proofs.Common.{◌≡◌, ◌≢◌, ℕ, ◌==◌, Bool, true, false, Option, Some, None, if◌then◌else◌, sym, ap, ◌∙◌}
+use Rattle.std.proofs.Common.{◌≡◌, ◌≢◌, ℕ, ◌==◌, Bool, true, false, Option, Some, None, if◌then◌else◌, refl, sym, ap, ◌∙◌}
 use Rattle.std.specs.Option.{option_eq}
 use Rattle.std.proofs.lemmas.Bool.{eqb-true}
 use Rattle.pid_types.specs.declared.plain.Row.{Row}
@@ -52,3 +52,11 @@ module _ (state : State) (n : ℕ) (status : ℕ) (row : Row) (found : live_row 
 
   pub exit-ends : (root_number row.name == 1) ≡ false → is_init state row ≡ false → exit state n status ≡ changed (record state { rows = rows_after_exit state row status }) Done
   exit-ends top init = asked false top ∙ ap (λ b. if b then changed (fall state row status) Done else changed (record state { rows = rows_after_exit state row status }) Done) init
+
+  -- either way the reply is one
+  pub exit-done : (root_number row.name == 1) ≡ false → Done ≡ (exit state n status).reply
+  exit-done top = go (is_init state row) refl
+    where
+      go : (b : Bool) → is_init state row ≡ b → Done ≡ (exit state n status).reply
+      go true init = sym (ap (λ (o : Outcome). o.reply) (exit-falls top init))
+      go false init = sym (ap (λ (o : Outcome). o.reply) (exit-ends top init))

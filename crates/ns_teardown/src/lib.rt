@@ -100,3 +100,19 @@ pub fn exit(store: &mut Tasks, caller: Pid, status: u8) -> ShortReply
     }
     ShortReply::Done
 }
+
+/// The reply that [`exit`] would get. It changes nothing.
+#[tactic(auto, unfolding(pid_types::specs::Exit::exit))]
+pub fn would_exit(store: &Tasks, caller: Pid, status: u8) -> ShortReply
+    requires { IsWhole store.now }
+    ensures { reply_of result ≡ (exit_of (state_of store.now) caller status).reply }
+{
+    laws(store);
+    let Some(found) = find_live(store, caller) else {
+        return ShortReply::Refused(Refusal::NoCaller);
+    };
+    if is_first(store, 0, found.key) {
+        return ShortReply::Refused(Refusal::RootInit);
+    }
+    ShortReply::Done
+}

@@ -7,18 +7,24 @@ ghost use Rattle.task_table.specs.View.{state_of};
 ghost use Rattle.task_table.specs.Whole.{HasParents, IsWhole};
 
 use crate::PidTable;
-use fork_calls::fork;
+use fork_calls::{fork, would_fork};
 use model_laws::soundness::soundness_is_kept;
-use ns_teardown::exit;
+use ns_teardown::{exit, would_exit};
 use pid_types::call::Call;
 use pid_types::reply::Reply;
-use set_calls::controls::{count, make_control, remove_control, set_limit};
-use set_calls::groups::{set_pgid, set_sid};
-use set_calls::tasks::{exec, join, move_task, set_subreaper};
+use set_calls::controls::{
+    count, make_control, remove_control, set_limit, would_make_control, would_remove_control,
+    would_set_limit,
+};
+use set_calls::groups::{set_pgid, set_sid, would_set_pgid, would_set_sid};
+use set_calls::tasks::{
+    exec, join, move_task, set_subreaper, would_exec, would_join, would_move_task,
+    would_set_subreaper,
+};
 use std::alloc::AllocError;
 use task_table::Tasks;
 use translate::{get_pgid, get_pid, get_ppid, get_sid, next, ns_pid};
-use wait_calls::wait;
+use wait_calls::{wait, would_wait};
 
 /// Makes the call on a store, and writes the reply in place. Only the reply to `NSpid` is made as a whole, by a
 /// function that is not inlined, so that no other call has room for it.
@@ -95,6 +101,37 @@ fn answer(store: &Tasks, call: Call, reply: &mut Reply)
     short.tell(reply);
 }
 
+/// Writes the reply that the call would get on a store.
+#[tactic(auto, unfolding(pid_types::specs::Step::step))]
+fn foretell(store: &Tasks, stamp: u64, call: Call, reply: &mut Reply)
+    requires whole { IsWhole store.now }
+    requires below { IsBelow stamp (state_of store.now) }
+    ensures { reply.new ≡ (step (state_of store.now) stamp call).reply }
+{
+    let short = match call {
+        Call::Fork { caller, new_space } => would_fork(store, caller, new_space, stamp),
+        Call::MakeControl { parent } => would_make_control(store, stamp, parent),
+        Call::RemoveControl { id } => would_remove_control(store, id),
+        Call::SetLimit { id, limit } => would_set_limit(store, id, limit),
+        Call::Move { task, id } => would_move_task(store, task, id),
+        Call::Exec { caller } => would_exec(store, caller),
+        Call::Exit { caller, status } => would_exit(store, caller, status),
+        Call::Wait { caller, which } => would_wait(store, caller, which),
+        Call::SetPgid { caller, pid, pgid } => would_set_pgid(store, caller, pid, pgid),
+        Call::SetSid { caller } => would_set_sid(store, caller),
+        Call::Join { caller, target } => would_join(store, caller, target),
+        Call::SetSubreaper { caller, on } => would_set_subreaper(store, caller, on),
+        Call::GetPid { .. }
+        | Call::GetPpid { .. }
+        | Call::GetPgid { .. }
+        | Call::GetSid { .. }
+        | Call::NsPid { .. }
+        | Call::Next { .. }
+        | Call::Count { .. } => return answer(store, call, reply),
+    };
+    short.tell(reply);
+}
+
 impl PidTable {
     /// Answers a query, as [`PidTable::step`] does at any stamp, and changes nothing. The reply is written in place. It
     /// costs a search on each level of the namespaces that the query names.
@@ -103,6 +140,17 @@ impl PidTable {
         ensures { (stamp : ℕ) → reply.new ≡ (step self.now stamp call).reply }
     {
         answer(&self.store, call, reply);
+    }
+
+    /// Writes the reply that the call would get with this stamp, and changes nothing: of a fork the numbers of the
+    /// child, of a wait whom it would reap. Whether there is memory for the call it does not know.
+    ///
+    /// It costs what the call costs, without what that changes.
+    pub fn would(&self, stamp: u64, call: Call, reply: &mut Reply)
+        requires { IsBelow stamp self.now }
+        ensures { reply.new ≡ (step self.now stamp call).reply }
+    {
+        foretell(&self.store, stamp, call, reply);
     }
 
     /// Makes the call, of which the stamp is the id of what it makes; so the stamp is above all ids that

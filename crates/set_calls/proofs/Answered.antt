@@ -89,6 +89,11 @@ module _ (s : Store) (l : IsLawful s) (c id : ℕ) (standing : stands s.charges 
       let h = done-at state id there (option_map_or (nat_lt greatest_limit) limit false) BadLimit (λ parent. changed (with_limit state id limit) Done) (sym (limiting limit) ∙ e) in
       h.2
 
+  pub not-limited : (limit : Option ℕ) (r : Refusal) → limit_refusal s.charges c limit ≡ Some r → set_limit state id limit ≡ refused state r
+  unfolding set_limit
+  not-limited limit r e =
+      refused-at state id there (option_map_or (nat_lt greatest_limit) limit false) BadLimit (λ parent. changed (with_limit state id limit) Done) r (sym (limiting limit) ∙ e)
+
   -- new ones
   made-at : (stamp : ℕ) → make_control state stamp id
       ≡ refuse_if state (nat_lt deepest_control (length (control_path s.charges.controls id))) ControlDepth (changed (with_control state id stamp) (ControlMade stamp))
@@ -97,10 +102,15 @@ module _ (s : Store) (l : IsLawful s) (c id : ℕ) (standing : stands s.charges 
       let g = held (control_at s.charges.controls id) there in
       ap (λ o. for_found state o NoControl (λ (c : Control). refuse_if state (nat_lt deepest_control (length (control_path s.charges.controls id))) ControlDepth (changed (with_control state id stamp) (ControlMade stamp)))) g.1
 
-  pub is-made : (stamp : ℕ) → (deepest_control < length (control_path s.charges.controls (home_id s.charges c)) → ⊥) → make_control state stamp id ≡ changed (with_control state id stamp) (ControlMade stamp)
-  is-made stamp shallow =
+  -- by the depth of the one above
+  pub made-by : (stamp : ℕ) (b : Bool) → nat_lt deepest_control (length (control_path s.charges.controls (home_id s.charges c))) ≡ b
+      → make_control state stamp id ≡ refuse_if state b ControlDepth (changed (with_control state id stamp) (ControlMade stamp))
+  made-by stamp b e =
       made-at stamp ∙ ap (λ b. refuse_if state b ControlDepth (changed (with_control state id stamp) (ControlMade stamp)))
-      (ap (λ i. nat_lt deepest_control (length (control_path s.charges.controls i))) (sym is) ∙ go (nat_lt deepest_control (length (control_path s.charges.controls (home_id s.charges c)))) refl)
+      (ap (λ i. nat_lt deepest_control (length (control_path s.charges.controls i))) (sym is) ∙ e)
+
+  pub is-made : (stamp : ℕ) → (deepest_control < length (control_path s.charges.controls (home_id s.charges c)) → ⊥) → make_control state stamp id ≡ changed (with_control state id stamp) (ControlMade stamp)
+  is-made stamp shallow = made-by stamp false (go (nat_lt deepest_control (length (control_path s.charges.controls (home_id s.charges c)))) refl)
     where
       go : (b : Bool) → nat_lt deepest_control (length (control_path s.charges.controls (home_id s.charges c))) ≡ b → b ≡ false
       go false e = refl

@@ -109,3 +109,51 @@ pub fn count(store: &Tasks, id: u64) -> ShortReply
     };
     ShortReply::Counted(store.controls().count(key))
 }
+
+/// The reply that [`make_control`] would get. It changes nothing.
+#[tactic(auto, unfolding(pid_types::specs::Changes::make_control))]
+pub fn would_make_control(store: &Tasks, stamp: u64, parent: u64) -> ShortReply
+    requires { IsWhole store.now }
+    ensures { reply_of result ≡ (make_control_of (state_of store.now) stamp parent).reply }
+{
+    laws(store);
+    let Some(above) = store.controls().find(parent) else {
+        return ShortReply::Refused(Refusal::NoControl);
+    };
+    if store.controls().is_deepest(above) {
+        return ShortReply::Refused(Refusal::ControlDepth);
+    }
+    ShortReply::Control(stamp)
+}
+
+/// The reply that [`remove_control`] would get. It changes nothing.
+#[tactic(auto, unfolding(pid_types::specs::Changes::remove_control))]
+pub fn would_remove_control(store: &Tasks, id: u64) -> ShortReply
+    requires { IsWhole store.now }
+    ensures { reply_of result ≡ (remove_control_of (state_of store.now) id).reply }
+{
+    laws(store);
+    let Some(key) = store.controls().find(id) else {
+        return ShortReply::Refused(Refusal::NoControl);
+    };
+    match store.controls().may_remove(key) {
+        Err(refusal) => ShortReply::Refused(refusal),
+        Ok(()) => ShortReply::Done,
+    }
+}
+
+/// The reply that [`set_limit`] would get. It changes nothing.
+#[tactic(auto, unfolding(pid_types::specs::Changes::set_limit))]
+pub fn would_set_limit(store: &Tasks, id: u64, limit: Option<u32>) -> ShortReply
+    requires { IsWhole store.now }
+    ensures { reply_of result ≡ (set_limit_of (state_of store.now) id limit).reply }
+{
+    laws(store);
+    let Some(key) = store.controls().find(id) else {
+        return ShortReply::Refused(Refusal::NoControl);
+    };
+    match store.controls().may_limit(key, limit) {
+        Err(refusal) => ShortReply::Refused(refusal),
+        Ok(()) => ShortReply::Done,
+    }
+}

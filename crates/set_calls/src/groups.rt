@@ -14,6 +14,7 @@ ghost use Rattle.pid_numbers.specs.Numbering.{id_at};
 ghost use Rattle.task_tree.specs.declared.Task.{Task};
 ghost use Rattle.task_tree.specs.Tree.{task_at};
 ghost use Rattle.task_table.specs.declared.view.Found.{Found};
+ghost use Rattle.task_table.specs.Found.{IsFound};
 ghost use Rattle.task_table.specs.View.{name_at, row_of, state_of};
 ghost use Rattle.task_table.specs.Whole.{IsWhole, HasParents};
 ghost use Rattle.set_calls.specs.declared.groups.Move.{Move};
@@ -34,9 +35,7 @@ struct Move {
 
 /// The task that the number names: 0 the caller, and a negative number nobody.
 fn find_target(store: &Tasks, caller: &Found, pid: i32) -> Option<Found>
-    requires there { task_at store.now.tree caller.now.key ≡ Some caller.now.task }
-    requires own { id_at store.now.numbering caller.now.space
-        ≡ Some (name_at store.now.numbering caller.now.key).space }
+    requires { IsFound store.now caller.now }
     ensures there { IfSome result (λ f. task_at store.now.tree f.key ≡ Some f.task) }
     ensures row { target_of (state_of store.now) (row_of store.now caller.now.key caller.now.task) pid
         ≡ option_map (λ (f : Found). row_of store.now f.key f.task) result }
@@ -65,9 +64,7 @@ fn target(store: &Tasks, caller: IdentKey, found: &Found) -> Target
 
 /// The same about the task that the number names.
 fn named_target(store: &Tasks, caller: &Found, pid: i32) -> Option<Target>
-    requires there { task_at store.now.tree caller.now.key ≡ Some caller.now.task }
-    requires own { id_at store.now.numbering caller.now.space
-        ≡ Some (name_at store.now.numbering caller.now.key).space }
+    requires { IsFound store.now caller.now }
     ensures { IsNamed store.now caller.now.key caller.now.task pid result }
 {
     let found = find_target(store, caller, pid)?;
@@ -138,8 +135,7 @@ pub fn set_pgid(store: &mut Tasks, caller: Pid, pid: i32, pgid: i32) -> ShortRep
 
 /// The number of a task in its own namespace.
 fn own_number(store: &Tasks, found: &Found) -> Pid
-    requires there { task_at store.now.tree found.now.key ≡ Some found.now.task }
-    requires own { id_at store.now.numbering found.now.space ≡ Some (name_at store.now.numbering found.now.key).space }
+    requires { IsFound store.now found.now }
     ensures { result ≡ number_or_zero (state_of store.now).spaces (name_at store.now.numbering found.now.key)
         (name_at store.now.numbering found.now.key).space }
 {
@@ -174,5 +170,32 @@ pub fn set_sid(store: &mut Tasks, caller: Pid) -> ShortReply
             laws(store);
             ShortReply::Number(number)
         }
+    }
+}
+
+/// The reply that [`set_pgid`] would get. It changes nothing.
+pub fn would_set_pgid(store: &Tasks, caller: Pid, pid: i32, pgid: i32) -> ShortReply
+    requires { IsWhole store.now }
+    ensures { reply_of result ≡ (set_pgid_of (state_of store.now) caller pid pgid).reply }
+{
+    match choose(store, caller, pid, pgid) {
+        Err(refusal) => ShortReply::Refused(refusal),
+        Ok(_) => ShortReply::Done,
+    }
+}
+
+/// The reply that [`set_sid`] would get. It changes nothing.
+#[tactic(auto, unfolding(pid_types::specs::Groups::set_sid))]
+pub fn would_set_sid(store: &Tasks, caller: Pid) -> ShortReply
+    requires { IsWhole store.now }
+    ensures { reply_of result ≡ (set_sid_of (state_of store.now) caller).reply }
+{
+    laws(store);
+    let Some(found) = find_live(store, caller) else {
+        return ShortReply::Refused(Refusal::NoCaller);
+    };
+    match store.members().may_setsid(found.key) {
+        Err(refusal) => ShortReply::Refused(refusal),
+        Ok(()) => ShortReply::Number(own_number(store, &found)),
     }
 }

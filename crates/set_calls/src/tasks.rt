@@ -116,3 +116,58 @@ pub fn move_task(store: &mut Tasks, task: Pid, id: u64) -> ShortReply
     laws(store);
     ShortReply::Done
 }
+
+/// The reply that [`exec`] would get. It changes nothing.
+#[tactic(auto, unfolding(pid_types::specs::Changes::exec))]
+pub fn would_exec(store: &Tasks, caller: Pid) -> ShortReply
+    requires { IsWhole store.now }
+    ensures { reply_of result ≡ (exec_of (state_of store.now) caller).reply }
+{
+    match find_live(store, caller) {
+        Some(_) => ShortReply::Done,
+        None => ShortReply::Refused(Refusal::NoCaller),
+    }
+}
+
+/// The reply that [`join`] would get. It changes nothing.
+#[tactic(auto, unfolding(pid_types::specs::Changes::join))]
+pub fn would_join(store: &Tasks, caller: Pid, target: Pid) -> ShortReply
+    requires { IsWhole store.now }
+    ensures { reply_of result ≡ (join_of (state_of store.now) caller target).reply }
+{
+    let Some(found) = find_live(store, caller) else {
+        return ShortReply::Refused(Refusal::NoCaller);
+    };
+    match find_task(store, found.space, target) {
+        Some(other) if is_live(&other.task) => ShortReply::Done,
+        _ => ShortReply::Refused(Refusal::NoTask),
+    }
+}
+
+/// The reply that [`set_subreaper`] would get. It changes nothing.
+#[tactic(auto, unfolding(pid_types::specs::Changes::set_subreaper))]
+pub fn would_set_subreaper(store: &Tasks, caller: Pid, on: bool) -> ShortReply
+    requires { IsWhole store.now }
+    ensures { reply_of result ≡ (set_subreaper_of (state_of store.now) caller on).reply }
+{
+    match find_live(store, caller) {
+        Some(_) => ShortReply::Done,
+        None => ShortReply::Refused(Refusal::NoCaller),
+    }
+}
+
+/// The reply that [`move_task`] would get. It changes nothing.
+#[tactic(auto, unfolding(pid_types::specs::Changes::move_task))]
+pub fn would_move_task(store: &Tasks, task: Pid, id: u64) -> ShortReply
+    requires { IsWhole store.now }
+    ensures { reply_of result ≡ (move_of (state_of store.now) task id).reply }
+{
+    laws(store);
+    if find_live(store, task).is_none() {
+        return ShortReply::Refused(Refusal::NoTask);
+    }
+    match store.controls().find(id) {
+        Some(_) => ShortReply::Done,
+        None => ShortReply::Refused(Refusal::NoControl),
+    }
+}

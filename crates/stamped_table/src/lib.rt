@@ -4,7 +4,7 @@
 //! keeps the calls too.
 #![tactic(auto)]
 
-ghost use Rattle.std.specs.Prelude.{◌≡◌, ◌+◌, ◌↔◌, IfOk, OnOk, OnErr, Err, IsTrue};
+ghost use Rattle.std.specs.Prelude.{◌≡◌, ◌≢◌, ◌+◌, ◌↔◌, IfOk, OnOk, OnErr, Err, IsTrue};
 ghost use Rattle.model_laws.specs.Refusals.{is_query};
 ghost use Rattle.pid_types.specs.Sound.{IsSound, IsBelow};
 ghost use Rattle.pid_types.specs.State.{root_state};
@@ -112,6 +112,21 @@ impl StampedTable {
         let mut reply = Reply::Done;
         self.table.ask(call, &mut reply);
         reply
+    }
+
+    /// Writes the reply that the call would get as the next one: [`PidTable::would`]. It uses no stamp, and changes
+    /// nothing. The error is `Spent`, where the stamps are used up; then the reply stays.
+    pub fn would(&self, call: Call, reply: &mut Reply) -> Result<(), CallFault>
+        ensures reply { OnOk result (reply.new ≡ reply_to self.now call) }
+        ensures spent { (result ≡ Err CallFault.Spent) ↔ (self.now.stamp ≡ u64.MAX) }
+        ensures only { result ≢ Err CallFault.NoMemory }
+    {
+        if self.stamp < u64::MAX {
+            self.table.would(self.stamp, call, reply);
+            Ok(())
+        } else {
+            Err(CallFault::Spent)
+        }
     }
 
     /// One read of a task. It is no call, and uses no stamp.

@@ -3,3 +3,4 @@ pub mod View
 pub mod Lawful
 pub mod Whole
 pub mod Store
+pub mod Found

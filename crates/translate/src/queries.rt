@@ -9,6 +9,7 @@ ghost use Rattle.task_tree.specs.declared.Task.{Task};
 ghost use Rattle.std.specs.Option.{option_map_or};
 ghost use Rattle.task_tree.specs.Tree.{task_at, parent_of};
 ghost use Rattle.task_table.specs.declared.view.Found.{Found};
+ghost use Rattle.task_table.specs.Found.{IsFound};
 ghost use Rattle.task_table.specs.View.{name_at, row_of, state_of};
 ghost use Rattle.task_table.specs.Whole.{HasParents, IsWhole};
 
@@ -102,9 +103,7 @@ pub(crate) fn get_ppid(store: &Tasks, caller: Pid) -> ShortReply
 
 /// The task with the number in the caller's namespace, where 0 is the caller.
 pub(crate) fn self_or_task(store: &Tasks, caller: &Found, pid: Pid) -> Option<Found>
-    requires there { task_at store.now.tree caller.now.key ≡ Some caller.now.task }
-    requires own { id_at store.now.numbering caller.now.space
-        ≡ Some (name_at store.now.numbering caller.now.key).space }
+    requires { IsFound store.now caller.now }
     ensures there { IfSome result (λ f. task_at store.now.tree f.key ≡ Some f.task) }
     ensures own { IfSome result (λ f. id_at store.now.numbering f.space
         ≡ Some (name_at store.now.numbering f.key).space) }

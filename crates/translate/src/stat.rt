@@ -4,6 +4,7 @@ ghost use Rattle.std.specs.Prelude.{◌≡◌, ℕ, Some, IfOk, IsSome};
 ghost use Rattle.pid_types.specs.Names.{root_number};
 ghost use Rattle.pid_numbers.specs.Numbering.{id_at};
 ghost use Rattle.task_tree.specs.Tree.{task_at};
+ghost use Rattle.task_table.specs.Found.{IsFound};
 ghost use Rattle.task_table.specs.View.{name_at, row_of, state_of};
 ghost use Rattle.task_table.specs.Whole.{HasParents, IsWhole};
 ghost use Rattle.translate.specs.Stat.{stat_of, stat_at, glimpse_in, IsSeen};
@@ -51,8 +52,7 @@ fn root_of(store: &Tasks, key: TaskKey) -> Pid
 /// Reads a task as the namespace sees it.
 fn read_task(store: &Tasks, space: SpaceKey, found: &Found) -> Stat
     requires parents { HasParents store.now }
-    requires there { task_at store.now.tree found.now.key ≡ Some found.now.task }
-    requires own { id_at store.now.numbering found.now.space ≡ Some (name_at store.now.numbering found.now.key).space }
+    requires found { IsFound store.now found.now }
     ensures { (i : ℕ) → id_at store.now.numbering space ≡ Some i
         → result ≡ stat_of (state_of store.now) i (row_of store.now found.now.key found.now.task) }
 {

@@ -5,6 +5,8 @@ ghost use Rattle.std.specs.Prelude.{◌≡◌, Some, IsSome, MatchOption, false}
 ghost use Rattle.pid_types.specs.Outcome.{sweep};
 ghost use Rattle.pid_types.specs.Wait.{end_of, without_row, wait as wait_of};
 ghost use Rattle.pid_types.specs.Short.{reply_of};
+ghost use Rattle.pid_types.specs.declared.plain.Life.TheVariants.{Live, Zombie};
+ghost use Rattle.pid_types.specs.declared.plain.Ended.TheVariants.{Killed};
 ghost use Rattle.pid_numbers.specs.Numbering.{Identifier, identifier_at};
 ghost use Rattle.task_tree.specs.declared.Task.{Task};
 ghost use Rattle.task_tree.specs.Tree.{task_at, lives};
@@ -14,6 +16,7 @@ ghost use Rattle.wait_calls.specs.Told.{Means, IsUnknown, IsTold};
 
 mod selection;
 mod walk;
+mod would;
 
 use pid_types::call::Which;
 use pid_types::keys::{Pid, SpaceKey, TaskKey};
@@ -23,6 +26,7 @@ use selection::{Choice, Selected, choose};
 use task_table::Tasks;
 use task_table::view::{Found, find_live, laws};
 use task_tree::Task;
+pub use would::would_wait;
 
 /// By which key the wait selects; none where it names a number that nobody has in the caller's namespace.
 fn selected(store: &Tasks, caller: TaskKey, space: SpaceKey, which: Which) -> Option<Selected>
@@ -55,6 +59,17 @@ fn choose_child(store: &Tasks, caller: &Found, which: Which) -> Choice
     choose(store, caller.key, selected)
 }
 
+/// How a task ended that has this life.
+fn end_of_life(life: Life) -> Ended
+    ensures { result ≡ elim life [ Live ↦ Killed | Zombie ended ↦ ended ] }
+{
+    match life {
+        // Asked of no live task. The model's definition answers so, and this is that definition.
+        Life::Live => Ended::Killed,
+        Life::Zombie(ended) => ended,
+    }
+}
+
 /// A zombie is gone, and how it ended is answered.
 #[tactic(auto, unfolding(pid_types::specs::Wait::without_row))]
 fn reap(store: &mut Tasks, child: TaskKey, task: Task) -> Ended
@@ -68,11 +83,7 @@ fn reap(store: &mut Tasks, child: TaskKey, task: Task) -> Ended
     laws(store);
     store.remove(child, task);
     laws(store);
-    match task.life {
-        // Asked of no live task. The model's definition answers so, and this is that definition.
-        Life::Live => Ended::Killed,
-        Life::Zombie(ended) => ended,
-    }
+    end_of_life(task.life)
 }
 
 /// `waitpid(2)` with `WNOHANG`: reaps the selected child with the least number that has ended.

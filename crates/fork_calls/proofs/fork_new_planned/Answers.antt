@@ -12,7 +12,7 @@ use Rattle.fork_calls.proofs.fork_new_planned.Goals as goal
 
 pub fork_new-requires-clause-home : goal.fork_new-requires-clause-home
 fork_new-requires-clause-home c =
-    ap (λ (t : Task). stands c.args.store.now.charges t.home) c.child_of-task.ensures ∙ live-home c.args.store.now c.laws.ensures c.args.found.now.key c.args.found.now.task c.requires.there c.requires.live
+    ap (λ (t : Task). stands c.args.store.now.charges t.home) c.child_of-task.ensures ∙ live-home c.args.store.now c.laws.ensures c.args.found.now.key c.args.found.now.task c.requires.caller.found.there c.requires.caller.live
 
 pub fork_new-requires-clause-outer : goal.fork_new-requires-clause-outer
 fork_new-requires-clause-outer c = inside.outer c.args.store.now c.laws.ensures c.requires.whole c.args.stamp c.requires.below c.args.found.now.space c.args.found.now.task.children_space c.requires.id c.requires.stands c.requires.shallow
@@ -44,7 +44,7 @@ returns-clause-state c =
     let room = inside.room-ok_new c.args.store.now c.laws.ensures c.requires.whole c.args.stamp c.requires.below c.args.found.now.space c.args.found.now.task.children_space c.requires.id c.requires.stands c.requires.shallow
     (row_of c.args.store.now c.args.found.now.key c.args.found.now.task) c.requires.all ∙ sym c.passed_limit.ensures ∙ c.in_default.is in
     inner.inner-state c.args.store.now c.laws.ensures c.requires.whole c.args.stamp c.requires.below c.args.found.now.space c.args.found.now.task.children_space c.requires.id c.requires.stands c.requires.shallow
-    c.fork_new.new.self c.laws-2.ensures c.in_ok-keys.keys.0 c.args.found.now.key c.child_of-task.result c.args.found.now.task c.requires.there c.in_ok-keys.keys.1 c.args.numbers.now
+    c.fork_new.new.self c.laws-2.ensures c.in_ok-keys.keys.0 c.args.found.now.key c.child_of-task.result c.args.found.now.task c.requires.caller.found.there c.in_ok-keys.keys.1 c.args.numbers.now
     c.in_ok-keys.ensures.begun c.in_ok-keys.ensures.fresh c.in_ok-keys.ensures.made c.in_ok-keys.ensures.namespaces c.in_ok-keys.ensures.order c.requires.planned c.child_of-task.ensures room
 
 pub returns-clause-reply : goal.returns-clause-reply
@@ -54,10 +54,10 @@ returns-clause-reply c =
     let own = (name_at c.args.store.now.numbering c.args.found.now.key).space in
     c.reply_for.ensures own
     (inner.id-after c.args.store.now c.laws.ensures c.requires.whole c.args.stamp c.requires.below c.args.found.now.space c.args.found.now.task.children_space c.requires.id c.requires.stands c.requires.shallow
-    c.fork_new.new.self c.laws-2.ensures c.in_ok-keys.keys.0 c.args.found.now.key c.child_of-task.result c.args.found.now.task c.requires.there c.in_ok-keys.keys.1 c.args.numbers.now
+    c.fork_new.new.self c.laws-2.ensures c.in_ok-keys.keys.0 c.args.found.now.key c.child_of-task.result c.args.found.now.task c.requires.caller.found.there c.in_ok-keys.keys.1 c.args.numbers.now
     c.in_ok-keys.ensures.begun c.in_ok-keys.ensures.fresh c.in_ok-keys.ensures.made c.in_ok-keys.ensures.namespaces c.in_ok-keys.ensures.order c.requires.planned c.child_of-task.ensures room
-    c.args.found.now.space own c.requires.own)
+    c.args.found.now.space own c.requires.caller.found.own)
     ∙ inner.inner-reply c.args.store.now c.laws.ensures c.requires.whole c.args.stamp c.requires.below c.args.found.now.space c.args.found.now.task.children_space c.requires.id c.requires.stands c.requires.shallow
-    c.fork_new.new.self c.laws-2.ensures c.in_ok-keys.keys.0 c.args.found.now.key c.child_of-task.result c.args.found.now.task c.requires.there c.in_ok-keys.keys.1 c.args.numbers.now
+    c.fork_new.new.self c.laws-2.ensures c.in_ok-keys.keys.0 c.args.found.now.key c.child_of-task.result c.args.found.now.task c.requires.caller.found.there c.in_ok-keys.keys.1 c.args.numbers.now
     c.in_ok-keys.ensures.begun c.in_ok-keys.ensures.fresh c.in_ok-keys.ensures.made c.in_ok-keys.ensures.namespaces c.in_ok-keys.ensures.order c.requires.planned c.child_of-task.ensures room
     own refl

@@ -24,7 +24,7 @@ returns-in-Some-clause-reply c =
 pub returns-clause-state : goal.returns-clause-state
 returns-clause-state c =
     let room = room-ok c.args.store.now c.laws.ensures c.args.space c.args.found.now.task.children_space c.requires.id (row_of c.args.store.now c.args.found.now.key c.args.found.now.task) c.requires.all ∙ sym c.passed_limit.ensures ∙ c.in_default.is in
-    into.into-state c.args.store.now c.fork.new.self c.laws.ensures c.laws-2.ensures c.requires.whole.parents c.in_ok-key.key c.args.found.now.key c.child_of-task.result c.args.found.now.task c.requires.there
+    into.into-state c.args.store.now c.fork.new.self c.laws.ensures c.laws-2.ensures c.requires.whole.parents c.in_ok-key.key c.args.found.now.key c.child_of-task.result c.args.found.now.task c.requires.caller.found.there
     c.args.space c.args.found.now.task.children_space c.args.numbers.now c.in_ok-key.ensures.begun c.in_ok-key.ensures.order c.in_ok-key.ensures.namespaces c.requires.id c.requires.planned
     c.child_of-task.ensures room
 
@@ -33,11 +33,11 @@ returns-clause-reply c =
     let room = room-ok c.args.store.now c.laws.ensures c.args.space c.args.found.now.task.children_space c.requires.id (row_of c.args.store.now c.args.found.now.key c.args.found.now.task) c.requires.all ∙ sym c.passed_limit.ensures ∙ c.in_default.is in
     let own = (name_at c.args.store.now.numbering c.args.found.now.key).space in
     c.reply_for.ensures own
-    (into.id-after c.args.store.now c.fork.new.self c.laws.ensures c.laws-2.ensures c.requires.whole.parents c.in_ok-key.key c.args.found.now.key c.child_of-task.result c.args.found.now.task c.requires.there
+    (into.id-after c.args.store.now c.fork.new.self c.laws.ensures c.laws-2.ensures c.requires.whole.parents c.in_ok-key.key c.args.found.now.key c.child_of-task.result c.args.found.now.task c.requires.caller.found.there
     c.args.space c.args.found.now.task.children_space c.args.numbers.now c.in_ok-key.ensures.begun c.in_ok-key.ensures.order c.in_ok-key.ensures.namespaces c.requires.id c.requires.planned
     c.child_of-task.ensures room
-    c.args.found.now.space own c.requires.own)
-    ∙ into.into-reply c.args.store.now c.fork.new.self c.laws.ensures c.laws-2.ensures c.requires.whole.parents c.in_ok-key.key c.args.found.now.key c.child_of-task.result c.args.found.now.task c.requires.there
+    c.args.found.now.space own c.requires.caller.found.own)
+    ∙ into.into-reply c.args.store.now c.fork.new.self c.laws.ensures c.laws-2.ensures c.requires.whole.parents c.in_ok-key.key c.args.found.now.key c.child_of-task.result c.args.found.now.task c.requires.caller.found.there
     c.args.space c.args.found.now.task.children_space c.args.numbers.now c.in_ok-key.ensures.begun c.in_ok-key.ensures.order c.in_ok-key.ensures.namespaces c.requires.id c.requires.planned
     c.child_of-task.ensures room
     own refl

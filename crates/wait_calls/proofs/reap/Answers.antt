@@ -3,8 +3,8 @@ use Rattle.task_table.proofs.Gone.{IsGone}
 use Rattle.wait_calls.proofs.Gone.{reaped, parents-left}
 use Rattle.wait_calls.proofs.reap.Goals as goal
 
-pub returns-in-Zombie : goal.returns-in-Zombie
-returns-in-Zombie c =
+pub returns : goal.returns
+returns c =
     let old = c.args.store.now in
     let new = c.remove.new.self in
     let g : IsGone old new c.args.child c.args.task = record {

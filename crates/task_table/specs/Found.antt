@@ -1,0 +1,17 @@
+-- A task that was found, and one that calls.
+use Rattle.std.specs.Prelude.{◌≡◌, Some, true}
+use Rattle.pid_numbers.specs.Numbering.{id_at}
+use Rattle.task_tree.specs.Tree.{task_at, lives}
+use Rattle.task_table.specs.declared.view.Found.{Found}
+use Rattle.task_table.specs.Store.{Store}
+use Rattle.task_table.specs.View.{name_at}
+
+-- the task is there, and the namespace is its own
+pub record IsFound (s : Store) (f : Found) : Type 0 where
+  pub there : task_at s.tree f.key ≡ Some f.task
+  pub own : id_at s.numbering f.space ≡ Some (name_at s.numbering f.key).space
+
+-- and it lives, so it may call
+pub record IsCaller (s : Store) (f : Found) : Type 0 where
+  pub found : IsFound s f
+  pub live : lives f.task ≡ true
