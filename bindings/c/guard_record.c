@@ -9,6 +9,8 @@ uint32_t proved_record_calls(struct pidtab_record *record, uint32_t worker, cons
 uint32_t proved_record_line(struct pidtab_record *record, uint32_t worker, const void *line, size_t length, void *answer, size_t room, size_t *size, uint64_t *ordinal);
 uint32_t proved_record_ask(struct pidtab_record *record, const struct pidtab_call *call, struct pidtab_reply *reply);
 uint32_t proved_record_stat(struct pidtab_record *record, uint32_t caller, uint32_t number, struct pidtab_task *task);
+uint32_t proved_record_would(struct pidtab_record *record, const struct pidtab_call *call, struct pidtab_reply *reply);
+uint32_t proved_record_fork_at(struct pidtab_record *record, uint32_t worker, uint32_t caller, uint32_t new_space, uint32_t child, uint32_t root, struct pidtab_reply *reply, uint64_t *ordinal);
 uint32_t proved_record_counts(struct pidtab_record *record, uint64_t *first_kept, uint64_t *recorded);
 uint32_t proved_record_worker(struct pidtab_record *record, uint32_t worker, uint64_t *calls);
 uint32_t proved_record_entry(struct pidtab_record *record, uint64_t ordinal, uint64_t *worker, struct pidtab_call *call, struct pidtab_reply *reply);
@@ -146,6 +148,24 @@ uint32_t pidtab_record_stat(const struct pidtab_record *record, uint32_t caller,
 	if (!enter_query(record, &held))
 		return PIDTAB_BUSY;
 	return leave_query(record, proved_record_stat(&held, caller, number, task));
+}
+
+uint32_t pidtab_record_would(const struct pidtab_record *record, const struct pidtab_call *call, struct pidtab_reply *reply)
+{
+	struct pidtab_record held;
+
+	if (!enter_query(record, &held))
+		return PIDTAB_BUSY;
+	return leave_query(record, proved_record_would(&held, call, reply));
+}
+
+uint32_t pidtab_record_fork_at(struct pidtab_record *record, uint32_t worker, uint32_t caller, uint32_t new_space, uint32_t child, uint32_t root, struct pidtab_reply *reply, uint64_t *ordinal)
+{
+	struct pidtab_record held;
+
+	if (!enter(record, &held))
+		return PIDTAB_BUSY;
+	return leave(record, &held, proved_record_fork_at(&held, worker, caller, new_space, child, root, reply, ordinal));
 }
 
 uint32_t pidtab_record_counts(const struct pidtab_record *record, uint64_t *first_kept, uint64_t *recorded)

@@ -48,6 +48,7 @@ enum pidtab_status {
 	PIDTAB_EMPTY_LINE = 61,   /* ENODATA: a line of 0 bytes has no answer */
 	PIDTAB_BAD_LINE = 71,     /* EPROTO: the line is none of the script language */
 	PIDTAB_SPENT = 75,        /* EOVERFLOW: after 2^64 - 2 calls */
+	PIDTAB_DIFFERS = 74,      /* EBADMSG: a reply is not the given one */
 	PIDTAB_BAD_TEXT = 117     /* EUCLEAN: the text is that of no table; the fault says why */
 };
 
@@ -55,8 +56,7 @@ enum pidtab_status {
  * pidtab_record_replay, and of pidtab_record_calls as it says. */
 enum pidtab_record_status {
 	PIDTAB_NOT_KEPT = 2, /* ENOENT: the entry was cut away, or is not reached yet */
-	PIDTAB_AGAIN = 11,   /* EAGAIN: another number of calls was recorded by now */
-	PIDTAB_DIFFERS = 74  /* EBADMSG: a reply is not the saved one */
+	PIDTAB_AGAIN = 11    /* EAGAIN: another number of calls was recorded by now */
 };
 
 /* What a status says, as a sentence. */
@@ -81,14 +81,14 @@ static inline const char *pidtab_text(uint32_t status)
 		return "the line is none of the script language";
 	case PIDTAB_SPENT:
 		return "the table has made 2^64 - 2 calls, and makes no more";
+	case PIDTAB_DIFFERS:
+		return "a reply is not the given one";
 	case PIDTAB_BAD_TEXT:
 		return "the text is that of no table";
 	case PIDTAB_NOT_KEPT:
 		return "no entry with the ordinal is kept";
 	case PIDTAB_AGAIN:
 		return "another number of calls was recorded by now";
-	case PIDTAB_DIFFERS:
-		return "a reply is not the saved one";
 	}
 	return "no such status";
 }
@@ -307,6 +307,15 @@ struct pidtab_task {
 /* Reads the task with the number in the caller's namespace, where 0 is the caller, and a zombie too: as getpgid finds it. It is no
  * call, as pidtab_ask is none. What the table refuses is PIDTAB_DONE: the task says so. DONE, CLOSED. */
 uint32_t pidtab_stat(const struct pidtab *table, uint32_t caller, uint32_t number, struct pidtab_task *task);
+
+/* Tells the reply that the call would get now, and changes nothing: the numbers of a fork, and whom a wait would reap (waitid(2) with WNOWAIT).
+ * Whether there is memory for the call it does not say. DONE, CLOSED, OUT_OF_RANGE, SPENT. */
+uint32_t pidtab_would(const struct pidtab *table, const struct pidtab_call *call, struct pidtab_reply *reply);
+
+/* Makes a fork if the child's number to the caller is child, and its root number root; else nothing changes. What pidtab_would has told is so made
+ * as it was told, or not at all. DONE; CLOSED; OUT_OF_RANGE for a new_space that is neither 0 nor 1; SPENT; DIFFERS where the fork would get another
+ * reply, a refusal too, which reply then is; NO_MEMORY. */
+uint32_t pidtab_fork_at(struct pidtab *table, uint32_t caller, uint32_t new_space, uint32_t child, uint32_t root, struct pidtab_reply *reply);
 
 /* Writes the call as a line of the script language, without a newline and a zero byte: pidtab_line makes the same call of it. It needs
  * no table. DONE; OUT_OF_RANGE where the numbers say no call; NO_ROOM where the line is longer than the room, and then too size is its
@@ -543,6 +552,12 @@ uint32_t pidtab_record_ask(const struct pidtab_record *record, const struct pidt
 
 /* Reads a task, as pidtab_stat does; it is not recorded. DONE, CLOSED. */
 uint32_t pidtab_record_stat(const struct pidtab_record *record, uint32_t caller, uint32_t number, struct pidtab_task *task);
+
+/* Tells the reply that the call would get now, as pidtab_would does; it is not recorded. DONE, CLOSED, OUT_OF_RANGE, SPENT. */
+uint32_t pidtab_record_would(const struct pidtab_record *record, const struct pidtab_call *call, struct pidtab_reply *reply);
+
+/* Makes a fork as pidtab_fork_at does, for the worker, and records it. DONE, CLOSED, OUT_OF_RANGE, SPENT, DIFFERS, NO_MEMORY. */
+uint32_t pidtab_record_fork_at(struct pidtab_record *record, uint32_t worker, uint32_t caller, uint32_t new_space, uint32_t child, uint32_t root, struct pidtab_reply *reply, uint64_t *ordinal);
 
 /* The ordinal of the first kept entry, and how many calls were recorded, the cut ones too. DONE, CLOSED. */
 uint32_t pidtab_record_counts(const struct pidtab_record *record, uint64_t *first_kept, uint64_t *recorded);

@@ -352,6 +352,15 @@ uint32_t pidtab_shared_line(struct pidtab_shared *shared, uint32_t worker, const
 	return end_call(shared, pidtab_record_line(&shared->record, worker, line, length, answer, room, size, ordinal));
 }
 
+uint32_t pidtab_shared_fork_at(struct pidtab_shared *shared, uint32_t worker, uint32_t caller, uint32_t new_space, uint32_t child, uint32_t root, struct pidtab_reply *reply, uint64_t *ordinal)
+{
+	uint32_t status = begin_call(shared);
+
+	if (status != PIDTAB_DONE)
+		return status;
+	return end_call(shared, pidtab_record_fork_at(&shared->record, worker, caller, new_space, child, root, reply, ordinal));
+}
+
 /* Written by tools/interface: forwards. */
 
 uint32_t pidtab_shared_ask(struct pidtab_shared *shared, const struct pidtab_call *call, struct pidtab_reply *reply)
@@ -364,6 +373,12 @@ uint32_t pidtab_shared_stat(struct pidtab_shared *shared, uint32_t caller, uint3
 {
 	share_as_call(shared);
 	return answered(shared, pidtab_record_stat(&shared->record, caller, number, task));
+}
+
+uint32_t pidtab_shared_would(struct pidtab_shared *shared, const struct pidtab_call *call, struct pidtab_reply *reply)
+{
+	share_as_call(shared);
+	return answered(shared, pidtab_record_would(&shared->record, call, reply));
 }
 
 uint32_t pidtab_shared_counts(struct pidtab_shared *shared, uint64_t *first_kept, uint64_t *recorded)

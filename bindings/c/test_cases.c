@@ -39,10 +39,10 @@ static const struct named statuses[] = {
 	{ PIDTAB_EMPTY_LINE, "EMPTY_LINE" },
 	{ PIDTAB_BAD_LINE, "BAD_LINE" },
 	{ PIDTAB_SPENT, "SPENT" },
+	{ PIDTAB_DIFFERS, "DIFFERS" },
 	{ PIDTAB_BAD_TEXT, "BAD_TEXT" },
 	{ PIDTAB_NOT_KEPT, "NOT_KEPT" },
 	{ PIDTAB_AGAIN, "AGAIN" },
-	{ PIDTAB_DIFFERS, "DIFFERS" },
 	{ 0, NULL }
 };
 
@@ -225,6 +225,30 @@ static int64_t by_its_method(struct pidtab *table, const struct pidtab_call *it,
 }
 /* The end of calls. */
 
+/* Makes the call on a table that foretells its reply; a fork by the numbers that were told. */
+static void make_as_told(struct pidtab *table, const struct pidtab_call *call, const struct pidtab_reply *wanted)
+{
+	uint32_t child, root;
+	struct pidtab_reply reply;
+
+	CHECK(pidtab_would(table, call, &reply) == PIDTAB_DONE && same_reply(&reply, wanted));
+	if (call->operation != PIDTAB_FORK) {
+		CHECK(pidtab_call(table, call, &reply) == PIDTAB_DONE && same_reply(&reply, wanted));
+		return;
+	}
+	child = wanted->kind == PIDTAB_FORKED ? (uint32_t)wanted->first : 2;
+	root = wanted->kind == PIDTAB_FORKED ? (uint32_t)wanted->second : 2;
+	CHECK(pidtab_fork_at(table, call->caller, call->choice, child + 1, root, &reply) == PIDTAB_DIFFERS && same_reply(&reply, wanted));
+	CHECK(pidtab_fork_at(table, call->caller, call->choice, child, root + 1, &reply) == PIDTAB_DIFFERS && same_reply(&reply, wanted));
+	if (wanted->kind == PIDTAB_FORKED) {
+		CHECK(pidtab_fork_at(table, call->caller, call->choice, child, root, &reply) == PIDTAB_DONE && same_reply(&reply, wanted));
+		return;
+	}
+	CHECK(pidtab_fork_at(table, call->caller, call->choice, child, root, &reply) == PIDTAB_DIFFERS && same_reply(&reply, wanted));
+	/* The refused call has a stamp here as on the other tables. */
+	CHECK(pidtab_call(table, call, &reply) == PIDTAB_DONE && same_reply(&reply, wanted));
+}
+
 /* By a value, which may be asked too if it is a query; and by its method, which tells a number or minus an errno. */
 static void make_again(const struct pidtab_call *call, const struct pidtab_reply *wanted, uint32_t asked)
 {
@@ -232,7 +256,7 @@ static void make_again(const struct pidtab_call *call, const struct pidtab_reply
 	struct pidtab_reply reply;
 
 	CHECK(pidtab_ask(&tables[1], call, &reply) == asked && (asked != PIDTAB_DONE || same_reply(&reply, wanted)));
-	CHECK(pidtab_call(&tables[1], call, &reply) == PIDTAB_DONE && same_reply(&reply, wanted));
+	make_as_told(&tables[1], call, wanted);
 	int64_t number = wanted->kind == PIDTAB_REFUSED ? -(int64_t)wanted->error : wanted->kind == PIDTAB_LEVELS ? (int64_t)wanted->count : (int64_t)wanted->first;
 	CHECK(by_its_method(&tables[2], call, &second, levels) == number);
 	CHECK(second == (wanted->kind == PIDTAB_FORKED || wanted->kind == PIDTAB_REAPED ? wanted->second : 0));

@@ -477,7 +477,7 @@ static void sentences(void)
 		for (size_t k = 0; k < i; k++)
 			CHECK(strcmp(pidtab_saved_text(own[i]), pidtab_saved_text(own[k])) != 0);
 	}
-	CHECK(strcmp(pidtab_saved_text(PIDTAB_DIFFERS), "a reply is not the saved one") == 0 && strcmp(pidtab_saved_text(4), "no such status") == 0);
+	CHECK(strcmp(pidtab_saved_text(PIDTAB_DIFFERS), "a reply is not the given one") == 0 && strcmp(pidtab_saved_text(4), "no such status") == 0);
 }
 
 int main(void)

@@ -263,6 +263,31 @@ uint32_t proved_stat(struct pidtab *table, uint32_t caller, uint32_t number, str
 	return table->is_open ? fetched(it, Z_pidtabZ_stat(it, caller, number), TASK, task, sizeof *task) : PIDTAB_CLOSED;
 }
 
+uint32_t proved_would(struct pidtab *table, const struct pidtab_call *call, struct pidtab_reply *reply)
+{
+	instance *it = table->at;
+
+	if (!table->is_open)
+		return PIDTAB_CLOSED;
+	put(it, CALL, call, sizeof *call);
+	return fetched(it, Z_pidtabZ_would(it), REPLY, reply, sizeof *reply);
+}
+
+/* What a fork gets, or would have got. */
+static uint32_t foretold(instance *it, uint32_t status, struct pidtab_reply *reply)
+{
+	if (status == PIDTAB_DIFFERS)
+		fetched(it, PIDTAB_DONE, REPLY, reply, sizeof *reply);
+	return fetched(it, status, REPLY, reply, sizeof *reply);
+}
+
+uint32_t proved_fork_at(struct pidtab *table, uint32_t caller, uint32_t new_space, uint32_t child, uint32_t root, struct pidtab_reply *reply)
+{
+	instance *it = table->at;
+
+	return table->is_open ? foretold(it, Z_pidtabZ_fork_at(it, caller, new_space, child, root), reply) : PIDTAB_CLOSED;
+}
+
 uint32_t proved_record_open(struct pidtab_record *record, uint32_t pid_max, uint64_t first_stamp, uint32_t workers)
 {
 	instance *it;
@@ -354,6 +379,25 @@ uint32_t proved_record_stat(struct pidtab_record *record, uint32_t caller, uint3
 	instance *it = record->at;
 
 	return record->is_open ? fetched(it, Z_pidtabZ_record_stat(it, caller, number), TASK, task, sizeof *task) : PIDTAB_CLOSED;
+}
+
+uint32_t proved_record_would(struct pidtab_record *record, const struct pidtab_call *call, struct pidtab_reply *reply)
+{
+	instance *it = record->at;
+
+	if (!record->is_open)
+		return PIDTAB_CLOSED;
+	put(it, CALL, call, sizeof *call);
+	return fetched(it, Z_pidtabZ_record_would(it), REPLY, reply, sizeof *reply);
+}
+
+uint32_t proved_record_fork_at(struct pidtab_record *record, uint32_t worker, uint32_t caller, uint32_t new_space, uint32_t child, uint32_t root, struct pidtab_reply *reply, uint64_t *ordinal)
+{
+	instance *it = record->at;
+
+	if (!record->is_open)
+		return PIDTAB_CLOSED;
+	return fetched(it, foretold(it, Z_pidtabZ_record_fork_at(it, worker, caller, new_space, child, root), reply), NUMBERS, ordinal, sizeof *ordinal);
 }
 
 uint32_t proved_record_counts(struct pidtab_record *record, uint64_t *first_kept, uint64_t *recorded)

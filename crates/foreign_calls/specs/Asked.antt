@@ -1,4 +1,4 @@
--- The query that numbers say, and its answer.
+-- The query that numbers say, and what calls would answer.
 use Rattle.std.specs.Prelude.{◌≡◌, ◌≢◌, ◌↔◌, ℕ, Option, Some, None, IsSome, if◌then◌else◌}
 use Rattle.pid_types.specs.declared.call.Call.{Call}
 use Rattle.pid_types.specs.declared.reply.Reply.{Reply}
@@ -18,9 +18,9 @@ only_query (Some call) = if is_query call then Some call else None
 abbrev pub query_of : CallNumbers → Option Call
 query_of n = only_query (call_of n)
 
--- the query that the numbers say has this answer of what is held, or the numbers of the reply stay as they were
-pub record AnswersQuery {X : Type 0}
-    (held : Option X) (answer : X → Call → Reply) (call : CallNumbers) (old new : ReplyNumbers) (status : ℕ) : Type 0 where
-  pub done : status ≡ DONE → (asked : Call) × (query_of call ≡ Some asked) × Has held (λ x. new ≡ numbers_of (answer x asked))
+-- the call that numbers say, if they say one, has this answer of what is held; or the numbers of the reply stay as they were
+pub record Answers {X : Type 0}
+    (held : Option X) (answer : X → Call → Reply) (said : Option Call) (old new : ReplyNumbers) (status : ℕ) : Type 0 where
+  pub done : status ≡ DONE → (asked : Call) × (said ≡ Some asked) × Has held (λ x. new ≡ numbers_of (answer x asked))
   pub not_done : status ≢ DONE → new ≡ old
-  pub out_of_range : (status ≡ OUT_OF_RANGE) ↔ IsSome held × (query_of call ≡ None)
+  pub out_of_range : (status ≡ OUT_OF_RANGE) ↔ IsSome held × (said ≡ None)

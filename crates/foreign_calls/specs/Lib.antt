@@ -7,5 +7,6 @@ pub mod Entries
 pub mod Asked
 pub mod Replays
 pub mod Turns
+pub mod Would
 pub mod Saved
 pub mod SavedBytes

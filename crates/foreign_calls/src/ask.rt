@@ -4,7 +4,7 @@
 ghost use Rattle.std.specs.Prelude.{◌≡◌, [], ◌∷◌, IsTrue, Some, IfSome};
 ghost use Rattle.kept_table.specs.Calls.{outcome};
 ghost use Rattle.model_laws.specs.Refusals.{is_query};
-ghost use Rattle.foreign_calls.specs.Asked.{query_of, AnswersQuery};
+ghost use Rattle.foreign_calls.specs.Asked.{query_of, Answers};
 ghost use Rattle.foreign_calls.specs.Held.{IsDoneOr};
 ghost use Rattle.stamped_table.specs.Stamped.{reply_to};
 
@@ -49,7 +49,7 @@ fn read_query(n: &CallNumbers) -> Option<Call>
 
 /// Answers the query that the numbers say on the table. The result is the status.
 pub fn ask_table(held: &StampedTable, call: &CallNumbers, reply: &mut ReplyNumbers) -> u32
-    ensures answers { AnswersQuery (Some held.now) reply_to call.now reply.old reply.new result }
+    ensures answers { Answers (Some held.now) reply_to (query_of call.now) reply.old reply.new result }
     ensures statuses { IsDoneOr result (OUT_OF_RANGE ∷ []) }
 {
     let Some(asked) = read_query(call) else {
@@ -61,8 +61,8 @@ pub fn ask_table(held: &StampedTable, call: &CallNumbers, reply: &mut ReplyNumbe
 
 /// Answers the query that the numbers say on the record, which is not recorded. The result is the status.
 pub fn ask_record(held: &Kept, call: &CallNumbers, reply: &mut ReplyNumbers) -> u32
-    ensures answers { AnswersQuery (Some held.now) (λ c asked. (outcome c asked).reply)
-        call.now reply.old reply.new result }
+    ensures answers { Answers (Some held.now) (λ c asked. (outcome c asked).reply)
+        (query_of call.now) reply.old reply.new result }
     ensures statuses { IsDoneOr result (OUT_OF_RANGE ∷ []) }
 {
     let Some(asked) = read_query(call) else {

@@ -17,3 +17,4 @@ pub mod table;
 pub mod table_calls;
 pub mod table_texts;
 pub mod texts;
+pub mod would;

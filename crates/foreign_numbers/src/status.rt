@@ -41,7 +41,7 @@ pub const EMPTY_LINE: u32 = 61;
 /// `EPROTO`: the line is none of the script language.
 pub const BAD_LINE: u32 = 71;
 
-/// `EBADMSG`: a reply is not the saved one.
+/// `EBADMSG`: a reply is not the given one.
 pub const DIFFERS: u32 = 74;
 
 /// `EOVERFLOW`: after 2^64 - 2 calls.

@@ -3,7 +3,7 @@
 //! A query is a getpid, getppid, getpgid, getsid, nspid, next or count.
 ghost use Rattle.std.specs.Prelude.{[], ◌∷◌};
 ghost use Rattle.kept_table.specs.Calls.{outcome};
-ghost use Rattle.foreign_calls.specs.Asked.{AnswersQuery};
+ghost use Rattle.foreign_calls.specs.Asked.{query_of, Answers};
 ghost use Rattle.foreign_calls.specs.Held.{OnlyReads};
 ghost use Rattle.stamped_table.specs.Stamped.{reply_to};
 
@@ -26,7 +26,7 @@ pub extern "C" fn pidtab_ask(
     reply: &mut ReplyNumbers,
 ) -> u32
     ensures reads { OnlyReads table.old.handle.held table.new.handle.held result (OUT_OF_RANGE ∷ []) }
-    ensures answers { AnswersQuery table.old.handle.held reply_to call.now reply.old reply.new result }
+    ensures answers { Answers table.old.handle.held reply_to (query_of call.now) reply.old reply.new result }
 {
     if !table.is_open {
         return CLOSED;
@@ -45,8 +45,8 @@ pub extern "C" fn pidtab_record_ask(
     reply: &mut ReplyNumbers,
 ) -> u32
     ensures reads { OnlyReads table.old.handle.held table.new.handle.held result (OUT_OF_RANGE ∷ []) }
-    ensures answers { AnswersQuery table.old.handle.held (λ c asked. (outcome c asked).reply)
-        call.now reply.old reply.new result }
+    ensures answers { Answers table.old.handle.held (λ c asked. (outcome c asked).reply)
+        (query_of call.now) reply.old reply.new result }
 {
     if !table.is_open {
         return CLOSED;

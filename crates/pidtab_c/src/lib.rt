@@ -40,6 +40,7 @@ mod saved_record;
 mod saved_table;
 mod task;
 mod texts;
+mod would;
 
 use foreign_calls::table::{Pidtab, new_table};
 use foreign_calls::table_calls::{call_table, line_table};
