@@ -128,6 +128,7 @@ func (it *caseWorld) call(line string) string {
 	it.same(of(it.shared.Ask(entry.Call)), asked)
 	if len(it.tables) > 0 {
 		it.same(of(it.tables[1].Ask(entry.Call)), asked)
+		it.same(of(it.tables[1].Would(entry.Call)), told{entry.Reply, nil})
 		it.same(of(it.tables[1].Call(entry.Call)), told{entry.Reply, nil})
 		found := byItsMethod(it.tables[2].calls, entry.Call)
 		it.same(found.err, entry.Reply.Err())
@@ -229,9 +230,9 @@ var statusNames = map[error]string{
 	ErrEmptyLine:  "EMPTY_LINE",
 	ErrBadLine:    "BAD_LINE",
 	ErrSpent:      "SPENT",
+	ErrDiffers:    "DIFFERS",
 	ErrNotKept:    "NOT_KEPT",
 	ErrAgain:      "AGAIN",
-	ErrDiffers:    "DIFFERS",
 }
 
 var queryWords = []string{"getpid", "nspid", "getppid", "count", "getpgid", "getsid", "next"}

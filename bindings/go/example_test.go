@@ -162,3 +162,21 @@ func ExampleFromDump() {
 	// 1 true
 	// pidtab: the text is that of no table: line 2: bad line
 }
+
+// A fork with the numbers that were told before, or none.
+func ExampleTable_ForkAt() {
+	table, err := pidtab.Open(32768)
+	if err != nil {
+		log.Fatal(err)
+	}
+	defer table.Close()
+	told, _ := table.Would(pidtab.Call{Operation: pidtab.OpFork, Caller: 1})
+	child := pidtab.Child{Number: uint32(told.First), Root: uint32(told.Second)}
+	fmt.Println(child)
+	fmt.Println(table.ForkAt(1, pidtab.NoNewNamespace, child))
+	fmt.Println(table.ForkAt(1, pidtab.NoNewNamespace, child))
+	// Output:
+	// {2 2}
+	// true <nil>
+	// false <nil>
+}

@@ -133,12 +133,12 @@ func faultOf(status uint32) error {
 		return ErrBadLine
 	case C.PIDTAB_SPENT:
 		return ErrSpent
+	case C.PIDTAB_DIFFERS:
+		return ErrDiffers
 	case C.PIDTAB_NOT_KEPT:
 		return ErrNotKept
 	case C.PIDTAB_AGAIN:
 		return ErrAgain
-	case C.PIDTAB_DIFFERS:
-		return ErrDiffers
 	case C.PIDTAB_NOT_SAVED:
 		return ErrNotSaved
 	case C.PIDTAB_ENDED:

@@ -109,6 +109,18 @@ func (shared *Shared) Ask(query Call) (Reply, error) {
 	return replyOf(reply), nil
 }
 
+// Would is the reply that the call would get now, refusals too, as Would of a Table has it. It is not recorded.
+// ErrOutOfRange, ErrClosed, ErrSpent, ErrBusy.
+func (shared *Shared) Would(call Call) (Reply, error) {
+	numbers, reply, held := call.numbers(), new(C.struct_pidtab_reply), shared.held()
+	held.lock.RLock()
+	defer held.lock.RUnlock()
+	if err := faultOf(uint32(C.pidtab_record_would(held.raw, &numbers, reply))); err != nil {
+		return Reply{}, err
+	}
+	return replyOf(reply), nil
+}
+
 // Counts is how far a history goes. The ordinals of the kept entries are those from FirstKept on, below Recorded.
 type Counts struct {
 	FirstKept uint64 // the ordinal of the first kept entry, or of the next call where none is kept
@@ -498,6 +510,23 @@ func (seat *Seat) Calls(calls []Call) ([]Reply, error) {
 		replies[i] = replyOf(&told[i])
 	}
 	return replies, faultOf(uint32(status))
+}
+
+// ForkAt makes a fork, if its child gets exactly these numbers, as ForkAt of a Table does. Else nothing changes or is recorded, and it is false.
+func (seat *Seat) ForkAt(caller uint32, newSpace bool, child Child) (bool, error) {
+	own, reply := seat.place(), new(C.struct_pidtab_reply)
+	own.held.lock.LockForCall()
+	defer own.held.lock.Unlock()
+	var ordinal C.uint64_t
+	status := own.held.waitForSaver(1)
+	if status == C.PIDTAB_DONE {
+		numbers := [...]C.uint32_t{C.uint32_t(caller), number(newSpace), C.uint32_t(child.Number), C.uint32_t(child.Root)}
+		status = C.pidtab_record_fork_at(own.held.raw, C.uint32_t(own.worker), numbers[0], numbers[1], numbers[2], numbers[3], reply, &ordinal)
+	}
+	if status == C.PIDTAB_DONE {
+		own.held.labels.replied(reply)
+	}
+	return isMade(own.after(status, ordinal))
 }
 
 // Line makes the call on a line of the script language, without its newline. What the table refuses is an answer, as `ESRCH no-caller`.

@@ -70,6 +70,39 @@ func (table *Table) Ask(query Call) (Reply, error) {
 	return replyOf(reply), nil
 }
 
+// Would is the reply that the call would get now, refusals too: the numbers of a fork, and whom a wait would reap, as waitid(2) with WNOWAIT.
+// Nothing changes, and it is not counted. Whether there is memory for the call it does not tell. ErrOutOfRange, ErrClosed, ErrSpent, ErrBusy.
+func (table *Table) Would(call Call) (Reply, error) {
+	held, numbers, reply := table.held(), call.numbers(), new(C.struct_pidtab_reply)
+	held.lock.RLock()
+	defer held.lock.RUnlock()
+	if err := faultOf(uint32(C.pidtab_would(&held.raw, &numbers, reply))); err != nil {
+		return Reply{}, err
+	}
+	return replyOf(reply), nil
+}
+
+// ForkAt makes a fork, if its child gets exactly these numbers, as Would has told them. Else nothing changes, and it is false. So who prepares for
+// a child before it is there has the one that he has prepared for, or none. ErrClosed, ErrSpent, ErrBusy, ErrNoMemory.
+func (table *Table) ForkAt(caller uint32, newSpace bool, child Child) (bool, error) {
+	held, reply := table.held(), new(C.struct_pidtab_reply)
+	held.lock.Lock()
+	defer held.lock.Unlock()
+	status := C.pidtab_fork_at(&held.raw, C.uint32_t(caller), number(newSpace), C.uint32_t(child.Number), C.uint32_t(child.Root), reply)
+	if status == C.PIDTAB_DONE {
+		held.labels.replied(reply)
+	}
+	return isMade(status)
+}
+
+// isMade is whether a fork was made with the numbers that were wanted.
+func isMade(status C.uint32_t) (bool, error) {
+	if status == C.PIDTAB_DIFFERS {
+		return false, nil
+	}
+	return status == C.PIDTAB_DONE, faultOf(uint32(status))
+}
+
 // Line makes the call on a line of the script language, without its newline. What the table refuses is an answer, as `ESRCH no-caller`.
 // ErrEmptyLine, ErrBadLine, ErrClosed, ErrSpent, ErrBusy, and ErrNoMemory for fork and mk.
 func (table *Table) Line(line string) (string, error) {

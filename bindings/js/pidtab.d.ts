@@ -162,16 +162,8 @@ export interface Ask extends Queries {
   stat(caller: number, pid?: number): Stat;
 }
 
-/** The calls on a table. It begins with one task, the root init, number 1. */
-export interface Calls extends Queries {
-  /** Numbers are below it. */
-  readonly pidMax: number;
-  /** The queries that are no calls. */
-  readonly ask: Ask;
-  /** The answer to a raw line. A refusal is thrown, a line of another language is a BadLine, and an empty one a RangeError. */
-  line(text: string): string;
-  /** The answers to many raw lines: refusals, "bad line", "no memory" and "spent" are answers here. */
-  answers(texts: Iterable<string>): string[];
+/** A method for each call. */
+export interface EachCall extends Queries {
   // Written by tools/interface: calls.
   /** fork(2), or clone(2) with CLONE_NEWPID: a child in the namespace for the caller's children, or in a new one. no-caller, too-deep, elsewhere, space-fallen, no-number, pids-limit. */
   fork(caller: number, options?: { newSpace?: boolean }): Forked;
@@ -198,6 +190,22 @@ export interface Calls extends Queries {
   /** PR_SET_CHILD_SUBREAPER of prctl(2): the caller takes orphans of its namespace, or no more. no-caller. */
   subreaper(caller: number, on?: boolean): void;
   // The end of calls.
+}
+
+/** The calls on a table. It begins with one task, the root init, number 1. */
+export interface Calls extends EachCall {
+  /** Numbers are below it. */
+  readonly pidMax: number;
+  /** The queries that are no calls. */
+  readonly ask: Ask;
+  /** What each call would answer: the numbers of a fork, and whom a wait would reap. It throws what the call would throw, and nothing changes. */
+  readonly would: EachCall;
+  /** The answer to a raw line. A refusal is thrown, a line of another language is a BadLine, and an empty one a RangeError. */
+  line(text: string): string;
+  /** The answers to many raw lines: refusals, "bad line", "no memory" and "spent" are answers here. */
+  answers(texts: Iterable<string>): string[];
+  /** Makes a fork, if its child gets exactly these numbers, as `would.fork` has told them: whether it was made. Else nothing changes. */
+  forkAt(caller: number, child: Forked, options?: { newSpace?: boolean }): boolean;
   /** The table as it stands now. It costs a copy of the table, and so does `listText`. */
   list(): Listing;
   /** The same as text, as `pidtab list` writes it. */
@@ -206,8 +214,7 @@ export interface Calls extends Queries {
   close(): void;
 }
 
-type CallName = Exclude<keyof Calls, "pidMax" | "ask" | "line" | "answers" | "list" | "listText" | "close">;
-type LineOfCall = { [Name in CallName]: (...taken: Parameters<Calls[Name]>) => string };
+type LineOfCall = { [Name in keyof EachCall]: (...taken: Parameters<EachCall[Name]>) => string };
 
 /** The calls as lines: each method makes no call, and tells the line that makes it, as `new Lines().fork(1)` is "fork 1". It needs no table. */
 export class Lines {}
@@ -260,6 +267,8 @@ export class Record {
   readonly firstStamp: bigint;
   /** The queries that are no calls. */
   readonly ask: Ask;
+  /** What each call would answer. */
+  readonly would: EachCall;
   /** The seat of the next worker, from 0 on. SeatsTaken where each has its own. */
   seat(): Seat;
   counts(): Counts;

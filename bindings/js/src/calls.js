@@ -1,7 +1,7 @@
 // The calls: a method for each, raw lines, and the list. pidtab.d.ts says what each takes, answers and throws.
 //
-// What has these methods says by `_open` which instance it is, by `_call` and `_line` how a call is made there, and by `_forked` what a
-// new task is told to.
+// What has these methods says by `_open` which instance it is, by `_call`, `_line` and `_forkAt` how a call is made there, and by `_forked`
+// what a new task is told to.
 
 import { checkLong, checkNumber, checkRange, checkSigned } from "./bounds.js";
 import { faultOf, readRefusal, Refusal, shorten } from "./faults.js";
@@ -118,46 +118,8 @@ export class Ask extends Queries {
   }
 }
 
-export class Calls extends Queries {
-  /** The status of the line, whose answer is in the instance then. */
-  _asked(instance, text) {
-    const status = this._line(instance, instance.writeLine(checkLine(text)));
-    if (status !== STATUS.DONE && !NOT_MADE[status]) throw faultOf(status, shorten(text));
-    return status;
-  }
-
-  /** The answer, of a call that was made. */
-  _answerOfCall(text) {
-    const instance = this._open();
-    const status = this._asked(instance, text);
-    if (status !== STATUS.DONE) throw faultOf(status, shorten(text));
-    return this._noted(instance.answer());
-  }
-
-  /** The answer. That of a fork, as `child 2 root 3`, tells of a new task. */
-  _noted(answer) {
-    if (answer.startsWith("child ")) this._forked(Number(answer.slice(answer.lastIndexOf(" "))));
-    return answer;
-  }
-
-  _answer(text) {
-    const instance = this._open();
-    const status = this._asked(instance, text);
-    return status === STATUS.DONE ? this._noted(instance.answer()) : NOT_MADE[status];
-  }
-
-  line(text) {
-    const answer = this._answerOfCall(text);
-    // No other answer begins so: all others are lower case or digits.
-    if (answer.startsWith("E")) throw readRefusal(text, answer);
-    return answer;
-  }
-
-  answers(texts) {
-    if (typeof texts === "string") throw new TypeError("answers takes many lines, not one string");
-    return Array.from(texts, (text) => this._answer(text));
-  }
-
+/** A method for each call. */
+export class EachCall extends Queries {
   fork(caller, { newSpace = false } = {}) {
     const child = this._make(aChild, OPERATION.FORK, caller, 0, newSpace ? 1 : 0);
     this._forked(child.root);
@@ -213,6 +175,75 @@ export class Calls extends Queries {
     return this._make(nothing, OPERATION.SUBREAPER, caller, 0, on ? 1 : 0);
   }
   // The end of calls.
+}
+
+/** What each call would answer now: nothing changes, and it is neither counted nor recorded. */
+export class Would extends EachCall {
+  constructor(owner) {
+    super();
+    this._owner = owner;
+  }
+
+  _open() {
+    return this._owner._open();
+  }
+
+  _call(instance) {
+    return instance.would();
+  }
+
+  /** No task is new. */
+  _forked() {}
+}
+
+export class Calls extends EachCall {
+  /** The status of the line, whose answer is in the instance then. */
+  _asked(instance, text) {
+    const status = this._line(instance, instance.writeLine(checkLine(text)));
+    if (status !== STATUS.DONE && !NOT_MADE[status]) throw faultOf(status, shorten(text));
+    return status;
+  }
+
+  /** The answer, of a call that was made. */
+  _answerOfCall(text) {
+    const instance = this._open();
+    const status = this._asked(instance, text);
+    if (status !== STATUS.DONE) throw faultOf(status, shorten(text));
+    return this._noted(instance.answer());
+  }
+
+  /** The answer. That of a fork, as `child 2 root 3`, tells of a new task. */
+  _noted(answer) {
+    if (answer.startsWith("child ")) this._forked(Number(answer.slice(answer.lastIndexOf(" "))));
+    return answer;
+  }
+
+  _answer(text) {
+    const instance = this._open();
+    const status = this._asked(instance, text);
+    return status === STATUS.DONE ? this._noted(instance.answer()) : NOT_MADE[status];
+  }
+
+  line(text) {
+    const answer = this._answerOfCall(text);
+    // No other answer begins so: all others are lower case or digits.
+    if (answer.startsWith("E")) throw readRefusal(text, answer);
+    return answer;
+  }
+
+  answers(texts) {
+    if (typeof texts === "string") throw new TypeError("answers takes many lines, not one string");
+    return Array.from(texts, (text) => this._answer(text));
+  }
+
+  forkAt(caller, { child, root }, { newSpace = false } = {}) {
+    const numbers = [checkNumber("caller", caller), newSpace ? 1 : 0, checkNumber("child", child), checkNumber("root", root)];
+    const status = this._forkAt(this._open(), numbers);
+    if (status === STATUS.DIFFERS) return false;
+    if (status !== STATUS.DONE) throw faultOf(status, `fork ${caller}`);
+    this._forked(root);
+    return true;
+  }
 
   list() {
     return readListing(this.listText());

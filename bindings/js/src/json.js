@@ -12,7 +12,9 @@ function stateOf({ live, killed }) {
 function fieldsOf(value) {
   if (value instanceof Refusal) return [["error", value.code], ["word", value.word], ["id", value.id]];
   const isTask = value.numbers !== undefined;
-  const fields = Object.entries(value).filter(([name]) => name !== "killed" && !(isTask && name === "root"));
+  // The numbers of a listed task begin with the root's.
+  const isListed = isTask && value.children !== undefined;
+  const fields = Object.entries(value).filter(([name]) => name !== "killed" && !(isListed && name === "root"));
   return fields.map(([name, it]) => (isTask && name === "live" ? ["state", stateOf(value)] : [name, it]));
 }
 

@@ -1,10 +1,10 @@
 // The calls as lines. pidtab.d.ts says what each takes.
 
-import { Calls } from "./calls.js";
+import { EachCall } from "./calls.js";
 import { Instance } from "./instance.js";
 
 /** The methods of the calls, of which none makes a call: each tells its line, as the module writes it. */
-export class Lines extends Calls {
+export class Lines extends EachCall {
   constructor() {
     super();
     this._instance = new Instance("");

@@ -1,7 +1,7 @@
 // A table with its history.
 
 import { checkLong, checkRange } from "./bounds.js";
-import { Ask, Calls } from "./calls.js";
+import { Ask, Calls, Would } from "./calls.js";
 import { Differs, faultOf, SeatsTaken, TableClosed } from "./faults.js";
 import { DEFAULT_PID_MAX, MOST_WORKERS, STATUS } from "./header.js";
 import { ANSWER_ROOM, Instance, opened } from "./instance.js";
@@ -21,6 +21,7 @@ class Seat extends Calls {
     this.pidMax = record.pidMax;
     this.ordinal = null;
     this.ask = new Ask(this);
+    this.would = new Would(this);
   }
 
   _open() {
@@ -36,6 +37,10 @@ class Seat extends Calls {
 
   _call(instance) {
     return this._recorded(instance, instance.exports.record_call(this.worker));
+  }
+
+  _forkAt(instance, numbers) {
+    return this._recorded(instance, instance.exports.record_fork_at(this.worker, ...numbers));
   }
 
   _forked(root) {
@@ -82,6 +87,7 @@ export class Record {
     this.pidMax = pidMax;
     this.firstStamp = firstStamp;
     this.ask = new Ask(this);
+    this.would = new Would(this);
   }
 
   _open() {

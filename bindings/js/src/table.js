@@ -1,7 +1,7 @@
 // A table without a history.
 
 import { checkRange } from "./bounds.js";
-import { Ask, Calls } from "./calls.js";
+import { Ask, Calls, Would } from "./calls.js";
 import { BadText, faultOf } from "./faults.js";
 import { DEFAULT_PID_MAX, FAULT, GREATEST_PID_MAX, LEAST_PID_MAX, STATUS } from "./header.js";
 import { ANSWER_ROOM, Instance, opened } from "./instance.js";
@@ -51,6 +51,7 @@ export class Table extends Calls {
     this._labels = new Map();
     this.pidMax = pidMax;
     this.ask = new Ask(this);
+    this.would = new Would(this);
   }
 
   _open() {
@@ -59,6 +60,10 @@ export class Table extends Calls {
 
   _call(instance) {
     return instance.exports.call();
+  }
+
+  _forkAt(instance, numbers) {
+    return instance.exports.fork_at(...numbers);
   }
 
   _line(instance, length) {

@@ -37,6 +37,31 @@ tested("raw lines", (table) => {
   assert.throws(() => table.line("fork 01"), { name: "BadLine", code: "EPROTO", message: "bad line: fork 01" });
 });
 
+tested("what a call would answer", (table) => {
+  table.fork(1, { newSpace: true });
+  table.exit(2, 9);
+  const before = table.dump();
+  const { would } = table;
+  assert.deepEqual([would.fork(1), would.fork(1, { newSpace: true }), would.mk()], [{ child: 3, root: 3 }, { child: 3, root: 3 }, 3n]);
+  assert.deepEqual([would.wait(1), would.wait(1)], Array(2).fill({ child: 2, status: 9, killed: false }));
+  assert.throws(() => would.exit(1), { code: "EBUSY", word: "root-init" });
+  assert.deepEqual([would.line, would.list, table.dump()], [undefined, undefined, before]);
+});
+
+tested("a fork with given numbers", (table) => {
+  table.fork(1, { newSpace: true });
+  const before = table.dump();
+  for (const other of [{ child: 3, root: 3 }, { child: 2, root: 2 }]) assert.equal(table.forkAt(2, other), false);
+  assert.equal(table.forkAt(9, { child: 2, root: 3 }), false);
+  assert.equal(table.dump(), before);
+  assert.equal(table.forkAt(2, table.would.fork(2)), true);
+  assert.deepEqual(table.nspid(1, 3), [3, 2]);
+  assert.equal(table.forkAt(1, { child: 4, root: 4 }, { newSpace: true }), true);
+  assert.deepEqual(table.nspid(1, 4), [4, 1]);
+  assert.throws(() => table.forkAt(1, { child: -1, root: 5 }), RangeError);
+  assert.throws(() => table.forkAt(1, { child: 5 }), TypeError);
+});
+
 tested("a task, read at once", (table) => {
   table.fork(1, { newSpace: true });
   const { ask } = table;

@@ -128,6 +128,7 @@ class World {
     const [name] = line.split(" ");
     const asked = [this.record.ask, seat.ask, ...(byMethod ? [byMethod.ask] : [])];
     for (const queries of asked) QUERIES.includes(name) ? assert.equal(say(byItsMethod(queries, line), name), answer) : assert.equal(queries[name], undefined);
+    if (byMethod) assert.equal(say(byItsMethod(byMethod.would, line), name), answer, line);
     if (byMethod) assert.equal(say((this.told = byItsMethod(byMethod, line)), name), answer, line);
     return answer;
   }

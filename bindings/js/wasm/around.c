@@ -97,6 +97,16 @@ uint32_t EXPORTED(stat)(uint32_t caller, uint32_t number)
 	return pidtab_stat(&held.table, caller, number, &at.task);
 }
 
+uint32_t EXPORTED(would)(void)
+{
+	return pidtab_would(&held.table, &at.call, &at.reply);
+}
+
+uint32_t EXPORTED(fork_at)(uint32_t caller, uint32_t new_space, uint32_t child, uint32_t root)
+{
+	return pidtab_fork_at(&held.table, caller, new_space, child, root, &at.reply);
+}
+
 uint32_t EXPORTED(call_line)(void)
 {
 	return pidtab_call_line(&at.call, at.line, LINE_ROOM, &at.size);
@@ -135,6 +145,16 @@ uint32_t EXPORTED(record_ask)(void)
 uint32_t EXPORTED(record_stat)(uint32_t caller, uint32_t number)
 {
 	return pidtab_record_stat(&held.record, caller, number, &at.task);
+}
+
+uint32_t EXPORTED(record_would)(void)
+{
+	return pidtab_record_would(&held.record, &at.call, &at.reply);
+}
+
+uint32_t EXPORTED(record_fork_at)(uint32_t worker, uint32_t caller, uint32_t new_space, uint32_t child, uint32_t root)
+{
+	return pidtab_record_fork_at(&held.record, worker, caller, new_space, child, root, &at.reply, &at.numbers[0]);
 }
 
 uint32_t EXPORTED(record_counts)(void)

@@ -36,7 +36,7 @@ from pidtab.library import find_library
 from pidtab.listing import BadList, Changes, Control, Listing, Space, Task, read_list, write_list
 from pidtab.log import Following, Log, Progress
 from pidtab.memory_log import MemoryLog
-from pidtab.native import Ask, Askable, AskableCalls
+from pidtab.native import Ask, Askable, AskableCalls, Would
 from pidtab.process import Process
 from pidtab.program import find_program
 from pidtab.replicated import ReplicaAsk, Replicated
@@ -100,6 +100,7 @@ __all__ = [
     "Task",
     "Unsaved",
     "WaitingEnded",
+    "Would",
     "draw_list",
     "find_library",
     "find_program",

@@ -153,38 +153,8 @@ class Listed(ABC):
         return draw_list(self.list())
 
 
-class Calls(Queries, Listed, Owner):
-    """A table, which begins with one task, the root init, number 1. docs/SCRIPT.md has all calls.
-
-    Callers are root numbers; all other process numbers are those of the caller's namespace. Both are 0 to 2^32 - 1, those of setpgid -2^31 to
-    2^31 - 1, and ids of control groups, where 0 is the root, 0 to 2^64 - 1; any other number is a ValueError, as is a bad line. What is no
-    integer is a TypeError, and so is a line that is no str.
-
-    A refused call raises `Refusal`, an OSError with the kernel's errno, whose `why` is the word; each method names the words that it may have.
-    Where there is no memory, fork, mk and list raise a MemoryError. After 2^64 - 2 calls each raises an OverflowError. What raises has changed
-    nothing, but that a refused call is counted.
-
-    Threads may share a table: one call is made at a time. Once it is closed, each method raises `TableClosed`. So it does in a forked child,
-    whose parent has the table; there `close` does nothing.
-    """
-
-    @abstractmethod
-    def _answers(self, lines: Sequence[bytes]) -> tuple[str, ...]:
-        """Makes the calls on lines, of which none is empty."""
-
-    def line(self, text: str) -> str:
-        """The answer to a raw line; refusals and bad lines are raised."""
-        (answer,) = self._answers([as_line(text)])
-        fault = read_fault(text, answer)
-        if fault is not None:
-            raise fault
-        return answer
-
-    def answers(self, texts: Iterable[str]) -> tuple[str, ...]:
-        """The answers to many raw lines, in one go: refusals and bad lines are answers here, and nothing is raised."""
-        if isinstance(texts, (str, bytes, bytearray)):
-            raise TypeError(f"answers takes many lines, each a str, not one {type(texts).__name__}")
-        return self._answers([as_line(text) for text in texts])
+class EachCall(Queries):
+    """A method for each call. `Calls` says what they take, and what is raised."""
 
     def wait(
         self, caller: int, pid: int | None = None, *, own: bool = False, group: int | None = None
@@ -247,3 +217,37 @@ class Calls(Queries, Listed, Owner):
         """PR_SET_CHILD_SUBREAPER of prctl(2): the caller takes orphans of its namespace, or no more. no-caller."""
         self._make(Call(raw.SUBREAPER, index(caller), 0, 0, bool(on)), NOTHING)
     # The end of calls.
+
+
+class Calls(EachCall, Listed, Owner):
+    """A table, which begins with one task, the root init, number 1. docs/SCRIPT.md has all calls.
+
+    Callers are root numbers; all other process numbers are those of the caller's namespace. Both are 0 to 2^32 - 1, those of setpgid -2^31 to
+    2^31 - 1, and ids of control groups, where 0 is the root, 0 to 2^64 - 1; any other number is a ValueError, as is a bad line. What is no
+    integer is a TypeError, and so is a line that is no str.
+
+    A refused call raises `Refusal`, an OSError with the kernel's errno, whose `why` is the word; each method names the words that it may have.
+    Where there is no memory, fork, mk and list raise a MemoryError. After 2^64 - 2 calls each raises an OverflowError. What raises has changed
+    nothing, but that a refused call is counted.
+
+    Threads may share a table: one call is made at a time. Once it is closed, each method raises `TableClosed`. So it does in a forked child,
+    whose parent has the table; there `close` does nothing.
+    """
+
+    @abstractmethod
+    def _answers(self, lines: Sequence[bytes]) -> tuple[str, ...]:
+        """Makes the calls on lines, of which none is empty."""
+
+    def line(self, text: str) -> str:
+        """The answer to a raw line; refusals and bad lines are raised."""
+        (answer,) = self._answers([as_line(text)])
+        fault = read_fault(text, answer)
+        if fault is not None:
+            raise fault
+        return answer
+
+    def answers(self, texts: Iterable[str]) -> tuple[str, ...]:
+        """The answers to many raw lines, in one go: refusals and bad lines are answers here, and nothing is raised."""
+        if isinstance(texts, (str, bytes, bytearray)):
+            raise TypeError(f"answers takes many lines, each a str, not one {type(texts).__name__}")
+        return self._answers([as_line(text) for text in texts])

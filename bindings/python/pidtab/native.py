@@ -8,7 +8,7 @@ from typing import TYPE_CHECKING, NoReturn, Protocol, SupportsIndex, TypeVar
 
 from pidtab.answers import Forked, Form, Stat, tell_stat
 from pidtab.bounds import check_range
-from pidtab.calls import Call, Calls, Queries
+from pidtab.calls import Call, Calls, EachCall, Queries
 from pidtab.faults import LibraryFault, TableClosed, bad_text, read_fault, refusal_of, say_why
 from pidtab.forms import QUERIES
 from pidtab.labels import Labelled
@@ -17,6 +17,7 @@ from pidtab.raw import (
     BAD_TEXT,
     CALL_FIELDS,
     CLOSED,
+    DIFFERS,
     DONE,
     NO_MEMORY,
     NO_ROOM,
@@ -151,7 +152,27 @@ class Asked(Protocol):
 
     def _ask(self, call: bytes, reply: PidtabReply) -> int: ...
 
+    def _would(self, call: bytes, reply: PidtabReply) -> int: ...
+
     def _stat(self, caller: int, pid: int, task: PidtabTask) -> int: ...
+
+
+class Would(EachCall):
+    """What each call would answer now, as the `would` of a table: it raises what the call would raise, nothing changes, and nothing is counted.
+
+    `would.fork(1)` has the numbers of the child that the next fork would make, and `would.wait(1)` whom a wait would reap, as waitid(2) with WNOWAIT.
+    Whether there is memory for the call it does not know. As long as somebody has it, the table is not dropped.
+    """
+
+    def __init__(self, table: Asked) -> None:
+        self._table = table
+
+    def __repr__(self) -> str:
+        return f"<pidtab.Would of {self._table!r}>"
+
+    def _make(self, call: Call, form: Form[T]) -> T:
+        self._table._check_owner()
+        return make_call(call, form, self._table._would)
 
 
 class Ask(Queries):
@@ -213,6 +234,32 @@ class NumberCalls(Labelled, AskableCalls):
     @abstractmethod
     def _forked(self, root: int) -> None:
         """Sees to it that a new task has no label of another."""
+
+    @abstractmethod
+    def _fork_at(self, caller: int, new: bool, child: int, root: int, reply: PidtabReply) -> int:
+        """The status of the function that makes a fork with these numbers."""
+
+    @property
+    def would(self) -> Would:
+        """What each call would answer: `table.would.fork(1)` has the numbers that `table.fork(1)` would give now."""
+        return Would(self)
+
+    def fork_at(self, caller: int, child: Forked, new: bool = False) -> bool:
+        """fork(2), if the child gets exactly these numbers, as `would.fork` has told them. Else nothing changes, and it is False.
+
+        So who prepares for a child before it is there has the one that he has prepared for, or none.
+        """
+        self._check_owner()
+        told = Forked(*child)
+        numbers = [check_range(name, it, 0, GREATEST_PID) for name, it in (("caller", caller), ("child", told.child), ("root", told.root))]
+        status = self._fork_at(numbers[0], bool(new), *numbers[1:], PidtabReply())
+        if status == DIFFERS:
+            return False
+        if status != DONE:
+            raise fault_of(status, f"fork {numbers[0]}")
+        if self._labels.by_root:
+            self._forked(numbers[2])
+        return True
 
     def _make(self, call: Call, form: Form[T]) -> T:
         if self._left:

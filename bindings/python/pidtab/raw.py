@@ -13,12 +13,12 @@ NO_ROOM = 34
 EMPTY_LINE = 61
 BAD_LINE = 71
 SPENT = 75
+DIFFERS = 74
 BAD_TEXT = 117
 
 # Of a history besides.
 NOT_KEPT = 2
 AGAIN = 11
-DIFFERS = 74
 
 # Of a saved history besides.
 DEVICE = 5
@@ -267,6 +267,8 @@ LATER_FUNCTIONS: dict[str, Function] = {
     "pidtab_load": (U32, [TABLE, ctypes.c_char_p, SIZE_T, FAULT]),
     "pidtab_ask": (U32, [TABLE, CALL_BYTES, REPLY]),
     "pidtab_stat": (U32, [TABLE, U32, U32, TASK]),
+    "pidtab_would": (U32, [TABLE, CALL_BYTES, REPLY]),
+    "pidtab_fork_at": (U32, [TABLE, U32, U32, U32, U32, REPLY]),
     "pidtab_reply_line": (U32, [REPLY, BYTES, SIZE_T, SIZE]),
 }
 
@@ -279,6 +281,8 @@ SHARED_FUNCTIONS: dict[str, Function] = {
     "pidtab_shared_line": (U32, [SHARED, U32, ctypes.c_char_p, SIZE_T, BYTES, SIZE_T, SIZE, NUMBER_64]),
     "pidtab_shared_ask": (U32, [SHARED, CALL_BYTES, REPLY]),
     "pidtab_shared_stat": (U32, [SHARED, U32, U32, TASK]),
+    "pidtab_shared_would": (U32, [SHARED, CALL_BYTES, REPLY]),
+    "pidtab_shared_fork_at": (U32, [SHARED, U32, U32, U32, U32, U32, REPLY, NUMBER_64]),
     "pidtab_shared_counts": (U32, [SHARED, NUMBER_64, NUMBER_64]),
     "pidtab_shared_worker": (U32, [SHARED, U32, NUMBER_64]),
     "pidtab_shared_entry": (U32, [SHARED, U64, NUMBER_64, CALL, REPLY]),

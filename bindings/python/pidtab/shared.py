@@ -16,7 +16,7 @@ from pidtab.faults import LibraryFault, NotKept, OtherSettings, SaverEnded, Seat
 from pidtab.history import Counts, Entry, read_entry
 from pidtab.labels import Labelled, Labels
 from pidtab.library import call_later, find_library, lacks, load_shared
-from pidtab.native import ROOT_INIT, Ask, NumberCalls, answer_of, check_loaded, fault_of, head_of, read_written, text_bytes
+from pidtab.native import ROOT_INIT, Ask, NumberCalls, Would, answer_of, check_loaded, fault_of, head_of, read_written, text_bytes
 from pidtab.owner import TABLES, Owner
 from pidtab.raw import (
     AGAIN,
@@ -146,6 +146,12 @@ class Seat(NumberCalls):
 
     def _stat(self, caller: int, pid: int, task: PidtabTask) -> int:
         return self.shared._stat(caller, pid, task)
+
+    def _would(self, call: bytes, reply: PidtabReply) -> int:
+        return self.shared._would(call, reply)
+
+    def _fork_at(self, caller: int, new: bool, child: int, root: int, reply: PidtabReply) -> int:
+        return self.shared._bounded("pidtab_shared_fork_at", self.worker, caller, new, child, root, reply, self._ordinal)
 
     def _call(self, call: bytes, reply: PidtabReply) -> int:
         return self.shared._bounded("pidtab_shared_call", self.worker, call, reply, self._ordinal)
@@ -488,6 +494,11 @@ class Shared(Labelled, Owner):
         """Queries that are no calls: `shared.ask.getpid(1)` is answered as a seat's would be, and is neither counted nor recorded."""
         return Ask(self)
 
+    @property
+    def would(self) -> Would:
+        """What each call would answer: `shared.would.fork(1)` has the numbers that a fork would give now. It is neither counted nor recorded."""
+        return Would(self)
+
     def counts(self) -> Counts:
         """The ordinal of the first kept entry, and how many calls were recorded, both of one moment."""
         first_kept, recorded = ctypes.c_uint64(), ctypes.c_uint64()
@@ -645,6 +656,9 @@ class Shared(Labelled, Owner):
 
     def _stat(self, caller: int, pid: int, task: PidtabTask) -> int:
         return self._status("pidtab_shared_stat", caller, pid, task)
+
+    def _would(self, call: bytes, reply: PidtabReply) -> int:
+        return self._status("pidtab_shared_would", call, reply)
 
     def _list(self, room: "ctypes.Array[ctypes.c_char]", size: ctypes.c_size_t) -> int:
         return self._status("pidtab_shared_list", room, len(room), size)

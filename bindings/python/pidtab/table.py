@@ -87,6 +87,12 @@ class Table(NumberCalls):
     def _stat(self, caller: int, pid: int, task: PidtabTask) -> int:
         return self._later("pidtab_stat", caller, pid, task)
 
+    def _would(self, call: bytes, reply: PidtabReply) -> int:
+        return self._later("pidtab_would", call, reply)
+
+    def _fork_at(self, caller: int, new: bool, child: int, root: int, reply: PidtabReply) -> int:
+        return self._later("pidtab_fork_at", caller, new, child, root, reply)
+
     def _later(self, name: str, *arguments: object) -> int:
         """What a function answers that an earlier library may lack."""
         return call_later(self._functions, self.library, name, self._table, *arguments)

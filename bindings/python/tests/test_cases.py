@@ -149,6 +149,7 @@ class World:
             else:
                 self.test.assertFalse(hasattr(queries, line.split(" ")[0]))
         if len(self.tables) > 1:
+            self.test.assertEqual((line, ask(self.tables[1].would, line)), (line, answer))  # type: ignore[arg-type, attr-defined]
             self.told = value_of(self.tables[1], line)
             said = say_fault(self.told) if isinstance(self.told, Refusal) else say_answer(line.split(" ")[0], self.told)
             self.test.assertEqual((line, said), (line, answer))

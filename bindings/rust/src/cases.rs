@@ -119,6 +119,7 @@ impl World {
         assert_eq!(self.shared.ask(entry.call), asked, "{line}");
         if let [_, by_value, by_method] = &mut self.tables[..] {
             assert_eq!(by_value.ask(entry.call), asked, "{line}");
+            assert_eq!(by_value.would(entry.call).as_ref(), Ok(&entry.reply));
             assert_eq!(by_value.call(entry.call).as_ref(), Ok(&entry.reply));
             let told = by_its_method(by_method, entry.call).or_else(|fault| match fault {
                 Error::Refused { errno, refusal } => Ok(Reply::Refused { errno, refusal }),

@@ -198,9 +198,9 @@ impl Error {
             raw::BUSY => Error::Busy,
             raw::OUT_OF_RANGE => Error::OutOfRange,
             raw::SPENT => Error::Spent,
+            raw::DIFFERS => Error::Differs,
             raw::NOT_KEPT => Error::NotKept,
             raw::AGAIN => Error::Again,
-            raw::DIFFERS => Error::Differs,
             // The end of errors.
             _ => unreachable!("the library answers the status {status}"),
         }

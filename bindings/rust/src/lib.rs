@@ -260,6 +260,47 @@ impl Table {
         Ok(Reply::of(&reply))
     }
 
+    /// The reply that the call would get now, refusals too: the numbers of a fork, and whom a wait would reap, as `waitid(2)` with `WNOWAIT`. Nothing
+    /// changes, and it is not counted. It takes no memory, and does not tell whether the call would find some.
+    ///
+    /// # Errors
+    /// `OutOfRange`, `Spent`, `Busy`.
+    pub fn would(&self, call: Call) -> Result<Reply, Error> {
+        let mut reply = raw::Reply::BLANK;
+        Error::unless_done(self.raw.would(&call.numbers(), &mut reply))?;
+        Ok(Reply::of(&reply))
+    }
+
+    /// Makes a fork, if its child gets exactly these numbers, as [`Table::would`] has told them. Else nothing changes, and it is `false`. So who
+    /// prepares for a child before it is there has the one that he has prepared for, or none.
+    ///
+    /// ```
+    /// use pidtab::{Call, Child, Reply, Table};
+    ///
+    /// let mut table = Table::open(32768)?;
+    /// let child = Child { number: 2, root: 2 };
+    /// assert_eq!(table.would(Call::Fork { caller: 1, new_space: false })?, Reply::Forked(child));
+    /// assert!(table.fork_at(1, false, child)?);
+    /// assert!(!table.fork_at(1, false, child)?);
+    /// # Ok::<(), pidtab::Error>(())
+    /// ```
+    ///
+    /// # Errors
+    /// `NoMemory`, `Spent`, `Busy`.
+    pub fn fork_at(&mut self, caller: u32, new_space: bool, child: Child) -> Result<bool, Error> {
+        let mut reply = raw::Reply::BLANK;
+        let Child { number, root } = child;
+        let status = self
+            .raw
+            .fork_at(caller, new_space.into(), number, root, &mut reply);
+        if status == raw::DIFFERS {
+            return Ok(false);
+        }
+        Error::unless_done(status)?;
+        self.labels.replied(&Reply::of(&reply));
+        Ok(true)
+    }
+
     /// Makes the call on a line of the script language, without its newline: a text or bytes. A refusal is an answer, as `ESRCH no-caller`.
     ///
     /// # Errors

@@ -22,10 +22,10 @@ mod statuses {
     pub(crate) const EMPTY_LINE: u32 = 61;
     pub(crate) const BAD_LINE: u32 = 71;
     pub(crate) const SPENT: u32 = 75;
+    pub(crate) const DIFFERS: u32 = 74;
     pub(crate) const BAD_TEXT: u32 = 117;
     pub(crate) const NOT_KEPT: u32 = 2;
     pub(crate) const AGAIN: u32 = 11;
-    pub(crate) const DIFFERS: u32 = 74;
     pub(crate) const DEVICE: u32 = 5;
     pub(crate) const NOT_SAVED: u32 = 8;
     pub(crate) const NOT_EMPTY: u32 = 17;
@@ -297,6 +297,15 @@ extern "C" {
     fn pidtab_call(table: *mut Held, call: *const Call, reply: *mut Reply) -> u32;
     fn pidtab_ask(table: *const Held, call: *const Call, reply: *mut Reply) -> u32;
     fn pidtab_stat(table: *const Held, caller: u32, number: u32, task: *mut Task) -> u32;
+    fn pidtab_would(table: *const Held, call: *const Call, reply: *mut Reply) -> u32;
+    fn pidtab_fork_at(
+        table: *mut Held,
+        caller: u32,
+        new_space: u32,
+        child: u32,
+        root: u32,
+        reply: *mut Reply,
+    ) -> u32;
     fn pidtab_call_line(call: *const Call, line: *mut c_void, room: usize, size: *mut usize)
         -> u32;
     fn pidtab_reply_line(
@@ -344,6 +353,17 @@ extern "C" {
     ) -> u32;
     fn pidtab_record_ask(record: *const Held, call: *const Call, reply: *mut Reply) -> u32;
     fn pidtab_record_stat(record: *const Held, caller: u32, number: u32, task: *mut Task) -> u32;
+    fn pidtab_record_would(record: *const Held, call: *const Call, reply: *mut Reply) -> u32;
+    fn pidtab_record_fork_at(
+        record: *mut Held,
+        worker: u32,
+        caller: u32,
+        new_space: u32,
+        child: u32,
+        root: u32,
+        reply: *mut Reply,
+        ordinal: *mut u64,
+    ) -> u32;
     fn pidtab_record_counts(record: *const Held, first_kept: *mut u64, recorded: *mut u64) -> u32;
     fn pidtab_record_worker(record: *const Held, worker: u32, calls: *mut u64) -> u32;
     fn pidtab_record_entry(
@@ -527,6 +547,23 @@ impl Table {
         // SAFETY: it is open and lent to queries alone; each pointer is that of a reference or of a slice with that length.
         unsafe { pidtab_stat(&*self.held, caller, number, task) }
     }
+
+    pub(crate) fn would(&self, call: &Call, reply: &mut Reply) -> u32 {
+        // SAFETY: it is open and lent to queries alone; each pointer is that of a reference or of a slice with that length.
+        unsafe { pidtab_would(&*self.held, call, reply) }
+    }
+
+    pub(crate) fn fork_at(
+        &mut self,
+        caller: u32,
+        new_space: u32,
+        child: u32,
+        root: u32,
+        reply: &mut Reply,
+    ) -> u32 {
+        // SAFETY: it is open and lent to this call alone; each pointer is that of a reference or of a slice with that length.
+        unsafe { pidtab_fork_at(&mut *self.held, caller, new_space, child, root, reply) }
+    }
     // The end of methods of a table.
 
     /// As in a forked child, where the thread whose call was under way is not.
@@ -642,6 +679,36 @@ impl Record {
     pub(crate) fn stat(&self, caller: u32, number: u32, task: &mut Task) -> u32 {
         // SAFETY: it is open and lent to queries alone; each pointer is that of a reference or of a slice with that length.
         unsafe { pidtab_record_stat(&*self.held, caller, number, task) }
+    }
+
+    pub(crate) fn would(&self, call: &Call, reply: &mut Reply) -> u32 {
+        // SAFETY: it is open and lent to queries alone; each pointer is that of a reference or of a slice with that length.
+        unsafe { pidtab_record_would(&*self.held, call, reply) }
+    }
+
+    pub(crate) fn fork_at(
+        &mut self,
+        worker: u32,
+        caller: u32,
+        new_space: u32,
+        child: u32,
+        root: u32,
+        reply: &mut Reply,
+        ordinal: &mut u64,
+    ) -> u32 {
+        // SAFETY: it is open and lent to this call alone; each pointer is that of a reference or of a slice with that length.
+        unsafe {
+            pidtab_record_fork_at(
+                &mut *self.held,
+                worker,
+                caller,
+                new_space,
+                child,
+                root,
+                reply,
+                ordinal,
+            )
+        }
     }
 
     pub(crate) fn counts(&self, first_kept: &mut u64, recorded: &mut u64) -> u32 {

@@ -5,8 +5,8 @@
 use crate::calls::sealed::Sealed;
 use crate::labels::Labels;
 use crate::{
-    raw, texts, Call, Calls, Error, LineError, Listing, ReplayError, Reply, SavedError, Stat,
-    Table, TextError,
+    raw, texts, Call, Calls, Child, Error, LineError, Listing, ReplayError, Reply, SavedError,
+    Stat, Table, TextError,
 };
 use std::ops::{Deref, DerefMut};
 use std::sync::atomic::{AtomicBool, AtomicU32, AtomicU64, Ordering};
@@ -356,6 +356,14 @@ impl Shared {
         self.look().ask(query)
     }
 
+    /// As [`Record::would`].
+    ///
+    /// # Errors
+    /// `OutOfRange`, `Spent`, `Busy`.
+    pub fn would(&self, call: Call) -> Result<Reply, Error> {
+        self.look().would(call)
+    }
+
     /// As [`Record::stat`].
     ///
     /// # Errors
@@ -619,6 +627,17 @@ impl Record {
         Ok(Reply::of(&reply))
     }
 
+    /// The reply that the call would get now, refusals too: the numbers of a fork, and whom a wait would reap, as `waitid(2)` with `WNOWAIT`. Nothing
+    /// changes, and it is not recorded. It takes no memory, and does not tell whether the call would find some.
+    ///
+    /// # Errors
+    /// `OutOfRange`, `Spent`, `Busy`.
+    pub fn would(&self, call: Call) -> Result<Reply, Error> {
+        let mut reply = raw::Reply::BLANK;
+        Error::unless_done(self.raw.would(&call.numbers(), &mut reply))?;
+        Ok(Reply::of(&reply))
+    }
+
     /// Reads the task with the number in the caller's namespace, where 0 is the caller, and a zombie too. It is no call, and is not recorded.
     /// It takes no memory, and costs what a `getpgid` costs.
     ///
@@ -806,6 +825,34 @@ impl Record {
         let reply = Reply::of(&reply);
         self.labels.replied(&reply);
         Ok((reply, ordinal))
+    }
+
+    /// Makes a fork of the worker if its child gets these numbers: its ordinal, or none where it would get another reply.
+    fn fork_at(
+        &mut self,
+        worker: u32,
+        caller: u32,
+        new_space: bool,
+        child: Child,
+    ) -> Result<Option<u64>, Error> {
+        let (mut reply, mut ordinal) = (raw::Reply::BLANK, 0);
+        let Child { number, root } = child;
+        let status = self.raw.fork_at(
+            worker,
+            caller,
+            new_space.into(),
+            number,
+            root,
+            &mut reply,
+            &mut ordinal,
+        );
+        if status == raw::DIFFERS {
+            return Ok(None);
+        }
+        Error::unless_done(status)?;
+        self.after_call();
+        self.labels.replied(&Reply::of(&reply));
+        Ok(Some(ordinal))
     }
 
     /// Makes calls of the worker in their order, and adds the replies of those that are made. The ordinal is then that of the last.
@@ -998,6 +1045,16 @@ impl Seat<'_> {
         self.turn(locked).calls(calls, replies)
     }
 
+    /// As [`Table::fork_at`](crate::Table::fork_at): makes a fork, if its child gets exactly these numbers. Else nothing changes or is recorded, and
+    /// it is `false`.
+    ///
+    /// # Errors
+    /// `NoMemory`, `Spent`, `Busy`, `Unsaved`.
+    pub fn fork_at(&mut self, caller: u32, new_space: bool, child: Child) -> Result<bool, Error> {
+        let locked = self.shared.lock_in_bound(1)?;
+        self.turn(locked).fork_at(caller, new_space, child)
+    }
+
     /// The lock, for several calls in one go: none of another worker comes between them. All others wait while the guard lives.
     ///
     /// This thread calls no function of the `Shared` or of another seat meanwhile: it would wait for itself for ever, or panic. The guard has
@@ -1056,6 +1113,18 @@ impl Turn<'_> {
         self.locked.calls(self.worker, calls, replies, self.ordinal)
     }
 
+    /// As [`Seat::fork_at`].
+    ///
+    /// # Errors
+    /// `NoMemory`, `Spent`, `Busy`.
+    pub fn fork_at(&mut self, caller: u32, new_space: bool, child: Child) -> Result<bool, Error> {
+        let made = self.locked.fork_at(self.worker, caller, new_space, child)?;
+        if made.is_some() {
+            *self.ordinal = made;
+        }
+        Ok(made.is_some())
+    }
+
     /// As [`Seat::line`].
     ///
     /// # Errors
@@ -1109,6 +1178,55 @@ mod tests {
     use crate::{Saved, SavedFault};
     use std::thread;
 
+    /// Each thread forks with the numbers that it was told, or is told anew where another was faster.
+    #[test]
+    fn threads_fork_as_told() {
+        const FORKS: usize = 200;
+        let shared = Shared::options(32768, 4).keep(10).open().expect("a table");
+        let fork = Call::Fork {
+            caller: 1,
+            new_space: false,
+        };
+        thread::scope(|scope| {
+            for _ in 0..4 {
+                let mut seat = shared.seat().expect("a seat");
+                let shared = &shared;
+                scope.spawn(move || {
+                    let mut made = 0;
+                    while made < FORKS {
+                        let told = match shared.would(fork) {
+                            Ok(Reply::Forked(child)) => child,
+                            other => panic!("{other:?}"),
+                        };
+                        made += usize::from(seat.fork_at(1, false, told).expect("a fork"));
+                    }
+                });
+            }
+        });
+        assert_eq!(shared.counts().expect("counts").recorded, 4 * FORKS as u64);
+        assert_eq!(
+            shared.ask(Call::Count { id: 0 }),
+            Ok(Reply::Counted(4 * FORKS as u64 + 1))
+        );
+    }
+
+    /// A fork with other numbers is none: it is not recorded, and has no ordinal.
+    #[test]
+    fn a_fork_with_other_numbers() {
+        let shared = Shared::open(32768, 1).expect("a table");
+        let mut seat = shared.seat().expect("a seat");
+        let other = Child { number: 3, root: 2 };
+        assert_eq!(seat.fork_at(1, false, other), Ok(false));
+        assert_eq!(seat.fork_at(9, false, other), Ok(false));
+        assert_eq!(
+            (seat.ordinal(), shared.counts().map(|it| it.recorded)),
+            (None, Ok(0))
+        );
+        let child = Child { number: 2, root: 2 };
+        assert_eq!(seat.fork_at(1, true, child), Ok(true));
+        assert_eq!((seat.ordinal(), seat.getpid(2)), (Some(0), Ok(1)));
+    }
+
     /// As in a forked child, where the thread whose call was under way is not.
     #[test]
     fn a_call_that_does_not_end() {
@@ -1119,6 +1237,15 @@ mod tests {
         assert_eq!(seat.line("getpid 1"), Err(LineError::Busy));
         assert_eq!(shared.ask(Call::Getpid { caller: 1 }), Err(Error::Busy));
         assert_eq!(shared.stat(1, 0), Err(Error::Busy));
+        let (fork, child) = (
+            Call::Fork {
+                caller: 1,
+                new_space: false,
+            },
+            Child { number: 2, root: 2 },
+        );
+        assert_eq!(shared.would(fork), Err(Error::Busy));
+        assert_eq!(seat.fork_at(1, false, child), Err(Error::Busy));
         assert_eq!(shared.counts(), Err(Error::Busy));
         assert_eq!(shared.worker(0), Err(Error::Busy));
         assert_eq!(shared.entry(0), Err(Error::Busy));

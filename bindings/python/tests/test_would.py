@@ -1,0 +1,157 @@
+"""What a call would answer, and forks that are made only with the numbers that were told."""
+
+import random
+import threading
+import unittest
+from collections.abc import Callable
+
+from pidtab import Forked, Reaped, Refusal, Shared, Table, TableClosed
+from tests.ways import need_library, need_shared
+
+SEED = 3
+FORKS = 200
+THREADS = 4
+
+
+def outcome(ask: Callable[[], object]) -> object:
+    """What a call tells, or why it is refused."""
+    try:
+        return ask()
+    except Refusal as refusal:
+        return refusal.errno, refusal.why
+
+
+class WouldOfTable(unittest.TestCase):
+    """A table of this process."""
+
+    def setUp(self) -> None:
+        need_library()
+        self.table = Table()
+        self.addCleanup(self.table.close)
+
+    def test_nothing_changes(self) -> None:
+        self.table.fork(1, new=True)
+        before = self.table.dump()
+        would = self.table.would
+        self.assertEqual(would.fork(1), Forked(3, 3))
+        self.assertEqual(would.fork(2), Forked(2, 3))
+        self.assertEqual(would.fork(1, new=True), Forked(3, 3))
+        self.assertIsNone(would.exit(2, 7))
+        self.assertIsNone(would.wait(1))
+        self.assertEqual((would.setsid(2), would.mk(), would.getpid(2), would.count()), (1, 2, 1, 2))
+        self.assertEqual(self.table.dump(), before)
+
+    def test_a_wait_leaves_the_child(self) -> None:
+        self.table.fork(1)
+        self.table.exit(2, 9)
+        self.assertEqual([self.table.would.wait(1), self.table.would.wait(1), self.table.wait(1)], [Reaped(2, 9)] * 3)
+        self.assertEqual(outcome(lambda: self.table.would.wait(1)), outcome(lambda: self.table.wait(1)))
+
+    def test_refusals_are_raised(self) -> None:
+        for call in (lambda it: it.fork(9), lambda it: it.exit(1), lambda it: it.rm(0), lambda it: it.join(1, 5), lambda it: it.limit(0, 5)):
+            refused = outcome(lambda: call(self.table.would))
+            self.assertIsInstance(refused, tuple)
+            self.assertEqual(outcome(lambda: call(self.table)), refused)
+
+    def test_a_fork_as_told(self) -> None:
+        self.table.fork(1, new=True)
+        told = self.table.would.fork(2)
+        before = self.table.dump()
+        for other in (Forked(3, 3), Forked(2, 2), Forked(0, 0)):
+            self.assertIs(self.table.fork_at(2, other), False)
+        self.assertIs(self.table.fork_at(7, told), False)
+        self.assertEqual(self.table.dump(), before)
+        self.assertIs(self.table.fork_at(2, told), True)
+        self.assertEqual(self.table.nspid(2, 2), (2,))
+        self.assertEqual(self.table.nspid(1, told.root), (3, 2))
+        self.assertIs(self.table.fork_at(1, self.table.would.fork(1, new=True), new=True), True)
+        self.assertEqual(self.table.nspid(1, 4), (4, 1))
+
+    def test_what_is_none(self) -> None:
+        for bad in ((2**32, 2), (2, -1)):
+            with self.assertRaises(ValueError):
+                self.table.fork_at(1, Forked(*bad))
+        with self.assertRaises(ValueError):
+            self.table.fork_at(-1, Forked(2, 2))
+        with self.assertRaises(TypeError):
+            self.table.fork_at(1, Forked("2", 2))  # type: ignore[arg-type]
+        with self.assertRaises(TypeError):
+            self.table.fork_at(1, 2)  # type: ignore[arg-type]
+        self.assertFalse(hasattr(self.table.would, "line"))
+        self.assertEqual(self.table.count(), 1)
+
+    def test_a_label_is_of_the_task_before(self) -> None:
+        table = Table(301)
+        self.addCleanup(table.close)
+        for _ in range(299):
+            table.fork(1)
+        table.label(300, "before")
+        table.exit(300)
+        table.wait(1)
+        self.assertEqual(table.would.fork(1), Forked(300, 300))
+        self.assertEqual([it.label for it in table.list().tasks if it.root == 300], [])
+        self.assertIs(table.fork_at(1, Forked(300, 300)), True)
+        self.assertEqual([it.label for it in table.list().tasks if it.root == 300], [None])
+
+    def test_a_closed_table(self) -> None:
+        would = self.table.would
+        self.table.close()
+        with self.assertRaises(TableClosed):
+            would.fork(1)
+        with self.assertRaises(TableClosed):
+            self.table.fork_at(1, Forked(2, 2))
+
+    def test_each_call_answers_as_told(self) -> None:
+        chance, would = random.Random(SEED), self.table.would
+        calls: list[Callable[[object, int, int], object]] = [
+            lambda it, n, m: it.fork(n, m % 2 == 0), lambda it, n, m: it.exit(n, m), lambda it, n, m: it.wait(n), lambda it, n, m: it.wait(n, m),
+            lambda it, n, m: it.setpgid(n, m, 0), lambda it, n, m: it.setsid(n), lambda it, n, m: it.mk(m), lambda it, n, m: it.rm(m),
+            lambda it, n, m: it.limit(m, n), lambda it, n, m: it.move(n, m), lambda it, n, m: it.join(n, m), lambda it, n, m: it.exec(n),
+            lambda it, n, m: it.subreaper(n), lambda it, n, m: it.nspid(n, m), lambda it, n, m: it.getppid(n),
+        ]  # type: ignore[attr-defined]  # fmt: skip
+        for _ in range(3000):
+            call, n, m = chance.choice(calls), chance.randrange(12), chance.randrange(6)
+            told = outcome(lambda: call(would, n, m))
+            self.assertEqual(outcome(lambda: call(self.table, n, m)), told)
+
+
+class WouldOfShared(unittest.TestCase):
+    """A table that threads share."""
+
+    def setUp(self) -> None:
+        need_shared()
+
+    def test_nothing_is_recorded(self) -> None:
+        with Shared() as shared:
+            seat = shared.seat()
+            self.assertEqual([it.would.fork(1) for it in (shared, seat)], [Forked(2, 2)] * 2)
+            self.assertIs(seat.fork_at(1, Forked(3, 3)), False)
+            self.assertEqual((seat.ordinal, shared.counts().recorded), (None, 0))
+            self.assertIs(seat.fork_at(1, Forked(2, 2)), True)
+            self.assertEqual((seat.ordinal, shared.counts().recorded, shared.entry(0).answer), (0, 1, "child 2 root 2"))
+        with self.assertRaises(TableClosed):
+            shared.would.fork(1)
+
+    def test_threads_fork_as_told(self) -> None:
+        with Shared(THREADS, keep=10) as shared:
+            made: list[int] = []
+
+            def fork_as_told() -> None:
+                seat, count = shared.seat(), 0
+                while count < FORKS:
+                    told = shared.would.fork(1)
+                    if seat.fork_at(1, told):
+                        made.append(told.root)
+                        count += 1
+
+            threads = [threading.Thread(target=fork_as_told) for _ in range(THREADS)]
+            for it in threads:
+                it.start()
+            for it in threads:
+                it.join()
+            self.assertEqual(sorted(made), list(range(2, THREADS * FORKS + 2)))
+            self.assertEqual(shared.counts().recorded, THREADS * FORKS)
+
+
+if __name__ == "__main__":
+    unittest.main()
