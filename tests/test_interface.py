@@ -104,7 +104,7 @@ FAULTS = [
     ("calls", "caller, status=number/byte", "caller, status=number byte", "is no arguments"),
     ("calls", "NUMBER, END ", "NUMBER, ENDS", "tells 'ENDS' is not in interface/kinds.tbl"),
     ("statuses", "EUCLEAN         |", "EUCLEAM         |", "error 'EUCLEAM' is not in interface/errnos.tbl"),
-    ("statuses", "DIFFERS       | EBADMSG         | record |", "DIFFERS       | EBADMSG         | saver |", "of 'saver' is no owner"),
+    ("statuses", "DIFFERS       | EBADMSG         | table  |", "DIFFERS       | EBADMSG         | saver |", "of 'saver' is no owner"),
     ("statuses", "AGAIN         | EAGAIN          | record |", "AGAIN         | EAGAIN          |", "4 cells, and there are 5 columns"),
     ("faults", "no number left            | -", "no number left            | 2", "line '2' is no place"),
     ("faults", "12     | IMPOSSIBLE", "13     | IMPOSSIBLE", "the number is 13, and 12 comes next"),
