@@ -34,6 +34,7 @@ pub fn make_on(held: &mut Kept, worker: usize, made: Call, ordinal: &mut u64) ->
 }
 
 /// Makes the call as [`make_on`] does, and tells its reply as numbers.
+#[inline(always)]
 pub fn call_on(
     held: &mut Kept,
     worker: u32,

@@ -14,6 +14,7 @@ use pid_types::reply::Reply;
 use stamped_table::StampedTable;
 
 /// Makes the call, and tells its reply as numbers. The result is the status.
+#[inline(always)]
 pub fn call_table(held: &mut StampedTable, made: Call, reply: &mut ReplyNumbers) -> u32
     ensures done { result ≡ DONE → held.new ≡ after_call held.old made }
     ensures not_done { result ≢ DONE → held.new ≡ held.old }
