@@ -139,6 +139,15 @@ static uint32_t fetched(instance *it, uint32_t status, enum place what, void *to
 	return status;
 }
 
+/* What the instance answers to the call that it was given. */
+typedef uint32_t answer_call(instance *it);
+
+static uint32_t replied(instance *it, answer_call *answer, const struct pidtab_call *call, struct pidtab_reply *reply)
+{
+	put(it, CALL, call, sizeof *call);
+	return fetched(it, answer(it), REPLY, reply, sizeof *reply);
+}
+
 uint32_t pidtab_version(void)
 {
 	return PIDTAB_VERSION;
@@ -238,22 +247,12 @@ uint32_t proved_dump(struct pidtab *table, void *bytes, size_t room, size_t *siz
 
 uint32_t proved_call(struct pidtab *table, const struct pidtab_call *call, struct pidtab_reply *reply)
 {
-	instance *it = table->at;
-
-	if (!table->is_open)
-		return PIDTAB_CLOSED;
-	put(it, CALL, call, sizeof *call);
-	return fetched(it, Z_pidtabZ_call(it), REPLY, reply, sizeof *reply);
+	return table->is_open ? replied(table->at, Z_pidtabZ_call, call, reply) : PIDTAB_CLOSED;
 }
 
 uint32_t proved_ask(struct pidtab *table, const struct pidtab_call *call, struct pidtab_reply *reply)
 {
-	instance *it = table->at;
-
-	if (!table->is_open)
-		return PIDTAB_CLOSED;
-	put(it, CALL, call, sizeof *call);
-	return fetched(it, Z_pidtabZ_ask(it), REPLY, reply, sizeof *reply);
+	return table->is_open ? replied(table->at, Z_pidtabZ_ask, call, reply) : PIDTAB_CLOSED;
 }
 
 uint32_t proved_stat(struct pidtab *table, uint32_t caller, uint32_t number, struct pidtab_task *task)
@@ -265,12 +264,7 @@ uint32_t proved_stat(struct pidtab *table, uint32_t caller, uint32_t number, str
 
 uint32_t proved_would(struct pidtab *table, const struct pidtab_call *call, struct pidtab_reply *reply)
 {
-	instance *it = table->at;
-
-	if (!table->is_open)
-		return PIDTAB_CLOSED;
-	put(it, CALL, call, sizeof *call);
-	return fetched(it, Z_pidtabZ_would(it), REPLY, reply, sizeof *reply);
+	return table->is_open ? replied(table->at, Z_pidtabZ_would, call, reply) : PIDTAB_CLOSED;
 }
 
 /* What a fork gets, or would have got. */
@@ -366,12 +360,7 @@ uint32_t proved_record_line(struct pidtab_record *record, uint32_t worker, const
 
 uint32_t proved_record_ask(struct pidtab_record *record, const struct pidtab_call *call, struct pidtab_reply *reply)
 {
-	instance *it = record->at;
-
-	if (!record->is_open)
-		return PIDTAB_CLOSED;
-	put(it, CALL, call, sizeof *call);
-	return fetched(it, Z_pidtabZ_record_ask(it), REPLY, reply, sizeof *reply);
+	return record->is_open ? replied(record->at, Z_pidtabZ_record_ask, call, reply) : PIDTAB_CLOSED;
 }
 
 uint32_t proved_record_stat(struct pidtab_record *record, uint32_t caller, uint32_t number, struct pidtab_task *task)
@@ -383,12 +372,7 @@ uint32_t proved_record_stat(struct pidtab_record *record, uint32_t caller, uint3
 
 uint32_t proved_record_would(struct pidtab_record *record, const struct pidtab_call *call, struct pidtab_reply *reply)
 {
-	instance *it = record->at;
-
-	if (!record->is_open)
-		return PIDTAB_CLOSED;
-	put(it, CALL, call, sizeof *call);
-	return fetched(it, Z_pidtabZ_record_would(it), REPLY, reply, sizeof *reply);
+	return record->is_open ? replied(record->at, Z_pidtabZ_record_would, call, reply) : PIDTAB_CLOSED;
 }
 
 uint32_t proved_record_fork_at(struct pidtab_record *record, uint32_t worker, uint32_t caller, uint32_t new_space, uint32_t child, uint32_t root, struct pidtab_reply *reply, uint64_t *ordinal)

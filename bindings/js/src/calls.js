@@ -92,17 +92,21 @@ export class Queries {
   // The end of queries.
 }
 
+/** The methods, on the instance of somebody else. */
+const onOwner = (Methods) =>
+  class extends Methods {
+    constructor(owner) {
+      super();
+      this._owner = owner;
+    }
+
+    _open() {
+      return this._owner._open();
+    }
+  };
+
 /** The queries of a table as what is no call: they use no stamp, and are not recorded. */
-export class Ask extends Queries {
-  constructor(owner) {
-    super();
-    this._owner = owner;
-  }
-
-  _open() {
-    return this._owner._open();
-  }
-
+export class Ask extends onOwner(Queries) {
   _call(instance) {
     return instance.ask();
   }
@@ -178,16 +182,7 @@ export class EachCall extends Queries {
 }
 
 /** What each call would answer now: nothing changes, and it is neither counted nor recorded. */
-export class Would extends EachCall {
-  constructor(owner) {
-    super();
-    this._owner = owner;
-  }
-
-  _open() {
-    return this._owner._open();
-  }
-
+export class Would extends onOwner(EachCall) {
   _call(instance) {
     return instance.would();
   }

@@ -157,35 +157,33 @@ class Asked(Protocol):
     def _stat(self, caller: int, pid: int, task: PidtabTask) -> int: ...
 
 
-class Would(EachCall):
+class OfTable:
+    """What asks a table, and holds it."""
+
+    def __init__(self, table: Asked) -> None:
+        self._table = table
+
+    def __repr__(self) -> str:
+        return f"<pidtab.{type(self).__name__} of {self._table!r}>"
+
+
+class Would(OfTable, EachCall):
     """What each call would answer now, as the `would` of a table: it raises what the call would raise, nothing changes, and nothing is counted.
 
     `would.fork(1)` has the numbers of the child that the next fork would make, and `would.wait(1)` whom a wait would reap, as waitid(2) with WNOWAIT.
     Whether there is memory for the call it does not know. As long as somebody has it, the table is not dropped.
     """
 
-    def __init__(self, table: Asked) -> None:
-        self._table = table
-
-    def __repr__(self) -> str:
-        return f"<pidtab.Would of {self._table!r}>"
-
     def _make(self, call: Call, form: Form[T]) -> T:
         self._table._check_owner()
         return make_call(call, form, self._table._would)
 
 
-class Ask(Queries):
+class Ask(OfTable, Queries):
     """Queries that are no calls, as the `ask` of a table: they are neither counted nor recorded, and shift no later id.
 
     It has the queries and `stat`, and no other call. As long as somebody has it, the table is not dropped.
     """
-
-    def __init__(self, table: Asked) -> None:
-        self._table = table
-
-    def __repr__(self) -> str:
-        return f"<pidtab.Ask of {self._table!r}>"
 
     def _make(self, call: Call, form: Form[T]) -> T:
         self._table._check_owner()
