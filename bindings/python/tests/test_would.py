@@ -5,8 +5,15 @@ import threading
 import unittest
 from collections.abc import Callable
 
-from pidtab import Forked, Reaped, Refusal, Shared, Table, TableClosed
+import pidtab.native
+import pidtab.shared
+import pidtab.table
+from pidtab import Forked, Reaped, Refusal, Seat, Shared, Table, TableClosed
+from tests.test_ends import OTHERS, in_child
+from tests.test_interrupts import CallInterrupter
 from tests.ways import need_library, need_shared
+
+FILES = {pidtab.native.__file__, pidtab.shared.__file__, pidtab.table.__file__}
 
 SEED = 3
 FORKS = 200
@@ -151,6 +158,53 @@ class WouldOfShared(unittest.TestCase):
                 it.join()
             self.assertEqual(sorted(made), list(range(2, THREADS * FORKS + 2)))
             self.assertEqual(shared.counts().recorded, THREADS * FORKS)
+
+
+class Misuse(unittest.TestCase):
+    """A fork of this process, and an interrupt behind each step."""
+
+    def setUp(self) -> None:
+        need_shared()
+        table, shared = Table(), Shared()
+        self.addCleanup(table.close)
+        self.addCleanup(shared.close)
+        self.held: list[Table | Seat] = [table, shared.seat()]
+
+    def test_a_forked_child_has_no_table(self) -> None:
+        for held in self.held:
+            self.assertEqual(in_child(lambda: held.would.fork(1)), f"closed: {OTHERS}")
+            self.assertEqual(in_child(lambda: held.fork_at(1, Forked(2, 2))), f"closed: {OTHERS}")
+            self.assertEqual(held.would.fork(1), Forked(2, 2))
+
+    def interrupt_each(self, ask: Callable[[], object], check: Callable[[], None]) -> None:
+        """Asks until no step is left behind which an interrupt could come, and checks after each."""
+        places = 0
+        while CallInterrupter(places + 1, FILES).run(ask):
+            places += 1
+            check()
+        self.assertGreater(places, 4)
+
+    def test_a_fork_is_made_whole_or_not_begun(self) -> None:
+        for held in self.held:
+            tasks = [1]
+
+            def fork_as_told() -> None:
+                held.fork_at(1, held.would.fork(1))
+
+            def check() -> None:
+                made = held.ask.count() - len(tasks)
+                self.assertIn(made, (0, 1))
+                tasks.extend([len(tasks) + 1] * made)
+                self.assertEqual([held.ask.nspid(1, it) for it in tasks], [(it,) for it in tasks])
+
+            self.interrupt_each(fork_as_told, check)
+            # The last one was not interrupted.
+            self.assertEqual(held.would.fork(1), Forked(len(tasks) + 2, len(tasks) + 2))
+
+    def test_what_is_foretold_changes_nothing(self) -> None:
+        for held in self.held:
+            self.interrupt_each(lambda: held.would.fork(1), lambda: self.assertEqual(held.would.fork(1), Forked(2, 2)))
+            self.assertEqual(held.ask.count(), 1)
 
 
 if __name__ == "__main__":
