@@ -12,6 +12,11 @@ test("numbers of another kind, and out of range", { skip }, () => {
   const table = new Table();
   const kinds = [() => table.getpid("1"), () => table.getpid(), () => table.getpid(null), () => table.mk("0"), () => table.getpid(1n)];
   for (const call of kinds.slice(0, 4)) assert.throws(call, TypeError);
+  const { would } = table;
+  const foretold = [() => would.fork("1"), () => would.mk("0"), () => table.forkAt("1", { child: 2, root: 2 }), () => table.forkAt(1, { child: 2 }), () => table.forkAt(1)];
+  for (const call of foretold) assert.throws(call, TypeError);
+  for (const child of [{ child: -1, root: 2 }, { child: 2, root: 2 ** 32 }, { child: 2.5, root: 2 }]) assert.throws(() => table.forkAt(1, child), RangeError);
+  assert.throws(() => would.exit(1, 256), RangeError);
   const ranges = [() => table.getpid(-1), () => table.getpid(2 ** 32), () => table.getpid(1.5), () => table.getpid(NaN), () => table.exit(1, 256)];
   const more = [() => table.mk(-1n), () => table.mk(2n ** 64n), () => table.mk(2 ** 53), () => table.setpgid(1, 2 ** 31), () => table.limit(1n, -1)];
   for (const call of [...ranges, ...more]) assert.throws(call, RangeError);
@@ -38,10 +43,11 @@ test("a bound that is out of range", { skip }, () => {
 
 test("a table that was closed", { skip }, () => {
   const table = new Table();
-  const { ask } = table;
+  const { ask, would } = table;
   table.close();
   table.close();
-  for (const call of [() => table.fork(1), () => table.line("fork 1"), () => table.list(), () => table.dump(), () => ask.getpid(1), () => ask.stat(1), () => table.mk()]) {
+  const foretold = [() => would.fork(1), () => would.mk(), () => table.forkAt(1, { child: 2, root: 2 })];
+  for (const call of [...foretold, () => table.fork(1), () => table.line("fork 1"), () => table.list(), () => table.dump(), () => ask.getpid(1), () => ask.stat(1), () => table.mk()]) {
     assert.throws(call, { name: "TableClosed", code: "EBADF", message: "the table was closed" });
   }
 });
