@@ -1,2 +1,4 @@
 pub mod Views
+pub mod Kept
+pub mod Told
 pub mod SessionGroups

@@ -1,6 +1,7 @@
 -- What a contract sees of `Members`: at each task's key the group and the session that it is in.
-use Rattle.std.specs.Prelude.{◌≤◌, ◌≡◌, ◌≢◌, ℕ, ◌<◌, List, Option, Some, None, option_map, MatchOption, map, length, slice_index, slice_index_or}
-use Rattle.member_lists.specs.Owners.{owner_of}
+use Rattle.std.specs.Prelude.{◌≤◌, ◌≡◌, ◌≢◌, ℕ, ◌<◌, List, Option, Some, None, IsSome, option_map, unwrap_or, MatchOption, map, length, slice_index_or}
+use Rattle.std.specs.List.{AllByRecursion}
+use Rattle.member_lists.specs.Owners.{owner_of, times}
 
 -- the keys of the identifiers that a task's group and session are named after
 pub record Membership : Type 0 where
@@ -40,16 +41,28 @@ abbrev pub IsSessionOf : List (Option Membership) → ℕ → Option ℕ → Typ
 IsSessionOf members group session =
     MatchOption session ((k : ℕ) → group_of members k ≢ Some group) (λ s. HasMembers members group × AreInSession members group s)
 
+-- the list has each group of a session in which somebody is once, and no other
+pub record AreGroupsOf (members : List (Option Membership)) (session : ℕ) (groups : List ℕ) : Type 0 where
+  pub once : (k g : ℕ) → membership_at members k ≡ Some (record { group = g; session = session }) → times g groups ≡ 1
+  pub owned : AllByRecursion (λ g. (k : ℕ) × (membership_at members k ≡ Some (record { group = g; session = session }))) groups
+
 -- what those who are in a group are in, where each group has its session
-abbrev pub membership_in : List ℕ → ℕ → Membership
-membership_in sessions group = record { group = group; session = slice_index sessions group }
+abbrev pub membership_in : List (Option ℕ) → ℕ → Membership
+membership_in sessions group = record { group = group; session = unwrap_or (owner_of sessions group) 0 }
 
 -- what each task is in, by the groups of tasks and the sessions of groups
-abbrev pub memberships_of : List (Option ℕ) → List ℕ → List (Option Membership)
+abbrev pub memberships_of : List (Option ℕ) → List (Option ℕ) → List (Option Membership)
 memberships_of groups sessions = map (option_map (membership_in sessions)) groups
 
--- each group's key has a session
-pub record IsKept (groups : List (Option ℕ)) (sessions : List ℕ) : Type 0 where
-  pub room : length sessions ≡ length groups
+-- some task is in the group, by the groups of tasks
+abbrev pub IsJoined : List (Option ℕ) → ℕ → Type 0
+IsJoined groups group = (k : ℕ) × (owner_of groups k ≡ Some group)
+
+-- a group has a session exactly where somebody is in the group
+pub record IsKept (groups sessions : List (Option ℕ)) : Type 0 where
+  pub room : length groups ≤ length sessions
   pub few : length groups ≤ 1073741824
   pub inside : (k g : ℕ) → owner_of groups k ≡ Some g → g < length groups
+  pub held : (k g : ℕ) → owner_of groups k ≡ Some g → IsSome (owner_of sessions g)
+  pub joined : (g s : ℕ) → owner_of sessions g ≡ Some s → IsJoined groups g
+  pub session_room : (g s : ℕ) → owner_of sessions g ≡ Some s → s < length groups

@@ -9,14 +9,17 @@ ghost use Rattle.std.specs.Prelude.{◌≡◌, ◌≢◌, ℕ, ◌<◌, ◌≤�
 ghost use Rattle.std.specs.Prelude.{IsTrue, OnOk, MatchResult, slice_set};
 ghost use Rattle.member_lists.specs.Owners.{AreMembers};
 ghost use Rattle.groups_sessions.specs.Membership.{Membership, membership_at, group_of, session_of, groups_of};
-ghost use Rattle.groups_sessions.specs.Membership.{HasMembers, AreInSession, AreOthersInSession, IsSessionOf};
+ghost use Rattle.groups_sessions.specs.Membership.{HasMembers, AreInSession, AreOthersInSession};
+ghost use Rattle.groups_sessions.specs.Membership.{IsSessionOf, AreGroupsOf};
 ghost use Rattle.groups_sessions.specs.Setpgid.{session_group as session_group_of, group_for as group_for_of};
 ghost use Rattle.groups_sessions.specs.Setpgid.{setpgid_answer};
 
 mod ask;
+mod group_session;
 mod room;
 
 pub use ask::{GroupAsk, Target};
+use group_session::{forget_if_empty, put_session};
 use member_lists::MemberLists;
 pub use member_lists::Members as GroupMembers;
 use pid_numbers::Numbers;
@@ -28,12 +31,12 @@ use std::marker::Model;
 
 /// In which group and in which session each task is.
 ///
-/// All tasks of a group are in one session, which is kept with the group. It takes 20 bytes for each key,
-/// and only `reserve` takes memory. But for that one and `may_setpgid` each call costs a few reads and
-/// writes, however many tasks and groups there are.
+/// All tasks of a group are in one session, and each session has its groups in a list, as each group its
+/// tasks. It takes 32 bytes for each key, and only `reserve` takes memory. But for that one and `may_setpgid`
+/// each call costs a few reads and writes, however many tasks and groups there are.
 pub struct Members {
     groups: MemberLists,
-    sessions: Vec<IdentKey>,
+    sessions: MemberLists,
 }
 
 // Written out, and not derived: so the crates above cite this drop, and do not prove it anew.
@@ -52,9 +55,9 @@ impl Model for Members {
 
     ghost Value = { List (Option Membership) };
 
-    ghost view = { λ a. memberships_of a.groups a.sessions.items };
+    ghost view = { λ a. memberships_of a.groups a.sessions };
 
-    ghost invariant = { λ a. IsKept a.groups a.sessions.items };
+    ghost invariant = { λ a. IsKept a.groups a.sessions };
 }
 
 impl Members {
@@ -64,7 +67,7 @@ impl Members {
     {
         Members {
             groups: MemberLists::new(alloc),
-            sessions: Vec::new(alloc),
+            sessions: MemberLists::new(alloc),
         }
     }
 
@@ -87,11 +90,12 @@ impl Members {
     pub fn enter(&mut self, task: TaskKey, group: IdentKey, session: IdentKey)
         requires task { task < length self.old }
         requires group { group < length self.old }
+        requires session { session < length self.old }
         requires free { membership_at self.old task ≡ None }
         requires together { AreInSession self.old group session }
         ensures { self.new ≡ slice_set self.old task (Some (record { group = group; session = session })) }
     {
-        self.sessions[group as usize] = session;
+        put_session(&mut self.sessions, group, session);
         self.groups.add(task, group);
     }
 
@@ -104,20 +108,23 @@ impl Members {
         ensures { self.new ≡ slice_set self.old task (option_map (λ (m : Membership). record m { group = ident })
             (membership_at self.old task)) }
     {
+        self.laws();
         let session = self.session(task);
-        self.sessions[ident as usize] = session;
-        self.groups.move_to(task, ident);
+        self.move_to(task, ident, session);
     }
 
     /// A task goes to a group in a session, whichever it was in. Whoever else is in the group must be in that session.
     pub fn move_to(&mut self, task: TaskKey, group: IdentKey, session: IdentKey)
         requires group { group < length self.old }
+        requires session { session < length self.old }
         requires there { IsSome (membership_at self.old task) }
         requires together { AreOthersInSession self.old task group session }
         ensures { self.new ≡ slice_set self.old task (Some (record { group = group; session = session })) }
     {
-        self.sessions[group as usize] = session;
+        let old = self.groups.member_owner(task);
+        put_session(&mut self.sessions, group, session);
         self.groups.move_to(task, group);
+        forget_if_empty(&self.groups, &mut self.sessions, old);
     }
 
     /// A task leads a new session and a new group in it, both named after the identifier: `setsid(2)`.
@@ -136,7 +143,9 @@ impl Members {
         requires { IsSome (membership_at self.old task) }
         ensures { self.new ≡ slice_set self.old task None }
     {
+        let old = self.groups.member_owner(task);
         self.groups.remove(task);
+        forget_if_empty(&self.groups, &mut self.sessions, old);
     }
 
     /// The group that a task is in: `getpgid(2)`.
@@ -153,7 +162,7 @@ impl Members {
         ensures { session_of self.now task ≡ Some result }
     {
         let group = self.groups.member_owner(task);
-        self.sessions[group as usize]
+        self.sessions.member_owner(group)
     }
 
     /// Whether some task is in the group.
@@ -167,8 +176,8 @@ impl Members {
     pub fn session_of_group(&self, ident: IdentKey) -> Option<IdentKey>
         ensures { IsSessionOf self.now ident result }
     {
-        if has_member(&self.groups, ident) {
-            Some(self.sessions[ident as usize])
+        if (ident as usize) < self.sessions.keys() {
+            self.sessions.owner(ident)
         } else {
             None
         }
@@ -180,6 +189,21 @@ impl Members {
         ensures { AreMembers (groups_of self.now) ident result }
     {
         self.groups.members(ident)
+    }
+
+    /// The groups of the session in which somebody is, one after the other.
+    pub fn session_groups(&self, ident: IdentKey) -> GroupMembers<'_>
+        requires { ident < length self.now }
+        ensures { AreGroupsOf self.now ident result }
+    {
+        self.sessions.members(ident)
+    }
+
+    /// How many keys there is room for.
+    pub fn keys(&self) -> usize
+        ensures { result ≡ length self.now }
+    {
+        self.groups.keys()
     }
 
     /// The group with the number in the namespace, if some task of the session is in it.
@@ -246,11 +270,13 @@ impl Members {
     }
 
     /// What is true at any time; the call does nothing. The tasks of one group are in one session, there
-    /// is room for each group's key, and there are at most 2^30 keys.
+    /// is room for each group's key and each session's, and there are at most 2^30 keys.
     pub fn laws(&self)
         ensures together { (k : ℕ) (m : Membership) → membership_at self.now k ≡ Some m
             → AreInSession self.now m.group m.session }
         ensures room { (k : ℕ) (m : Membership) → membership_at self.now k ≡ Some m → m.group < length self.now }
+        ensures session_room { (k : ℕ) (m : Membership) → membership_at self.now k ≡ Some m
+            → m.session < length self.now }
         ensures few { length self.now ≤ 2 ^ 30 }
     {
         let _ = &self.groups;
