@@ -260,6 +260,7 @@ impl Tasks {
         requires group { IsSome (identifier_at self.old.numbering group) }
         requires session { IsSome (identifier_at self.old.numbering session) }
         requires room { group < length self.old.members }
+        requires session_room { session < length self.old.members }
         requires together { AreOthersInSession self.old.members key group session }
         ensures members { self.new.members ≡ slice_set self.old.members key
             (Some (record { group = group; session = session })) }
