@@ -1,3 +1,6 @@
 pub mod Least
 pub mod Parts
 pub mod Walks
+pub mod Rising
+pub mod Pages
+pub mod Groups

@@ -2,3 +2,5 @@ pub mod ById
 pub mod From
 pub mod Seen
 pub mod Stat
+pub mod Pages
+pub mod Gathered

@@ -1,4 +1,4 @@
-use Rattle.std.proofs.Common.{◌∙◌, sym, ap}
+use Rattle.std.proofs.Common.{◌∙◌, ap}
 use Rattle.std.specs.Prelude.{unwrap_or}
 use Rattle.pid_numbers.specs.Numbering.{number_of}
 use Rattle.pid_types.proofs.General.{held}

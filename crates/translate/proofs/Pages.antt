@@ -1,0 +1,244 @@
+-- Who belongs to what has a number, in the model and by keys.
+use Rattle.std.proofs.Common.{◌≡◌, ◌≢◌, ℕ, zero, suc, ◌+◌, ◌<◌, ◌≤◌, ◌==◌, Bool, true, false, nat_le, List, [], ◌∷◌, length, filter, filter_map, Option, Some, None, is_some, cond, option_map, refl, sym, ap, subst, ◌∙◌, arith}
+use Rattle.std.specs.Option.{option_map_or, option_eq}
+use Rattle.std.specs.List.Sorted.{IsPermutation, IsSorted}
+use Rattle.std.specs.Ordering.{nat_cmp}
+use Rattle.std.proofs.lemmas.Bool.{eq-eqb, eqb-true}
+use Rattle.std.proofs.lemmas.List.Sorted.{IsNonDecreasingBy-from_sort}
+use Rattle.pid_types.proofs.General.{held, some_number, number_tested}
+use Rattle.pid_types.specs.declared.call.Kind.{Kind}
+use Rattle.pid_types.specs.declared.call.Kind.TheVariants.{Task as AsTask, Group, Session}
+use Rattle.pid_types.specs.Membership.{IsIn}
+use Rattle.pid_types.specs.Names.{number, is_numbered}
+use Rattle.pid_types.specs.State.{root_name}
+use Rattle.model_laws.proofs.Lists.{IsIn-filter, IsIn-from_filter, IsIn-filter_map, IsIn-from_filter_map}
+use Rattle.member_lists.specs.Owners.{owner_of, times, AreMembers}
+use Rattle.pid_numbers.specs.Numbering.{Identifier, id_at, identifier_at, number_of}
+use Rattle.task_tree.specs.declared.Task.{Task}
+use Rattle.task_tree.specs.Tree.{task_at}
+use Rattle.groups_sessions.specs.Membership.{Membership, membership_at, group_of, groups_of, HasMembers}
+use Rattle.task_table.specs.Store.{Store}
+use Rattle.task_table.specs.View.{name_at, row_of, state_of}
+use Rattle.task_table.specs.Lawful.{IsLawful}
+use Rattle.task_table.specs.Whole.{HasParents}
+use Rattle.task_table.proofs.Keys.{number-is_key}
+use Rattle.task_table.proofs.Places.{each-in}
+use Rattle.std.proofs.Math.ListN.{get_or-map}
+use Rattle.task_table.proofs.LookUps.{named, group-named, session-named, in-rows, rows-in}
+use Rattle.translate.specs.Pages.{belongs_to, belongs, numbers_belonging, AreListed}
+use Rattle.translate.specs.Gathered.{owner_in, numbers_from, HasNumber, AreGathered}
+use Rattle.translate.proofs.Rising.{times-cons, times-later, IsIn-times, times-IsIn, times-permuted, IsIn-permuted, IsIn-unpermuted, rising-once}
+
+module _ (s : Store) (l : IsLawful s) where
+  -- what a task is in
+  member : (k : ℕ) (t : Task) → task_at s.tree k ≡ Some t → (m : Membership) × (membership_at s.members k ≡ Some m)
+  member k t e = held (membership_at s.members k) (l.agree.members k ∙ ap is_some e)
+
+  -- who belongs to something is a task
+  tasked : (kind : Kind) (k o : ℕ) → owner_in s kind k ≡ Some o → (t : Task) × (task_at s.tree k ≡ Some t)
+  tasked AsTask k o e = go (task_at s.tree k) refl
+    where
+      go : (v : Option Task) → task_at s.tree k ≡ v → (t : Task) × (task_at s.tree k ≡ Some t)
+      go None is = absurd (let z : None ≡ Some o = sym (l.absent k is) ∙ e in cc)
+      go (Some t) is = (t, is)
+  tasked Group k o e = go (membership_at s.members k) refl e
+    where
+      go : (v : Option Membership) → membership_at s.members k ≡ v → option_map (λ (m : Membership). m.group) v ≡ Some o → (t : Task) × (task_at s.tree k ≡ Some t)
+      go None is e = absurd (cc)
+      go (Some m) is e = held (task_at s.tree k) (sym (l.agree.members k) ∙ ap is_some is)
+  tasked Session k o e = go (membership_at s.members k) refl e
+    where
+      go : (v : Option Membership) → membership_at s.members k ≡ v → option_map (λ (m : Membership). m.session) v ≡ Some o → (t : Task) × (task_at s.tree k ≡ Some t)
+      go None is e = absurd (cc)
+      go (Some m) is e = held (task_at s.tree k) (sym (l.agree.members k) ∙ ap is_some is)
+
+  -- what it belongs to, by name
+  belongs_to-is : (kind : Kind) (k : ℕ) (t : Task) → task_at s.tree k ≡ Some t → belongs_to kind (row_of s k t) ≡ option_map (name_at s.numbering) (owner_in s kind k)
+  belongs_to-is AsTask k t e = refl
+  belongs_to-is Group k t e =
+      let m = member k t e in
+      ap (λ o. Some (option_map_or (name_at s.numbering) (option_map (λ (x : Membership). x.group) o) root_name)) m.1
+      ∙ sym (ap (λ o. option_map (name_at s.numbering) (option_map (λ (x : Membership). x.group) o)) m.1)
+  belongs_to-is Session k t e =
+      let m = member k t e in
+      ap (λ o. Some (option_map_or (name_at s.numbering) (option_map (λ (x : Membership). x.session) o) root_name)) m.1
+      ∙ sym (ap (λ o. option_map (name_at s.numbering) (option_map (λ (x : Membership). x.session) o)) m.1)
+
+  module _ (h : HasParents s) where
+    -- and that has an identifier
+    owner-named : (kind : Kind) (k o : ℕ) → owner_in s kind k ≡ Some o → (u : Identifier) × (identifier_at s.numbering o ≡ Some u)
+    owner-named AsTask k o e = let t = held (task_at s.tree o) (h k o e) in named s l o t.0 t.1
+    owner-named Group k o e = go (membership_at s.members k) refl e
+      where
+        go : (v : Option Membership) → membership_at s.members k ≡ v → option_map (λ (m : Membership). m.group) v ≡ Some o → (u : Identifier) × (identifier_at s.numbering o ≡ Some u)
+        go None is e = absurd (cc)
+        go (Some m) is e = let u = group-named s l k m is in let same : m.group ≡ o = cc in (u.0, ap (identifier_at s.numbering) (sym same) ∙ u.1)
+    owner-named Session k o e = go (membership_at s.members k) refl e
+      where
+        go : (v : Option Membership) → membership_at s.members k ≡ v → option_map (λ (m : Membership). m.session) v ≡ Some o → (u : Identifier) × (identifier_at s.numbering o ≡ Some u)
+        go None is e = absurd (cc)
+        go (Some m) is e = let u = session-named s l k m is in let same : m.session ≡ o = cc in (u.0, ap (identifier_at s.numbering) (sym same) ∙ u.1)
+
+    module _ (sp i : ℕ) (at : id_at s.numbering sp ≡ Some i) where
+      numbered : (o n : ℕ) (u : Identifier) → identifier_at s.numbering o ≡ Some u
+          → is_numbered (state_of s).spaces (name_at s.numbering o) i n ≡ option_eq ◌==◌ (number_of s.numbering o sp) (Some n)
+      numbered o n u there = ap (λ x. option_eq ◌==◌ x (Some n)) (number-is_key s.numbering l.numbering sp i o u at there)
+
+      belongs-from : (kind : Kind) (n k : ℕ) (t : Task) → task_at s.tree k ≡ Some t → belongs (state_of s) i kind n (row_of s k t) ≡ true
+          → (o : ℕ) × (owner_in s kind k ≡ Some o) × (number_of s.numbering o sp ≡ Some n)
+      belongs-from kind n k t e passes = go (owner_in s kind k) refl (sym (ap (λ o. option_map_or (λ name. is_numbered (state_of s).spaces name i n) o false) (belongs_to-is kind k t e)) ∙ passes)
+        where
+          go : (o : Option ℕ) → owner_in s kind k ≡ o → option_map_or (λ name. is_numbered (state_of s).spaces name i n) (option_map (name_at s.numbering) o) false ≡ true
+              → (o : ℕ) × (owner_in s kind k ≡ Some o) × (number_of s.numbering o sp ≡ Some n)
+          go None is holds = absurd (cc)
+          go (Some o) is holds =
+              let u = owner-named kind k o is in
+              (o, is, some_number (number_of s.numbering o sp) n (sym (numbered o n u.0 u.1) ∙ holds))
+
+      belongs-to : (kind : Kind) (n k o : ℕ) (t : Task) → task_at s.tree k ≡ Some t → owner_in s kind k ≡ Some o → number_of s.numbering o sp ≡ Some n
+          → belongs (state_of s) i kind n (row_of s k t) ≡ true
+      belongs-to kind n k o t e is has =
+          let u = owner-named kind k o is in
+          ap (λ x. option_map_or (λ name. is_numbered (state_of s).spaces name i n) x false) (belongs_to-is kind k t e ∙ ap (option_map (name_at s.numbering)) is)
+          ∙ numbered o n u.0 u.1 ∙ number_tested (number_of s.numbering o sp) n has
+
+      -- the numbers of the model are those of the keys
+      page-in : (kind : Kind) (n m : ℕ) → IsIn m (numbers_belonging (state_of s) i kind n) → HasNumber s sp kind n m
+      page-in kind n m on =
+          let f = IsIn-from_filter_map (λ row. number (state_of s).spaces row.name i) m (filter (belongs (state_of s) i kind n) (state_of s).rows) on in
+          let g = IsIn-from_filter (belongs (state_of s) i kind n) f.0 (state_of s).rows f.1 in
+          let r = in-rows s l f.0 g.0 in
+          let b = belongs-from kind n r.0 r.1 r.2 (sym (ap (belongs (state_of s) i kind n) r.3) ∙ g.1) in
+          let u = named s l r.0 r.1 r.2 in
+          record {
+            key = r.0;
+            owner = b.0;
+            belongs = b.1;
+            owned_by = b.2;
+            has = sym (number-is_key s.numbering l.numbering sp i r.0 u.0 at u.1) ∙ ap (λ row. number (state_of s).spaces row.name i) (sym r.3) ∙ f.2;
+          }
+
+      page-of : (kind : Kind) (n m : ℕ) → HasNumber s sp kind n m → IsIn m (numbers_belonging (state_of s) i kind n)
+      page-of kind n m one =
+          let t = tasked kind one.key one.owner one.belongs in
+          let u = named s l one.key t.0 t.1 in
+          IsIn-filter_map (λ row. number (state_of s).spaces row.name i) (row_of s one.key t.0) m (filter (belongs (state_of s) i kind n) (state_of s).rows)
+          (IsIn-filter (belongs (state_of s) i kind n) (row_of s one.key t.0) (state_of s).rows (rows-in s l one.key t.0 t.1)
+          (belongs-to kind n one.key one.owner t.0 t.1 one.belongs one.owned_by))
+          (number-is_key s.numbering l.numbering sp i one.key u.0 at u.1 ∙ one.has)
+
+      -- what was gathered, in order
+      pub listed : (kind : Kind) (n from : ℕ) (xs ys : List ℕ) → AreGathered s sp kind n from xs → IsPermutation xs ys → IsSorted nat_cmp ys
+          → AreListed (numbers_belonging (state_of s) i kind n) from ys
+      listed kind n from xs ys g p sorted = record {
+        rising = rising-once ys (IsNonDecreasingBy-from_sort (λ x. x) ys sorted) (λ m. let e = times-permuted m xs ys p in let one = g.once m in omega (arith, e, one));
+        each = λ m. (
+          (λ on. let h = (g.each m).0 (IsIn-unpermuted m xs ys p on) in (h.0, page-of kind n m h.1)),
+          (λ h. IsIn-permuted m xs ys p ((g.each m).1 (h.0, page-in kind n m h.1))),
+        );
+      }
+
+  -- numbers of keys, none of which comes twice
+  module _ (sp from : ℕ) where
+    numbers-in : (keys : List ℕ) (m : ℕ) → IsIn m (numbers_from s.numbering sp from keys) → (from ≤ m) × ((k : ℕ) × IsIn k keys × (number_of s.numbering k sp ≡ Some m))
+    numbers-in keys m on =
+        let f = IsIn-from_filter (nat_le from) m (filter_map (λ k. number_of s.numbering k sp) keys) on in
+        let g = IsIn-from_filter_map (λ k. number_of s.numbering k sp) m keys f.0 in
+        (grind (arith, f.1), g)
+
+    numbers-of : (keys : List ℕ) (m k : ℕ) → from ≤ m → IsIn k keys → number_of s.numbering k sp ≡ Some m → IsIn m (numbers_from s.numbering sp from keys)
+    numbers-of keys m k le on has =
+        IsIn-filter (nat_le from) m (filter_map (λ k. number_of s.numbering k sp) keys) (IsIn-filter_map (λ k. number_of s.numbering k sp) k m keys on has) (grind (arith, le))
+
+    once-more : (m x : ℕ) (xs : List ℕ) → (IsIn x xs → ⊥) → times m xs ≤ 1 → times m (x ∷ xs) ≤ 1
+    once-more m x xs new few = go (x == m) refl (times-cons m x xs)
+      where
+        go : (b : Bool) → (x == m) ≡ b → times m (x ∷ xs) ≡ cond {A = ℕ} b 1 0 + times m xs → times m (x ∷ xs) ≤ 1
+        go false is e = omega (arith, e, few)
+        go true is e =
+            let none : times m xs ≡ 0 = zero_of (times m xs) (λ some. new (subst (λ j. IsIn j xs) (sym (eqb-true x m is)) (times-IsIn m xs some))) in
+            omega (arith, e, none)
+          where
+            zero_of : (c : ℕ) → (0 < c → ⊥) → c ≡ 0
+            zero_of zero none = refl
+            zero_of (suc c) none = absurd (none (omega arith))
+
+    numbers-once : (keys : List ℕ) → ((k : ℕ) → times k keys ≤ 1) → (m : ℕ) → times m (numbers_from s.numbering sp from keys) ≤ 1
+    numbers-once [] once m = omega arith
+    numbers-once (k ∷ keys) once m = go (numbers-once keys (λ j. let le = times-later j k keys in let one = once j in omega (arith, le, one)) m) (number_of s.numbering k sp) refl
+      where
+        fresh : (x : ℕ) → number_of s.numbering k sp ≡ Some x → IsIn x (numbers_from s.numbering sp from keys) → ⊥
+        fresh x has on =
+            let f = numbers-in keys x on in
+            let same : k ≡ (f.1).0 = l.numbering.distinct k (f.1).0 sp x has (f.1).2 in
+            let some = IsIn-times k keys (subst (λ j. IsIn j keys) (sym same) (f.1).1) in
+            let e = times-cons k k keys in
+            let one : cond {A = ℕ} (k == k) 1 0 ≡ 1 = ap (λ b. cond {A = ℕ} b 1 0) (eq-eqb k k refl) in
+            let few = once k in
+            omega (arith, some, e, one, few)
+
+        go : times m (numbers_from s.numbering sp from keys) ≤ 1 → (o : Option ℕ) → number_of s.numbering k sp ≡ o → times m (numbers_from s.numbering sp from (k ∷ keys)) ≤ 1
+        go rest None is = rw is rest
+        go rest (Some x) is = test (nat_le from x) refl
+          where
+            test : (b : Bool) → nat_le from x ≡ b → times m (numbers_from s.numbering sp from (k ∷ keys)) ≤ 1
+            test false out = rw (is, out) rest
+            test true out = rw (is, out) (once-more m x (numbers_from s.numbering sp from keys) (fresh x is) rest)
+
+    -- the keys of those who belong to one owner, each once
+    pub gathered : (kind : Kind) (n o : ℕ) (keys : List ℕ) → number_of s.numbering o sp ≡ Some n → ((k : ℕ) → owner_in s kind k ≡ Some o → times k keys ≡ 1)
+        → ((k : ℕ) → IsIn k keys → owner_in s kind k ≡ Some o) → AreGathered s sp kind n from (numbers_from s.numbering sp from keys)
+    gathered kind n o keys has once owned = record {
+      once = numbers-once keys few;
+      each = λ m. (
+        (λ on. let f = numbers-in keys m on in (f.0, record { key = (f.1).0; owner = o; belongs = owned (f.1).0 (f.1).1; owned_by = has; has = (f.1).2 })),
+        (λ h.
+            let one = h.1 in
+            let same : one.owner ≡ o = l.numbering.distinct one.owner o sp n one.owned_by has in
+            let here = once one.key (one.belongs ∙ ap Some same) in
+            numbers-of keys m one.key h.0 (times-IsIn one.key keys (omega (arith, here))) one.has),
+      );
+    }
+      where
+        few : (k : ℕ) → times k keys ≤ 1
+        few k = go (times k keys) refl
+          where
+            go : (c : ℕ) → times k keys ≡ c → times k keys ≤ 1
+            go zero e = omega (arith, e)
+            go (suc c) e = let one = once k (owned k (times-IsIn k keys (omega (arith, e)))) in omega (arith, one)
+
+    -- nobody belongs to what has the number
+    pub nobody : (kind : Kind) (n : ℕ) → ((k o : ℕ) → owner_in s kind k ≡ Some o → number_of s.numbering o sp ≢ Some n) → AreGathered s sp kind n from []
+    nobody kind n none = record {
+      once = λ m. omega arith;
+      each = λ m. ((λ on. absurd on), (λ h. absurd (none (h.1).key (h.1).owner (h.1).belongs (h.1).owned_by)));
+    }
+
+    module _ (h : HasParents s) where
+      -- the children of a task, as its list has them
+      pub gathered_children : (n o : ℕ) (keys : List ℕ) → number_of s.numbering o sp ≡ Some n → AreMembers s.tree.parents o keys → AreGathered s sp AsTask n from (numbers_from s.numbering sp from keys)
+      gathered_children n o keys has m = gathered AsTask n o keys has m.once (λ k i. each-in (λ k. owner_of s.tree.parents k ≡ Some o) keys m.owned k i)
+
+      -- the members of a group, as its list has them
+      pub gathered_group : (n o : ℕ) (keys : List ℕ) → number_of s.numbering o sp ≡ Some n → AreMembers (groups_of s.members) o keys → AreGathered s sp Group n from (numbers_from s.numbering sp from keys)
+      gathered_group n o keys has m =
+          gathered Group n o keys has (λ k mine. m.once k (told k ∙ mine)) (λ k i. sym (told k) ∙ each-in (λ k. owner_of (groups_of s.members) k ≡ Some o) keys m.owned k i)
+        where
+          told : (k : ℕ) → owner_of (groups_of s.members) k ≡ group_of s.members k
+          told k = get_or-map (option_map (λ (x : Membership). x.group)) s.members k None
+
+      -- where no task has the number, none has a child
+      pub no_children : (n : ℕ) → ((k : ℕ) (t : Task) → task_at s.tree k ≡ Some t → number_of s.numbering k sp ≢ Some n) → AreGathered s sp AsTask n from []
+      no_children n none = nobody AsTask n (λ k o mine. let t = held (task_at s.tree o) (h k o mine) in none o t.0 t.1)
+
+      -- nobody is in the group
+      pub no_members : (n g : ℕ) → number_of s.numbering g sp ≡ Some n → (HasMembers s.members g → ⊥) → AreGathered s sp Group n from []
+      no_members n g has none = nobody Group n (λ k o mine yours. none (k, mine ∙ ap Some (l.numbering.distinct o g sp n yours has)))
+
+-- a group in which somebody is has room
+pub in_room : (members : List (Option Membership)) → ((k : ℕ) (m : Membership) → membership_at members k ≡ Some m → m.group < length members) → (g : ℕ) → HasMembers members g → g < length members
+in_room members room g some = go (membership_at members some.0) refl some.1
+  where
+    go : (o : Option Membership) → membership_at members some.0 ≡ o → option_map (λ (m : Membership). m.group) o ≡ Some g → g < length members
+    go None is mine = absurd (cc)
+    go (Some m) is mine = let same : m.group ≡ g = cc in subst (λ h. h < length members) same (room some.0 m is)

@@ -1,0 +1,50 @@
+-- Going over the children of a task, or the members of a process group or of a session, by their numbers in a namespace.
+use Rattle.std.specs.Prelude.{◌≡◌, ◌↔◌, ◌≤◌, ℕ, Bool, false, ◌==◌, ◌++◌, List, length, take, drop, filter, filter_map, Option, Some, None, if◌then◌else◌}
+use Rattle.std.specs.Option.{option_map_or}
+use Rattle.pid_types.specs.declared.call.Kind.{Kind}
+use Rattle.pid_types.specs.declared.call.Kind.TheVariants.{Task, Group, Session}
+use Rattle.pid_types.specs.declared.plain.Name.{Name}
+use Rattle.pid_types.specs.declared.plain.Row.{Row}
+use Rattle.pid_types.specs.declared.reply.Reply.{Reply}
+use Rattle.pid_types.specs.declared.reply.Reply.TheVariants.{Counted, Refused}
+use Rattle.pid_types.specs.declared.reply.Refusal.TheVariants.{NoCaller}
+use Rattle.pid_types.specs.Membership.{IsIn}
+use Rattle.pid_types.specs.Names.{number, is_numbered, live_row}
+use Rattle.pid_types.specs.Queries.{name_by, seen_number}
+use Rattle.pid_types.specs.Sound.{IsRising}
+use Rattle.pid_types.specs.State.{State}
+use Rattle.translate.specs.declared.page.Page.{Page}
+
+-- what the task belongs to, as the kind says: its parent, its process group or its session
+abbrev pub belongs_to : Kind → Row → Option Name
+belongs_to Task row = row.parent
+belongs_to Group row = Some row.group
+belongs_to Session row = Some row.session
+
+-- whether that has the number in the namespace
+abbrev pub belongs : State → ℕ → Kind → ℕ → Row → Bool
+belongs state s kind n row = option_map_or (λ name. is_numbered state.spaces name s n) (belongs_to kind row) false
+
+-- the numbers that such tasks have in the namespace, those that are visible there
+abbrev pub numbers_belonging : State → ℕ → Kind → ℕ → List ℕ
+numbers_belonging state s kind n = filter_map (λ row. number state.spaces row.name s) (filter (belongs state s kind n) state.rows)
+
+-- the number that is meant, where 0 is the caller's own, that of its group or that of its session
+abbrev pub meant : State → Row → Kind → ℕ → ℕ
+meant state caller kind n = if n == 0 then seen_number state caller (name_by kind caller) else n
+
+-- the list has the numbers from the given one on, each once, in rising order
+pub record AreListed (numbers : List ℕ) (from : ℕ) (listed : List ℕ) : Type 0 where
+  pub rising : IsRising listed
+  pub each : (m : ℕ) → IsIn m listed ↔ ((from ≤ m) × IsIn m numbers)
+
+-- the room, with as much of the list at its front as it takes
+abbrev pub with_front : List ℕ → List ℕ → List ℕ
+with_front listed room = take (length room) listed ++ drop (length listed) room
+
+-- the list for the caller is in the room, and its length is told; or else that nobody calls
+pub record TellsPage (state : State) (page : Page) (old new : List ℕ) (reply : Reply) : Type 0 where
+  pub nobody : live_row state.rows page.caller ≡ None → (reply ≡ Refused NoCaller) × (new ≡ old)
+  pub listed : (caller : Row) → live_row state.rows page.caller ≡ Some caller → (listed : List ℕ)
+      × AreListed (numbers_belonging state caller.name.space page.kind (meant state caller page.kind page.number)) page.from listed
+      × (reply ≡ Counted (length listed)) × (new ≡ with_front listed old)

@@ -1,0 +1,229 @@
+//! Pages: the children of a task, or the members of a process group or of a session, by their numbers as a caller's
+//! namespace has them. So whom `kill(2)` of a process group reaches, and what `pgrep -P` and `pgrep -s` list.
+
+ghost use Rattle.std.specs.Prelude.{◌≡◌, ◌<◌, ◌++◌, ℕ, length, Some, IfOk, OnOk, OnErr};
+ghost use Rattle.std.specs.List.{AllByRecursion};
+ghost use Rattle.pid_types.specs.declared.call.Kind.{Kind};
+ghost use Rattle.pid_types.specs.declared.call.Kind.TheVariants as kinds;
+ghost use Rattle.pid_types.specs.Short.{reply_of};
+ghost use Rattle.pid_numbers.specs.Numbering.{id_at};
+ghost use Rattle.task_table.specs.Found.{IsFound};
+ghost use Rattle.task_table.specs.View.{name_at, row_of, state_of};
+ghost use Rattle.task_table.specs.Whole.{HasParents, IsWhole};
+ghost use Rattle.translate.specs.Gathered.{numbers_from, AddsGroups, AreGathered};
+ghost use Rattle.translate.specs.Pages.{meant, numbers_belonging, with_front, AreListed, TellsPage};
+
+use crate::queries::{seen_group, seen_session, seen_task};
+use groups_sessions::GroupMembers;
+use pid_types::call::Kind;
+use pid_types::keys::{Pid, SpaceKey};
+use pid_types::reply::{Refusal, ShortReply};
+use std::alloc::AllocError;
+use task_table::Tasks;
+use task_table::view::{Found, find_live, find_task, laws};
+
+/// Whom a page lists, and from which number on.
+#[derive(Clone, Copy, Debug, PartialEq, Eq)]
+pub struct Page {
+    /// The caller's root number. Its namespace has all other numbers.
+    pub caller: Pid,
+    /// `Task` for the children of a task, `Group` for the members of a process group, `Session` for those of a session.
+    pub kind: Kind,
+    /// The number of the task, the group or the session. 0 is the caller itself, its group or its session.
+    pub number: Pid,
+    /// No number below this one is listed.
+    pub from: Pid,
+}
+
+/// Adds the numbers in the namespace, from one on, of the tasks with the keys. The error is want of memory.
+fn gather(
+    store: &Tasks,
+    space: SpaceKey,
+    from: Pid,
+    keys: GroupMembers<'_>,
+    numbers: &mut Vec<Pid>,
+) -> Result<(), AllocError>
+    ensures { OnOk result (numbers.new.items
+        ≡ numbers.old.items ++ numbers_from store.now.numbering space from keys.entry) }
+{
+    for key in keys {
+        match store.numbers().number_in(key, space) {
+            Some(number) if number >= from => numbers.push(number)?,
+            _ => {}
+        }
+    }
+    Ok(())
+}
+
+/// The numbers of the children of the task with the number.
+fn children(store: &Tasks, space: SpaceKey, number: Pid, from: Pid) -> Result<Vec<Pid>, AllocError>
+    requires { HasParents store.now }
+    ensures { IfOk result (λ r. AreGathered store.now space kinds.Task number from r.items) }
+{
+    laws(store);
+    let mut numbers = Vec::new(store.numbers().allocator());
+    let Some(parent) = find_task(store, space, number) else {
+        return Ok(numbers);
+    };
+    let children = store.tree().children(parent.key);
+    gather(store, space, from, children, &mut numbers)?;
+    Ok(numbers)
+}
+
+/// The numbers of the members of the group with the number.
+fn group_members(
+    store: &Tasks,
+    space: SpaceKey,
+    number: Pid,
+    from: Pid,
+) -> Result<Vec<Pid>, AllocError>
+    requires { HasParents store.now }
+    ensures { IfOk result (λ r. AreGathered store.now space kinds.Group number from r.items) }
+{
+    laws(store);
+    let members = store.members();
+    members.laws();
+    let mut numbers = Vec::new(store.numbers().allocator());
+    let Some(group) = store.numbers().find(space, number) else {
+        return Ok(numbers);
+    };
+    if !members.any_in_group(group) {
+        return Ok(numbers);
+    }
+    gather(
+        store,
+        space,
+        from,
+        members.group_members(group),
+        &mut numbers,
+    )?;
+    Ok(numbers)
+}
+
+/// Adds the numbers of those who are in the groups. The error is want of memory.
+fn gather_groups(
+    store: &Tasks,
+    space: SpaceKey,
+    from: Pid,
+    groups: GroupMembers<'_>,
+    numbers: &mut Vec<Pid>,
+) -> Result<(), AllocError>
+    requires { AllByRecursion (λ g. g < length store.now.members) groups }
+    ensures { OnOk result (AddsGroups store.now space from groups.entry numbers.old.items numbers.new.items) }
+{
+    for group in groups {
+        let members = store.members().group_members(group);
+        gather(store, space, from, members, numbers)?;
+    }
+    Ok(())
+}
+
+/// The numbers of the members of the session with the number.
+fn session_members(
+    store: &Tasks,
+    space: SpaceKey,
+    number: Pid,
+    from: Pid,
+) -> Result<Vec<Pid>, AllocError>
+    requires { HasParents store.now }
+    ensures { IfOk result (λ r. AreGathered store.now space kinds.Session number from r.items) }
+{
+    laws(store);
+    let members = store.members();
+    members.laws();
+    let mut numbers = Vec::new(store.numbers().allocator());
+    let Some(session) = store.numbers().find(space, number) else {
+        return Ok(numbers);
+    };
+    if session as usize >= members.keys() {
+        return Ok(numbers);
+    }
+    gather_groups(
+        store,
+        space,
+        from,
+        members.session_groups(session),
+        &mut numbers,
+    )?;
+    Ok(numbers)
+}
+
+/// The numbers of those who belong to the one with the number.
+fn belonging(
+    store: &Tasks,
+    space: SpaceKey,
+    kind: Kind,
+    number: Pid,
+    from: Pid,
+) -> Result<Vec<Pid>, AllocError>
+    requires { HasParents store.now }
+    ensures { IfOk result (λ r. AreGathered store.now space kind number from r.items) }
+{
+    match kind {
+        Kind::Task => children(store, space, number, from),
+        Kind::Group => group_members(store, space, number, from),
+        Kind::Session => session_members(store, space, number, from),
+    }
+}
+
+/// The same in rising order.
+fn list_numbers(
+    store: &Tasks,
+    space: SpaceKey,
+    kind: Kind,
+    number: Pid,
+    from: Pid,
+) -> Result<Vec<Pid>, AllocError>
+    requires { HasParents store.now }
+    ensures { IfOk result (λ r. (i : ℕ) → id_at store.now.numbering space ≡ Some i
+        → AreListed (numbers_belonging (state_of store.now) i kind number) from r.items) }
+{
+    laws(store);
+    let mut numbers = belonging(store, space, kind, number, from)?;
+    numbers.sort()?;
+    Ok(numbers)
+}
+
+/// The number that is meant, where 0 is the caller's own.
+fn meant_number(store: &Tasks, caller: &Found, kind: Kind, number: Pid) -> Pid
+    requires { IsFound store.now caller.now }
+    ensures { (i : ℕ) → id_at store.now.numbering caller.now.space ≡ Some i
+        → result ≡ meant (state_of store.now) (row_of store.now caller.now.key caller.now.task) kind number }
+{
+    if number > 0 {
+        return number;
+    }
+    match kind {
+        Kind::Task => seen_task(store, caller.space, caller.key),
+        Kind::Group => seen_group(store, caller.space, caller),
+        Kind::Session => seen_session(store, caller.space, caller),
+    }
+}
+
+/// Writes as much of the list over the front of the room as it takes.
+fn put_front(listed: &[Pid], room: &mut [Pid])
+    ensures { room.new ≡ with_front listed.now room.old }
+{
+    let count = listed.len().min(room.len());
+    room[..count].copy_from_slice(&listed[..count]);
+}
+
+/// Writes the numbers of the page over the front of the room, in rising order, as many as it takes, and answers how
+/// many there are in all, as `Counted`. What is behind them in the room stays.
+///
+/// The refusal is `NoCaller` where no live task has the caller's root number. A number that names nobody has an empty
+/// page. The error is want of memory, and then the room is as it was. It costs a search, a few reads for each child or
+/// member, and the sorting of their numbers; it looks at no other task.
+pub fn read_page(store: &Tasks, page: &Page, room: &mut [Pid]) -> Result<ShortReply, AllocError>
+    requires { IsWhole store.now }
+    ensures ok { IfOk result (λ reply. TellsPage (state_of store.now) page.now room.old room.new (reply_of reply)) }
+    ensures err { OnErr result (room.new ≡ room.old) }
+{
+    let Some(caller) = find_live(store, page.caller) else {
+        return Ok(ShortReply::Refused(Refusal::NoCaller));
+    };
+    let number = meant_number(store, &caller, page.kind, page.number);
+    let listed = list_numbers(store, caller.space, page.kind, number, page.from)?;
+    put_front(&listed, room);
+    Ok(ShortReply::Counted(listed.len() as u64))
+}
