@@ -167,19 +167,22 @@ module _ (groups sessions : List (Option ℕ)) (w : IsKept groups sessions) (t :
         → groups' ≡ set groups t (Some g) → sessions' ≡ set sessions g (Some s) → IsForgotten groups' sessions' sessions'' old → IsKept groups' sessions''
     IsKept-moved g s group session groups' sessions' sessions'' same_groups same_sessions f =
         let but : IsKeptBut (set groups t (Some g)) (set sessions g (Some s)) (Some old) =
-        subst (λ (o : Option ℕ). IsKeptBut (set groups t (Some g)) (set sessions g (Some s)) o) mine (IsKeptBut-put groups sessions w t (in_range groups t old mine) g s group session) in
+        subst (λ (o : Option ℕ). IsKeptBut (set groups t (Some g)) (set sessions g (Some s)) o) mine
+        (IsKeptBut-put groups sessions w t (in_range groups t old mine) g s group session) in
         IsKept-forgotten groups' sessions' sessions'' old f (rw (same_groups, same_sessions) but)
 
     -- a task left its group, and that one went from its session if it was the last
-    pub IsKept-left : (groups' sessions' : List (Option ℕ)) → groups' ≡ set groups t None → IsForgotten groups' sessions sessions' old → IsKept groups' sessions'
+    pub IsKept-left : (groups' sessions' : List (Option ℕ)) → groups' ≡ set groups t None → IsForgotten groups' sessions sessions' old
+        → IsKept groups' sessions'
     IsKept-left groups' sessions' same_groups f =
         let but : IsKeptBut (set groups t None) sessions (Some old) =
         subst (λ (o : Option ℕ). IsKeptBut (set groups t None) sessions o) mine (IsKeptBut-left groups sessions w t (in_range groups t old mine)) in
         IsKept-forgotten groups' sessions sessions' old f (rw same_groups but)
 
 -- more room, and nobody moved
-pub IsKept-grown : (groups groups' sessions sessions' : List (Option ℕ)) → IsKept groups sessions → length groups' ≤ length sessions' → length groups' ≤ 1073741824
-    → length groups ≤ length groups' → ((k : ℕ) → owner_of groups' k ≡ owner_of groups k) → ((g : ℕ) → owner_of sessions' g ≡ owner_of sessions g) → IsKept groups' sessions'
+pub IsKept-grown : (groups groups' sessions sessions' : List (Option ℕ)) → IsKept groups sessions → length groups' ≤ length sessions'
+    → length groups' ≤ 1073741824 → length groups ≤ length groups' → ((k : ℕ) → owner_of groups' k ≡ owner_of groups k)
+    → ((g : ℕ) → owner_of sessions' g ≡ owner_of sessions g) → IsKept groups' sessions'
 IsKept-grown groups groups' sessions sessions' w room few more same_groups same_sessions = record {
   room = room;
   few = few;

@@ -26,7 +26,8 @@ module _ (groups sessions : List (Option ℕ)) (w : IsKept groups sessions) wher
   someone : (g s : ℕ) → owner_of sessions g ≡ Some s → (k : ℕ) × (membership_at (memberships_of groups sessions) k ≡ Some (record { group = g; session = s }))
   someone g s e =
       let j = w.joined g s e in
-      (j.0, membership_at-is groups sessions j.0 ∙ ap (option_map (membership_in sessions)) j.1 ∙ ap (λ o. Some (record { group = g; session = unwrap_or o 0 })) e)
+      let at = membership_at-is groups sessions j.0 ∙ ap (option_map (membership_in sessions)) j.1 in
+      (j.0, at ∙ ap (λ o. Some (record { group = g; session = unwrap_or o 0 })) e)
 
   all : (s : ℕ) (gs : List ℕ) → AllByRecursion (λ g. owner_of sessions g ≡ Some s) gs
       → AllByRecursion (λ g. (k : ℕ) × (membership_at (memberships_of groups sessions) k ≡ Some (record { group = g; session = s }))) gs

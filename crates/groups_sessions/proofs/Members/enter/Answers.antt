@@ -13,4 +13,5 @@ invariant_of-self c =
 pub returns : goal.returns
 returns c =
     rw (c.add.ensures, c.put_session.ensures)
-    (entered c.self.inside.groups c.self.inside.sessions c.args.self.now c.self.view_is c.self.invariant c.args.task c.args.group c.args.session c.requires.group (λ k _. c.requires.together k))
+    (entered c.self.inside.groups c.self.inside.sessions c.args.self.now c.self.view_is c.self.invariant
+    c.args.task c.args.group c.args.session c.requires.group (λ k _. c.requires.together k))

@@ -13,4 +13,5 @@ returns-clause-room c =
 
 pub returns-clause-session_room : goal.returns-clause-session_room
 returns-clause-session_room c =
-    rw (← c.self.view_is) (λ k m is. rw length-map (c.self.invariant.session_room m.group m.session (owner-told c.self.inside.groups c.self.inside.sessions c.self.invariant k m is)))
+    rw (← c.self.view_is)
+    (λ k m is. rw length-map (c.self.invariant.session_room m.group m.session (owner-told c.self.inside.groups c.self.inside.sessions c.self.invariant k m is)))
