@@ -19,7 +19,7 @@ first-beside_from s (t ∷ ts) [] = refl
 first-beside_from s (t ∷ ts) (n ∷ ns) = grind (arith, first-beside_from s ts ns)
 
 -- the same of a row's numbers
-first-numbers_from : (state : State) (s : ℕ) (row : Row)
+pub first-numbers_from : (state : State) (s : ℕ) (row : Row)
     → slice_index (numbers_from state.spaces row.name s) 0 ≡ number_or_zero state.spaces row.name s
 unfolding number numbers_from
 first-numbers_from state s row = first-beside_from s (reverse (path_up state.spaces row.name.space)) row.name.numbers.items
@@ -34,7 +34,7 @@ one_test a b None n h = rw (ne_eqb 0 n (λ e. omega arith)) (rw (and-false (nat_
 one_test a b (Some m) n h = rw (lt-ltb 0 n h) refl
 
 -- what is seen under a number is what is seen of the task with the number
-glimpse_at-sight : (state : State) (s n : ℕ) → 0 < n → glimpse_at (sight state s) n ≡ option_map (glimpse_of state s) (task_at state s n)
+pub glimpse_at-sight : (state : State) (s n : ℕ) → 0 < n → glimpse_at (sight state s) n ≡ option_map (glimpse_of state s) (task_at state s n)
 unfolding sight task_at
 glimpse_at-sight state s n h =
     find-map-filter (λ g. nat_lt 0 n && (slice_index g.numbers 0 == n)) (glimpse_of state s) (is_seen state s) state.rows
@@ -49,19 +49,19 @@ glimpse_at-zero gs = find-none (λ g. nat_lt 0 0 && (slice_index g.numbers 0 == 
 module _ (state : State) (sound : IsCoherent state) (root : ℕ) (caller : Row) (n : ℕ) (live : live_row state.rows root ≡ Some caller)
     (own : number state.spaces caller.name caller.name.space ≡ Some n) where
   -- the caller is one of the rows
-  there : IsIn caller state.rows
+  pub there : IsIn caller state.rows
   there = (live_row-Some state.rows root caller live).0
 
   -- no name in use has number 0
-  above_zero : (a : Name) → IsIn a (names_in_use state.rows) → (s m : ℕ) → number state.spaces a s ≡ Some m → 0 < m
+  pub above_zero : (a : Name) → IsIn a (names_in_use state.rows) → (s m : ℕ) → number state.spaces a s ≡ Some m → 0 < m
   above_zero a i s m e = ((sound.numbered a i).in_range m (number-within state.spaces a s m e).1).0
 
   -- nor has the caller
-  own_above_zero : 0 < n
+  pub own_above_zero : 0 < n
   own_above_zero = above_zero caller.name (own_name_in_use state.rows caller there) caller.name.space n own
 
   -- the caller's own number names the caller
-  own_task : task_at state caller.name.space n ≡ Some caller
+  pub own_task : task_at state caller.name.space n ≡ Some caller
   own_task = task_at-own state sound caller there caller.name.space n own
 
   -- no task has number 0
@@ -90,20 +90,20 @@ module _ (state : State) (sound : IsCoherent state) (root : ℕ) (caller : Row) 
   -- ---- the next number in use
 
   -- what a row is named by is in use
-  kind_in_use : (kind : Kind) (row : Row) → IsIn row state.rows → IsIn (name_by kind row) (names_in_use state.rows)
+  pub kind_in_use : (kind : Kind) (row : Row) → IsIn row state.rows → IsIn (name_by kind row) (names_in_use state.rows)
   kind_in_use Task row i = own_name_in_use state.rows row i
   kind_in_use Group row i = group_in_use state.rows row i
   kind_in_use Session row i = session_in_use state.rows row i
 
   -- its number is the one that is seen
-  kind_number : (kind : Kind) (row : Row)
+  pub kind_number : (kind : Kind) (row : Row)
       → number_by kind (glimpse_of state caller.name.space row) ≡ number_or_zero state.spaces (name_by kind row) caller.name.space
   kind_number Task row = first-numbers_from state caller.name.space row
   kind_number Group row = refl
   kind_number Session row = refl
 
   -- and where it has one, something is seen of the row
-  kind_seen : (kind : Kind) (row : Row) (m : ℕ) → number state.spaces (name_by kind row) caller.name.space ≡ Some m
+  pub kind_seen : (kind : Kind) (row : Row) (m : ℕ) → number state.spaces (name_by kind row) caller.name.space ≡ Some m
       → is_seen state caller.name.space row ≡ true
   kind_seen Task row m e = rw e refl
   kind_seen Group row m e = rw e (grind arith)

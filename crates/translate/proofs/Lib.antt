@@ -4,3 +4,4 @@ pub mod Walks
 pub mod Rising
 pub mod Pages
 pub mod Groups
+pub mod SeenPages

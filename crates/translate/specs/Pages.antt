@@ -1,5 +1,5 @@
 -- Going over the children of a task, or the members of a process group or of a session, by their numbers in a namespace.
-use Rattle.std.specs.Prelude.{◌≡◌, ◌↔◌, ◌≤◌, ℕ, Bool, false, ◌==◌, ◌++◌, List, length, take, drop, filter, filter_map, Option, Some, None, if◌then◌else◌}
+use Rattle.std.specs.Prelude.{◌≡◌, ◌↔◌, ◌≤◌, ℕ, Bool, false, ◌&&◌, ◌==◌, nat_lt, ◌++◌, List, length, take, drop, map, filter, filter_map, Option, Some, None, if◌then◌else◌}
 use Rattle.std.specs.Option.{option_map_or}
 use Rattle.pid_types.specs.declared.call.Kind.{Kind}
 use Rattle.pid_types.specs.declared.call.Kind.TheVariants.{Task, Group, Session}
@@ -11,8 +11,10 @@ use Rattle.pid_types.specs.declared.reply.Refusal.TheVariants.{NoCaller}
 use Rattle.pid_types.specs.Membership.{IsIn}
 use Rattle.pid_types.specs.Names.{number, is_numbered, live_row}
 use Rattle.pid_types.specs.Queries.{name_by, seen_number}
+use Rattle.pid_types.specs.Sight.{Glimpse, sight, glimpse_at, number_by}
 use Rattle.pid_types.specs.Sound.{IsRising}
 use Rattle.pid_types.specs.State.{State}
+use Rattle.model_laws.specs.SightLaws.{IsCaller}
 use Rattle.translate.specs.declared.page.Page.{Page}
 
 -- what the task belongs to, as the kind says: its parent, its process group or its session
@@ -48,3 +50,24 @@ pub record TellsPage (state : State) (page : Page) (old new : List ℕ) (reply :
   pub listed : (caller : Row) → live_row state.rows page.caller ≡ Some caller → (listed : List ℕ)
       × AreListed (numbers_belonging state caller.name.space page.kind (meant state caller page.kind page.number)) page.from listed
       × (reply ≡ Counted (length listed)) × (new ≡ with_front listed old)
+
+-- the number that is seen of what the task belongs to
+abbrev pub owner_seen : Kind → Glimpse → ℕ
+owner_seen Task g = g.parent
+owner_seen Group g = g.group
+owner_seen Session g = g.session
+
+-- the numbers of the tasks that are seen to belong to what has the number
+abbrev pub numbers_seen : List Glimpse → Kind → ℕ → List ℕ
+numbers_seen sight kind n = filter (nat_lt 0) (map (number_by Task) (filter (λ g. nat_lt 0 n && (owner_seen kind g == n)) sight))
+
+-- the number that is meant, as the caller with the number n sees its own
+abbrev pub meant_seen : List Glimpse → ℕ → Kind → ℕ → ℕ
+meant_seen sight own kind n = if n == 0 then option_map_or (number_by kind) (glimpse_at sight own) 0 else n
+
+-- a live caller has the list that is read off what its namespace sees and its own number there, and nothing else
+abbrev pub TellsSeenPage : State → Page → List ℕ → List ℕ → Reply → Type 0
+TellsSeenPage state page old new reply =
+    (caller : Row) (own : ℕ) → IsCaller state page.caller caller own → (listed : List ℕ)
+    × AreListed (numbers_seen (sight state caller.name.space) page.kind (meant_seen (sight state caller.name.space) own page.kind page.number)) page.from listed
+    × (reply ≡ Counted (length listed)) × (new ≡ with_front listed old)

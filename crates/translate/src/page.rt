@@ -12,6 +12,7 @@ ghost use Rattle.task_table.specs.View.{name_at, row_of, state_of};
 ghost use Rattle.task_table.specs.Whole.{HasParents, IsWhole};
 ghost use Rattle.translate.specs.Gathered.{numbers_from, AddsGroups, AreGathered};
 ghost use Rattle.translate.specs.Pages.{meant, numbers_belonging, with_front, AreListed, TellsPage};
+ghost use Rattle.translate.specs.Pages.{TellsSeenPage};
 
 use crate::queries::{seen_group, seen_session, seen_task};
 use groups_sessions::GroupMembers;
@@ -216,7 +217,9 @@ fn put_front(listed: &[Pid], room: &mut [Pid])
 /// member, and the sorting of their numbers; it looks at no other task.
 pub fn read_page(store: &Tasks, page: &Page, room: &mut [Pid]) -> Result<ShortReply, AllocError>
     requires { IsWhole store.now }
-    ensures ok { IfOk result (λ reply. TellsPage (state_of store.now) page.now room.old room.new (reply_of reply)) }
+    ensures told { IfOk result (λ reply. TellsPage (state_of store.now) page.now room.old room.new (reply_of reply)) }
+    ensures seen { IfOk result (λ reply.
+        TellsSeenPage (state_of store.now) page.now room.old room.new (reply_of reply)) }
     ensures err { OnErr result (room.new ≡ room.old) }
 {
     let Some(caller) = find_live(store, page.caller) else {
