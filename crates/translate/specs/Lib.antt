@@ -4,3 +4,4 @@ pub mod Seen
 pub mod Stat
 pub mod Pages
 pub mod Gathered
+pub mod Spaces

@@ -17,6 +17,7 @@ ghost use Rattle.translate.specs.Seen.{IsSeenReply};
 pub mod page;
 mod queries;
 pub mod shown;
+pub mod space;
 pub mod stat;
 
 use model_laws::sights::queries_answer_seen;

@@ -164,7 +164,7 @@ fn outer_id(store: &Tasks, key: SpaceKey) -> Option<u64>
 }
 
 /// A namespace.
-fn space_row(store: &Tasks, id: u64, key: SpaceKey) -> Space
+pub(crate) fn space_row(store: &Tasks, id: u64, key: SpaceKey) -> Space
     ensures { result ≡ space_of store.now.numbering (id, key) }
 {
     Space {

@@ -41,7 +41,7 @@ pub struct Stat {
 }
 
 /// The number of a task in the root namespace.
-fn root_of(store: &Tasks, key: TaskKey) -> Pid
+pub(crate) fn root_of(store: &Tasks, key: TaskKey) -> Pid
     requires { IsSome (task_at store.now.tree key) }
     ensures { result ≡ root_number (name_at store.now.numbering key) }
 {
