@@ -20,12 +20,12 @@ mod room;
 
 pub use ask::{GroupAsk, Target};
 use group_session::{forget_if_empty, put_session};
-use member_lists::MemberLists;
 pub use member_lists::Members as GroupMembers;
+use member_lists::{MemberLists, keys_with_room};
 use pid_numbers::Numbers;
 use pid_types::keys::{IdentKey, Pid, SpaceKey, TaskKey};
 use pid_types::reply::Refusal;
-use room::{has_member, make_room};
+use room::{grow, has_member};
 use std::alloc::{AllocError, Global};
 use std::marker::Model;
 
@@ -82,7 +82,11 @@ impl Members {
         ensures room { length self.old ≤ length self.new }
         ensures kept { (k : ℕ) → membership_at self.new k ≡ membership_at self.old k }
     {
-        make_room(&mut self.groups, &mut self.sessions, task.max(ident))
+        let key = task.max(ident);
+        if (key as usize) < self.groups.keys() {
+            return Ok(());
+        }
+        grow(&mut self.groups, &mut self.sessions, keys_with_room(key))
     }
 
     /// A task that is in no group enters one, as `fork(2)` has it enter its parent's. Whoever is in the

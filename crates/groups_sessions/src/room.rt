@@ -4,7 +4,7 @@ ghost use Rattle.std.specs.Prelude.{◌≡◌, ◌≢◌, ℕ, ◌<◌, ◌≤�
 ghost use Rattle.member_lists.specs.Owners.{owner_of};
 ghost use Rattle.groups_sessions.specs.Membership.{IsKept, IsJoined};
 
-use member_lists::{MemberLists, keys_with_room};
+use member_lists::MemberLists;
 use pid_types::keys::IdentKey;
 use std::alloc::AllocError;
 
@@ -23,7 +23,11 @@ fn room_for_sessions(sessions: &mut MemberLists, keys: usize) -> Result<(), Allo
 
 /// Makes room for so many keys. Where memory ends behind the first list, the sessions alone have grown.
 #[inline(never)]
-fn grow(groups: &mut MemberLists, sessions: &mut MemberLists, keys: usize) -> Result<(), AllocError>
+pub(crate) fn grow(
+    groups: &mut MemberLists,
+    sessions: &mut MemberLists,
+    keys: usize,
+) -> Result<(), AllocError>
     requires more { length groups.old ≤ keys }
     requires few { keys ≤ 2 ^ 30 }
     requires kept { IsKept groups.old sessions.old }
@@ -36,27 +40,6 @@ fn grow(groups: &mut MemberLists, sessions: &mut MemberLists, keys: usize) -> Re
     room_for_sessions(sessions, keys)?;
     groups.grow(keys - groups.keys())?;
     Ok(())
-}
-
-/// Makes room for all keys up to one, and for more where there is none yet.
-#[inline(always)]
-pub(crate) fn make_room(
-    groups: &mut MemberLists,
-    sessions: &mut MemberLists,
-    key: IdentKey,
-) -> Result<(), AllocError>
-    requires key { key < 2 ^ 30 }
-    requires kept { IsKept groups.old sessions.old }
-    ensures kept { IsKept groups.new sessions.new }
-    ensures groups { (k : ℕ) → owner_of groups.new k ≡ owner_of groups.old k }
-    ensures sessions { (g : ℕ) → owner_of sessions.new g ≡ owner_of sessions.old g }
-    ensures longer { length groups.old ≤ length groups.new }
-    ensures room { OnOk result (key < length groups.new) }
-{
-    if (key as usize) < groups.keys() {
-        return Ok(());
-    }
-    grow(groups, sessions, keys_with_room(key))
 }
 
 /// Whether some task is in the group.
