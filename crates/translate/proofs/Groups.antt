@@ -1,7 +1,6 @@
 -- The members of a session, group by group.
-use Rattle.std.proofs.Common.{◌≡◌, ℕ, zero, suc, ◌+◌, ◌<◌, ◌==◌, Bool, true, false, nat_le, List, [], ◌∷◌, ◌++◌, length, Option, Some, None, cond, option_map, refl, sym, ap, subst, ◌∙◌, arith}
+use Rattle.std.proofs.Common.{◌≡◌, ℕ, ◌+◌, ◌<◌, ◌==◌, Bool, true, false, nat_le, List, [], ◌∷◌, ◌++◌, length, Option, Some, None, cond, option_map, refl, sym, ap, subst, ◌∙◌, arith}
 use Rattle.std.specs.Option.{option_map_or}
-use Rattle.std.proofs.Math.ListN.{get_or-map}
 use Rattle.std.proofs.lemmas.Bool.{eq-eqb, eqb-true}
 use Rattle.std.proofs.lemmas.List.{append_assoc}
 use Rattle.std.proofs.lemmas.List.Sums.{sum_by-append}
@@ -14,8 +13,8 @@ use Rattle.task_table.specs.Store.{Store}
 use Rattle.task_table.specs.Lawful.{IsLawful}
 use Rattle.task_table.proofs.Places.{each-in}
 use Rattle.translate.specs.Gathered.{numbers_from, group_times, AreGathered}
-use Rattle.translate.proofs.Rising.{times-cons, IsIn-times, times-IsIn}
-use Rattle.translate.proofs.Pages.{gathered, nobody}
+use Rattle.translate.proofs.Rising.{zero-of, times-cons, IsIn-times, times-IsIn}
+use Rattle.translate.proofs.Pages.{group-told, gathered, nobody}
 
 -- the numbers of more keys
 numbers_from-append : (b : Numbering) (space from : ℕ) (js ks : List ℕ) → numbers_from b space from (js ++ ks) ≡ numbers_from b space from js ++ numbers_from b space from ks
@@ -31,33 +30,26 @@ numbers_from-append b space from (j ∷ js) ks = go (numbers_from-append b space
         test false out = rw (is, out) rest
         test true out = rw (is, out) (ap (λ ns. n ∷ ns) rest)
 
-zero_of : (c : ℕ) → (0 < c → ⊥) → c ≡ 0
-zero_of zero none = refl
-zero_of (suc c) none = absurd (none (omega arith))
-
 module _ (s : Store) where
-  told : (k : ℕ) → owner_of (groups_of s.members) k ≡ group_of s.members k
-  told k = get_or-map (option_map (λ (x : Membership). x.group)) s.members k None
-
   -- who is in a group stands there once more
   group_step : (k g : ℕ) (rest ms : List ℕ) → AreMembers (groups_of s.members) g ms → times k ms + group_times s rest k ≡ group_times s (g ∷ rest) k
   group_step k g rest ms m = go (group_of s.members k) refl
     where
       mine : IsIn k ms → group_of s.members k ≡ Some g
-      mine on = sym (told k) ∙ each-in (λ j. owner_of (groups_of s.members) j ≡ Some g) ms m.owned k on
+      mine on = sym (group-told s k) ∙ each-in (λ j. owner_of (groups_of s.members) j ≡ Some g) ms m.owned k on
 
       go : (o : Option ℕ) → group_of s.members k ≡ o → times k ms + option_map_or (λ h. times h rest) o 0 ≡ option_map_or (λ h. times h (g ∷ rest)) o 0
       go None is =
-          let none = zero_of (times k ms) (λ some. let z = sym is ∙ mine (times-IsIn k ms some) in absurd (cc)) in
+          let none = zero-of (times k ms) (λ some. let z = sym is ∙ mine (times-IsIn k ms some) in absurd (cc)) in
           omega (arith, none)
       go (Some h) is = test (g == h) refl (times-cons h g rest)
         where
           test : (b : Bool) → (g == h) ≡ b → times h (g ∷ rest) ≡ cond {A = ℕ} b 1 0 + times h rest → times k ms + times h rest ≡ times h (g ∷ rest)
           test true same e =
-              let one = m.once k (told k ∙ is ∙ ap Some (sym (eqb-true g h same))) in
+              let one = m.once k (group-told s k ∙ is ∙ ap Some (sym (eqb-true g h same))) in
               omega (arith, e, one)
           test false differs e =
-              let none = zero_of (times k ms) (λ some.
+              let none = zero-of (times k ms) (λ some.
               let z : Some h ≡ Some g = sym is ∙ mine (times-IsIn k ms some) in
               let same : h ≡ g = cc in
               let w : true ≡ false = sym (eq-eqb g h (sym same)) ∙ differs in

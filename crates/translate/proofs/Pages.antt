@@ -27,7 +27,11 @@ use Rattle.std.proofs.Math.ListN.{get_or-map}
 use Rattle.task_table.proofs.LookUps.{named, group-named, session-named, in-rows, rows-in}
 use Rattle.translate.specs.Pages.{belongs_to, belongs, numbers_belonging, AreListed}
 use Rattle.translate.specs.Gathered.{owner_in, numbers_from, HasNumber, AreGathered}
-use Rattle.translate.proofs.Rising.{times-cons, times-later, IsIn-times, times-IsIn, times-permuted, IsIn-permuted, IsIn-unpermuted, rising-once}
+use Rattle.translate.proofs.Rising.{zero-of, times-cons, times-later, IsIn-times, times-IsIn, times-permuted, IsIn-permuted, IsIn-unpermuted, rising-once}
+
+-- the group of a task, as the lists of groups have it
+pub group-told : (s : Store) (k : ℕ) → owner_of (groups_of s.members) k ≡ group_of s.members k
+group-told s k = get_or-map (option_map (λ (x : Membership). x.group)) s.members k None
 
 module _ (s : Store) (l : IsLawful s) where
   -- what a task is in
@@ -156,12 +160,8 @@ module _ (s : Store) (l : IsLawful s) where
         go : (b : Bool) → (x == m) ≡ b → times m (x ∷ xs) ≡ cond {A = ℕ} b 1 0 + times m xs → times m (x ∷ xs) ≤ 1
         go false is e = omega (arith, e, few)
         go true is e =
-            let none : times m xs ≡ 0 = zero_of (times m xs) (λ some. new (subst (λ j. IsIn j xs) (sym (eqb-true x m is)) (times-IsIn m xs some))) in
+            let none = zero-of (times m xs) (λ some. new (subst (λ j. IsIn j xs) (sym (eqb-true x m is)) (times-IsIn m xs some))) in
             omega (arith, e, none)
-          where
-            zero_of : (c : ℕ) → (0 < c → ⊥) → c ≡ 0
-            zero_of zero none = refl
-            zero_of (suc c) none = absurd (none (omega arith))
 
     numbers-once : (keys : List ℕ) → ((k : ℕ) → times k keys ≤ 1) → (m : ℕ) → times m (numbers_from s.numbering sp from keys) ≤ 1
     numbers-once [] once m = omega arith
@@ -222,10 +222,8 @@ module _ (s : Store) (l : IsLawful s) where
       -- the members of a group, as its list has them
       pub gathered_group : (n o : ℕ) (keys : List ℕ) → number_of s.numbering o sp ≡ Some n → AreMembers (groups_of s.members) o keys → AreGathered s sp Group n from (numbers_from s.numbering sp from keys)
       gathered_group n o keys has m =
-          gathered Group n o keys has (λ k mine. m.once k (told k ∙ mine)) (λ k i. sym (told k) ∙ each-in (λ k. owner_of (groups_of s.members) k ≡ Some o) keys m.owned k i)
-        where
-          told : (k : ℕ) → owner_of (groups_of s.members) k ≡ group_of s.members k
-          told k = get_or-map (option_map (λ (x : Membership). x.group)) s.members k None
+          gathered Group n o keys has (λ k mine. m.once k (group-told s k ∙ mine))
+          (λ k i. sym (group-told s k) ∙ each-in (λ k. owner_of (groups_of s.members) k ≡ Some o) keys m.owned k i)
 
       -- where no task has the number, none has a child
       pub no_children : (n : ℕ) → ((k : ℕ) (t : Task) → task_at s.tree k ≡ Some t → number_of s.numbering k sp ≢ Some n) → AreGathered s sp AsTask n from []

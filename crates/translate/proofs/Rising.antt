@@ -9,6 +9,11 @@ use Rattle.pid_types.specs.Membership.{IsIn}
 use Rattle.pid_types.specs.Sound.{IsRising}
 use Rattle.task_table.proofs.Places.{place-of}
 
+-- what is not above 0 is 0
+pub zero-of : (c : ℕ) → (0 < c → ⊥) → c ≡ 0
+zero-of zero none = refl
+zero-of (suc c) none = absurd (none (omega arith))
+
 -- one number more
 pub times-cons : (m x : ℕ) (xs : List ℕ) → times m (x ∷ xs) ≡ cond {A = ℕ} (x == m) 1 0 + times m xs
 times-cons m x xs = sum_by-cons (λ j. cond {A = ℕ} (j == m) 1 0) x xs
