@@ -35,6 +35,10 @@ numbers_belonging state s kind n = filter_map (λ row. number state.spaces row.n
 abbrev pub meant : State → Row → Kind → ℕ → ℕ
 meant state caller kind n = if n == 0 then seen_number state caller (name_by kind caller) else n
 
+-- the numbers that the caller's page asks for
+abbrev pub numbers_asked : State → Row → Page → List ℕ
+numbers_asked state caller page = numbers_belonging state caller.name.space page.kind (meant state caller page.kind page.number)
+
 -- the list has the numbers from the given one on, each once, in rising order
 pub record AreListed (numbers : List ℕ) (from : ℕ) (listed : List ℕ) : Type 0 where
   pub rising : IsRising listed
@@ -48,7 +52,7 @@ with_front listed room = take (length room) listed ++ drop (length listed) room
 pub record TellsPage (state : State) (page : Page) (old new : List ℕ) (reply : Reply) : Type 0 where
   pub nobody : live_row state.rows page.caller ≡ None → (reply ≡ Refused NoCaller) × (new ≡ old)
   pub listed : (caller : Row) → live_row state.rows page.caller ≡ Some caller → (listed : List ℕ)
-      × AreListed (numbers_belonging state caller.name.space page.kind (meant state caller page.kind page.number)) page.from listed
+      × AreListed (numbers_asked state caller page) page.from listed
       × (reply ≡ Counted (length listed)) × (new ≡ with_front listed old)
 
 -- the number that is seen of what the task belongs to
@@ -65,9 +69,13 @@ numbers_seen sight kind n = filter (nat_lt 0) (map (number_by Task) (filter (λ 
 abbrev pub meant_seen : List Glimpse → ℕ → Kind → ℕ → ℕ
 meant_seen sight own kind n = if n == 0 then option_map_or (number_by kind) (glimpse_at sight own) 0 else n
 
+-- the numbers that the page asks for, as the caller sees them
+abbrev pub numbers_seen_by : List Glimpse → ℕ → Page → List ℕ
+numbers_seen_by sight own page = numbers_seen sight page.kind (meant_seen sight own page.kind page.number)
+
 -- a live caller has the list that is read off what its namespace sees and its own number there, and nothing else
 abbrev pub TellsSeenPage : State → Page → List ℕ → List ℕ → Reply → Type 0
 TellsSeenPage state page old new reply =
     (caller : Row) (own : ℕ) → IsCaller state page.caller caller own → (listed : List ℕ)
-    × AreListed (numbers_seen (sight state caller.name.space) page.kind (meant_seen (sight state caller.name.space) own page.kind page.number)) page.from listed
+    × AreListed (numbers_seen_by (sight state caller.name.space) own page) page.from listed
     × (reply ≡ Counted (length listed)) × (new ≡ with_front listed old)
