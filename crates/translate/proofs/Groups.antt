@@ -14,7 +14,7 @@ use Rattle.task_table.specs.Lawful.{IsLawful}
 use Rattle.task_table.proofs.Places.{each-in}
 use Rattle.translate.specs.Gathered.{numbers_from, group_times, AreGathered}
 use Rattle.translate.proofs.Rising.{zero-of, times-cons, IsIn-times, times-IsIn}
-use Rattle.translate.proofs.Pages.{group-told, gathered, nobody}
+use Rattle.translate.proofs.Pages.{group-told, gathered}
 
 -- the numbers of more keys
 numbers_from-append : (b : Numbering) (space from : ℕ) (js ks : List ℕ) → numbers_from b space from (js ++ ks) ≡ numbers_from b space from js ++ numbers_from b space from ks
@@ -71,11 +71,11 @@ module _ (s : Store) where
         omega (arith, sum, step, count),
   )
 
-  module _ (l : IsLawful s) (space from n o : ℕ) where
+  module _ (l : IsLawful s) (space from o : ℕ) where
     -- a session's groups have all its members
-    pub gathered_session : (groups keys : List ℕ) → number_of s.numbering o space ≡ Some n → AreGroupsOf s.members o groups → ((k : ℕ) → times k keys ≡ group_times s groups k)
-        → AreGathered s space Session n from (numbers_from s.numbering space from keys)
-    gathered_session groups keys has a counts = gathered s l space from Session n o keys has once owned
+    pub gathered_session : (groups keys : List ℕ) → AreGroupsOf s.members o groups → ((k : ℕ) → times k keys ≡ group_times s groups k)
+        → AreGathered s space Session o from (numbers_from s.numbering space from keys)
+    gathered_session groups keys a counts = gathered s l space from Session o keys once owned
       where
         once : (k : ℕ) → session_of s.members k ≡ Some o → times k keys ≡ 1
         once k mine = go (membership_at s.members k) refl mine
@@ -95,10 +95,6 @@ module _ (s : Store) where
             go (Some g) is some =
                 let p = each-in (λ h. (j : ℕ) × (membership_at s.members j ≡ Some (record { group = h; session = o }))) groups a.owned g (times-IsIn g groups some) in
                 l.together p.0 (record { group = g; session = o }) p.1 k is
-
-    -- a key without room is no session's
-    pub no_session : number_of s.numbering o space ≡ Some n → ((k : ℕ) → session_of s.members k ≡ Some o → ⊥) → AreGathered s space Session n from []
-    no_session has none = nobody s l space from Session n (λ k p mine yours. none k (mine ∙ ap Some (l.numbering.distinct p o space n yours has)))
 
 -- a session has room
 pub roomy : (members : List (Option Membership)) → ((k : ℕ) (m : Membership) → membership_at members k ≡ Some m → m.session < length members) → (k o : ℕ)

@@ -5,3 +5,4 @@ pub mod Rising
 pub mod Pages
 pub mod Groups
 pub mod SeenPages
+pub mod Meant

@@ -1,6 +1,7 @@
 -- Who belongs to what has a number, in the model and by keys.
 use Rattle.std.proofs.Common.{◌≡◌, ◌≢◌, ℕ, zero, suc, ◌+◌, ◌<◌, ◌≤◌, ◌==◌, Bool, true, false, nat_le, List, [], ◌∷◌, length, filter, filter_map, Option, Some, None, is_some, cond, option_map, refl, sym, ap, subst, ◌∙◌, arith}
 use Rattle.std.specs.Option.{option_map_or, option_eq}
+use Rattle.std.specs.List.{AllByRecursion}
 use Rattle.std.specs.List.Sorted.{IsPermutation, IsSorted}
 use Rattle.std.specs.Ordering.{nat_cmp}
 use Rattle.std.proofs.lemmas.Bool.{eq-eqb, eqb-true}
@@ -8,8 +9,9 @@ use Rattle.std.proofs.lemmas.List.Sorted.{IsNonDecreasingBy-from_sort}
 use Rattle.pid_types.proofs.General.{held, some_number, number_tested}
 use Rattle.pid_types.specs.declared.call.Kind.{Kind}
 use Rattle.pid_types.specs.declared.call.Kind.TheVariants.{Task as AsTask, Group, Session}
+use Rattle.pid_types.specs.declared.plain.Row.{Row}
 use Rattle.pid_types.specs.Membership.{IsIn}
-use Rattle.pid_types.specs.Names.{number, is_numbered}
+use Rattle.pid_types.specs.Names.{number}
 use Rattle.pid_types.specs.State.{root_name}
 use Rattle.model_laws.proofs.Lists.{IsIn-filter, IsIn-from_filter, IsIn-filter_map, IsIn-from_filter_map}
 use Rattle.member_lists.specs.Owners.{owner_of, times, AreMembers}
@@ -25,8 +27,8 @@ use Rattle.task_table.proofs.Keys.{number-is_key}
 use Rattle.task_table.proofs.Places.{each-in}
 use Rattle.std.proofs.Math.ListN.{get_or-map}
 use Rattle.task_table.proofs.LookUps.{named, group-named, session-named, in-rows, rows-in}
-use Rattle.translate.specs.Pages.{belongs_to, belongs, numbers_belonging, AreListed}
-use Rattle.translate.specs.Gathered.{owner_in, numbers_from, HasNumber, AreGathered}
+use Rattle.translate.specs.Pages.{belongs_to, is_meant, belongs, numbers_asked, AreListed}
+use Rattle.translate.specs.Gathered.{owner_in, numbers_from, IsOwned, AreGathered, IsMeantAlone}
 use Rattle.translate.proofs.Rising.{zero-of, times-cons, times-later, IsIn-times, times-IsIn, times-permuted, IsIn-permuted, IsIn-unpermuted, rising-once}
 
 -- the group of a task, as the lists of groups have it
@@ -83,64 +85,70 @@ module _ (s : Store) (l : IsLawful s) where
         go None is e = absurd (cc)
         go (Some m) is e = let u = session-named s l k m is in let same : m.session ≡ o = cc in (u.0, ap (identifier_at s.numbering) (sym same) ∙ u.1)
 
-    module _ (sp i : ℕ) (at : id_at s.numbering sp ≡ Some i) where
-      numbered : (o n : ℕ) (u : Identifier) → identifier_at s.numbering o ≡ Some u
-          → is_numbered (state_of s).spaces (name_at s.numbering o) i n ≡ option_eq ◌==◌ (number_of s.numbering o sp) (Some n)
-      numbered o n u there = ap (λ x. option_eq ◌==◌ x (Some n)) (number-is_key s.numbering l.numbering sp i o u at there)
-
-      belongs-from : (kind : Kind) (n k : ℕ) (t : Task) → task_at s.tree k ≡ Some t → belongs (state_of s) i kind n (row_of s k t) ≡ true
-          → (o : ℕ) × (owner_in s kind k ≡ Some o) × (number_of s.numbering o sp ≡ Some n)
-      belongs-from kind n k t e passes = go (owner_in s kind k) refl (sym (ap (λ o. option_map_or (λ name. is_numbered (state_of s).spaces name i n) o false) (belongs_to-is kind k t e)) ∙ passes)
+    module _ (sp : ℕ) (caller : Row) (at : id_at s.numbering sp ≡ Some caller.name.space) (kind : Kind) (n : ℕ) (o : Option ℕ) (alone : IsMeantAlone s caller kind n o) where
+      -- who belongs to what is meant has its key as the owner
+      belongs-is : (k : ℕ) (t : Task) → task_at s.tree k ≡ Some t
+          → belongs (state_of s) caller kind n (row_of s k t) ≡ option_map_or (λ p. option_eq ◌==◌ o (Some p)) (owner_in s kind k) false
+      belongs-is k t e = ap (λ x. option_map_or (is_meant (state_of s) caller kind n) x false) (belongs_to-is kind k t e) ∙ go (owner_in s kind k) refl
         where
-          go : (o : Option ℕ) → owner_in s kind k ≡ o → option_map_or (λ name. is_numbered (state_of s).spaces name i n) (option_map (name_at s.numbering) o) false ≡ true
-              → (o : ℕ) × (owner_in s kind k ≡ Some o) × (number_of s.numbering o sp ≡ Some n)
-          go None is holds = absurd (cc)
-          go (Some o) is holds =
-              let u = owner-named kind k o is in
-              (o, is, some_number (number_of s.numbering o sp) n (sym (numbered o n u.0 u.1) ∙ holds))
-
-      belongs-to : (kind : Kind) (n k o : ℕ) (t : Task) → task_at s.tree k ≡ Some t → owner_in s kind k ≡ Some o → number_of s.numbering o sp ≡ Some n
-          → belongs (state_of s) i kind n (row_of s k t) ≡ true
-      belongs-to kind n k o t e is has =
-          let u = owner-named kind k o is in
-          ap (λ x. option_map_or (λ name. is_numbered (state_of s).spaces name i n) x false) (belongs_to-is kind k t e ∙ ap (option_map (name_at s.numbering)) is)
-          ∙ numbered o n u.0 u.1 ∙ number_tested (number_of s.numbering o sp) n has
+          go : (x : Option ℕ) → owner_in s kind k ≡ x
+              → option_map_or (is_meant (state_of s) caller kind n) (option_map (name_at s.numbering) x) false ≡ option_map_or (λ p. option_eq ◌==◌ o (Some p)) x false
+          go None is = refl
+          go (Some p) is = let u = owner-named kind k p is in alone p (ap is_some u.1)
 
       -- the numbers of the model are those of the keys
-      page-in : (kind : Kind) (n m : ℕ) → IsIn m (numbers_belonging (state_of s) i kind n) → HasNumber s sp kind n m
-      page-in kind n m on =
-          let f = IsIn-from_filter_map (λ row. number (state_of s).spaces row.name i) m (filter (belongs (state_of s) i kind n) (state_of s).rows) on in
-          let g = IsIn-from_filter (belongs (state_of s) i kind n) f.0 (state_of s).rows f.1 in
+      page-in : (q : ℕ) → o ≡ Some q → (m : ℕ) → IsIn m (numbers_asked (state_of s) caller kind n) → IsOwned s sp kind q m
+      page-in q is m on =
+          let f = IsIn-from_filter_map (λ row. number (state_of s).spaces row.name caller.name.space) m (filter (belongs (state_of s) caller kind n) (state_of s).rows) on in
+          let g = IsIn-from_filter (belongs (state_of s) caller kind n) f.0 (state_of s).rows f.1 in
           let r = in-rows s l f.0 g.0 in
-          let b = belongs-from kind n r.0 r.1 r.2 (sym (ap (belongs (state_of s) i kind n) r.3) ∙ g.1) in
+          let b = sym (belongs-is r.0 r.1 r.2) ∙ sym (ap (belongs (state_of s) caller kind n) r.3) ∙ g.1 in
           let u = named s l r.0 r.1 r.2 in
           record {
             key = r.0;
-            owner = b.0;
-            belongs = b.1;
-            owned_by = b.2;
-            has = sym (number-is_key s.numbering l.numbering sp i r.0 u.0 at u.1) ∙ ap (λ row. number (state_of s).spaces row.name i) (sym r.3) ∙ f.2;
+            belongs = owned (owner_in s kind r.0) b;
+            has = sym (number-is_key s.numbering l.numbering sp caller.name.space r.0 u.0 at u.1) ∙ ap (λ row. number (state_of s).spaces row.name caller.name.space) (sym r.3) ∙ f.2;
           }
+        where
+          owned : (x : Option ℕ) → option_map_or (λ p. option_eq ◌==◌ o (Some p)) x false ≡ true → x ≡ Some q
+          owned None passes = absurd (cc)
+          owned (Some p) passes = let same : Some q ≡ Some p = sym is ∙ some_number o p passes in sym same
 
-      page-of : (kind : Kind) (n m : ℕ) → HasNumber s sp kind n m → IsIn m (numbers_belonging (state_of s) i kind n)
-      page-of kind n m one =
-          let t = tasked kind one.key one.owner one.belongs in
+      page-of : (q : ℕ) → o ≡ Some q → (m : ℕ) → IsOwned s sp kind q m → IsIn m (numbers_asked (state_of s) caller kind n)
+      page-of q is m one =
+          let t = tasked kind one.key q one.belongs in
           let u = named s l one.key t.0 t.1 in
-          IsIn-filter_map (λ row. number (state_of s).spaces row.name i) (row_of s one.key t.0) m (filter (belongs (state_of s) i kind n) (state_of s).rows)
-          (IsIn-filter (belongs (state_of s) i kind n) (row_of s one.key t.0) (state_of s).rows (rows-in s l one.key t.0 t.1)
-          (belongs-to kind n one.key one.owner t.0 t.1 one.belongs one.owned_by))
-          (number-is_key s.numbering l.numbering sp i one.key u.0 at u.1 ∙ one.has)
+          IsIn-filter_map (λ row. number (state_of s).spaces row.name caller.name.space) (row_of s one.key t.0) m (filter (belongs (state_of s) caller kind n) (state_of s).rows)
+          (IsIn-filter (belongs (state_of s) caller kind n) (row_of s one.key t.0) (state_of s).rows (rows-in s l one.key t.0 t.1)
+          (belongs-is one.key t.0 t.1 ∙ ap (λ x. option_map_or (λ p. option_eq ◌==◌ o (Some p)) x false) one.belongs ∙ number_tested o q is))
+          (number-is_key s.numbering l.numbering sp caller.name.space one.key u.0 at u.1 ∙ one.has)
 
       -- what was gathered, in order
-      pub listed : (kind : Kind) (n from : ℕ) (xs ys : List ℕ) → AreGathered s sp kind n from xs → IsPermutation xs ys → IsSorted nat_cmp ys
-          → AreListed (numbers_belonging (state_of s) i kind n) from ys
-      listed kind n from xs ys g p sorted = record {
+      pub listed : (q from : ℕ) (xs ys : List ℕ) → o ≡ Some q → AreGathered s sp kind q from xs → IsPermutation xs ys → IsSorted nat_cmp ys
+          → AreListed (numbers_asked (state_of s) caller kind n) from ys
+      listed q from xs ys is g p sorted = record {
         rising = rising-once ys (IsNonDecreasingBy-from_sort (λ x. x) ys sorted) (λ m. let e = times-permuted m xs ys p in let one = g.once m in omega (arith, e, one));
         each = λ m. (
-          (λ on. let h = (g.each m).0 (IsIn-unpermuted m xs ys p on) in (h.0, page-of kind n m h.1)),
-          (λ h. IsIn-permuted m xs ys p ((g.each m).1 (h.0, page-in kind n m h.1))),
+          (λ on. let h = (g.each m).0 (IsIn-unpermuted m xs ys p on) in (h.0, page-of q is m h.1)),
+          (λ h. IsIn-permuted m xs ys p ((g.each m).1 (h.0, page-in q is m h.1))),
         );
       }
+
+      -- where nothing is meant, nobody is listed
+      pub listed_none : (from : ℕ) → o ≡ None → AreListed (numbers_asked (state_of s) caller kind n) from []
+      listed_none from is = record { rising = tt; each = λ m. ((λ on. absurd on), (λ h. absurd (nobody_in m h.1))) }
+        where
+          refused : (x : Option ℕ) → option_map_or (λ p. option_eq ◌==◌ o (Some p)) x false ≡ false
+          refused None = refl
+          refused (Some p) = ap (λ x. option_eq ◌==◌ x (Some p)) is
+
+          nobody_in : (m : ℕ) → IsIn m (numbers_asked (state_of s) caller kind n) → ⊥
+          nobody_in m on =
+              let f = IsIn-from_filter_map (λ row. number (state_of s).spaces row.name caller.name.space) m (filter (belongs (state_of s) caller kind n) (state_of s).rows) on in
+              let g = IsIn-from_filter (belongs (state_of s) caller kind n) f.0 (state_of s).rows f.1 in
+              let r = in-rows s l f.0 g.0 in
+              let b : false ≡ true = sym (refused (owner_in s kind r.0)) ∙ sym (belongs-is r.0 r.1 r.2) ∙ sym (ap (belongs (state_of s) caller kind n) r.3) ∙ g.1 in
+              absurd (cc)
 
   -- numbers of keys, none of which comes twice
   module _ (sp from : ℕ) where
@@ -186,16 +194,15 @@ module _ (s : Store) (l : IsLawful s) where
             test true out = rw (is, out) (once-more m x (numbers_from s.numbering sp from keys) (fresh x is) rest)
 
     -- the keys of those who belong to one owner, each once
-    pub gathered : (kind : Kind) (n o : ℕ) (keys : List ℕ) → number_of s.numbering o sp ≡ Some n → ((k : ℕ) → owner_in s kind k ≡ Some o → times k keys ≡ 1)
-        → ((k : ℕ) → IsIn k keys → owner_in s kind k ≡ Some o) → AreGathered s sp kind n from (numbers_from s.numbering sp from keys)
-    gathered kind n o keys has once owned = record {
+    pub gathered : (kind : Kind) (o : ℕ) (keys : List ℕ) → ((k : ℕ) → owner_in s kind k ≡ Some o → times k keys ≡ 1)
+        → ((k : ℕ) → IsIn k keys → owner_in s kind k ≡ Some o) → AreGathered s sp kind o from (numbers_from s.numbering sp from keys)
+    gathered kind o keys once owned = record {
       once = numbers-once keys few;
       each = λ m. (
-        (λ on. let f = numbers-in keys m on in (f.0, record { key = (f.1).0; owner = o; belongs = owned (f.1).0 (f.1).1; owned_by = has; has = (f.1).2 })),
+        (λ on. let f = numbers-in keys m on in (f.0, record { key = (f.1).0; belongs = owned (f.1).0 (f.1).1; has = (f.1).2 })),
         (λ h.
             let one = h.1 in
-            let same : one.owner ≡ o = l.numbering.distinct one.owner o sp n one.owned_by has in
-            let here = once one.key (one.belongs ∙ ap Some same) in
+            let here = once one.key one.belongs in
             numbers-of keys m one.key h.0 (times-IsIn one.key keys (omega (arith, here))) one.has),
       );
     }
@@ -207,31 +214,19 @@ module _ (s : Store) (l : IsLawful s) where
             go zero e = omega (arith, e)
             go (suc c) e = let one = once k (owned k (times-IsIn k keys (omega (arith, e)))) in omega (arith, one)
 
-    -- nobody belongs to what has the number
-    pub nobody : (kind : Kind) (n : ℕ) → ((k o : ℕ) → owner_in s kind k ≡ Some o → number_of s.numbering o sp ≢ Some n) → AreGathered s sp kind n from []
-    nobody kind n none = record {
-      once = λ m. omega arith;
-      each = λ m. ((λ on. absurd on), (λ h. absurd (none (h.1).key (h.1).owner (h.1).belongs (h.1).owned_by)));
-    }
+    -- nobody belongs to it
+    pub nobody : (kind : Kind) (o : ℕ) → ((k : ℕ) → owner_in s kind k ≢ Some o) → AreGathered s sp kind o from []
+    nobody kind o none = record { once = λ m. omega arith; each = λ m. ((λ on. absurd on), (λ h. absurd (none (h.1).key (h.1).belongs))) }
 
-    module _ (h : HasParents s) where
-      -- the children of a task, as its list has them
-      pub gathered_children : (n o : ℕ) (keys : List ℕ) → number_of s.numbering o sp ≡ Some n → AreMembers s.tree.parents o keys → AreGathered s sp AsTask n from (numbers_from s.numbering sp from keys)
-      gathered_children n o keys has m = gathered AsTask n o keys has m.once (λ k i. each-in (λ k. owner_of s.tree.parents k ≡ Some o) keys m.owned k i)
+    -- the children of a task, as its list has them
+    pub gathered_children : (o : ℕ) (keys : List ℕ) → AreMembers s.tree.parents o keys → AreGathered s sp AsTask o from (numbers_from s.numbering sp from keys)
+    gathered_children o keys m = gathered AsTask o keys m.once (λ k i. each-in (λ k. owner_of s.tree.parents k ≡ Some o) keys m.owned k i)
 
-      -- the members of a group, as its list has them
-      pub gathered_group : (n o : ℕ) (keys : List ℕ) → number_of s.numbering o sp ≡ Some n → AreMembers (groups_of s.members) o keys → AreGathered s sp Group n from (numbers_from s.numbering sp from keys)
-      gathered_group n o keys has m =
-          gathered Group n o keys has (λ k mine. m.once k (group-told s k ∙ mine))
-          (λ k i. sym (group-told s k) ∙ each-in (λ k. owner_of (groups_of s.members) k ≡ Some o) keys m.owned k i)
-
-      -- where no task has the number, none has a child
-      pub no_children : (n : ℕ) → ((k : ℕ) (t : Task) → task_at s.tree k ≡ Some t → number_of s.numbering k sp ≢ Some n) → AreGathered s sp AsTask n from []
-      no_children n none = nobody AsTask n (λ k o mine. let t = held (task_at s.tree o) (h k o mine) in none o t.0 t.1)
-
-      -- nobody is in the group
-      pub no_members : (n g : ℕ) → number_of s.numbering g sp ≡ Some n → (HasMembers s.members g → ⊥) → AreGathered s sp Group n from []
-      no_members n g has none = nobody Group n (λ k o mine yours. none (k, mine ∙ ap Some (l.numbering.distinct o g sp n yours has)))
+    -- the members of a group, as its list has them
+    pub gathered_group : (o : ℕ) (keys : List ℕ) → AreMembers (groups_of s.members) o keys → AreGathered s sp Group o from (numbers_from s.numbering sp from keys)
+    gathered_group o keys m =
+        gathered Group o keys (λ k mine. m.once k (group-told s k ∙ mine))
+        (λ k i. sym (group-told s k) ∙ each-in (λ k. owner_of (groups_of s.members) k ≡ Some o) keys m.owned k i)
 
 -- a group in which somebody is has room
 pub in_room : (members : List (Option Membership)) → ((k : ℕ) (m : Membership) → membership_at members k ≡ Some m → m.group < length members) → (g : ℕ) → HasMembers members g → g < length members
@@ -240,3 +235,9 @@ in_room members room g some = go (membership_at members some.0) refl some.1
     go : (o : Option Membership) → membership_at members some.0 ≡ o → option_map (λ (m : Membership). m.group) o ≡ Some g → g < length members
     go None is mine = absurd (cc)
     go (Some m) is mine = let same : m.group ≡ g = cc in subst (λ h. h < length members) same (room some.0 m is)
+
+-- so have the groups of a session
+pub all_in_room : (members : List (Option Membership)) → ((k : ℕ) (m : Membership) → membership_at members k ≡ Some m → m.group < length members) → (session : ℕ)
+    → (groups : List ℕ) → AllByRecursion (λ g. (k : ℕ) × (membership_at members k ≡ Some (record { group = g; session = session }))) groups → AllByRecursion (λ g. g < length members) groups
+all_in_room members room session [] all = tt
+all_in_room members room session (g ∷ groups) all = (room all.0.0 (record { group = g; session = session }) all.0.1, all_in_room members room session groups all.1)

@@ -1,14 +1,17 @@
 -- The numbers of those who belong to a task, a group or a session, told by keys.
-use Rattle.std.specs.Prelude.{◌≡◌, ◌↔◌, ◌≤◌, ◌++◌, ℕ, nat_le, List, filter, filter_map, Option, Some}
-use Rattle.std.specs.Option.{option_map_or}
+use Rattle.std.specs.Prelude.{◌≡◌, ◌↔◌, ◌≤◌, ◌++◌, ℕ, nat_le, List, filter, filter_map, ◌==◌, Option, Some, IsSome}
+use Rattle.std.specs.Option.{option_map_or, option_eq}
 use Rattle.member_lists.specs.Owners.{times}
 use Rattle.pid_types.specs.declared.call.Kind.{Kind}
 use Rattle.pid_types.specs.declared.call.Kind.TheVariants.{Task, Group, Session}
 use Rattle.pid_types.specs.Membership.{IsIn}
-use Rattle.pid_numbers.specs.Numbering.{Numbering, number_of}
+use Rattle.pid_numbers.specs.Numbering.{Numbering, identifier_at, number_of}
 use Rattle.task_tree.specs.Tree.{parent_of}
 use Rattle.groups_sessions.specs.Membership.{group_of, session_of}
 use Rattle.task_table.specs.Store.{Store}
+use Rattle.task_table.specs.View.{name_at, state_of}
+use Rattle.pid_types.specs.declared.plain.Row.{Row}
+use Rattle.translate.specs.Pages.{is_meant}
 
 -- the key of what the task with the key belongs to
 abbrev pub owner_in : Store → Kind → ℕ → Option ℕ
@@ -30,15 +33,19 @@ pub record AddsGroups (s : Store) (space from : ℕ) (groups old new : List ℕ)
   pub added : new ≡ old ++ numbers_from s.numbering space from keys
   pub each : (k : ℕ) → times k keys ≡ group_times s groups k
 
--- a task with the number m belongs to what has the number n
-pub record HasNumber (s : Store) (space : ℕ) (kind : Kind) (n m : ℕ) : Type 0 where
+-- a task with the number m in the namespace belongs to the owner
+pub record IsOwned (s : Store) (space : ℕ) (kind : Kind) (owner m : ℕ) : Type 0 where
   pub key : ℕ
-  pub owner : ℕ
   pub belongs : owner_in s kind key ≡ Some owner
-  pub owned_by : number_of s.numbering owner space ≡ Some n
   pub has : number_of s.numbering key space ≡ Some m
 
 -- the list has the numbers of such tasks from one on, each once
-pub record AreGathered (s : Store) (space : ℕ) (kind : Kind) (n from : ℕ) (numbers : List ℕ) : Type 0 where
+pub record AreGathered (s : Store) (space : ℕ) (kind : Kind) (owner from : ℕ) (numbers : List ℕ) : Type 0 where
   pub once : (m : ℕ) → times m numbers ≤ 1
-  pub each : (m : ℕ) → IsIn m numbers ↔ ((from ≤ m) × HasNumber s space kind n m)
+  pub each : (m : ℕ) → IsIn m numbers ↔ ((from ≤ m) × IsOwned s space kind owner m)
+
+-- of all identifiers the caller means this one alone, or none
+abbrev pub IsMeantAlone : Store → Row → Kind → ℕ → Option ℕ → Type 0
+IsMeantAlone s caller kind n owner =
+    (p : ℕ) → IsSome (identifier_at s.numbering p)
+    → is_meant (state_of s) caller kind n (name_at s.numbering p) ≡ option_eq ◌==◌ owner (Some p)

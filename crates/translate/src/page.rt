@@ -10,18 +10,16 @@ ghost use Rattle.pid_numbers.specs.Numbering.{id_at};
 ghost use Rattle.task_table.specs.Found.{IsFound};
 ghost use Rattle.task_table.specs.View.{name_at, row_of, state_of};
 ghost use Rattle.task_table.specs.Whole.{HasParents, IsWhole};
-ghost use Rattle.translate.specs.Gathered.{numbers_from, AddsGroups, AreGathered};
-ghost use Rattle.translate.specs.Pages.{meant, numbers_belonging, with_front, AreListed, TellsPage};
-ghost use Rattle.translate.specs.Pages.{TellsSeenPage};
+ghost use Rattle.translate.specs.Gathered.{numbers_from, AddsGroups, AreGathered, IsMeantAlone};
+ghost use Rattle.translate.specs.Pages.{numbers_asked, with_front, AreListed, TellsPage, TellsSeenPage};
 
-use crate::queries::{seen_group, seen_session, seen_task};
 use groups_sessions::GroupMembers;
 use pid_types::call::Kind;
-use pid_types::keys::{Pid, SpaceKey};
+use pid_types::keys::{IdentKey, Pid, SpaceKey, TaskKey};
 use pid_types::reply::{Refusal, ShortReply};
 use std::alloc::AllocError;
 use task_table::Tasks;
-use task_table::view::{Found, find_live, find_task, laws};
+use task_table::view::{Found, find_live, laws};
 
 /// Whom a page lists, and from which number on.
 #[derive(Clone, Copy, Debug, PartialEq, Eq)]
@@ -30,7 +28,8 @@ pub struct Page {
     pub caller: Pid,
     /// `Task` for the children of a task, `Group` for the members of a process group, `Session` for those of a session.
     pub kind: Kind,
-    /// The number of the task, the group or the session. 0 is the caller itself, its group or its session.
+    /// The number of the task, the group or the session. 0 is the caller itself, its own group or its own session, seen
+    /// or not, as `kill(2)` has it.
     pub number: Pid,
     /// No number below this one is listed.
     pub from: Pid,
@@ -56,38 +55,39 @@ fn gather(
     Ok(())
 }
 
-/// The numbers of the children of the task with the number.
-fn children(store: &Tasks, space: SpaceKey, number: Pid, from: Pid) -> Result<Vec<Pid>, AllocError>
+/// The numbers of the children of the task with the key, if it is one.
+fn children(
+    store: &Tasks,
+    space: SpaceKey,
+    parent: TaskKey,
+    from: Pid,
+) -> Result<Vec<Pid>, AllocError>
     requires { HasParents store.now }
-    ensures { IfOk result (λ r. AreGathered store.now space kinds.Task number from r.items) }
+    ensures { IfOk result (λ r. AreGathered store.now space kinds.Task parent from r.items) }
 {
     laws(store);
     let mut numbers = Vec::new(store.numbers().allocator());
-    let Some(parent) = find_task(store, space, number) else {
+    if store.tree().task(parent).is_none() {
         return Ok(numbers);
-    };
-    let children = store.tree().children(parent.key);
+    }
+    let children = store.tree().children(parent);
     gather(store, space, from, children, &mut numbers)?;
     Ok(numbers)
 }
 
-/// The numbers of the members of the group with the number.
+/// The numbers of the members of the group.
 fn group_members(
     store: &Tasks,
     space: SpaceKey,
-    number: Pid,
+    group: IdentKey,
     from: Pid,
 ) -> Result<Vec<Pid>, AllocError>
-    requires { HasParents store.now }
-    ensures { IfOk result (λ r. AreGathered store.now space kinds.Group number from r.items) }
+    ensures { IfOk result (λ r. AreGathered store.now space kinds.Group group from r.items) }
 {
     laws(store);
     let members = store.members();
     members.laws();
     let mut numbers = Vec::new(store.numbers().allocator());
-    let Some(group) = store.numbers().find(space, number) else {
-        return Ok(numbers);
-    };
     if !members.any_in_group(group) {
         return Ok(numbers);
     }
@@ -119,23 +119,19 @@ fn gather_groups(
     Ok(())
 }
 
-/// The numbers of the members of the session with the number.
+/// The numbers of the members of the session.
 fn session_members(
     store: &Tasks,
     space: SpaceKey,
-    number: Pid,
+    session: IdentKey,
     from: Pid,
 ) -> Result<Vec<Pid>, AllocError>
-    requires { HasParents store.now }
-    ensures { IfOk result (λ r. AreGathered store.now space kinds.Session number from r.items) }
+    ensures { IfOk result (λ r. AreGathered store.now space kinds.Session session from r.items) }
 {
     laws(store);
     let members = store.members();
     members.laws();
     let mut numbers = Vec::new(store.numbers().allocator());
-    let Some(session) = store.numbers().find(space, number) else {
-        return Ok(numbers);
-    };
     if session as usize >= members.keys() {
         return Ok(numbers);
     }
@@ -149,56 +145,55 @@ fn session_members(
     Ok(numbers)
 }
 
-/// The numbers of those who belong to the one with the number.
+/// The numbers of those who belong to the task, the group or the session.
 fn belonging(
     store: &Tasks,
     space: SpaceKey,
     kind: Kind,
-    number: Pid,
+    owner: IdentKey,
     from: Pid,
 ) -> Result<Vec<Pid>, AllocError>
     requires { HasParents store.now }
-    ensures { IfOk result (λ r. AreGathered store.now space kind number from r.items) }
+    ensures { IfOk result (λ r. AreGathered store.now space kind owner from r.items) }
 {
     match kind {
-        Kind::Task => children(store, space, number, from),
-        Kind::Group => group_members(store, space, number, from),
-        Kind::Session => session_members(store, space, number, from),
+        Kind::Task => children(store, space, owner, from),
+        Kind::Group => group_members(store, space, owner, from),
+        Kind::Session => session_members(store, space, owner, from),
     }
 }
 
-/// The same in rising order.
-fn list_numbers(
-    store: &Tasks,
-    space: SpaceKey,
-    kind: Kind,
-    number: Pid,
-    from: Pid,
-) -> Result<Vec<Pid>, AllocError>
-    requires { HasParents store.now }
-    ensures { IfOk result (λ r. (i : ℕ) → id_at store.now.numbering space ≡ Some i
-        → AreListed (numbers_belonging (state_of store.now) i kind number) from r.items) }
+/// What the caller means by the number.
+fn find_owner(store: &Tasks, caller: &Found, kind: Kind, number: Pid) -> Option<IdentKey>
+    requires { IsFound store.now caller.now }
+    ensures { IsMeantAlone store.now (row_of store.now caller.now.key caller.now.task) kind number result }
 {
     laws(store);
-    let mut numbers = belonging(store, space, kind, number, from)?;
-    numbers.sort()?;
-    Ok(numbers)
+    if number > 0 {
+        return store.numbers().find(caller.space, number);
+    }
+    Some(match kind {
+        Kind::Task => caller.key,
+        Kind::Group => store.members().group(caller.key),
+        Kind::Session => store.members().session(caller.key),
+    })
 }
 
-/// The number that is meant, where 0 is the caller's own.
-fn meant_number(store: &Tasks, caller: &Found, kind: Kind, number: Pid) -> Pid
-    requires { IsFound store.now caller.now }
-    ensures { (i : ℕ) → id_at store.now.numbering caller.now.space ≡ Some i
-        → result ≡ meant (state_of store.now) (row_of store.now caller.now.key caller.now.task) kind number }
+/// The numbers that the caller's page asks for, in rising order.
+fn list_numbers(store: &Tasks, caller: &Found, page: &Page) -> Result<Vec<Pid>, AllocError>
+    requires parents { HasParents store.now }
+    requires caller { IsFound store.now caller.now }
+    ensures { IfOk result (λ r. AreListed
+        (numbers_asked (state_of store.now) (row_of store.now caller.now.key caller.now.task) page.now.kind page.now.number)
+        page.now.from r.items) }
 {
-    if number > 0 {
-        return number;
-    }
-    match kind {
-        Kind::Task => seen_task(store, caller.space, caller.key),
-        Kind::Group => seen_group(store, caller.space, caller),
-        Kind::Session => seen_session(store, caller.space, caller),
-    }
+    laws(store);
+    let Some(owner) = find_owner(store, caller, page.kind, page.number) else {
+        return Ok(Vec::new(store.numbers().allocator()));
+    };
+    let mut numbers = belonging(store, caller.space, page.kind, owner, page.from)?;
+    numbers.sort()?;
+    Ok(numbers)
 }
 
 /// Writes as much of the list over the front of the room as it takes.
@@ -225,8 +220,7 @@ pub fn read_page(store: &Tasks, page: &Page, room: &mut [Pid]) -> Result<ShortRe
     let Some(caller) = find_live(store, page.caller) else {
         return Ok(ShortReply::Refused(Refusal::NoCaller));
     };
-    let number = meant_number(store, &caller, page.kind, page.number);
-    let listed = list_numbers(store, caller.space, page.kind, number, page.from)?;
+    let listed = list_numbers(store, &caller, page)?;
     put_front(&listed, room);
     Ok(ShortReply::Counted(listed.len() as u64))
 }

@@ -30,7 +30,7 @@ fn seen(store: &Tasks, space: SpaceKey, key: IdentKey) -> Pid
 }
 
 /// The number of a task in a namespace.
-pub(crate) fn seen_task(store: &Tasks, space: SpaceKey, key: IdentKey) -> Pid
+fn seen_task(store: &Tasks, space: SpaceKey, key: IdentKey) -> Pid
     requires { IsSome (task_at store.now.tree key) }
     ensures { (i : ℕ) → id_at store.now.numbering space ≡ Some i
         → result ≡ number_or_zero (state_of store.now).spaces (name_at store.now.numbering key) i }

@@ -1,31 +1,23 @@
 use Rattle.std.proofs.Common.{◌∙◌, sym, ap, subst, ◌++◌}
 use Rattle.pid_types.specs.declared.call.Kind.TheVariants as kinds
 use Rattle.translate.specs.Gathered.{numbers_from, AreGathered}
-use Rattle.translate.proofs.Pages.{gathered_group, no_members, nobody, in_room}
+use Rattle.translate.proofs.Pages.{gathered_group, nobody, in_room}
 use Rattle.translate.proofs.page.group_members.Goals as goal
 
 pub group_members-requires : goal.group_members-requires
-group_members-requires c = in_room c.members-members.result.now c.laws-2.ensures.room c.in-Some.group (c.any_in_group.ensures.0 c.if-not-any_in_group.false)
+group_members-requires c = in_room c.members-members.result.now c.laws-2.ensures.room c.args.group (c.any_in_group.ensures.0 c.if-not-any_in_group.false)
 
 pub returns : goal.returns
 returns c =
     let s = c.args.store.now in
-    subst (AreGathered s c.args.space kinds.Group c.args.number c.args.from)
+    subst (AreGathered s c.args.space kinds.Group c.args.group c.args.from)
     (sym (c.in_ok-gather.ensures ∙ ap (λ ns. ns ++ numbers_from s.numbering c.args.space c.args.from c.group_members.result) c.new-numbers.ensures.items))
-    (gathered_group s c.laws.ensures c.args.space c.args.from c.requires c.args.number c.in-Some.group c.group_members.result
-    (rw c.numbers-2.ensures at c.in-Some.ensures) (rw c.members-members.ensures at c.group_members.ensures))
-
-pub returns-in_default : goal.returns-in_default
-returns-in_default c =
-    let s = c.args.store.now in
-    let free = rw c.numbers-2.ensures at c.in_default.ensures in
-    subst (AreGathered s c.args.space kinds.Group c.args.number c.args.from) (sym c.new-numbers.ensures.items)
-    (nobody s c.laws.ensures c.args.space c.args.from kinds.Group c.args.number (λ _ o _ has. free o has))
+    (gathered_group s c.laws.ensures c.args.space c.args.from c.args.group c.group_members.result (rw c.members-members.ensures at c.group_members.ensures))
 
 pub returns-then-not-any_in_group : goal.returns-then-not-any_in_group
 returns-then-not-any_in_group c =
     let s = c.args.store.now in
     let any = rw c.members-members.ensures at c.any_in_group.ensures in
-    subst (AreGathered s c.args.space kinds.Group c.args.number c.args.from) (sym c.new-numbers.ensures.items)
-    (no_members s c.laws.ensures c.args.space c.args.from c.requires c.args.number c.in-Some.group (rw c.numbers-2.ensures at c.in-Some.ensures)
-    (λ some. (let z = any.1 some in let w = c.if-not-any_in_group.true in absurd (cc))))
+    subst (AreGathered s c.args.space kinds.Group c.args.group c.args.from) (sym c.new-numbers.ensures.items)
+    (nobody s c.laws.ensures c.args.space c.args.from kinds.Group c.args.group
+    (λ k mine. (let z = any.1 (k, mine) in let w = c.if-not-any_in_group.true in absurd (cc))))
