@@ -8,5 +8,7 @@ pub mod Asked
 pub mod Replays
 pub mod Turns
 pub mod Would
+pub mod Paged
+pub mod Spaces
 pub mod Saved
 pub mod SavedBytes

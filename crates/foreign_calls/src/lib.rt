@@ -7,6 +7,7 @@
 pub mod ask;
 pub mod history;
 pub mod many_calls;
+pub mod page;
 pub mod read;
 pub mod record;
 pub mod record_calls;

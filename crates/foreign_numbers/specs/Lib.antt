@@ -1,4 +1,5 @@
 pub mod Numbers
 pub mod CallNumbers
 pub mod Tasks
+pub mod Spaces
 pub mod Replies

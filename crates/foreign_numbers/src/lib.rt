@@ -1,4 +1,5 @@
-//! Calls, replies and tasks as numbers, for callers of other languages: each call can be read again from its numbers.
+//! Calls, replies, tasks and namespaces as numbers, for callers of other languages: each call can be read again from
+//! its numbers.
 //!
 //! Numbers of operations, choices, kinds and statuses stay the same from release to release.
 #![tactic(auto)]
@@ -9,5 +10,6 @@ pub mod kinds;
 pub mod numbers;
 pub mod operations;
 pub mod replies;
+pub mod space;
 pub mod status;
 pub mod task;

@@ -4,15 +4,18 @@
 //! state.
 #![tactic(auto)]
 
-ghost use Rattle.std.specs.Prelude.{◌≡◌, ◌+◌, ◌<◌, ◌≤◌, IfOk, IfSome, OnOk, None, [], ◌∷◌, is_some, length, map};
+ghost use Rattle.std.specs.Prelude.{◌≡◌, ◌+◌, ◌<◌, ◌≤◌, IfOk, IfSome, OnErr, OnOk, None, [], ◌∷◌, is_some, length, map};
 ghost use Rattle.pid_types.specs.Controls.{control_at, count as count_of};
 ghost use Rattle.pid_types.specs.Settings.{HasGoodPidMax};
+ghost use Rattle.pid_types.specs.Short.{reply_of};
 ghost use Rattle.pid_types.specs.Shown.{Shows, with_count};
 ghost use Rattle.pid_types.specs.Sound.{IsSound};
 ghost use Rattle.pid_types.specs.State.{root_state};
 ghost use Rattle.task_table.specs.View.{state_of};
 ghost use Rattle.task_table.specs.Whole.{IsWhole};
 ghost use Rattle.translate.specs.From.{rows_from};
+ghost use Rattle.translate.specs.Pages.{TellsPage, TellsSeenPage};
+ghost use Rattle.translate.specs.Spaces.{space_stat_at};
 ghost use Rattle.translate.specs.Stat.{stat_at, glimpse_in, IsSeen};
 ghost use Rattle.pid_table.specs.Bare.{IsBare};
 
@@ -22,13 +25,15 @@ use model_laws::soundness::root_state_is_sound;
 use pid_types::config::Config;
 use pid_types::keys::Pid;
 use pid_types::plain::{ControlRow, Life, Plain, Row, Space};
-use pid_types::reply::Refusal;
+use pid_types::reply::{Refusal, ShortReply};
 use std::alloc::{AllocError, Global};
 use std::marker::Model;
 use task_table::Tasks;
 use task_table::view::laws;
 use task_tree::Task;
+use translate::page::{Page, read_page};
 use translate::shown;
+use translate::space::{SpaceStat, read_space};
 use translate::stat::{Stat, read_stat};
 
 /// The process table: what it holds, and that this is sound.
@@ -154,6 +159,23 @@ impl PidTable {
         ensures seen { IfOk result (λ stat. IsSeen self.now caller pid (glimpse_in stat)) }
     {
         read_stat(&self.store, caller, pid)
+    }
+
+    /// Writes the numbers of a page over the front of the room, and answers how many there are: [`read_page`]. The
+    /// error is want of memory, and then the room is as it was.
+    pub fn page(&self, page: &Page, room: &mut [Pid]) -> Result<ShortReply, AllocError>
+        ensures told { IfOk result (λ reply. TellsPage self.now page.now room.old room.new (reply_of reply)) }
+        ensures seen { IfOk result (λ reply. TellsSeenPage self.now page.now room.old room.new (reply_of reply)) }
+        ensures err { OnErr result (room.new ≡ room.old) }
+    {
+        read_page(&self.store, page, room)
+    }
+
+    /// One read of the namespace with the id: [`read_space`]. None where there is none.
+    pub fn space(&self, id: u64) -> Option<SpaceStat>
+        ensures { result ≡ space_stat_at self.now id }
+    {
+        read_space(&self.store, id)
     }
 
     /// The plain state, with the count of each control group: [`shown::snapshot`]. The error is want of memory.

@@ -67,9 +67,13 @@ numbers_seen sight kind n = filter (nat_lt 0) (map (number_by Task) (filter (λ 
 abbrev pub number_meant : List Glimpse → ℕ → Page → ℕ
 number_meant sight own page = if page.number == 0 then option_map_or (number_by page.kind) (glimpse_at sight own) 0 else page.number
 
+-- the numbers that the page asks for, as the caller sees them
+abbrev pub numbers_seen_by : List Glimpse → ℕ → Page → List ℕ
+numbers_seen_by sight own page = numbers_seen sight page.kind (number_meant sight own page)
+
 -- a live caller has the list that is read off what its namespace sees and its own number there, and nothing else, if it sees what it means
 abbrev pub TellsSeenPage : State → Page → List ℕ → List ℕ → Reply → Type 0
 TellsSeenPage state page old new reply =
-    (caller : Row) (own : ℕ) → IsCaller state page.caller caller own → 0 < number_meant (sight state caller.name.space) own page → (listed : List ℕ)
-    × AreListed (numbers_seen (sight state caller.name.space) page.kind (number_meant (sight state caller.name.space) own page)) page.from listed
+    (caller : Row) (own : ℕ) → IsCaller state page.caller caller own → 0 < number_meant (sight state caller.name.space) own page
+    → (listed : List ℕ) × AreListed (numbers_seen_by (sight state caller.name.space) own page) page.from listed
     × (reply ≡ Counted (length listed)) × (new ≡ with_front listed old)

@@ -91,13 +91,8 @@ fn group_members(
     if !members.any_in_group(group) {
         return Ok(numbers);
     }
-    gather(
-        store,
-        space,
-        from,
-        members.group_members(group),
-        &mut numbers,
-    )?;
+    let found = members.group_members(group);
+    gather(store, space, from, found, &mut numbers)?;
     Ok(numbers)
 }
 
@@ -135,13 +130,8 @@ fn session_members(
     if session as usize >= members.keys() {
         return Ok(numbers);
     }
-    gather_groups(
-        store,
-        space,
-        from,
-        members.session_groups(session),
-        &mut numbers,
-    )?;
+    let groups = members.session_groups(session);
+    gather_groups(store, space, from, groups, &mut numbers)?;
     Ok(numbers)
 }
 
@@ -183,9 +173,8 @@ fn find_owner(store: &Tasks, caller: &Found, kind: Kind, number: Pid) -> Option<
 fn list_numbers(store: &Tasks, caller: &Found, page: &Page) -> Result<Vec<Pid>, AllocError>
     requires parents { HasParents store.now }
     requires caller { IsFound store.now caller.now }
-    ensures { IfOk result (λ r. AreListed
-        (numbers_asked (state_of store.now) (row_of store.now caller.now.key caller.now.task) page.now.kind page.now.number)
-        page.now.from r.items) }
+    ensures { IfOk result (λ r. AreListed (numbers_asked (state_of store.now)
+        (row_of store.now caller.now.key caller.now.task) page.now.kind page.now.number) page.now.from r.items) }
 {
     laws(store);
     let Some(owner) = find_owner(store, caller, page.kind, page.number) else {

@@ -7,7 +7,7 @@ use Rattle.translate.proofs.page.session_members.Goals as goal
 
 pub gather_groups-requires : goal.gather_groups-requires
 gather_groups-requires c =
-    rw (← c.members-members.ensures) (all_in_room c.members-members.result.now c.laws-2.ensures.room c.args.session c.session_groups.result c.session_groups.ensures.owned)
+    rw (← c.members-members.ensures) (all_in_room c.members-members.result.now c.laws-2.ensures.room c.args.session c.session_groups-groups.result c.session_groups-groups.ensures.owned)
 
 pub returns : goal.returns
 returns c =
@@ -15,8 +15,8 @@ returns c =
     let some = c.in_ok-gather_groups.ensures in
     subst (AreGathered s c.args.space kinds.Session c.args.session c.args.from)
     (sym (some.added ∙ ap (λ ns. ns ++ numbers_from s.numbering c.args.space c.args.from some.keys) c.new-numbers.ensures.items))
-    (gathered_session s c.laws.ensures c.args.space c.args.from c.args.session c.session_groups.result some.keys
-    (rw c.members-members.ensures at c.session_groups.ensures) some.each)
+    (gathered_session s c.laws.ensures c.args.space c.args.from c.args.session c.session_groups-groups.result some.keys
+    (rw c.members-members.ensures at c.session_groups-groups.ensures) some.each)
 
 pub returns-then-session-keys : goal.returns-then-session-keys
 returns-then-session-keys c =

@@ -1,0 +1,45 @@
+//! Pages: who belongs to a task, a process group or a session, as numbers.
+ghost use Rattle.std.specs.Prelude.{◌≡◌, ◌≢◌, [], ◌∷◌};
+ghost use Rattle.foreign_calls.specs.Held.{IsDoneOr};
+ghost use Rattle.foreign_calls.specs.Paged.{page_by, PutsPage};
+
+use foreign_numbers::numbers::{ReplyNumbers, put_reply, read_kind};
+use foreign_numbers::status::{DONE, NO_MEMORY};
+use pid_table::PidTable;
+use pid_types::reply::Reply;
+pub use translate::page::Page;
+
+/// The page that the numbers say; none where the kind is none of a page.
+pub fn read_page(caller: u32, kind: u32, number: u32, from: u32) -> Option<Page>
+    ensures { result ≡ page_by caller kind number from }
+{
+    let kind = read_kind(kind)?;
+    Some(Page {
+        caller,
+        kind,
+        number,
+        from,
+    })
+}
+
+/// Writes the numbers of the page over the front of the room, and tells how many there are, or the refusal. The result
+/// is the status.
+pub fn tell_page(
+    table: &PidTable,
+    page: &Page,
+    room: &mut [u32],
+    reply: &mut ReplyNumbers,
+) -> u32
+    ensures done { result ≡ DONE → PutsPage table.now page.now room.old room.new reply.new }
+    ensures not_done_room { result ≢ DONE → room.new ≡ room.old }
+    ensures not_done_reply { result ≢ DONE → reply.new ≡ reply.old }
+    ensures statuses { IsDoneOr result (NO_MEMORY ∷ []) }
+{
+    let Ok(short) = table.page(page, room) else {
+        return NO_MEMORY;
+    };
+    let mut told = Reply::Done;
+    short.tell(&mut told);
+    put_reply(&told, reply);
+    DONE
+}

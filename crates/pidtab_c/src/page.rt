@@ -1,0 +1,71 @@
+//! Going over the children of a task, or the members of a process group or of a session, for C.
+//!
+//! A page is no call: it uses no stamp, and changes nothing.
+ghost use Rattle.std.specs.Prelude.{[], ◌∷◌};
+ghost use Rattle.foreign_calls.specs.Held.{OnlyReads};
+ghost use Rattle.foreign_calls.specs.Paged.{page_by, AnswersPage};
+
+use foreign_calls::page::{read_page, tell_page};
+use foreign_calls::record::PidtabRecord;
+use foreign_calls::table::Pidtab;
+use foreign_numbers::numbers::ReplyNumbers;
+use foreign_numbers::status::{CLOSED, NO_MEMORY, OUT_OF_RANGE};
+
+/// Writes the numbers, from one on, of the children of the task with the number, where the kind is `TASKS`; of the
+/// members of the process group with it, where it is `GROUPS`; or of those of the session with it, where it is
+/// `SESSIONS`. They are those in the caller's namespace, in rising order, and whoever has none there is left out.
+/// A number of 0 is the caller itself, its own group or its own session, seen or not. One that names nobody has an
+/// empty page.
+///
+/// As many are written as there is room for, and what is behind them stays. The reply tells how many there are in all,
+/// as that of a count, or that there is no caller.
+///
+/// `CLOSED` where there is no open table; then `OUT_OF_RANGE` for another kind; `NO_MEMORY`. It costs a search, a few
+/// reads for each child or member, and the sorting of their numbers, for which it takes memory while it lasts.
+#[unsafe(no_mangle)]
+pub extern "C" fn pidtab_page(
+    table: &mut Pidtab,
+    caller: u32,
+    kind: u32,
+    number: u32,
+    from: u32,
+    numbers: &mut [u32],
+    reply: &mut ReplyNumbers,
+) -> u32
+    ensures reads { OnlyReads table.old.handle.held table.new.handle.held result (OUT_OF_RANGE ∷ NO_MEMORY ∷ []) }
+    ensures answers { AnswersPage table.old.handle.held (λ s. s.state) (page_by caller kind number from)
+        numbers.old numbers.new reply.old reply.new result }
+{
+    if !table.is_open {
+        return CLOSED;
+    }
+    let Some(page) = read_page(caller, kind, number, from) else {
+        return OUT_OF_RANGE;
+    };
+    tell_page(table.handle.look().table(), &page, numbers, reply)
+}
+
+/// Writes the numbers of a page, as [`pidtab_page`] does, on a record: it is neither recorded nor counted for any
+/// worker. The statuses are those of [`pidtab_page`].
+#[unsafe(no_mangle)]
+pub extern "C" fn pidtab_record_page(
+    table: &mut PidtabRecord,
+    caller: u32,
+    kind: u32,
+    number: u32,
+    from: u32,
+    numbers: &mut [u32],
+    reply: &mut ReplyNumbers,
+) -> u32
+    ensures reads { OnlyReads table.old.handle.held table.new.handle.held result (OUT_OF_RANGE ∷ NO_MEMORY ∷ []) }
+    ensures answers { AnswersPage table.old.handle.held (λ c. c.present) (page_by caller kind number from)
+        numbers.old numbers.new reply.old reply.new result }
+{
+    if !table.is_open {
+        return CLOSED;
+    }
+    let Some(page) = read_page(caller, kind, number, from) else {
+        return OUT_OF_RANGE;
+    };
+    tell_page(table.handle.look().present(), &page, numbers, reply)
+}
