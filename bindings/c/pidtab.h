@@ -308,6 +308,18 @@ struct pidtab_task {
  * call, as pidtab_ask is none. What the table refuses is PIDTAB_DONE: the task says so. DONE, CLOSED. */
 uint32_t pidtab_stat(const struct pidtab *table, uint32_t caller, uint32_t number, struct pidtab_task *task);
 
+/* Tells the children of a task, or the members of a process group or of a session. kind is an enum pidtab_use. number is that of the task, the group or
+ * the session in the caller's namespace, or 0 for the caller, its own group or its own session; one that is nobody's has none. Zombies are
+ * among them, and who is not visible in that namespace is left out.
+ *
+ * numbers has their numbers there from `from` on, in rising order, as many as there is room for; what is behind stays. reply is of the kind
+ * PIDTAB_COUNTED, with how many there are in all from there on, or a refusal, PIDTAB_NO_CALLER. So the next page begins at the last number + 1, and
+ * a room of 0 only counts.
+ *
+ * It is no call, as pidtab_ask makes none, but it takes memory for a list while it works. DONE; CLOSED; OUT_OF_RANGE for another kind; NO_MEMORY,
+ * and then numbers and reply are as they were. */
+uint32_t pidtab_page(const struct pidtab *table, uint32_t caller, uint32_t kind, uint32_t number, uint32_t from, uint32_t *numbers, size_t room, struct pidtab_reply *reply);
+
 /* Tells the reply that the call would get now, and changes nothing: the numbers of a fork, and whom a wait would reap (waitid(2) with WNOWAIT).
  * Whether there is memory for the call it does not say. DONE, CLOSED, OUT_OF_RANGE, SPENT. */
 uint32_t pidtab_would(const struct pidtab *table, const struct pidtab_call *call, struct pidtab_reply *reply);
@@ -552,6 +564,9 @@ uint32_t pidtab_record_ask(const struct pidtab_record *record, const struct pidt
 
 /* Reads a task, as pidtab_stat does; it is not recorded. DONE, CLOSED. */
 uint32_t pidtab_record_stat(const struct pidtab_record *record, uint32_t caller, uint32_t number, struct pidtab_task *task);
+
+/* Tells children or members, as pidtab_page does; it is not recorded. DONE, CLOSED, OUT_OF_RANGE, NO_MEMORY. */
+uint32_t pidtab_record_page(const struct pidtab_record *record, uint32_t caller, uint32_t kind, uint32_t number, uint32_t from, uint32_t *numbers, size_t room, struct pidtab_reply *reply);
 
 /* Tells the reply that the call would get now, as pidtab_would does; it is not recorded. DONE, CLOSED, OUT_OF_RANGE, SPENT. */
 uint32_t pidtab_record_would(const struct pidtab_record *record, const struct pidtab_call *call, struct pidtab_reply *reply);

@@ -3,10 +3,10 @@
 #include <stdlib.h>
 
 /* The heap that heap.c is built with here: it refuses the allocation that the counter falls on. 0: none. */
-static int refuse_at;
+static _Atomic int refuse_at;
 
 /* How many bytes were asked for. */
-static size_t bytes_asked;
+static _Atomic size_t bytes_asked;
 
 static bool refused(size_t size)
 {

@@ -262,6 +262,38 @@ uint32_t proved_stat(struct pidtab *table, uint32_t caller, uint32_t number, str
 	return table->is_open ? fetched(it, Z_pidtabZ_stat(it, caller, number), TASK, task, sizeof *task) : PIDTAB_CLOSED;
 }
 
+/* A function of the module that writes numbers into a room of its memory, and tells in its reply how many there are. */
+typedef uint32_t write_page(instance *it, uint32_t caller, uint32_t kind, uint32_t number, uint32_t from, uint32_t numbers, uint32_t room);
+
+/* The numbers in a room of the caller: first they are counted. */
+static uint32_t paged(instance *it, write_page *page, const uint32_t taken[4], uint32_t *numbers, size_t room, struct pidtab_reply *reply)
+{
+	struct pidtab_reply counted;
+	uint32_t status = page(it, taken[0], taken[1], taken[2], taken[3], 0, 0), count, address;
+
+	if (status != PIDTAB_DONE)
+		return status;
+	get(it, REPLY, &counted, sizeof counted);
+	count = counted.kind != PIDTAB_COUNTED ? 0 : counted.first < room ? (uint32_t)counted.first : (uint32_t)room;
+	if (count != 0) {
+		address = Z_pidtabZ_take(it, count * (uint32_t)sizeof *numbers);
+		if (!address)
+			return PIDTAB_NO_MEMORY;
+		status = page(it, taken[0], taken[1], taken[2], taken[3], address, count);
+		if (status == PIDTAB_DONE)
+			memcpy(numbers, it->w2c_memory.data + address, count * sizeof *numbers);
+		Z_pidtabZ_give(it, address);
+	}
+	return fetched(it, status, REPLY, reply, sizeof *reply);
+}
+
+uint32_t proved_page(struct pidtab *table, uint32_t caller, uint32_t kind, uint32_t number, uint32_t from, uint32_t *numbers, size_t room, struct pidtab_reply *reply)
+{
+	const uint32_t taken[4] = { caller, kind, number, from };
+
+	return table->is_open ? paged(table->at, Z_pidtabZ_page, taken, numbers, room, reply) : PIDTAB_CLOSED;
+}
+
 uint32_t proved_would(struct pidtab *table, const struct pidtab_call *call, struct pidtab_reply *reply)
 {
 	return table->is_open ? replied(table->at, Z_pidtabZ_would, call, reply) : PIDTAB_CLOSED;
@@ -368,6 +400,13 @@ uint32_t proved_record_stat(struct pidtab_record *record, uint32_t caller, uint3
 	instance *it = record->at;
 
 	return record->is_open ? fetched(it, Z_pidtabZ_record_stat(it, caller, number), TASK, task, sizeof *task) : PIDTAB_CLOSED;
+}
+
+uint32_t proved_record_page(struct pidtab_record *record, uint32_t caller, uint32_t kind, uint32_t number, uint32_t from, uint32_t *numbers, size_t room, struct pidtab_reply *reply)
+{
+	const uint32_t taken[4] = { caller, kind, number, from };
+
+	return record->is_open ? paged(record->at, Z_pidtabZ_record_page, taken, numbers, room, reply) : PIDTAB_CLOSED;
 }
 
 uint32_t proved_record_would(struct pidtab_record *record, const struct pidtab_call *call, struct pidtab_reply *reply)

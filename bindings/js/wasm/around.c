@@ -97,6 +97,11 @@ uint32_t EXPORTED(stat)(uint32_t caller, uint32_t number)
 	return pidtab_stat(&held.table, caller, number, &at.task);
 }
 
+uint32_t EXPORTED(page)(uint32_t caller, uint32_t kind, uint32_t number, uint32_t from, uint32_t numbers, uint32_t room)
+{
+	return pidtab_page(&held.table, caller, kind, number, from, pointer(numbers), room, &at.reply);
+}
+
 uint32_t EXPORTED(would)(void)
 {
 	return pidtab_would(&held.table, &at.call, &at.reply);
@@ -145,6 +150,11 @@ uint32_t EXPORTED(record_ask)(void)
 uint32_t EXPORTED(record_stat)(uint32_t caller, uint32_t number)
 {
 	return pidtab_record_stat(&held.record, caller, number, &at.task);
+}
+
+uint32_t EXPORTED(record_page)(uint32_t caller, uint32_t kind, uint32_t number, uint32_t from, uint32_t numbers, uint32_t room)
+{
+	return pidtab_record_page(&held.record, caller, kind, number, from, pointer(numbers), room, &at.reply);
 }
 
 uint32_t EXPORTED(record_would)(void)

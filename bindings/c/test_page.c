@@ -1,0 +1,451 @@
+/* Tests of pages: the children of a task, and the members of a process group or of a session, beside a search that reads each task by itself. */
+#include "test.h"
+#include "pidtab_shared.h"
+#include "test_heap.h"
+
+#include <errno.h>
+#include <pthread.h>
+
+#define CALLS 20000
+#define MOST 400
+#define HELD_TASKS 40
+#define READERS 3
+#define FORKS 300
+#define CHILDREN 100
+
+static char texts[2][1 << 20];
+
+/* Numbers that look random, the same in each run. */
+static uint32_t random_below(uint32_t most)
+{
+	static uint64_t state = 1;
+
+	state = state * 6364136223846793005u + 1442695040888963407u;
+	return (uint32_t)(state >> 33) % most;
+}
+
+static struct pidtab_reply blank(void)
+{
+	struct pidtab_reply reply;
+
+	memset(&reply, 0x55, sizeof reply);
+	return reply;
+}
+
+/* Behind the levels is room that no function writes. */
+static bool is_same_reply(const struct pidtab_reply *a, const struct pidtab_reply *b)
+{
+	return memcmp(a, b, offsetof(struct pidtab_reply, levels) + sizeof a->levels) == 0;
+}
+
+/* What a page writes into, and the reply beside it. */
+struct page {
+	uint32_t numbers[MOST];
+	struct pidtab_reply reply;
+};
+
+static void clear(struct page *it)
+{
+	memset(it->numbers, 0x55, sizeof it->numbers);
+	it->reply = blank();
+}
+
+/* The numbers from a place on are as they were. */
+static bool is_rest_untold(const struct page *it, size_t place)
+{
+	while (place < MOST && it->numbers[place] == 0x55555555)
+		place++;
+	return place == MOST;
+}
+
+static void is_untold(const struct page *it)
+{
+	struct pidtab_reply was = blank();
+
+	CHECK(is_rest_untold(it, 0) && is_same_reply(&it->reply, &was));
+}
+
+/* All that belong to the number from one on are these, of which as many were told as there was room for. */
+static void has_told(const struct page *it, size_t room, const uint32_t *wanted, size_t count)
+{
+	struct pidtab_reply reply = { .kind = PIDTAB_COUNTED, .first = count };
+	size_t told = count < room ? count : room;
+
+	CHECK(is_same_reply(&it->reply, &reply));
+	CHECK(memcmp(it->numbers, wanted, told * sizeof *wanted) == 0 && is_rest_untold(it, told));
+}
+
+/* To the number these belong, from each number on, with each room, and one page behind another. */
+static void belong(const struct pidtab *table, uint32_t caller, uint32_t kind, uint32_t number, const uint32_t *wanted, size_t count)
+{
+	struct page it;
+
+	for (size_t behind = 0; behind <= count; behind++)
+		for (size_t room = 0; room <= count + 2; room++) {
+			uint32_t from = behind == 0 ? 0 : wanted[behind - 1] + 1;
+
+			clear(&it);
+			CHECK(pidtab_page(table, caller, kind, number, from, it.numbers, room, &it.reply) == PIDTAB_DONE);
+			has_told(&it, room, wanted + behind, count - behind);
+			if (behind == count)
+				continue;
+			clear(&it);
+			CHECK(pidtab_page(table, caller, kind, number, wanted[behind], it.numbers, room, &it.reply) == PIDTAB_DONE);
+			has_told(&it, room, wanted + behind, count - behind);
+		}
+	clear(&it);
+	CHECK(pidtab_page(table, caller, kind, number, UINT32_MAX, it.numbers, MOST, &it.reply) == PIDTAB_DONE);
+	has_told(&it, MOST, wanted, 0);
+}
+
+#define BELONG(caller, kind, number, ...) belong(&table, caller, kind, number, (const uint32_t[]){ __VA_ARGS__ }, sizeof (uint32_t[]){ __VA_ARGS__ } / sizeof(uint32_t))
+#define NOBODY(caller, kind, number) belong(&table, caller, kind, number, (const uint32_t[1]){ 0 }, 0)
+
+static struct pidtab table = PIDTAB_INIT;
+
+static void is_refused(uint32_t caller, uint32_t kind)
+{
+	struct pidtab_reply refused = { .kind = PIDTAB_REFUSED, .error = ESRCH, .refusal = PIDTAB_NO_CALLER };
+	struct page it;
+
+	clear(&it);
+	CHECK(pidtab_page(&table, caller, kind, 0, 0, it.numbers, MOST, &it.reply) == PIDTAB_DONE);
+	CHECK(is_same_reply(&it.reply, &refused) && is_rest_untold(&it, 0));
+}
+
+/* 1 has the children 2, 3 and 6. 3 is 1 of a new namespace, its child 4 is 2 there, and the child 5 of that is 3. 2 leads a session, of which are
+ * its children 7, a zombie, and 8, which leads a group. 4 leads a session. */
+static void make_tasks(void)
+{
+	CHECK(pidtab_open(&table, 32768) == PIDTAB_DONE);
+	CHECK(pidtab_fork(&table, 1, 0, NULL) == 2 && pidtab_fork(&table, 1, 1, NULL) == 3);
+	CHECK(pidtab_fork(&table, 3, 0, NULL) == 2 && pidtab_fork(&table, 4, 0, NULL) == 3);
+	CHECK(pidtab_fork(&table, 1, 0, NULL) == 6 && pidtab_setsid(&table, 2) == 2 && pidtab_setsid(&table, 4) == 2);
+	CHECK(pidtab_fork(&table, 2, 0, NULL) == 7 && pidtab_fork(&table, 2, 0, NULL) == 8);
+	CHECK(pidtab_setpgid(&table, 2, 8, 8) == 0 && pidtab_exit(&table, 7, 0) == 0);
+}
+
+static void each_kind(void)
+{
+	make_tasks();
+	for (uint32_t itself = 0; itself < 2; itself++) {
+		BELONG(1, PIDTAB_TASKS, itself, 2, 3, 6);
+		BELONG(1, PIDTAB_GROUPS, itself, 1, 3, 5, 6);
+		BELONG(1, PIDTAB_SESSIONS, itself, 1, 3, 5, 6);
+	}
+	for (uint32_t itself = 0; itself < 3; itself += 2) {
+		BELONG(2, PIDTAB_TASKS, itself, 7, 8);
+		BELONG(2, PIDTAB_GROUPS, itself, 2, 7);
+		BELONG(2, PIDTAB_SESSIONS, itself, 2, 7, 8);
+	}
+	BELONG(1, PIDTAB_TASKS, 3, 4);
+	BELONG(1, PIDTAB_TASKS, 4, 5);
+	BELONG(1, PIDTAB_GROUPS, 8, 8);
+	BELONG(8, PIDTAB_GROUPS, 0, 8);
+	BELONG(8, PIDTAB_SESSIONS, 0, 2, 7, 8);
+	BELONG(1, PIDTAB_SESSIONS, 4, 4);
+	/* 8 leads no session, 6 no group, 5 has no child, and of 9 there is none. */
+	NOBODY(1, PIDTAB_SESSIONS, 8);
+	NOBODY(1, PIDTAB_GROUPS, 6);
+	NOBODY(1, PIDTAB_TASKS, 5);
+	for (uint32_t kind = PIDTAB_TASKS; kind <= PIDTAB_SESSIONS; kind++) {
+		NOBODY(1, kind, 9);
+		NOBODY(1, kind, UINT32_MAX);
+		is_refused(0, kind);
+		is_refused(7, kind);
+		is_refused(9, kind);
+	}
+}
+
+/* The namespace of 3 sees neither the group nor the session of 1, in which 3 and 5 are, and their numbers there are its own. */
+static void in_a_namespace(void)
+{
+	BELONG(3, PIDTAB_TASKS, 0, 2);
+	BELONG(5, PIDTAB_TASKS, 1, 2);
+	BELONG(3, PIDTAB_TASKS, 2, 3);
+	NOBODY(3, PIDTAB_TASKS, 4);
+	BELONG(3, PIDTAB_GROUPS, 0, 1, 3);
+	BELONG(5, PIDTAB_SESSIONS, 0, 1, 3);
+	NOBODY(5, PIDTAB_GROUPS, 1);
+	NOBODY(5, PIDTAB_SESSIONS, 1);
+	BELONG(4, PIDTAB_GROUPS, 0, 2);
+	BELONG(5, PIDTAB_GROUPS, 2, 2);
+	BELONG(5, PIDTAB_SESSIONS, 2, 2);
+}
+
+/* Behind its last child a parent has none. A session stays whose leader was reaped, and so does its number, which no task has any more. */
+static void behind_ends(void)
+{
+	CHECK(pidtab_wait(&table, 2, PIDTAB_ANY, 0, NULL) == 7);
+	BELONG(1, PIDTAB_TASKS, 2, 8);
+	BELONG(1, PIDTAB_GROUPS, 2, 2);
+	CHECK(pidtab_exit(&table, 2, 0) == 0);
+	BELONG(1, PIDTAB_TASKS, 1, 2, 3, 6, 8);
+	NOBODY(1, PIDTAB_TASKS, 2);
+	CHECK(pidtab_wait(&table, 1, PIDTAB_ANY, 0, NULL) == 2);
+	BELONG(1, PIDTAB_SESSIONS, 2, 8);
+	NOBODY(1, PIDTAB_GROUPS, 2);
+	/* All of the namespace of 3 end with it, and 3 waits to be reaped. */
+	CHECK(pidtab_exit(&table, 3, 0) == 0);
+	BELONG(1, PIDTAB_TASKS, 0, 3, 6, 8);
+	BELONG(1, PIDTAB_GROUPS, 0, 1, 3, 6);
+	NOBODY(1, PIDTAB_SESSIONS, 4);
+	CHECK(pidtab_close(&table) == PIDTAB_DONE);
+}
+
+static void status_is(uint32_t kind, uint32_t caller, uint32_t status)
+{
+	struct page it;
+
+	clear(&it);
+	CHECK(pidtab_page(&table, caller, kind, 0, 0, it.numbers, MOST, &it.reply) == status);
+	is_untold(&it);
+}
+
+static void each_status_of_a_table(void)
+{
+	status_is(PIDTAB_TASKS, 1, PIDTAB_CLOSED);
+	status_is(3, 1, PIDTAB_CLOSED);
+	CHECK(pidtab_open(&table, 32768) == PIDTAB_DONE);
+	status_is(3, 1, PIDTAB_OUT_OF_RANGE);
+	status_is(3, 9, PIDTAB_OUT_OF_RANGE);
+	status_is(UINT32_MAX, 1, PIDTAB_OUT_OF_RANGE);
+	table.in_use = UINT8_MAX;
+	status_is(PIDTAB_TASKS, 1, PIDTAB_BUSY);
+	/* A page is told beside other queries. */
+	table.in_use = 1;
+	BELONG(1, PIDTAB_SESSIONS, 0, 1);
+	table.in_use = 0;
+	CHECK(pidtab_close(&table) == PIDTAB_DONE);
+}
+
+static size_t text_of(char *room)
+{
+	size_t size = 0;
+
+	CHECK(pidtab_dump(&table, room, sizeof texts[0], &size) == PIDTAB_DONE);
+	return size;
+}
+
+/* Each allocation finds no memory in turn: then nothing is told. Else all are, and nothing has changed. */
+static void want_of_memory(void)
+{
+	uint32_t children[CHILDREN], all[CHILDREN + 1] = { 1 };
+	size_t size;
+	struct page it;
+
+	CHECK(pidtab_open(&table, 32768) == PIDTAB_DONE);
+	for (uint32_t i = 0; i < CHILDREN; i++)
+		CHECK(pidtab_fork(&table, 1, 0, NULL) == i + 2 && (all[i + 1] = children[i] = i + 2) == i + 2);
+	size = text_of(texts[0]);
+	for (uint32_t kind = PIDTAB_TASKS; kind <= PIDTAB_SESSIONS; kind++)
+		for (size_t room = 0; room <= MOST; room += MOST / 2) {
+			int at = 1;
+
+			for (uint32_t status = PIDTAB_NO_MEMORY; status != PIDTAB_DONE; at++) {
+				clear(&it);
+				refuse_at = at;
+				status = pidtab_page(&table, 1, kind, 1, 0, it.numbers, room, &it.reply);
+				refuse_at = 0;
+				CHECK(status == PIDTAB_DONE || status == PIDTAB_NO_MEMORY);
+				if (status == PIDTAB_NO_MEMORY)
+					is_untold(&it);
+			}
+			CHECK(at > 2);
+			has_told(&it, room, kind == PIDTAB_TASKS ? children : all, kind == PIDTAB_TASKS ? CHILDREN : CHILDREN + 1);
+		}
+	CHECK(text_of(texts[1]) == size && memcmp(texts[0], texts[1], size) == 0);
+	CHECK(pidtab_close(&table) == PIDTAB_DONE);
+}
+
+/* By the number of its parent, of its group or of its session. */
+static uint32_t number_of(const struct pidtab_task *task, uint32_t kind)
+{
+	return kind == PIDTAB_TASKS ? task->parent : kind == PIDTAB_GROUPS ? task->group : task->session;
+}
+
+static struct pidtab_task read_task(uint32_t caller, uint32_t number)
+{
+	struct pidtab_task task;
+
+	CHECK(pidtab_stat(&table, caller, number, &task) == PIDTAB_DONE && task.error == 0);
+	return task;
+}
+
+/* Who belongs to the number, of all tasks from one on that the caller sees. The root namespace knows what the caller's own is that it does not see. */
+static size_t searched(uint32_t caller, uint32_t kind, uint32_t number, uint32_t from, uint32_t *found)
+{
+	struct pidtab_call next = { .operation = PIDTAB_NEXT, .caller = caller, .choice = PIDTAB_TASKS, .number = from };
+	struct pidtab_task own = read_task(1, caller);
+	struct pidtab_reply reply;
+	size_t count = 0;
+
+	while (pidtab_ask(&table, &next, &reply) == PIDTAB_DONE && reply.kind == PIDTAB_NUMBER) {
+		struct pidtab_task seen = read_task(caller, (uint32_t)reply.first), whole = read_task(1, seen.root);
+		uint32_t wanted = number != 0 ? number : kind == PIDTAB_TASKS ? caller : number_of(&own, kind);
+
+		next.number = (uint32_t)reply.first + 1;
+		if (number_of(number != 0 ? &seen : &whole, kind) == wanted && count < MOST)
+			found[count++] = (uint32_t)reply.first;
+	}
+	CHECK(reply.kind == PIDTAB_END);
+	return count;
+}
+
+/* The root init, and tasks that were forked, by their root numbers. Who gives place to another one ends. */
+static uint32_t held[HELD_TASKS] = { 1 };
+
+static uint32_t random_task(void)
+{
+	uint32_t it = held[random_below(4) == 0 ? 0 : random_below(HELD_TASKS)];
+
+	return it == 0 ? 1 : it;
+}
+
+/* 0, or the number of a task in a namespace as deep as the caller's, perhaps in that. */
+static uint32_t random_number(uint32_t caller)
+{
+	struct pidtab_task own, other;
+
+	CHECK(pidtab_stat(&table, 1, caller, &own) == PIDTAB_DONE && pidtab_stat(&table, 1, random_task(), &other) == PIDTAB_DONE);
+	return random_below(4) == 0 || own.count == 0 || other.count < own.count ? 0 : other.levels[own.count - 1];
+}
+
+static void make_random_call(void)
+{
+	static const uint32_t operations[] = { PIDTAB_FORK, PIDTAB_FORK, PIDTAB_FORK, PIDTAB_FORK, PIDTAB_EXIT, PIDTAB_WAIT, PIDTAB_WAIT, PIDTAB_SETPGID, PIDTAB_SETPGID,
+		PIDTAB_SETPGID, PIDTAB_SETSID, PIDTAB_JOIN, PIDTAB_SUBREAPER };
+	uint32_t operation = operations[random_below(sizeof operations / sizeof operations[0])], caller = random_task(), place = 1 + random_below(HELD_TASKS - 1);
+	struct pidtab_call call = { .operation = operation, .caller = caller, .number = operation == PIDTAB_JOIN ? random_number(caller) : 0,
+		.choice = operation == PIDTAB_WAIT ? (uint32_t)PIDTAB_ANY : random_below(4) == 0, .pid = (int32_t)random_number(caller), .pgid = (int32_t)random_number(caller) };
+	struct pidtab_reply reply;
+
+	CHECK(pidtab_call(&table, &call, &reply) == PIDTAB_DONE);
+	if (reply.kind != PIDTAB_FORKED)
+		return;
+	if (held[place] != 0)
+		pidtab_exit(&table, held[place], 0);
+	held[place] = (uint32_t)reply.second;
+	/* Most zombies are reaped by the root init at last. */
+	for (int i = 0; i < 3; i++)
+		pidtab_wait(&table, 1, PIDTAB_ANY, 0, NULL);
+}
+
+/* What was met, so that the comparison is none of empty lists: those of several, from within a namespace, of what is not seen there, and cut short. */
+static int several, nested, unseen, short_of_room;
+
+static void compare_random_page(void)
+{
+	uint32_t caller = random_task(), kind = random_below(3), number = random_number(caller), from = random_below(2) * random_below(100);
+	uint32_t wanted[MOST];
+	struct pidtab_task own;
+	struct page it;
+	size_t count, room;
+
+	CHECK(pidtab_stat(&table, caller, 0, &own) == PIDTAB_DONE);
+	if (own.error != 0) {
+		is_refused(caller, kind);
+		return;
+	}
+	count = searched(caller, kind, number, from, wanted);
+	room = random_below(2) == 0 ? MOST : random_below((uint32_t)count + 2);
+	clear(&it);
+	CHECK(pidtab_page(&table, caller, kind, number, from, it.numbers, room, &it.reply) == PIDTAB_DONE);
+	has_told(&it, room, wanted, count);
+	several += count > 2;
+	nested += count > 1 && own.root != own.levels[0];
+	unseen += count > 0 && number == 0 && kind != PIDTAB_TASKS && number_of(&own, kind) == 0;
+	short_of_room += room < count;
+}
+
+static void are_as_searched(void)
+{
+	CHECK(pidtab_open(&table, 301) == PIDTAB_DONE);
+	for (int i = 0; i < CALLS; i++) {
+		make_random_call();
+		if (i % 4 == 0)
+			compare_random_page();
+	}
+	CHECK(several > 50 && nested > 50 && unseen > 50 && short_of_room > 50);
+	CHECK(pidtab_close(&table) == PIDTAB_DONE);
+}
+
+static void of_a_record(void)
+{
+	struct pidtab_record record = PIDTAB_RECORD_INIT;
+	struct pidtab_call fork = { .operation = PIDTAB_FORK, .caller = 1 };
+	uint64_t ordinal, first_kept, recorded;
+	struct pidtab_reply reply;
+	struct page it;
+
+	clear(&it);
+	CHECK(pidtab_record_page(&record, 1, PIDTAB_TASKS, 0, 0, it.numbers, MOST, &it.reply) == PIDTAB_CLOSED);
+	CHECK(pidtab_record_open(&record, 32768, UINT64_MAX - 2, 1) == PIDTAB_DONE);
+	CHECK(pidtab_record_page(&record, 1, 3, 0, 0, it.numbers, MOST, &it.reply) == PIDTAB_OUT_OF_RANGE);
+	is_untold(&it);
+	CHECK(pidtab_record_call(&record, 0, &fork, &reply, &ordinal) == PIDTAB_DONE && pidtab_record_call(&record, 0, &fork, &reply, &ordinal) == PIDTAB_DONE);
+	/* The stamps are used up, and a page uses none. */
+	CHECK(pidtab_record_call(&record, 0, &fork, &reply, &ordinal) == PIDTAB_SPENT);
+	for (int turn = 0; turn < 2; turn++) {
+		clear(&it);
+		CHECK(pidtab_record_page(&record, 1, PIDTAB_TASKS, 0, 0, it.numbers, MOST, &it.reply) == PIDTAB_DONE);
+		has_told(&it, MOST, (const uint32_t[]){ 2, 3 }, 2);
+		clear(&it);
+		refuse_at = 1;
+		CHECK(pidtab_record_page(&record, 1, PIDTAB_GROUPS, 0, 0, it.numbers, MOST, &it.reply) == PIDTAB_NO_MEMORY);
+		CHECK(refuse_at == 0);
+		is_untold(&it);
+	}
+	CHECK(pidtab_record_page(&record, 4, PIDTAB_TASKS, 0, 0, it.numbers, MOST, &it.reply) == PIDTAB_DONE && it.reply.refusal == PIDTAB_NO_CALLER);
+	CHECK(pidtab_record_counts(&record, &first_kept, &recorded) == PIDTAB_DONE && recorded == 2);
+	CHECK(pidtab_record_close(&record) == PIDTAB_DONE);
+}
+
+static struct pidtab_shared shared;
+
+/* The children are 2, 3, 4 and so on, never fewer than before: what a page tells is of one moment. */
+static void *reads_pages(void *unused)
+{
+	uint32_t numbers[FORKS + 1];
+	struct pidtab_reply reply;
+
+	for (size_t before = 0, room = 0; before < FORKS; before = reply.first, room = (room + 7) % (FORKS + 1)) {
+		CHECK(unused == NULL && pidtab_shared_page(&shared, 1, PIDTAB_TASKS, 0, 0, numbers, room, &reply) == PIDTAB_DONE);
+		CHECK(reply.kind == PIDTAB_COUNTED && reply.first >= before && reply.first <= FORKS);
+		for (uint32_t i = 0; i < room && i < reply.first; i++)
+			CHECK(numbers[i] == i + 2);
+	}
+	return NULL;
+}
+
+static void threads_read_beside_a_writer(void)
+{
+	struct pidtab_call fork = { .operation = PIDTAB_FORK, .caller = 1 };
+	uint64_t ordinal, first_kept, recorded;
+	pthread_t readers[READERS];
+	struct pidtab_reply reply;
+	uint32_t worker;
+
+	CHECK(pidtab_shared_open(&shared, 32768, 1, 1, 10) == PIDTAB_DONE && pidtab_shared_seat(&shared, &worker) == PIDTAB_DONE);
+	for (int i = 0; i < READERS; i++)
+		CHECK(pthread_create(&readers[i], NULL, reads_pages, NULL) == 0);
+	for (int i = 0; i < FORKS; i++)
+		CHECK(pidtab_shared_call(&shared, worker, &fork, &reply, &ordinal) == PIDTAB_DONE && reply.kind == PIDTAB_FORKED);
+	for (int i = 0; i < READERS; i++)
+		CHECK(pthread_join(readers[i], NULL) == 0);
+	CHECK(pidtab_shared_counts(&shared, &first_kept, &recorded) == PIDTAB_DONE && recorded == FORKS);
+	pidtab_shared_close(&shared);
+}
+
+int main(void)
+{
+	each_kind();
+	in_a_namespace();
+	behind_ends();
+	each_status_of_a_table();
+	want_of_memory();
+	are_as_searched();
+	of_a_record();
+	threads_read_beside_a_writer();
+	return 0;
+}
