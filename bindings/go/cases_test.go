@@ -297,6 +297,25 @@ func (it *caseWorld) stat(caller, pid uint32) string {
 		found.Group, found.Session, found.Control, end)
 }
 
+// page is who belongs to a number by the kind.
+func (it *caseWorld) page(numbers []uint64) string {
+	caller, number, from := uint32(numbers[1]), uint32(numbers[2]), uint32(numbers[3])
+	ask := func(of belonging) ([]uint32, error) {
+		return [...]func(caller, number, from uint32) ([]uint32, error){of.Children, of.GroupMembers, of.SessionMembers}[numbers[0]](caller, number, from)
+	}
+	found, err := ask(it.shared)
+	for _, table := range it.tables {
+		it.same(of(ask(table)), told{found, err})
+	}
+	if err != nil {
+		return status(err)
+	}
+	if len(found) == 0 {
+		return "none"
+	}
+	return joined(found, " ")
+}
+
 // read is what a step of a history tells.
 func (it *caseWorld) read(word string, numbers []uint64) (found string, err error) {
 	switch word {
@@ -423,6 +442,8 @@ func (it *caseWorld) step(step, text string) (found string, err error) {
 		return asJSON(it.T, it.told), nil
 	case "stat":
 		return it.stat(uint32(numbers[0]), uint32(numbers[1])), nil
+	case "page":
+		return it.page(numbers), nil
 	case "list", "dump", "opening":
 		it.sameText(words[0], text)
 	case "differs", "stranger":

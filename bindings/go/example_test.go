@@ -163,6 +163,42 @@ func ExampleFromDump() {
 	// pidtab: the text is that of no table: line 2: bad line
 }
 
+// endAll ends tasks, and first the children of each. The root init sees all by their root numbers.
+func endAll(table *pidtab.Table, tasks []uint32) {
+	for _, task := range tasks {
+		children, _ := table.Children(1, task, 0)
+		endAll(table, children)
+		if table.Exit(task, 0) == nil {
+			fmt.Println(task, "ends")
+		}
+	}
+}
+
+// The end of a process group, with all that come from its members.
+func ExampleTable_GroupMembers() {
+	table, err := pidtab.Open(32768)
+	if err != nil {
+		log.Fatal(err)
+	}
+	defer table.Close()
+	table.Fork(1, pidtab.NoNewNamespace)
+	table.Setpgid(1, 2, 2)
+	table.Fork(2, pidtab.NoNewNamespace)
+	table.Fork(2, pidtab.NoNewNamespace)
+	// It leaves the group, and has a child of its own.
+	table.Setsid(4)
+	table.Fork(4, pidtab.NoNewNamespace)
+	members, err := table.GroupMembers(1, 2, 0)
+	fmt.Println(members, err)
+	endAll(table, members)
+	// Output:
+	// [2 3] <nil>
+	// 3 ends
+	// 5 ends
+	// 4 ends
+	// 2 ends
+}
+
 // A fork with the numbers that were told before, or none.
 func ExampleTable_ForkAt() {
 	table, err := pidtab.Open(32768)

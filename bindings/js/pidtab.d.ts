@@ -160,6 +160,13 @@ export interface Queries {
 export interface Ask extends Queries {
   /** Reads the task with the number in the caller's namespace, where 0 is the caller, and a zombie too. no-caller, no-task. */
   stat(caller: number, pid?: number): Stat;
+  /** The children of the task, where 0 is the caller, zombies too: their numbers in the caller's namespace from `start` on, in rising order. Whom that
+   * namespace does not see is left out, and a number that is nobody's has none. no-caller, NoMemory. */
+  children(caller: number, pid?: number, start?: number): number[];
+  /** The members of the process group, where 0 is the caller's own, in the same way. no-caller, NoMemory. */
+  groupMembers(caller: number, group?: number, start?: number): number[];
+  /** The members of the session, where 0 is the caller's own, in the same way. no-caller, NoMemory. */
+  sessionMembers(caller: number, session?: number, start?: number): number[];
 }
 
 /** A method for each call. */

@@ -7,10 +7,13 @@ import { checkLong, checkNumber, checkRange, checkSigned } from "./bounds.js";
 import { faultOf, readRefusal, Refusal, shorten } from "./faults.js";
 import { KIND, OPERATION, REPLY, STATUS, TASK, USES, WHICH } from "./header.js";
 import { readListing } from "./listing.js";
-import { aChild, anEndedChild, anId, aNumber, aTask, nothing, refusalAt, theNext, theNumbers } from "./replies.js";
+import { aChild, anEndedChild, anId, aNumber, aTask, nothing, numbersAt, refusalAt, theNext, theNumbers } from "./replies.js";
 
 /** What the program answers to a line that no call was made of, by the status of the library. */
 const NOT_MADE = { [STATUS.BAD_LINE]: "bad line", [STATUS.NO_MEMORY]: "no memory", [STATUS.SPENT]: "spent" };
+
+/** The room for a first try of a page, in numbers. */
+const SHORT_PAGE = 64;
 
 /** The text, if it is a line that has an answer. */
 function checkLine(text) {
@@ -119,6 +122,36 @@ export class Ask extends onOwner(Queries) {
     const at = instance.at.task.word;
     if (instance.words[at + TASK.error] === 0) return aTask(instance, at);
     throw new Refusal(instance.words[at + TASK.error], instance.words[at + TASK.refusal] === 1 ? "no-caller" : "no-task", null, `stat ${caller} ${pid}`);
+  }
+
+  children(caller, pid = 0, start = 0) {
+    return this._page("children", "task", caller, checkNumber("pid", pid), start);
+  }
+
+  groupMembers(caller, group = 0, start = 0) {
+    return this._page("groupMembers", "group", caller, checkNumber("group", group), start);
+  }
+
+  sessionMembers(caller, session = 0, start = 0) {
+    return this._page("sessionMembers", "session", caller, checkNumber("session", session), start);
+  }
+
+  /** All who belong to the number, from one on. Where the room is too short, it is taken anew for as many as there are: none comes meanwhile. */
+  _page(name, use, caller, number, start, room = SHORT_PAGE) {
+    const instance = this._open();
+    const taken = [checkNumber("caller", caller), choiceOf(use), number, checkNumber("start", start)];
+    const asked = `${name} ${caller} ${number}`;
+    const [count, numbers] = instance.withRoom(4 * room, asked, (address) => {
+      const status = instance.page(...taken, address, room);
+      if (status !== STATUS.DONE) throw faultOf(status, asked);
+      instance.refresh();
+      const { words } = instance;
+      const at = instance.at.reply.word;
+      if (words[at + REPLY.kind] === KIND.REFUSED) throw new Refusal(words[at + REPLY.error], ...refusalAt(instance, at), asked);
+      const told = words[at + REPLY.first];
+      return [told, numbersAt(words, address / 4, Math.min(told, room))];
+    });
+    return count > room ? this._page(name, use, caller, number, start, count) : numbers;
   }
 }
 

@@ -13,7 +13,7 @@ function ending(status) {
 }
 
 /** So many words from a place on. */
-function numbersAt(words, at, count) {
+export function numbersAt(words, at, count) {
   const numbers = [];
   for (let place = 0; place < count; place++) numbers.push(words[at + place]);
   return numbers;

@@ -62,6 +62,53 @@ tested("a fork with given numbers", (table) => {
   assert.throws(() => table.forkAt(1, { child: 5 }), TypeError);
 });
 
+tested("children, and members of groups and sessions", (table) => {
+  table.fork(1);
+  table.fork(1, { newSpace: true });
+  table.fork(3);
+  table.setsid(2);
+  table.fork(2);
+  table.exit(5);
+  const { ask } = table;
+  const children = [ask.children(1), ask.children(1, 1), ask.children(2), ask.children(1, 2), ask.children(1, 3), ask.children(3), ask.children(4), ask.children(1, 9)];
+  assert.deepEqual(children, [[2, 3], [2, 3], [5], [5], [4], [2], [], []]);
+  // The namespace of 4 sees no number of the group and the session of 1.
+  for (const members of [(...given) => ask.groupMembers(...given), (...given) => ask.sessionMembers(...given)]) {
+    assert.deepEqual([members(1), members(1, 1), members(2), members(1, 2), members(4), members(4, 1)], [[1, 3, 4], [1, 3, 4], [2, 5], [2, 5], [1, 2], []]);
+    assert.deepEqual([members(1, 0, 2), members(1, 1, 4), members(1, 0, 5)], [[3, 4], [4], []]);
+    assert.throws(() => members(5), { name: "Refusal", code: "ESRCH", word: "no-caller", id: null });
+  }
+  assert.throws(() => ask.children(9, 1), { message: "children 9 1: ESRCH no-caller" });
+  assert.equal(table.mk(), 7n);
+});
+
+tested("more children than there is room for at first", (table) => {
+  const before = Array.from({ length: 300 }, () => table.fork(1).root);
+  const { ask } = table;
+  assert.deepEqual([ask.children(1), ask.children(1, 0, 236), ask.children(1, 0, 239)], [before, before.slice(234), before.slice(237)]);
+  assert.deepEqual(ask.groupMembers(1), [1, ...before]);
+});
+
+/** Ends tasks, and before each its children. The root init sees all by their root numbers. */
+function end(table, tasks) {
+  for (const task of tasks) {
+    end(table, table.ask.children(1, task));
+    if (table.ask.stat(1, task).live) table.exit(task);
+  }
+}
+
+tested("a process group, and all that come from its members", (table) => {
+  table.fork(1);
+  table.setpgid(1, 2, 2);
+  table.fork(2);
+  table.fork(2);
+  table.setsid(4);
+  table.fork(4);
+  table.fork(1);
+  end(table, table.ask.groupMembers(1, 2));
+  assert.deepEqual([2, 3, 4, 5, 6].map((task) => table.ask.stat(1, task).live), [false, false, false, false, true]);
+});
+
 tested("a task, read at once", (table) => {
   table.fork(1, { newSpace: true });
   const { ask } = table;

@@ -139,6 +139,14 @@ class World {
     return task;
   }
 
+  /** Who belongs to a number by the kind. */
+  page(kind, ...numbers) {
+    const name = ["children", "groupMembers", "sessionMembers"][kind];
+    const [found, ...others] = [this.record, ...this.tables].map(({ ask }) => told(() => ask[name](...numbers.map(Number)).join(" ") || "none"));
+    for (const other of others) assert.equal(other, found);
+    return found;
+  }
+
   /** The history on a second record: the same replies, counts and list; or it stops at an entry with another answer, or of a worker that is none. */
   replay(change, place) {
     const entries = [...this.record.entries()];
@@ -181,6 +189,7 @@ class World {
     if (word === "load") return this.load(text, numbers);
     if (["counts", "worker", "entry", "read", "checkpoint", "checkpoint_at"].includes(word)) return this.read(word, numbers);
     if (word === "stat") return this.stat(...numbers);
+    if (word === "page") return this.page(...numbers);
     if (word === "json") return this.call(words.join(" ")) && toJson(this.told);
     if (word === "parse") return lineOfFault(text);
     const steps = {

@@ -17,6 +17,12 @@ test("numbers of another kind, and out of range", { skip }, () => {
   for (const call of foretold) assert.throws(call, TypeError);
   for (const child of [{ child: -1, root: 2 }, { child: 2, root: 2 ** 32 }, { child: 2.5, root: 2 }]) assert.throws(() => table.forkAt(1, child), RangeError);
   assert.throws(() => would.exit(1, 256), RangeError);
+  const { ask } = table;
+  const pages = [(...given) => ask.children(...given), (...given) => ask.groupMembers(...given), (...given) => ask.sessionMembers(...given)];
+  for (const page of pages) {
+    for (const given of [["1"], [], [1, "1"], [1, null], [1, 0, "2"], [1, 0, {}]]) assert.throws(() => page(...given), TypeError);
+    for (const given of [[-1], [1, 2 ** 32], [1, 0, 0.5], [1, 0, -1]]) assert.throws(() => page(...given), RangeError);
+  }
   const ranges = [() => table.getpid(-1), () => table.getpid(2 ** 32), () => table.getpid(1.5), () => table.getpid(NaN), () => table.exit(1, 256)];
   const more = [() => table.mk(-1n), () => table.mk(2n ** 64n), () => table.mk(2 ** 53), () => table.setpgid(1, 2 ** 31), () => table.limit(1n, -1)];
   for (const call of [...ranges, ...more]) assert.throws(call, RangeError);
@@ -47,7 +53,8 @@ test("a table that was closed", { skip }, () => {
   table.close();
   table.close();
   const foretold = [() => would.fork(1), () => would.mk(), () => table.forkAt(1, { child: 2, root: 2 })];
-  for (const call of [...foretold, () => table.fork(1), () => table.line("fork 1"), () => table.list(), () => table.dump(), () => ask.getpid(1), () => ask.stat(1), () => table.mk()]) {
+  const pages = [() => ask.children(1), () => ask.groupMembers(1), () => ask.sessionMembers(1)];
+  for (const call of [...foretold, () => table.fork(1), () => table.line("fork 1"), () => table.list(), () => table.dump(), () => ask.getpid(1), () => ask.stat(1), () => table.mk(), ...pages]) {
     assert.throws(call, { name: "TableClosed", code: "EBADF", message: "the table was closed" });
   }
 });

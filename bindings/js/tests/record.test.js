@@ -42,6 +42,12 @@ test("a line that is none, and one without a call, are not recorded", { skip }, 
   assert.equal(record.counts().recorded, 0n);
 });
 
+test("children and members, of a record and of a seat, are not recorded", { skip }, () => {
+  const { record, seats } = recorded();
+  for (const { ask } of [record, ...seats]) assert.deepEqual([ask.children(1), ask.groupMembers(2), ask.sessionMembers(1, 0, 2)], [[2], [1, 2], [2, 3]]);
+  assert.equal(record.counts().recorded, 3n);
+});
+
 test("the entries are made again on another table", { skip }, () => {
   const { record } = recorded();
   const again = new Record({ workers: 2 });

@@ -11,6 +11,7 @@ table.limit(group, null);
 table.move(child.root, Number(group));
 const listing: Listing = Table.load(table.dump()).list();
 const stat: Stat = table.ask.stat(1);
+const belonging: number[] = [...table.ask.children(1), ...table.ask.groupMembers(1, 2), ...table.ask.sessionMembers(1, 0, 3)];
 table.label(child.root, "nginx");
 table.label(child.root, null);
 const label: string | undefined = listing.tasks[0].label;

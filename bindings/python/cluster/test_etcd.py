@@ -382,6 +382,7 @@ class Refusals(Cluster):
             etcds.ask("/v3/kv/put", {"key": text64("other"), "value": text64(str(number))})
             self.assertEqual(two.ask(now=True).count(), number)
             self.assertEqual(two.ask(now=True).stat(number).numbers, (number,))
+            self.assertEqual(two.ask(now=True).children(1, start=number), (number,))
         self.assertEqual(one.mk(), 59)
         marks = etcds.ask("/v3/kv/range", {"key": text64("web:~mark")})
         self.assertEqual(len(marks["kvs"]), 1)

@@ -19,11 +19,14 @@ from pidtab.raw import (
     CLOSED,
     DIFFERS,
     DONE,
+    GROUPS,
     NO_MEMORY,
     NO_ROOM,
     OUT_OF_RANGE,
     REFUSED,
+    SESSIONS,
     SPENT,
+    TASKS,
     Answer,
     PidtabCall,
     PidtabFault,
@@ -33,6 +36,12 @@ from pidtab.raw import (
 
 # The room for a first try of a list or a text.
 SHORT_TEXT = 4096
+
+# The same of a page, in numbers.
+SHORT_PAGE = 64
+
+# Who belongs to a number: the method that asks for them, and what the number is.
+BELONGING = {TASKS: ("children", "pid"), GROUPS: ("group_members", "group"), SESSIONS: ("session_members", "session")}
 
 GREATEST_PID = 2**32 - 1
 
@@ -145,6 +154,24 @@ def read_task(caller: SupportsIndex, pid: SupportsIndex, read: Callable[[int, in
     return tell_stat(task)
 
 
+def read_page(kind: int, asked: Sequence[SupportsIndex], read: Callable[..., int]) -> tuple[int, ...]:
+    """All who belong to a number, by a function that writes a page of them into a room, and answers a status."""
+    method, name = BELONGING[kind]
+    caller, number, start = (check_range(it, given, 0, GREATEST_PID) for it, given in zip(("caller", name, "start"), asked))
+    line, reply, there = f"{method} {caller} {number}", PidtabReply(), SHORT_PAGE
+    while True:
+        room = (ctypes.c_uint32 * there)()
+        status = read(caller, kind, number, start, room, there, reply)
+        if status != DONE:
+            raise fault_of(status, line)
+        if reply.kind == REFUSED:
+            raise refusal_of(reply.error, line, say_why(reply.refusal, reply.first))
+        if reply.first <= there:
+            return tuple(room[: reply.first])
+        # Until the next try, other threads may make more. Each room is larger than the last, and no table has more tasks than numbers.
+        there = reply.first + reply.first // 8
+
+
 class Asked(Protocol):
     """A table that answers queries."""
 
@@ -155,6 +182,8 @@ class Asked(Protocol):
     def _would(self, call: bytes, reply: PidtabReply) -> int: ...
 
     def _stat(self, caller: int, pid: int, task: PidtabTask) -> int: ...
+
+    def _page(self, *taken: object) -> int: ...
 
 
 class OfTable:
@@ -182,7 +211,7 @@ class Would(OfTable, EachCall):
 class Ask(OfTable, Queries):
     """Queries that are no calls, as the `ask` of a table: they are neither counted nor recorded, and shift no later id.
 
-    It has the queries and `stat`, and no other call. As long as somebody has it, the table is not dropped.
+    It has the queries, `stat`, and the lists of children and of members, and no other call. As long as somebody has it, the table is not dropped.
     """
 
     def _make(self, call: Call, form: Form[T]) -> T:
@@ -193,6 +222,26 @@ class Ask(OfTable, Queries):
         """The task with the number, where 0 is the caller, in one read: a zombie too, as `getpgid` finds it. no-caller, no-task."""
         self._table._check_owner()
         return read_task(caller, pid, self._table._stat)
+
+    def children(self, caller: int, pid: int = 0, start: int = 0) -> tuple[int, ...]:
+        """The children of the task, where 0 is the caller, zombies too: their numbers from `start` on, in rising order. no-caller.
+
+        Who is not visible in the caller's namespace is left out, and to a number that is nobody's nobody belongs. It costs what is read of each of
+        them, and takes memory for a list: where there is none, it is a MemoryError.
+        """
+        return self._belonging(TASKS, caller, pid, start)
+
+    def group_members(self, caller: int, group: int = 0, start: int = 0) -> tuple[int, ...]:
+        """The members of the process group, where 0 is the caller's own, as `children` has those of a task. no-caller."""
+        return self._belonging(GROUPS, caller, group, start)
+
+    def session_members(self, caller: int, session: int = 0, start: int = 0) -> tuple[int, ...]:
+        """The members of the session, where 0 is the caller's own, as `children` has those of a task. no-caller."""
+        return self._belonging(SESSIONS, caller, session, start)
+
+    def _belonging(self, kind: int, *asked: int) -> tuple[int, ...]:
+        self._table._check_owner()
+        return read_page(kind, asked, self._table._page)
 
     # Not for a checker of types, which then finds a call that is no query.
     if not TYPE_CHECKING:

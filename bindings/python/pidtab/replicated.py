@@ -43,6 +43,10 @@ class ReplicaAsk(Ask):
         self._wait()
         return super().stat(caller, pid)
 
+    def _belonging(self, kind: int, *asked: int) -> tuple[int, ...]:
+        self._wait()
+        return super()._belonging(kind, *asked)
+
     def _make(self, call: Call, form: Form[T]) -> T:
         self._wait()
         return super()._make(call, form)
@@ -191,6 +195,10 @@ class Replicated(AskableCalls):
     def _stat(self, caller: int, pid: int, task: PidtabTask) -> int:
         super()._check_owner()
         return self._replica.read(lambda table: as_table(table)._stat(caller, pid, task))
+
+    def _page(self, *taken: object) -> int:
+        super()._check_owner()
+        return self._replica.read(lambda table: as_table(table)._page(*taken))
 
     def _list_text(self) -> str:
         super()._check_owner()

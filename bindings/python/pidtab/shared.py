@@ -147,6 +147,9 @@ class Seat(NumberCalls):
     def _stat(self, caller: int, pid: int, task: PidtabTask) -> int:
         return self.shared._stat(caller, pid, task)
 
+    def _page(self, *taken: object) -> int:
+        return self.shared._page(*taken)
+
     def _would(self, call: bytes, reply: PidtabReply) -> int:
         return self.shared._would(call, reply)
 
@@ -656,6 +659,9 @@ class Shared(Labelled, Owner):
 
     def _stat(self, caller: int, pid: int, task: PidtabTask) -> int:
         return self._status("pidtab_shared_stat", caller, pid, task)
+
+    def _page(self, *taken: object) -> int:
+        return self._status("pidtab_shared_page", *taken)
 
     def _would(self, call: bytes, reply: PidtabReply) -> int:
         return self._status("pidtab_shared_would", call, reply)

@@ -87,6 +87,9 @@ class Table(NumberCalls):
     def _stat(self, caller: int, pid: int, task: PidtabTask) -> int:
         return self._later("pidtab_stat", caller, pid, task)
 
+    def _page(self, *taken: object) -> int:
+        return self._later("pidtab_page", *taken)
+
     def _would(self, call: bytes, reply: PidtabReply) -> int:
         return self._later("pidtab_would", call, reply)
 

@@ -167,6 +167,19 @@ class World:
         (task,) = told
         return task
 
+    def page(self, kind: int, *numbers: int) -> str:
+        """Who belongs to a number by the kind."""
+        assert self.shared is not None
+        told = set()
+        for queries in [self.shared.ask, *[it.ask for it in self.tables if isinstance(it, Table)]]:
+            try:
+                found = (queries.children, queries.group_members, queries.session_members)[kind](*numbers)
+                told.add(" ".join(map(str, found)) or "none")
+            except Refusal as fault:
+                told.add(say_fault(fault))
+        (page,) = told
+        return page
+
     def read(self, word: str, numbers: list[int]) -> str:
         """What a step of a history tells."""
         assert self.shared is not None
@@ -215,6 +228,8 @@ class World:
             return json.dumps(self.told.to_object() if hasattr(self.told, "to_object") else self.told, separators=(",", ":"))
         elif word == "stat":
             return self.stat(*numbers)
+        elif word == "page":
+            return self.page(*numbers)
         elif word in ("list", "dump"):
             assert self.shared is not None
             for table in [self.shared, *self.tables]:

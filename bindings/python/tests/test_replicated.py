@@ -162,6 +162,8 @@ class Answers(Hosts):
     def test_queries_that_are_no_calls(self) -> None:
         with self.assertRaisesRegex(LibraryFault, "open it with table=pidtab.Table"):
             self.open().ask.getpid(1)
+        with self.assertRaisesRegex(LibraryFault, "open it with table=pidtab.Table"):
+            self.open().ask.children(1)
 
     def test_a_late_host(self) -> None:
         one = self.open()

@@ -143,7 +143,7 @@ impl Reply {
 
 impl Reply {
     /// The error of a reply that is none of the call's others, so a refusal.
-    fn refused<T>(self) -> Result<T, Error> {
+    pub(crate) fn refused<T>(self) -> Result<T, Error> {
         match self {
             Reply::Refused { errno, refusal } => Err(Error::Refused { errno, refusal }),
             other => unreachable!("the library replies {other:?}"),

@@ -140,6 +140,32 @@ impl World {
         told.map_or_else(|fault| say_error(&fault), |it| say_task(&it))
     }
 
+    /// Who belongs to a number by the kind.
+    fn page(&mut self, numbers: &[u64]) -> String {
+        let kind = numbers[0] as usize;
+        let of_shared = [
+            Shared::children,
+            Shared::group_members,
+            Shared::session_members,
+        ][kind];
+        let of_table = [
+            Table::children,
+            Table::group_members,
+            Table::session_members,
+        ][kind];
+        let [caller, number, from] = [1, 2, 3].map(|place| numbers[place] as u32);
+        let told = of_shared(self.shared, caller, number, from);
+        assert!(self
+            .tables
+            .iter()
+            .all(|it| of_table(it, caller, number, from) == told));
+        match told.as_deref() {
+            Ok([]) => String::from("none"),
+            Ok(found) => joined(found, " "),
+            Err(fault) => say_error(fault),
+        }
+    }
+
     /// What a step of a history tells.
     fn read(&mut self, words: &[&str]) -> String {
         let numbers: Vec<u64> = words[1..]
@@ -418,6 +444,7 @@ fn make_open(
             return world.told.to_json();
         }
         "stat" => return world.stat(numbers[0] as u32, numbers[1] as u32),
+        "page" => return world.page(numbers),
         "list" | "dump" | "opening" => assert_eq!(world.text(word), text),
         "reload" => world.reload(),
         "differs" | "stranger" => world.replay(Some((word, numbers[0] as usize))),

@@ -31,6 +31,7 @@ mod json;
 mod labels;
 mod listing;
 mod numbers;
+mod page;
 mod raw;
 mod saved;
 mod shared;
@@ -358,6 +359,7 @@ mod tests {
         assert_eq!(table.getpid(1), Err(Error::Busy));
         assert_eq!(table.ask(Call::Getpid { caller: 1 }), Err(Error::Busy));
         assert_eq!(table.stat(1, 0), Err(Error::Busy));
+        assert_eq!(table.children(1, 0, 0), Err(Error::Busy));
         assert_eq!(table.line("getpid 1"), Err(LineError::Busy));
         assert_eq!(table.list(), Err(Error::Busy));
         assert_eq!(table.dump(), Err(Error::Busy));

@@ -297,6 +297,16 @@ extern "C" {
     fn pidtab_call(table: *mut Held, call: *const Call, reply: *mut Reply) -> u32;
     fn pidtab_ask(table: *const Held, call: *const Call, reply: *mut Reply) -> u32;
     fn pidtab_stat(table: *const Held, caller: u32, number: u32, task: *mut Task) -> u32;
+    fn pidtab_page(
+        table: *const Held,
+        caller: u32,
+        kind: u32,
+        number: u32,
+        from: u32,
+        numbers: *mut u32,
+        room: usize,
+        reply: *mut Reply,
+    ) -> u32;
     fn pidtab_would(table: *const Held, call: *const Call, reply: *mut Reply) -> u32;
     fn pidtab_fork_at(
         table: *mut Held,
@@ -353,6 +363,16 @@ extern "C" {
     ) -> u32;
     fn pidtab_record_ask(record: *const Held, call: *const Call, reply: *mut Reply) -> u32;
     fn pidtab_record_stat(record: *const Held, caller: u32, number: u32, task: *mut Task) -> u32;
+    fn pidtab_record_page(
+        record: *const Held,
+        caller: u32,
+        kind: u32,
+        number: u32,
+        from: u32,
+        numbers: *mut u32,
+        room: usize,
+        reply: *mut Reply,
+    ) -> u32;
     fn pidtab_record_would(record: *const Held, call: *const Call, reply: *mut Reply) -> u32;
     fn pidtab_record_fork_at(
         record: *mut Held,
@@ -548,6 +568,30 @@ impl Table {
         unsafe { pidtab_stat(&*self.held, caller, number, task) }
     }
 
+    pub(crate) fn page(
+        &self,
+        caller: u32,
+        kind: u32,
+        number: u32,
+        from: u32,
+        numbers: &mut [u32],
+        reply: &mut Reply,
+    ) -> u32 {
+        // SAFETY: it is open and lent to queries alone; each pointer is that of a reference or of a slice with that length.
+        unsafe {
+            pidtab_page(
+                &*self.held,
+                caller,
+                kind,
+                number,
+                from,
+                numbers.as_mut_ptr(),
+                numbers.len(),
+                reply,
+            )
+        }
+    }
+
     pub(crate) fn would(&self, call: &Call, reply: &mut Reply) -> u32 {
         // SAFETY: it is open and lent to queries alone; each pointer is that of a reference or of a slice with that length.
         unsafe { pidtab_would(&*self.held, call, reply) }
@@ -679,6 +723,30 @@ impl Record {
     pub(crate) fn stat(&self, caller: u32, number: u32, task: &mut Task) -> u32 {
         // SAFETY: it is open and lent to queries alone; each pointer is that of a reference or of a slice with that length.
         unsafe { pidtab_record_stat(&*self.held, caller, number, task) }
+    }
+
+    pub(crate) fn page(
+        &self,
+        caller: u32,
+        kind: u32,
+        number: u32,
+        from: u32,
+        numbers: &mut [u32],
+        reply: &mut Reply,
+    ) -> u32 {
+        // SAFETY: it is open and lent to queries alone; each pointer is that of a reference or of a slice with that length.
+        unsafe {
+            pidtab_record_page(
+                &*self.held,
+                caller,
+                kind,
+                number,
+                from,
+                numbers.as_mut_ptr(),
+                numbers.len(),
+                reply,
+            )
+        }
     }
 
     pub(crate) fn would(&self, call: &Call, reply: &mut Reply) -> u32 {

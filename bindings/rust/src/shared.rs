@@ -5,8 +5,8 @@
 use crate::calls::sealed::Sealed;
 use crate::labels::Labels;
 use crate::{
-    raw, texts, Call, Calls, Child, Error, LineError, Listing, ReplayError, Reply, SavedError,
-    Stat, Table, TextError,
+    page, raw, texts, Call, Calls, Child, Error, LineError, Listing, ReplayError, Reply,
+    SavedError, Stat, Table, TextError,
 };
 use std::ops::{Deref, DerefMut};
 use std::sync::atomic::{AtomicBool, AtomicU32, AtomicU64, Ordering};
@@ -372,6 +372,30 @@ impl Shared {
         self.look().stat(caller, number)
     }
 
+    /// As [`Record::children`].
+    ///
+    /// # Errors
+    /// `Refused` as `NoCaller`; `NoMemory`, `Busy`.
+    pub fn children(&self, caller: u32, number: u32, from: u32) -> Result<Vec<u32>, Error> {
+        self.look().children(caller, number, from)
+    }
+
+    /// As [`Record::group_members`].
+    ///
+    /// # Errors
+    /// `Refused` as `NoCaller`; `NoMemory`, `Busy`.
+    pub fn group_members(&self, caller: u32, number: u32, from: u32) -> Result<Vec<u32>, Error> {
+        self.look().group_members(caller, number, from)
+    }
+
+    /// As [`Record::session_members`].
+    ///
+    /// # Errors
+    /// `Refused` as `NoCaller`; `NoMemory`, `Busy`.
+    pub fn session_members(&self, caller: u32, number: u32, from: u32) -> Result<Vec<u32>, Error> {
+        self.look().session_members(caller, number, from)
+    }
+
     /// As [`Record::counts`].
     ///
     /// # Errors
@@ -656,6 +680,45 @@ impl Record {
     pub fn stat(&self, caller: u32, number: u32) -> Result<Stat, Error> {
         let mut task = raw::Task::BLANK;
         Stat::of(self.raw.stat(caller, number, &mut task), task)
+    }
+
+    /// The children of the task with the number in the caller's namespace, as [`Table::children`] has them. It is no call, and is not recorded. It takes
+    /// memory for a list.
+    ///
+    /// ```
+    /// use pidtab::{Calls, Shared};
+    ///
+    /// let shared = Shared::open(32768, 1)?;
+    /// shared.seat()?.fork(1, false)?;
+    /// assert_eq!(shared.children(1, 0, 0)?, [2]);
+    /// assert_eq!(shared.group_members(1, 0, 0)?, [1, 2]);
+    /// # Ok::<(), pidtab::Error>(())
+    /// ```
+    ///
+    /// # Errors
+    /// `Refused` as `NoCaller`; `NoMemory`, `Busy`.
+    pub fn children(&self, caller: u32, number: u32, from: u32) -> Result<Vec<u32>, Error> {
+        self.belonging(raw::TASKS, caller, number, from)
+    }
+
+    /// The members of the process group with the number in the caller's namespace, as [`Table::group_members`] has them. It is not recorded.
+    ///
+    /// # Errors
+    /// `Refused` as `NoCaller`; `NoMemory`, `Busy`.
+    pub fn group_members(&self, caller: u32, number: u32, from: u32) -> Result<Vec<u32>, Error> {
+        self.belonging(raw::GROUPS, caller, number, from)
+    }
+
+    /// The members of the session with the number in the caller's namespace, as [`Table::session_members`] has them. It is not recorded.
+    ///
+    /// # Errors
+    /// `Refused` as `NoCaller`; `NoMemory`, `Busy`.
+    pub fn session_members(&self, caller: u32, number: u32, from: u32) -> Result<Vec<u32>, Error> {
+        self.belonging(raw::SESSIONS, caller, number, from)
+    }
+
+    fn belonging(&self, kind: u32, caller: u32, number: u32, from: u32) -> Result<Vec<u32>, Error> {
+        page::all(|numbers, reply| self.raw.page(caller, kind, number, from, numbers, reply))
     }
 
     /// The ordinal of the first kept entry, and how many calls were recorded, the cut ones too.
@@ -1237,6 +1300,7 @@ mod tests {
         assert_eq!(seat.line("getpid 1"), Err(LineError::Busy));
         assert_eq!(shared.ask(Call::Getpid { caller: 1 }), Err(Error::Busy));
         assert_eq!(shared.stat(1, 0), Err(Error::Busy));
+        assert_eq!(shared.children(1, 0, 0), Err(Error::Busy));
         let (fork, child) = (
             Call::Fork {
                 caller: 1,

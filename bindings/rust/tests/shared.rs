@@ -338,6 +338,8 @@ fn readers_beside_a_writer() {
             let counted = shared.ask(Call::Count { id: 0 }).expect("a reply");
             assert!(matches!(counted, Reply::Counted(1 | 2)), "{counted:?}");
             assert_eq!(shared.stat(1, 0).expect("a task").numbers(), [1]);
+            let children = shared.children(1, 0, 0).expect("a list");
+            assert!(children.len() < 2, "{children:?}");
             let (_, recorded) = counts(&shared);
             assert!(recorded >= before);
             before = recorded;

@@ -1,0 +1,79 @@
+package pidtab
+
+// #include <pidtab.h>
+import "C"
+
+import "unsafe"
+
+// shortPage is the room for a first try, in numbers.
+const shortPage = 64
+
+// Children are the numbers of the children of the task pid, where 0 is the caller, zombies too: those from one on, in rising order. Whom the
+// caller's namespace does not see is left out, and to a number that is nobody's nobody belongs. It is no call, as Ask makes none. It costs what is
+// read of each of them, and takes memory for a list. Refused as no-caller; ErrNoMemory, ErrClosed, ErrBusy.
+func (table *Table) Children(caller, pid, from uint32) ([]uint32, error) {
+	return table.belonging(C.PIDTAB_TASKS, caller, pid, from)
+}
+
+// GroupMembers are the numbers of the members of the process group, where 0 is the caller's own, as Children has those of a task.
+func (table *Table) GroupMembers(caller, group, from uint32) ([]uint32, error) {
+	return table.belonging(C.PIDTAB_GROUPS, caller, group, from)
+}
+
+// SessionMembers are the numbers of the members of the session, where 0 is the caller's own, as Children has those of a task.
+func (table *Table) SessionMembers(caller, session, from uint32) ([]uint32, error) {
+	return table.belonging(C.PIDTAB_SESSIONS, caller, session, from)
+}
+
+// Children are the numbers of the children of the task pid, as Children of a Table has them; it is not recorded. Refused as no-caller; ErrNoMemory.
+func (shared *Shared) Children(caller, pid, from uint32) ([]uint32, error) {
+	return shared.belonging(C.PIDTAB_TASKS, caller, pid, from)
+}
+
+// GroupMembers are the numbers of the members of the process group, as GroupMembers of a Table has them; it is not recorded.
+func (shared *Shared) GroupMembers(caller, group, from uint32) ([]uint32, error) {
+	return shared.belonging(C.PIDTAB_GROUPS, caller, group, from)
+}
+
+// SessionMembers are the numbers of the members of the session, as SessionMembers of a Table has them; it is not recorded.
+func (shared *Shared) SessionMembers(caller, session, from uint32) ([]uint32, error) {
+	return shared.belonging(C.PIDTAB_SESSIONS, caller, session, from)
+}
+
+func (table *Table) belonging(kind, caller, number, from uint32) ([]uint32, error) {
+	held := table.held()
+	held.lock.RLock()
+	defer held.lock.RUnlock()
+	return allOf(func(numbers *C.uint32_t, room C.size_t, reply *C.struct_pidtab_reply) C.uint32_t {
+		return C.pidtab_page(&held.raw, C.uint32_t(caller), C.uint32_t(kind), C.uint32_t(number), C.uint32_t(from), numbers, room, reply)
+	})
+}
+
+func (shared *Shared) belonging(kind, caller, number, from uint32) ([]uint32, error) {
+	held := shared.held()
+	held.lock.RLock()
+	defer held.lock.RUnlock()
+	return allOf(func(numbers *C.uint32_t, room C.size_t, reply *C.struct_pidtab_reply) C.uint32_t {
+		return C.pidtab_record_page(held.raw, C.uint32_t(caller), C.uint32_t(kind), C.uint32_t(number), C.uint32_t(from), numbers, room, reply)
+	})
+}
+
+// allOf are all numbers of a function of the library that writes as many as there is room for, and whose reply counts all. Nothing changes
+// between two tries, as the lock is held.
+func allOf(page func(numbers *C.uint32_t, room C.size_t, reply *C.struct_pidtab_reply) C.uint32_t) ([]uint32, error) {
+	reply := new(C.struct_pidtab_reply)
+	for there := shortPage; ; {
+		numbers := make([]uint32, there)
+		status := page((*C.uint32_t)(unsafe.Pointer(&numbers[0])), C.size_t(there), reply)
+		if err := faultOf(uint32(status)); err != nil {
+			return nil, err
+		}
+		if reply.kind == C.PIDTAB_REFUSED {
+			return nil, refusalOf(reply)
+		}
+		there = int(reply.first)
+		if there <= len(numbers) {
+			return numbers[:there], nil
+		}
+	}
+}

@@ -1,0 +1,135 @@
+package pidtab
+
+import (
+	"errors"
+	"reflect"
+	"sync"
+	"testing"
+)
+
+// belonging is what a Table and a Shared answer lists by.
+type belonging interface {
+	Children(caller, pid, from uint32) ([]uint32, error)
+	GroupMembers(caller, group, from uint32) ([]uint32, error)
+	SessionMembers(caller, session, from uint32) ([]uint32, error)
+}
+
+// numbered has a list of these numbers.
+func numbered(numbers ...uint32) []uint32 { return append([]uint32{}, numbers...) }
+
+// openBoth has the same tasks in a table and in a shared one. 3 is 1 of a new namespace, and its child 4 is 2 there. 2 leads a session, of which is its
+// child 5, a zombie.
+func openBoth(t *testing.T) (*Table, *Shared) {
+	t.Helper()
+	table := open(t, 32768)
+	shared, err := OpenShared(Settings{PidMax: 32768, Workers: 1})
+	if err != nil {
+		t.Fatal(err)
+	}
+	t.Cleanup(shared.Close)
+	seat, err := shared.Seat()
+	if err != nil {
+		t.Fatal(err)
+	}
+	made := []Call{
+		forkOf(1), {Operation: OpFork, Caller: 1, Choice: 1}, forkOf(3), {Operation: OpSetsid, Caller: 2}, forkOf(2), {Operation: OpExit, Caller: 5},
+	}
+	for _, call := range made {
+		if _, err := table.Call(call); err != nil {
+			t.Fatal(err)
+		}
+		if _, err := seat.Call(call); err != nil {
+			t.Fatal(err)
+		}
+	}
+	return table, shared
+}
+
+func TestWhoBelongsToANumber(t *testing.T) {
+	table, shared := openBoth(t)
+	for _, it := range []belonging{table, shared} {
+		for _, row := range []struct {
+			ask                  func(caller, number, from uint32) ([]uint32, error)
+			caller, number, from uint32
+			wanted               []uint32
+		}{
+			{it.Children, 1, 0, 0, numbered(2, 3)}, {it.Children, 1, 1, 3, numbered(3)}, {it.Children, 2, 0, 0, numbered(5)},
+			{it.Children, 1, 3, 0, numbered(4)}, {it.Children, 3, 0, 0, numbered(2)}, {it.Children, 1, 9, 0, numbered()},
+			{it.GroupMembers, 1, 0, 0, numbered(1, 3, 4)}, {it.GroupMembers, 2, 2, 3, numbered(5)},
+			{it.SessionMembers, 1, 2, 0, numbered(2, 5)}, {it.SessionMembers, 1, 0, 5, numbered()},
+			// The namespace of 4 sees no number of the group and the session of 1.
+			{it.GroupMembers, 4, 0, 0, numbered(1, 2)}, {it.GroupMembers, 4, 1, 0, numbered()}, {it.SessionMembers, 3, 0, 2, numbered(2)},
+		} {
+			if found, err := row.ask(row.caller, row.number, row.from); err != nil || !reflect.DeepEqual(found, row.wanted) {
+				t.Error(row.caller, row.number, row.from, found, row.wanted, err)
+			}
+		}
+		var refusal Refusal
+		if found, err := it.Children(5, 0, 0); found != nil || !errors.As(err, &refusal) || refusal.Word != NoCaller {
+			t.Error(found, err)
+		}
+	}
+	if counts, err := shared.Counts(); err != nil || counts.Recorded != 6 {
+		t.Error(counts, err)
+	}
+	table.Close()
+	shared.Close()
+	for _, it := range []belonging{table, shared} {
+		if _, err := it.SessionMembers(1, 0, 0); !errors.Is(err, ErrClosed) {
+			t.Error(err)
+		}
+	}
+}
+
+func TestMoreThanThereIsRoomForAtFirst(t *testing.T) {
+	table, wanted := open(t, 32768), numbered()
+	for number := uint32(2); number < 3*shortPage; number++ {
+		if _, err := table.Fork(1, NoNewNamespace); err != nil {
+			t.Fatal(err)
+		}
+		wanted = append(wanted, number)
+		if found, err := table.Children(1, 0, 0); err != nil || !reflect.DeepEqual(found, wanted) {
+			t.Fatal(found, err)
+		}
+	}
+}
+
+func TestListsBesideAWriter(t *testing.T) {
+	const forks, readers = 300, 3
+	shared, err := OpenShared(Settings{PidMax: 32768, Workers: 1})
+	if err != nil {
+		t.Fatal(err)
+	}
+	defer shared.Close()
+	seat, err := shared.Seat()
+	if err != nil {
+		t.Fatal(err)
+	}
+	var all sync.WaitGroup
+	for range [readers]int{} {
+		all.Add(1)
+		go func() {
+			defer all.Done()
+			for before := 0; before < forks; {
+				found, err := shared.Children(1, 0, 0)
+				if err != nil || len(found) < before {
+					t.Error(found, err)
+					return
+				}
+				for place, number := range found {
+					if number != uint32(place)+2 {
+						t.Error(found)
+						return
+					}
+				}
+				before = len(found)
+			}
+		}()
+	}
+	for range [forks]int{} {
+		if _, err := seat.Fork(1, NoNewNamespace); err != nil {
+			t.Fatal(err)
+		}
+	}
+	all.Wait()
+}
