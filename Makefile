@@ -292,6 +292,7 @@ THREADS_TEST = test_threads guard guard_record
 READERS_TEST = test_readers shared guard guard_record
 CALLS_TEST = test_calls shared guard guard_record
 PAGE_TEST = test_page shared guard guard_record
+SPACE_TEST = test_space shared guard guard_record
 WOULD_TEST = test_would shared guard guard_record
 SHARED_TEST = test_shared shared guard guard_record heap
 FOLLOW_TEST = test_follow shared guard guard_record heap
@@ -323,6 +324,7 @@ bindings-c:
 			$(CC) $$sanitizer $(HELD) -c -o $(OUT)/calls_heap.o bindings/c/heap.c && \
 			$(CC) $$sanitizer -o $(OUT)/test_calls $(CALLS_TEST:%=bindings/c/%.c) $(OUT)/calls_heap.o $(OUT)/proved.a && $(RUN) $(OUT)/test_calls && \
 			$(CC) $$sanitizer -o $(OUT)/test_page $(PAGE_TEST:%=bindings/c/%.c) $(OUT)/calls_heap.o $(OUT)/proved.a && $(RUN) $(OUT)/test_page && \
+			$(CC) $$sanitizer -o $(OUT)/test_space $(SPACE_TEST:%=bindings/c/%.c) $(OUT)/calls_heap.o $(OUT)/proved.a && $(RUN) $(OUT)/test_space && \
 			$(CC) $$sanitizer -o $(OUT)/test_would $(WOULD_TEST:%=bindings/c/%.c) $(OUT)/calls_heap.o $(OUT)/proved.a && $(RUN) $(OUT)/test_would && \
 			$(CC) $$sanitizer -o $(OUT)/test_shared $(SHARED_TEST:%=bindings/c/%.c) $(OUT)/proved.a && $(RUN) $(OUT)/test_shared && \
 			$(CC) $$sanitizer -o $(OUT)/test_follow $(FOLLOW_TEST:%=bindings/c/%.c) $(OUT)/proved.a && $(RUN) $(OUT)/test_follow && \

@@ -320,6 +320,19 @@ uint32_t pidtab_stat(const struct pidtab *table, uint32_t caller, uint32_t numbe
  * and then numbers and reply are as they were. */
 uint32_t pidtab_page(const struct pidtab *table, uint32_t caller, uint32_t kind, uint32_t number, uint32_t from, uint32_t *numbers, size_t room, struct pidtab_reply *reply);
 
+/* A namespace. Its id and its parent's are those of the list. */
+struct pidtab_space {
+	uint64_t id;
+	uint64_t parent; /* the id of the namespace that it is in; 0 also of the root namespace, whose level is 0 */
+	uint32_t level;  /* how many namespaces are around it: 0 for the root namespace, 32 for the deepest */
+	uint32_t init;   /* the root number of its init, ended or not; 0 where that was reaped */
+	uint32_t fallen; /* 0; or 1 where its init has ended: it takes no task any more, and is gone with the last number in it */
+};
+
+/* Reads the namespace with the id, where 0 is the root namespace. It is no call, as pidtab_ask is none, and needs no memory. DONE; CLOSED;
+ * OUT_OF_RANGE where no namespace has the id, or it is gone, and then space is as it was. */
+uint32_t pidtab_space(const struct pidtab *table, uint64_t id, struct pidtab_space *space);
+
 /* Tells the reply that the call would get now, and changes nothing: the numbers of a fork, and whom a wait would reap (waitid(2) with WNOWAIT).
  * Whether there is memory for the call it does not say. DONE, CLOSED, OUT_OF_RANGE, SPENT. */
 uint32_t pidtab_would(const struct pidtab *table, const struct pidtab_call *call, struct pidtab_reply *reply);
@@ -567,6 +580,9 @@ uint32_t pidtab_record_stat(const struct pidtab_record *record, uint32_t caller,
 
 /* Tells children or members, as pidtab_page does; it is not recorded. DONE, CLOSED, OUT_OF_RANGE, NO_MEMORY. */
 uint32_t pidtab_record_page(const struct pidtab_record *record, uint32_t caller, uint32_t kind, uint32_t number, uint32_t from, uint32_t *numbers, size_t room, struct pidtab_reply *reply);
+
+/* Reads a namespace, as pidtab_space does; it is not recorded. DONE, CLOSED, OUT_OF_RANGE. */
+uint32_t pidtab_record_space(const struct pidtab_record *record, uint64_t id, struct pidtab_space *space);
 
 /* Tells the reply that the call would get now, as pidtab_would does; it is not recorded. DONE, CLOSED, OUT_OF_RANGE, SPENT. */
 uint32_t pidtab_record_would(const struct pidtab_record *record, const struct pidtab_call *call, struct pidtab_reply *reply);

@@ -381,6 +381,12 @@ uint32_t pidtab_shared_page(struct pidtab_shared *shared, uint32_t caller, uint3
 	return answered(shared, pidtab_record_page(&shared->record, caller, kind, number, from, numbers, room, reply));
 }
 
+uint32_t pidtab_shared_space(struct pidtab_shared *shared, uint64_t id, struct pidtab_space *space)
+{
+	share_as_call(shared);
+	return answered(shared, pidtab_record_space(&shared->record, id, space));
+}
+
 uint32_t pidtab_shared_would(struct pidtab_shared *shared, const struct pidtab_call *call, struct pidtab_reply *reply)
 {
 	share_as_call(shared);

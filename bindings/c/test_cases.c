@@ -347,6 +347,28 @@ static void read_page(const uint64_t *numbers)
 		say_levels(told, found, (uint32_t)reply.first, ' ');
 }
 
+static bool same_space(const struct pidtab_space *a, const struct pidtab_space *b)
+{
+	return a->id == b->id && a->parent == b->parent && a->level == b->level && a->init == b->init && a->fallen == b->fallen;
+}
+
+static void read_space(uint64_t id)
+{
+	struct pidtab_space it = { 0 }, other = { 0 };
+	char parent[32] = "-", init[32] = "-";
+	uint32_t status = pidtab_shared_space(&shared, id, &it);
+
+	for (int i = 0; i < 3 && has_tables; i++)
+		CHECK(pidtab_space(&tables[i], id, &other) == status && same_space(&it, &other));
+	if (!done(status))
+		return;
+	if (it.level != 0)
+		sprintf(parent, "%" PRIu64, it.parent);
+	if (it.init != 0)
+		sprintf(init, "%" PRIu32, it.init);
+	sprintf(told, "space %" PRIu64 " parent %s level %" PRIu32 " init %s%s", it.id, parent, it.level, init, it.fallen ? " fallen" : "");
+}
+
 static struct pidtab_entry entries[ENTRIES];
 
 /* What a step of a history tells. */
@@ -487,6 +509,8 @@ static bool make(const char *step, const char *wanted)
 		read_task((uint32_t)numbers[0], (uint32_t)numbers[1]);
 	else if (strcmp(word, "page") == 0)
 		read_page(numbers);
+	else if (strcmp(word, "space") == 0)
+		read_space(numbers[0]);
 	else if (strcmp(word, "list") == 0 || strcmp(word, "dump") == 0 || strcmp(word, "opening") == 0)
 		return same_text(word);
 	else if (strcmp(word, "differs") == 0 || strcmp(word, "stranger") == 0)

@@ -5,7 +5,7 @@ import re
 PATH = "bindings/rust/src/shared.rs"
 
 # What waits for its turn as a call does; all other functions go before the calls.
-AS_CALLS = ("ask", "stat", "children", "group_members", "session_members", "would")
+AS_CALLS = ("ask", "stat", "children", "group_members", "session_members", "space", "would")
 
 
 def methods_of(text):

@@ -4,7 +4,7 @@ AROUND = "bindings/js/wasm/around.c"
 
 # What is not called from there, and the structs at fixed places.
 BY_HAND = ("version", "close", "record_close", "record_calls", "record_read", "record_replay")
-PLACES = ("call", "reply", "task", "fault")
+PLACES = ("call", "reply", "task", "space", "fault")
 LONGS = ("uint64_t", "uint64_t *", "const uint64_t *")
 
 

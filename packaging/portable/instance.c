@@ -9,7 +9,7 @@ typedef Z_pidtab_instance_t instance;
 /* A query writes what it takes into the memory of the instance, so two take turns. */
 #define PIDTAB_MOST_QUERIES 1
 
-enum place { CALL, REPLY, TASK, FAULT, NUMBERS, SIZE, LINE, ANSWER };
+enum place { CALL, REPLY, TASK, SPACE, FAULT, NUMBERS, SIZE, LINE, ANSWER };
 enum { LINE_ROOM = 208 };
 
 static uint8_t *at_place(instance *it, enum place what)
@@ -294,6 +294,20 @@ uint32_t proved_page(struct pidtab *table, uint32_t caller, uint32_t kind, uint3
 	return table->is_open ? paged(table->at, Z_pidtabZ_page, taken, numbers, room, reply) : PIDTAB_CLOSED;
 }
 
+/* A function of the module that reads the namespace with the id among its numbers. */
+typedef uint32_t read_space(instance *it);
+
+static uint32_t space_read(instance *it, read_space *read, uint64_t id, struct pidtab_space *space)
+{
+	put(it, NUMBERS, &id, sizeof id);
+	return fetched(it, read(it), SPACE, space, sizeof *space);
+}
+
+uint32_t proved_space(struct pidtab *table, uint64_t id, struct pidtab_space *space)
+{
+	return table->is_open ? space_read(table->at, Z_pidtabZ_space, id, space) : PIDTAB_CLOSED;
+}
+
 uint32_t proved_would(struct pidtab *table, const struct pidtab_call *call, struct pidtab_reply *reply)
 {
 	return table->is_open ? replied(table->at, Z_pidtabZ_would, call, reply) : PIDTAB_CLOSED;
@@ -407,6 +421,11 @@ uint32_t proved_record_page(struct pidtab_record *record, uint32_t caller, uint3
 	const uint32_t taken[4] = { caller, kind, number, from };
 
 	return record->is_open ? paged(record->at, Z_pidtabZ_record_page, taken, numbers, room, reply) : PIDTAB_CLOSED;
+}
+
+uint32_t proved_record_space(struct pidtab_record *record, uint64_t id, struct pidtab_space *space)
+{
+	return record->is_open ? space_read(record->at, Z_pidtabZ_record_space, id, space) : PIDTAB_CLOSED;
 }
 
 uint32_t proved_record_would(struct pidtab_record *record, const struct pidtab_call *call, struct pidtab_reply *reply)

@@ -3,7 +3,7 @@
 import { faultOf, NoMemory, TableClosed } from "./faults.js";
 import { CALL, STATUS } from "./header.js";
 
-const PLACES = ["call", "reply", "task", "fault", "numbers", "size", "line", "answer"];
+const PLACES = ["call", "reply", "task", "space", "fault", "numbers", "size", "line", "answer"];
 const LINE_ROOM = 208;
 const MOST_ASCII = 127;
 

@@ -24,6 +24,7 @@ static struct {
 	struct pidtab_call call;
 	struct pidtab_reply reply;
 	struct pidtab_task task;
+	struct pidtab_space space;
 	struct pidtab_fault fault;
 	uint64_t numbers[PIDTAB_MOST_WORKERS];
 	size_t size;
@@ -38,7 +39,7 @@ static void *pointer(uint32_t address)
 /* The places in the order in which instance.js names them. */
 uint32_t EXPORTED(place_of)(uint32_t what)
 {
-	void *const places[] = { &at.call, &at.reply, &at.task, &at.fault, at.numbers, &at.size, at.line, at.answer };
+	void *const places[] = { &at.call, &at.reply, &at.task, &at.space, &at.fault, at.numbers, &at.size, at.line, at.answer };
 	return (uint32_t)(size_t)places[what];
 }
 
@@ -102,6 +103,11 @@ uint32_t EXPORTED(page)(uint32_t caller, uint32_t kind, uint32_t number, uint32_
 	return pidtab_page(&held.table, caller, kind, number, from, pointer(numbers), room, &at.reply);
 }
 
+uint32_t EXPORTED(space)(void)
+{
+	return pidtab_space(&held.table, at.numbers[0], &at.space);
+}
+
 uint32_t EXPORTED(would)(void)
 {
 	return pidtab_would(&held.table, &at.call, &at.reply);
@@ -155,6 +161,11 @@ uint32_t EXPORTED(record_stat)(uint32_t caller, uint32_t number)
 uint32_t EXPORTED(record_page)(uint32_t caller, uint32_t kind, uint32_t number, uint32_t from, uint32_t numbers, uint32_t room)
 {
 	return pidtab_record_page(&held.record, caller, kind, number, from, pointer(numbers), room, &at.reply);
+}
+
+uint32_t EXPORTED(record_space)(void)
+{
+	return pidtab_record_space(&held.record, at.numbers[0], &at.space);
 }
 
 uint32_t EXPORTED(record_would)(void)
