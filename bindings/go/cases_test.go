@@ -1,6 +1,7 @@
 package pidtab
 
 import (
+	"errors"
 	"fmt"
 	"os"
 	"path/filepath"
@@ -316,6 +317,28 @@ func (it *caseWorld) page(numbers []uint64) string {
 	return joined(found, " ")
 }
 
+// space is a namespace that is read at once.
+func (it *caseWorld) space(id uint64) string {
+	found, err := it.shared.Space(id)
+	for _, table := range it.tables {
+		it.same(of(table.Space(id)), told{found, err})
+	}
+	if errors.Is(err, ErrOutOfRange) {
+		return "OUT_OF_RANGE"
+	}
+	if err != nil {
+		return status(err)
+	}
+	root, fallen := "-", ""
+	if found.Init != 0 {
+		root = fmt.Sprint(found.Init)
+	}
+	if found.Fallen {
+		fallen = " fallen"
+	}
+	return fmt.Sprintf("space %d parent %s level %d init %s%s", found.ID, or(found.Parent, "-"), found.Level, root, fallen)
+}
+
 // read is what a step of a history tells.
 func (it *caseWorld) read(word string, numbers []uint64) (found string, err error) {
 	switch word {
@@ -444,6 +467,8 @@ func (it *caseWorld) step(step, text string) (found string, err error) {
 		return it.stat(uint32(numbers[0]), uint32(numbers[1])), nil
 	case "page":
 		return it.page(numbers), nil
+	case "space":
+		return it.space(numbers[0]), nil
 	case "list", "dump", "opening":
 		it.sameText(words[0], text)
 	case "differs", "stranger":

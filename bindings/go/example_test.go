@@ -199,6 +199,33 @@ func ExampleTable_GroupMembers() {
 	// 2 ends
 }
 
+// The namespaces that a task is in, from its own outwards.
+func ExampleTable_Space() {
+	table, err := pidtab.Open(32768)
+	if err != nil {
+		log.Fatal(err)
+	}
+	defer table.Close()
+	// 2 is the init of a namespace, and 3 that of one within it, which ends.
+	table.Fork(1, pidtab.NewNamespace)
+	table.Fork(2, pidtab.NewNamespace)
+	table.Exit(3, 0)
+	task, err := table.Stat(1, 3)
+	for id := &task.Space; err == nil && id != nil; {
+		var space pidtab.SpaceStat
+		space, err = table.Space(*id)
+		fmt.Println("level", space.Level, "init", space.Init, "fallen", space.Fallen)
+		id = space.Parent
+	}
+	_, err = table.Space(9)
+	fmt.Println(err)
+	// Output:
+	// level 2 init 3 fallen true
+	// level 1 init 2 fallen false
+	// level 0 init 1 fallen false
+	// pidtab: no namespace has the id 9: it is gone, or there was none
+}
+
 // A fork with the numbers that were told before, or none.
 func ExampleTable_ForkAt() {
 	table, err := pidtab.Open(32768)

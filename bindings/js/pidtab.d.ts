@@ -61,6 +61,19 @@ export interface Stat {
   subreaper: boolean;
 }
 
+/** A namespace in one read. */
+export interface SpaceStat {
+  id: bigint;
+  /** The id of the namespace that it is in, null for the root. */
+  parent: bigint | null;
+  /** How many namespaces are around it: 0 for the root, 32 for the deepest. */
+  level: number;
+  /** The root number of its init, ended or not; null where that was reaped. */
+  init: number | null;
+  /** Whether its init has ended: it takes no task any more, and is gone with the last number in it. */
+  fallen: boolean;
+}
+
 /** A task of the list: its numbers, the root's first, and root numbers of parent (0 for none), group and session. */
 export interface Task {
   // Written by tools/interface: fields of task.
@@ -133,8 +146,8 @@ export interface Listing {
 /** Reads a list as `listText`, or `pidtab list`, writes it. An Error names the first line that is none of a list. */
 export function readListing(text: string): Listing;
 
-/** A list, a task, the answer of a call or a Refusal as JSON in one line, as docs/list.schema.json has it; null where a call tells nothing. */
-export function toJson(value: Listing | Task | Space | Control | Stat | Forked | Reaped | Refusal | number | bigint | number[] | null | void): string;
+/** A list, a task, a namespace, the answer of a call or a Refusal as JSON in one line, as docs/list.schema.json has it; null where a call tells nothing. */
+export function toJson(value: Listing | Task | Space | Control | Stat | SpaceStat | Forked | Reaped | Refusal | number | bigint | number[] | null | void): string;
 
 /** What may be asked and changes nothing. */
 export interface Queries {
@@ -167,6 +180,8 @@ export interface Ask extends Queries {
   groupMembers(caller: number, group?: number, start?: number): number[];
   /** The members of the session, where 0 is the caller's own, in the same way. no-caller, NoMemory. */
   sessionMembers(caller: number, session?: number, start?: number): number[];
+  /** Reads the namespace with the id, where 0 is the root namespace. A RangeError where no namespace has it, or it is gone. */
+  space(id: Long): SpaceStat;
 }
 
 /** A method for each call. */

@@ -7,7 +7,7 @@ import { checkLong, checkNumber, checkRange, checkSigned } from "./bounds.js";
 import { faultOf, readRefusal, Refusal, shorten } from "./faults.js";
 import { KIND, OPERATION, REPLY, STATUS, TASK, USES, WHICH } from "./header.js";
 import { readListing } from "./listing.js";
-import { aChild, anEndedChild, anId, aNumber, aTask, nothing, numbersAt, refusalAt, theNext, theNumbers } from "./replies.js";
+import { aChild, anEndedChild, anId, aNumber, aSpace, aTask, nothing, numbersAt, refusalAt, theNext, theNumbers } from "./replies.js";
 
 /** What the program answers to a line that no call was made of, by the status of the library. */
 const NOT_MADE = { [STATUS.BAD_LINE]: "bad line", [STATUS.NO_MEMORY]: "no memory", [STATUS.SPENT]: "spent" };
@@ -134,6 +134,17 @@ export class Ask extends onOwner(Queries) {
 
   sessionMembers(caller, session = 0, start = 0) {
     return this._page("sessionMembers", "session", caller, checkNumber("session", session), start);
+  }
+
+  space(id) {
+    const instance = this._open();
+    const asked = checkLong("id", id);
+    instance.writeNumbers([asked]);
+    const status = instance.space();
+    if (status === STATUS.OUT_OF_RANGE) throw new RangeError(`no namespace has the id ${asked}: it is gone, or there was none`);
+    if (status !== STATUS.DONE) throw faultOf(status, `space ${asked}`);
+    instance.refresh();
+    return aSpace(instance, instance.at.space.word);
   }
 
   /** All who belong to the number, from one on. Where the room is too short, it is taken anew for as many as there are: none comes meanwhile. */

@@ -65,5 +65,6 @@ export const TEXT_FAULTS = [
 export const CALL = { operation: 0, caller: 1, id: 2, number: 4, choice: 5, pid: 6, pgid: 7 };
 export const REPLY = { kind: 0, error: 1, refusal: 2, count: 3, first: 4, second: 6, levels: 8 };
 export const TASK = { error: 0, refusal: 1, count: 2, parent: 3, group: 4, session: 5, ended: 6, status: 7, executed: 8, subreaper: 9, space: 10, control: 12, root: 14, levels: 15 };
+export const SPACE = { id: 0, parent: 2, level: 4, init: 5, fallen: 6 };
 export const FAULT = { line: 0, kind: 2 };
 // The end of places.

@@ -1,6 +1,6 @@
-// What replies and tasks tell, as values: words of the memory from a place on. What has 64 bits is a BigInt, and all else a number.
+// What replies, tasks and namespaces tell, as values: words of the memory from a place on. What has 64 bits is a BigInt, and all else a number.
 
-import { ERRNOS, KILLED, KIND, REPLY, TASK } from "./header.js";
+import { ERRNOS, KILLED, KIND, REPLY, SPACE, TASK } from "./header.js";
 import { wordOf } from "./faults.js";
 
 const long = (longs, at, field) => longs[(at + field) / 2];
@@ -54,6 +54,18 @@ export function aTask({ words, longs }, at) {
     killed,
     executed: words[at + TASK.executed] === 1,
     subreaper: words[at + TASK.subreaper] === 1,
+  };
+}
+
+/** A namespace in one read. */
+export function aSpace({ words, longs }, at) {
+  const level = words[at + SPACE.level];
+  return {
+    id: long(longs, at, SPACE.id),
+    parent: level === 0 ? null : long(longs, at, SPACE.parent),
+    level,
+    init: words[at + SPACE.init] || null,
+    fallen: words[at + SPACE.fallen] === 1,
   };
 }
 

@@ -109,6 +109,43 @@ tested("a process group, and all that come from its members", (table) => {
   assert.deepEqual([2, 3, 4, 5, 6].map((task) => table.ask.stat(1, task).live), [false, false, false, false, true]);
 });
 
+/** The namespaces that a task is in, from its own outwards. */
+function spacesOf({ ask }, task) {
+  const spaces = [];
+  for (let id = ask.stat(1, task).space; id !== null; id = spaces.at(-1).parent) spaces.push(ask.space(id));
+  return spaces;
+}
+
+tested("namespaces, from one outwards", (table) => {
+  // 2 is the init of a namespace, and 3 that of one within it, which ends.
+  table.fork(1, { newSpace: true });
+  table.fork(2, { newSpace: true });
+  table.exit(3);
+  assert.deepEqual(spacesOf(table, 3), [
+    { id: 2n, parent: 1n, level: 2, init: 3, fallen: true },
+    { id: 1n, parent: 0n, level: 1, init: 2, fallen: false },
+    { id: 0n, parent: null, level: 0, init: 1, fallen: false },
+  ]);
+});
+
+tested("a namespace until it is gone", (table) => {
+  const { ask } = table;
+  table.fork(1, { newSpace: true });
+  table.join(1, 2);
+  table.fork(1);
+  assert.deepEqual(ask.space(1), { id: 1n, parent: 0n, level: 1, init: 2, fallen: false });
+  table.exit(2);
+  assert.deepEqual(ask.space(1n), { id: 1n, parent: 0n, level: 1, init: 2, fallen: true });
+  table.wait(1, { pid: 2 });
+  assert.deepEqual(ask.space(1n), { id: 1n, parent: 0n, level: 1, init: null, fallen: true });
+  table.wait(1, { pid: 3 });
+  for (const id of [1n, 2, 7n, 2n ** 64n - 1n]) {
+    assert.throws(() => ask.space(id), { name: "RangeError", message: `no namespace has the id ${id}: it is gone, or there was none` });
+  }
+  // No read was a call.
+  assert.equal(table.mk(), 7n);
+});
+
 tested("a task, read at once", (table) => {
   table.fork(1, { newSpace: true });
   const { ask } = table;

@@ -33,6 +33,8 @@ function told(call) {
 
 const sayEnd = ({ killed, status }) => (killed ? "killed" : `exit ${status}`);
 
+const saySpace = ({ id, parent, level, init, fallen }) => `space ${id} parent ${parent ?? "-"} level ${level} init ${init ?? "-"}${fallen ? " fallen" : ""}`;
+
 /** What the method of the line tells, or the refusal. */
 function byItsMethod(table, line) {
   const [name, first, word, number] = line.split(" ");
@@ -147,6 +149,12 @@ class World {
     return found;
   }
 
+  space(id) {
+    const [space, ...others] = [this.record, ...this.tables].map(({ ask }) => told(() => saySpace(ask.space(id))));
+    for (const other of others) assert.equal(other, space);
+    return space;
+  }
+
   /** The history on a second record: the same replies, counts and list; or it stops at an entry with another answer, or of a worker that is none. */
   replay(change, place) {
     const entries = [...this.record.entries()];
@@ -190,6 +198,7 @@ class World {
     if (["counts", "worker", "entry", "read", "checkpoint", "checkpoint_at"].includes(word)) return this.read(word, numbers);
     if (word === "stat") return this.stat(...numbers);
     if (word === "page") return this.page(...numbers);
+    if (word === "space") return this.space(...numbers);
     if (word === "json") return this.call(words.join(" ")) && toJson(this.told);
     if (word === "parse") return lineOfFault(text);
     const steps = {

@@ -27,6 +27,16 @@ test("a task", { skip }, () => {
   assert.equal(toJson(table.ask.stat(1)), task);
 });
 
+test("a namespace", { skip }, () => {
+  const { Table, toJson } = pidtab;
+  const table = new Table();
+  table.fork(1, { newSpace: true });
+  table.exit(2);
+  assert.equal(toJson(table.ask.space(0)), '{"id":0,"parent":null,"level":0,"init":1,"fallen":false}');
+  assert.equal(toJson(table.ask.space(1)), '{"id":1,"parent":0,"level":1,"init":2,"fallen":true}');
+  assert.equal(toJson({ ...table.ask.space(1), init: null }), '{"id":1,"parent":0,"level":1,"init":null,"fallen":true}');
+});
+
 test("a label is in the list and in its JSON, and not in the table", { skip }, () => {
   const table = new pidtab.Table();
   table.fork(1);

@@ -23,6 +23,8 @@ test("numbers of another kind, and out of range", { skip }, () => {
     for (const given of [["1"], [], [1, "1"], [1, null], [1, 0, "2"], [1, 0, {}]]) assert.throws(() => page(...given), TypeError);
     for (const given of [[-1], [1, 2 ** 32], [1, 0, 0.5], [1, 0, -1]]) assert.throws(() => page(...given), RangeError);
   }
+  for (const id of ["1", undefined, null, {}]) assert.throws(() => ask.space(id), TypeError);
+  for (const id of [-1, -1n, 2n ** 64n, 2 ** 53, 0.5]) assert.throws(() => ask.space(id), { name: "RangeError", message: /^id is an integer, 0 to / });
   const ranges = [() => table.getpid(-1), () => table.getpid(2 ** 32), () => table.getpid(1.5), () => table.getpid(NaN), () => table.exit(1, 256)];
   const more = [() => table.mk(-1n), () => table.mk(2n ** 64n), () => table.mk(2 ** 53), () => table.setpgid(1, 2 ** 31), () => table.limit(1n, -1)];
   for (const call of [...ranges, ...more]) assert.throws(call, RangeError);
@@ -54,7 +56,7 @@ test("a table that was closed", { skip }, () => {
   table.close();
   const foretold = [() => would.fork(1), () => would.mk(), () => table.forkAt(1, { child: 2, root: 2 })];
   const pages = [() => ask.children(1), () => ask.groupMembers(1), () => ask.sessionMembers(1)];
-  for (const call of [...foretold, () => table.fork(1), () => table.line("fork 1"), () => table.list(), () => table.dump(), () => ask.getpid(1), () => ask.stat(1), () => table.mk(), ...pages]) {
+  for (const call of [...foretold, () => table.fork(1), () => table.line("fork 1"), () => table.list(), () => table.dump(), () => ask.getpid(1), () => ask.stat(1), () => ask.space(0), () => table.mk(), ...pages]) {
     assert.throws(call, { name: "TableClosed", code: "EBADF", message: "the table was closed" });
   }
 });

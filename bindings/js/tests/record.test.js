@@ -48,6 +48,16 @@ test("children and members, of a record and of a seat, are not recorded", { skip
   assert.equal(record.counts().recorded, 3n);
 });
 
+test("namespaces, of a record and of a seat, are not recorded", { skip }, () => {
+  const { record, seats } = recorded();
+  const root = { id: 0n, parent: null, level: 0, init: 1, fallen: false };
+  for (const { ask } of [record, ...seats]) {
+    assert.deepEqual(ask.space(0), root);
+    assert.throws(() => ask.space(9), RangeError);
+  }
+  assert.equal(record.counts().recorded, 3n);
+});
+
 test("the entries are made again on another table", { skip }, () => {
   const { record } = recorded();
   const again = new Record({ workers: 2 });

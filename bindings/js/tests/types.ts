@@ -1,6 +1,6 @@
 // What a user of the types writes, and what the compiler has to refuse. Nothing here is run.
 
-import { BadText, Entry, Forked, Lines, Listing, Queries, Reaped, Record, Refusal, Stat, Table, toJson } from "../pidtab.js";
+import { BadText, Entry, Forked, Lines, Listing, Queries, Reaped, Record, Refusal, SpaceStat, Stat, Table, toJson } from "../pidtab.js";
 
 const table = new Table({ pidMax: 400 });
 const child: Forked = table.fork(1, { newSpace: true });
@@ -11,11 +11,12 @@ table.limit(group, null);
 table.move(child.root, Number(group));
 const listing: Listing = Table.load(table.dump()).list();
 const stat: Stat = table.ask.stat(1);
+const space: SpaceStat = table.ask.space(stat.space);
 const belonging: number[] = [...table.ask.children(1), ...table.ask.groupMembers(1, 2), ...table.ask.sessionMembers(1, 0, 3)];
 table.label(child.root, "nginx");
 table.label(child.root, null);
 const label: string | undefined = listing.tasks[0].label;
-const json: string[] = [toJson(listing), toJson(stat), toJson(child), toJson(reaped), toJson(group), toJson(numbers), toJson(table.rm(group))];
+const json: string[] = [toJson(listing), toJson(stat), toJson(space), toJson(child), toJson(reaped), toJson(group), toJson(numbers), toJson(table.rm(group))];
 
 const line: string = new Lines().fork(1, { newSpace: true });
 

@@ -383,6 +383,7 @@ class Refusals(Cluster):
             self.assertEqual(two.ask(now=True).count(), number)
             self.assertEqual(two.ask(now=True).stat(number).numbers, (number,))
             self.assertEqual(two.ask(now=True).children(1, start=number), (number,))
+            self.assertEqual(two.ask(now=True).space(0).init, 1)
         self.assertEqual(one.mk(), 59)
         marks = etcds.ask("/v3/kv/range", {"key": text64("web:~mark")})
         self.assertEqual(len(marks["kvs"]), 1)

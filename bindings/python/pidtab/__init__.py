@@ -7,7 +7,7 @@ if sys.version_info < (3, 10):
     raise ImportError("pidtab needs Python 3.10 or later, and this is Python %d.%d" % sys.version_info[:2])
 
 from pidtab.accounts import Accounts
-from pidtab.answers import Forked, Reaped, Stat
+from pidtab.answers import Forked, Reaped, SpaceStat, Stat
 from pidtab.bounds import DEFAULT_PID_MAX, GREATEST_PID_MAX, LEAST_PID_MAX
 from pidtab.calls import Calls, Kind, Queries
 from pidtab.etcd_log import EtcdLog
@@ -93,6 +93,7 @@ __all__ = [
     "SeatsTaken",
     "Shared",
     "Space",
+    "SpaceStat",
     "Stat",
     "Submitted",
     "Table",

@@ -7,7 +7,7 @@ from dataclasses import dataclass
 from typing import Any, Generic, NamedTuple, TypeVar
 
 from pidtab.faults import ProgramFault, say_why, shorten
-from pidtab.raw import CONTROL, COUNTED, END, FORKED, KILLED, LEVELS, NONE_YET, NUMBER, OK, REAPED, REFUSED, PidtabReply, PidtabTask
+from pidtab.raw import CONTROL, COUNTED, END, FORKED, KILLED, LEVELS, NONE_YET, NUMBER, OK, REAPED, REFUSED, PidtabReply, PidtabSpace, PidtabTask
 
 T = TypeVar("T")
 
@@ -67,6 +67,25 @@ class Stat:
         """Its fields as docs/list.schema.json has them, for `json`."""
         fields = vars(self) | {"numbers": list(self.numbers), "live": "live" if self.live else "killed" if self.killed else "exited"}
         return {"state" if name == "live" else name: value for name, value in fields.items()}
+
+
+@dataclass(frozen=True)
+class SpaceStat:
+    """A namespace: its id, that of the one around it, None for the root, and how many are around it, 0 to 32.
+
+    Then the root number of its init, which may have ended, None where that was reaped, and whether it has ended. A fallen namespace takes no task any more, and is
+    gone with the last number in it.
+    """
+
+    id: int
+    parent: int | None
+    level: int
+    init: int | None
+    fallen: bool
+
+    def to_object(self) -> dict[str, Any]:
+        """Its fields as docs/list.schema.json has them, for `json`."""
+        return dict(vars(self))
 
 
 def match(pattern: str, answer: str) -> "re.Match[str]":
@@ -139,6 +158,11 @@ def tell_stat(task: PidtabTask) -> Stat:
     numbers = tuple(task.levels[: task.count])
     seen = (numbers, task.root, task.parent, task.group, task.session, task.space, task.control)
     return Stat(*seen, not task.ended, status, bool(task.executed), bool(task.subreaper))
+
+
+def tell_space(space: PidtabSpace) -> SpaceStat:
+    """What was read of a namespace."""
+    return SpaceStat(space.id, space.parent if space.level else None, space.level, space.init or None, bool(space.fallen))
 
 
 def say_ended(status: int) -> str:

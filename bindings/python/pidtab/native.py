@@ -6,7 +6,7 @@ from abc import abstractmethod
 from collections.abc import Callable, Sequence
 from typing import TYPE_CHECKING, NoReturn, Protocol, SupportsIndex, TypeVar
 
-from pidtab.answers import Forked, Form, Stat, tell_stat
+from pidtab.answers import Forked, Form, SpaceStat, Stat, tell_space, tell_stat
 from pidtab.bounds import check_range
 from pidtab.calls import Call, Calls, EachCall, Queries
 from pidtab.faults import LibraryFault, TableClosed, bad_text, read_fault, refusal_of, say_why
@@ -31,6 +31,7 @@ from pidtab.raw import (
     PidtabCall,
     PidtabFault,
     PidtabReply,
+    PidtabSpace,
     PidtabTask,
 )
 
@@ -44,6 +45,7 @@ SHORT_PAGE = 64
 BELONGING = {TASKS: ("children", "pid"), GROUPS: ("group_members", "group"), SESSIONS: ("session_members", "session")}
 
 GREATEST_PID = 2**32 - 1
+GREATEST_ID = 2**64 - 1
 
 # It always lives, and sees all tasks by their root numbers.
 ROOT_INIT = 1
@@ -172,6 +174,17 @@ def read_page(kind: int, asked: Sequence[SupportsIndex], read: Callable[..., int
         there = reply.first + reply.first // 8
 
 
+def read_space(id: SupportsIndex, read: Callable[[int, PidtabSpace], int]) -> SpaceStat:
+    """What is read of a namespace by a function that takes its id, and answers a status."""
+    number, space = check_range("id", id, 0, GREATEST_ID), PidtabSpace()
+    status = read(number, space)
+    if status == OUT_OF_RANGE:
+        raise LookupError(f"no namespace has the id {number}: it is gone, or there was none")
+    if status != DONE:
+        raise fault_of(status, f"space {number}")
+    return tell_space(space)
+
+
 class Asked(Protocol):
     """A table that answers queries."""
 
@@ -184,6 +197,8 @@ class Asked(Protocol):
     def _stat(self, caller: int, pid: int, task: PidtabTask) -> int: ...
 
     def _page(self, *taken: object) -> int: ...
+
+    def _space(self, id: int, space: PidtabSpace) -> int: ...
 
 
 class OfTable:
@@ -211,7 +226,7 @@ class Would(OfTable, EachCall):
 class Ask(OfTable, Queries):
     """Queries that are no calls, as the `ask` of a table: they are neither counted nor recorded, and shift no later id.
 
-    It has the queries, `stat`, and the lists of children and of members, and no other call. As long as somebody has it, the table is not dropped.
+    It has the queries, `stat`, `space`, and the lists of children and of members, and no other call. As long as somebody has it, the table is not dropped.
     """
 
     def _make(self, call: Call, form: Form[T]) -> T:
@@ -238,6 +253,11 @@ class Ask(OfTable, Queries):
     def session_members(self, caller: int, session: int = 0, start: int = 0) -> tuple[int, ...]:
         """The members of the session, where 0 is the caller's own, as `children` has those of a task. no-caller."""
         return self._belonging(SESSIONS, caller, session, start)
+
+    def space(self, id: int) -> SpaceStat:
+        """The namespace with the id, where 0 is the root namespace, in one read; LookupError where there is none, or it is gone."""
+        self._table._check_owner()
+        return read_space(id, self._table._space)
 
     def _belonging(self, kind: int, *asked: int) -> tuple[int, ...]:
         self._table._check_owner()

@@ -161,6 +161,24 @@ class PidtabTask(ctypes.Structure):
     ]
 
 
+class PidtabSpace(ctypes.Structure):
+    """`struct pidtab_space`."""
+
+    id: int
+    parent: int
+    level: int
+    init: int
+    fallen: int
+
+    _fields_ = [
+        ("id", ctypes.c_uint64),
+        ("parent", ctypes.c_uint64),
+        ("level", ctypes.c_uint32),
+        ("init", ctypes.c_uint32),
+        ("fallen", ctypes.c_uint32),
+    ]
+
+
 class PidtabEntry(ctypes.Structure):
     """`struct pidtab_entry`."""
 
@@ -238,6 +256,7 @@ CALL = ctypes.POINTER(PidtabCall)
 CALL_BYTES = ctypes.c_char_p
 REPLY = ctypes.POINTER(PidtabReply)
 TASK = ctypes.POINTER(PidtabTask)
+SPACE = ctypes.POINTER(PidtabSpace)
 FAULT = ctypes.POINTER(PidtabFault)
 ENTRIES = ctypes.POINTER(PidtabEntry)
 BYTES = ctypes.POINTER(ctypes.c_char)
@@ -268,6 +287,7 @@ LATER_FUNCTIONS: dict[str, Function] = {
     "pidtab_ask": (U32, [TABLE, CALL_BYTES, REPLY]),
     "pidtab_stat": (U32, [TABLE, U32, U32, TASK]),
     "pidtab_page": (U32, [TABLE, U32, U32, U32, U32, NUMBER_32, SIZE_T, REPLY]),
+    "pidtab_space": (U32, [TABLE, U64, SPACE]),
     "pidtab_would": (U32, [TABLE, CALL_BYTES, REPLY]),
     "pidtab_fork_at": (U32, [TABLE, U32, U32, U32, U32, REPLY]),
     "pidtab_reply_line": (U32, [REPLY, BYTES, SIZE_T, SIZE]),
@@ -283,6 +303,7 @@ SHARED_FUNCTIONS: dict[str, Function] = {
     "pidtab_shared_ask": (U32, [SHARED, CALL_BYTES, REPLY]),
     "pidtab_shared_stat": (U32, [SHARED, U32, U32, TASK]),
     "pidtab_shared_page": (U32, [SHARED, U32, U32, U32, U32, NUMBER_32, SIZE_T, REPLY]),
+    "pidtab_shared_space": (U32, [SHARED, U64, SPACE]),
     "pidtab_shared_would": (U32, [SHARED, CALL_BYTES, REPLY]),
     "pidtab_shared_fork_at": (U32, [SHARED, U32, U32, U32, U32, U32, REPLY, NUMBER_64]),
     "pidtab_shared_counts": (U32, [SHARED, NUMBER_64, NUMBER_64]),

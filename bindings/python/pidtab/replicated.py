@@ -5,13 +5,13 @@ from contextlib import suppress
 from operator import index
 from typing import TypeVar
 
-from pidtab.answers import Form, Stat
+from pidtab.answers import Form, SpaceStat, Stat
 from pidtab.bounds import DEFAULT_PID_MAX, check_pid_max, check_seconds
 from pidtab.calls import Call, Calls, as_line
 from pidtab.faults import LibraryFault, NotKept
 from pidtab.log import CutLog, Log
 from pidtab.native import Ask, AskableCalls, pack
-from pidtab.raw import PidtabReply, PidtabTask
+from pidtab.raw import PidtabReply, PidtabSpace, PidtabTask
 from pidtab.replica import Replica
 from pidtab.submitted import Submitted, deadline_behind
 from pidtab.table import Table
@@ -42,6 +42,11 @@ class ReplicaAsk(Ask):
         """As `Ask.stat`, of this host's own table."""
         self._wait()
         return super().stat(caller, pid)
+
+    def space(self, id: int) -> SpaceStat:
+        """As `Ask.space`, of this host's own table."""
+        self._wait()
+        return super().space(id)
 
     def _belonging(self, kind: int, *asked: int) -> tuple[int, ...]:
         self._wait()
@@ -199,6 +204,10 @@ class Replicated(AskableCalls):
     def _page(self, *taken: object) -> int:
         super()._check_owner()
         return self._replica.read(lambda table: as_table(table)._page(*taken))
+
+    def _space(self, id: int, space: PidtabSpace) -> int:
+        super()._check_owner()
+        return self._replica.read(lambda table: as_table(table)._space(id, space))
 
     def _list_text(self) -> str:
         super()._check_owner()

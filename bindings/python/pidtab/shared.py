@@ -36,6 +36,7 @@ from pidtab.raw import (
     PidtabReply,
     PidtabSavedHead,
     PidtabShared,
+    PidtabSpace,
     PidtabTask,
 )
 from pidtab.saved import FilePath, Saved, SavedFile
@@ -149,6 +150,9 @@ class Seat(NumberCalls):
 
     def _page(self, *taken: object) -> int:
         return self.shared._page(*taken)
+
+    def _space(self, id: int, space: PidtabSpace) -> int:
+        return self.shared._space(id, space)
 
     def _would(self, call: bytes, reply: PidtabReply) -> int:
         return self.shared._would(call, reply)
@@ -662,6 +666,9 @@ class Shared(Labelled, Owner):
 
     def _page(self, *taken: object) -> int:
         return self._status("pidtab_shared_page", *taken)
+
+    def _space(self, id: int, space: PidtabSpace) -> int:
+        return self._status("pidtab_shared_space", id, space)
 
     def _would(self, call: bytes, reply: PidtabReply) -> int:
         return self._status("pidtab_shared_would", call, reply)

@@ -8,7 +8,7 @@ from pidtab.bounds import DEFAULT_PID_MAX, check_pid_max
 from pidtab.labels import Labels
 from pidtab.library import call_later, find_library, load_library
 from pidtab.native import Ask, NumberCalls, check_loaded, fault_of, head_of, read_written, text_bytes
-from pidtab.raw import DONE, Pidtab, PidtabFault, PidtabReply, PidtabTask
+from pidtab.raw import DONE, Pidtab, PidtabFault, PidtabReply, PidtabSpace, PidtabTask
 
 
 class Table(NumberCalls):
@@ -89,6 +89,9 @@ class Table(NumberCalls):
 
     def _page(self, *taken: object) -> int:
         return self._later("pidtab_page", *taken)
+
+    def _space(self, id: int, space: PidtabSpace) -> int:
+        return self._later("pidtab_space", id, space)
 
     def _would(self, call: bytes, reply: PidtabReply) -> int:
         return self._later("pidtab_would", call, reply)

@@ -6,7 +6,7 @@ import unittest
 from collections.abc import Iterator
 from typing import Any
 
-from pidtab import BadList, BadText, Calls, NotKept, Process, ProgramMissing, Queries, Refusal, SeatsTaken, Shared, Stat, Table, find_program, read_list
+from pidtab import BadList, BadText, Calls, NotKept, Process, ProgramMissing, Queries, Refusal, SeatsTaken, Shared, SpaceStat, Stat, Table, find_program, read_list
 from pidtab.calls import Call
 from pidtab.forms import QUERIES, say_answer
 from pidtab.history import Entry
@@ -46,6 +46,12 @@ def say_task(task: Stat) -> str:
     marks = " executed" * task.executed + " subreaper" * task.subreaper
     family = f"root {task.root} space {task.space} parent {task.parent} group {task.group} session {task.session} control {task.control}"
     return f"{','.join(map(str, task.numbers))} {family} {end}{marks}"
+
+
+def say_space(space: SpaceStat) -> str:
+    """A namespace that was read, in the words of the list."""
+    parent, init = ("-" if it is None else it for it in (space.parent, space.init))
+    return f"space {space.id} parent {parent} level {space.level} init {init}{' fallen' * space.fallen}"
 
 
 def value_of(table: Calls, line: str) -> Any:
@@ -180,6 +186,18 @@ class World:
         (page,) = told
         return page
 
+    def space(self, id: int) -> str:
+        """A namespace that is read at once."""
+        assert self.shared is not None
+        told = set()
+        for queries in [self.shared.ask, *[it.ask for it in self.tables if isinstance(it, Table)]]:
+            try:
+                told.add(say_space(queries.space(id)))
+            except LookupError:
+                told.add("OUT_OF_RANGE")
+        (space,) = told
+        return space
+
     def read(self, word: str, numbers: list[int]) -> str:
         """What a step of a history tells."""
         assert self.shared is not None
@@ -230,6 +248,8 @@ class World:
             return self.stat(*numbers)
         elif word == "page":
             return self.page(*numbers)
+        elif word == "space":
+            return self.space(*numbers)
         elif word in ("list", "dump"):
             assert self.shared is not None
             for table in [self.shared, *self.tables]:

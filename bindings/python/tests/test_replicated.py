@@ -164,6 +164,8 @@ class Answers(Hosts):
             self.open().ask.getpid(1)
         with self.assertRaisesRegex(LibraryFault, "open it with table=pidtab.Table"):
             self.open().ask.children(1)
+        with self.assertRaisesRegex(LibraryFault, "open it with table=pidtab.Table"):
+            self.open().ask.space(0)
 
     def test_a_late_host(self) -> None:
         one = self.open()

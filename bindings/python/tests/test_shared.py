@@ -193,7 +193,7 @@ def methods_of(shared: Shared) -> list[Callable[[], object]]:
     """Each method of a table for threads, but its end."""
     return [
         shared.seat, shared.counts, lambda: shared.worker(0), lambda: shared.entry(0), shared.entries, lambda: shared.entries(0), shared.checkpoint,
-        lambda: shared.checkpoint_at(0), lambda: shared.save("/none/none"), shared.list, shared.list_text, shared.tree, lambda: shared.ask.getpid(1), lambda: shared.ask.count(), lambda: shared.ask.stat(1), lambda: shared.ask.children(1),
+        lambda: shared.checkpoint_at(0), lambda: shared.save("/none/none"), shared.list, shared.list_text, shared.tree, lambda: shared.ask.getpid(1), lambda: shared.ask.count(), lambda: shared.ask.stat(1), lambda: shared.ask.children(1), lambda: shared.ask.space(0),
     ]  # fmt: skip
 
 
@@ -491,6 +491,8 @@ class Asking(unittest.TestCase):
             table.ask.stat(1)
         with self.assertRaisesRegex(LibraryFault, "^early.so has no function pidtab_page, as the library of an earlier release: build it with"):
             table.ask.children(1)
+        with self.assertRaisesRegex(LibraryFault, "^early.so has no function pidtab_space, as the library of an earlier release: build it with"):
+            table.ask.space(0)
 
 
 class Misuse(unittest.TestCase):

@@ -166,6 +166,16 @@ impl World {
         }
     }
 
+    /// A namespace that is read at once.
+    fn space(&mut self, id: u64) -> String {
+        let told = self.shared.space(id);
+        assert!(self.tables.iter().all(|it| it.space(id) == told));
+        match told.expect("a read") {
+            None => "OUT_OF_RANGE".to_owned(),
+            Some(it) => say_space(&it),
+        }
+    }
+
     /// What a step of a history tells.
     fn read(&mut self, words: &[&str]) -> String {
         let numbers: Vec<u64> = words[1..]
@@ -342,6 +352,16 @@ fn say_task(it: &Stat) -> String {
     format!("{numbers} root {root} space {space} parent {parent} group {group} session {session} control {control} {end}{marks}")
 }
 
+fn say_space(it: &SpaceStat) -> String {
+    let or_none = |number: Option<u64>| number.map_or("-".to_owned(), |it| it.to_string());
+    let (parent, init) = (or_none(it.parent), or_none(it.init.map(u64::from)));
+    let fallen = if it.fallen { " fallen" } else { "" };
+    format!(
+        "space {} parent {parent} level {} init {init}{fallen}",
+        it.id, it.level
+    )
+}
+
 /// The line of the call that the numbers say, which has the same numbers again.
 fn line_of(words: &[&str]) -> String {
     let number = |at: usize| words[at].parse::<i64>().expect("a number");
@@ -445,6 +465,7 @@ fn make_open(
         }
         "stat" => return world.stat(numbers[0] as u32, numbers[1] as u32),
         "page" => return world.page(numbers),
+        "space" => return world.space(numbers[0]),
         "list" | "dump" | "opening" => assert_eq!(world.text(word), text),
         "reload" => world.reload(),
         "differs" | "stranger" => world.replay(Some((word, numbers[0] as usize))),

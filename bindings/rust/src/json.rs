@@ -1,5 +1,5 @@
-//! JSON, as docs/list.schema.json has it: its parts, and replies and tasks. `listing.rs` has lists.
-use crate::{Child, Ended, Error, Reaped, Refusal, Reply, Stat};
+//! JSON, as docs/list.schema.json has it: its parts, replies, and what is read of tasks and namespaces. `listing.rs` has lists.
+use crate::{Child, Ended, Error, Reaped, Refusal, Reply, SpaceStat, Stat};
 use std::fmt;
 
 /// The items of an array.
@@ -95,6 +95,20 @@ impl Stat {
             or_null(status),
             self.executed(),
             self.subreaper(),
+        )
+    }
+}
+
+impl SpaceStat {
+    /// The namespace as JSON, as docs/list.schema.json has it.
+    pub fn to_json(&self) -> String {
+        format!(
+            r#"{{"id":{},"parent":{},"level":{},"init":{},"fallen":{}}}"#,
+            self.id,
+            or_null(self.parent),
+            self.level,
+            or_null(self.init),
+            self.fallen,
         )
     }
 }

@@ -35,6 +35,7 @@ mod page;
 mod raw;
 mod saved;
 mod shared;
+mod space;
 mod stat;
 pub mod testing;
 mod texts;
@@ -45,6 +46,7 @@ pub use fault::{Error, LineError, Refusal, ReplayError, TextError, TextFault};
 pub use listing::{BadList, Control, Listing, Space, Task};
 pub use saved::{Saved, SavedError, SavedFault};
 pub use shared::{Counts, Entry, Locked, Options, Record, Seat, Shared, Turn};
+pub use space::SpaceStat;
 pub use stat::Stat;
 
 use labels::Labels;
@@ -360,6 +362,7 @@ mod tests {
         assert_eq!(table.ask(Call::Getpid { caller: 1 }), Err(Error::Busy));
         assert_eq!(table.stat(1, 0), Err(Error::Busy));
         assert_eq!(table.children(1, 0, 0), Err(Error::Busy));
+        assert_eq!(table.space(0), Err(Error::Busy));
         assert_eq!(table.line("getpid 1"), Err(LineError::Busy));
         assert_eq!(table.list(), Err(Error::Busy));
         assert_eq!(table.dump(), Err(Error::Busy));

@@ -228,6 +228,27 @@ impl Task {
     };
 }
 
+/// `struct pidtab_space`.
+#[repr(C)]
+#[derive(Clone, Copy, Debug, PartialEq)]
+pub(crate) struct Space {
+    pub(crate) id: u64,
+    pub(crate) parent: u64,
+    pub(crate) level: u32,
+    pub(crate) init: u32,
+    pub(crate) fallen: u32,
+}
+
+impl Space {
+    pub(crate) const BLANK: Space = Space {
+        id: 0,
+        parent: 0,
+        level: 0,
+        init: 0,
+        fallen: 0,
+    };
+}
+
 /// `struct pidtab_entry`.
 #[repr(C)]
 #[derive(Clone, Copy, Debug, PartialEq)]
@@ -307,6 +328,7 @@ extern "C" {
         room: usize,
         reply: *mut Reply,
     ) -> u32;
+    fn pidtab_space(table: *const Held, id: u64, space: *mut Space) -> u32;
     fn pidtab_would(table: *const Held, call: *const Call, reply: *mut Reply) -> u32;
     fn pidtab_fork_at(
         table: *mut Held,
@@ -373,6 +395,7 @@ extern "C" {
         room: usize,
         reply: *mut Reply,
     ) -> u32;
+    fn pidtab_record_space(record: *const Held, id: u64, space: *mut Space) -> u32;
     fn pidtab_record_would(record: *const Held, call: *const Call, reply: *mut Reply) -> u32;
     fn pidtab_record_fork_at(
         record: *mut Held,
@@ -592,6 +615,11 @@ impl Table {
         }
     }
 
+    pub(crate) fn space(&self, id: u64, space: &mut Space) -> u32 {
+        // SAFETY: it is open and lent to queries alone; each pointer is that of a reference or of a slice with that length.
+        unsafe { pidtab_space(&*self.held, id, space) }
+    }
+
     pub(crate) fn would(&self, call: &Call, reply: &mut Reply) -> u32 {
         // SAFETY: it is open and lent to queries alone; each pointer is that of a reference or of a slice with that length.
         unsafe { pidtab_would(&*self.held, call, reply) }
@@ -747,6 +775,11 @@ impl Record {
                 reply,
             )
         }
+    }
+
+    pub(crate) fn space(&self, id: u64, space: &mut Space) -> u32 {
+        // SAFETY: it is open and lent to queries alone; each pointer is that of a reference or of a slice with that length.
+        unsafe { pidtab_record_space(&*self.held, id, space) }
     }
 
     pub(crate) fn would(&self, call: &Call, reply: &mut Reply) -> u32 {

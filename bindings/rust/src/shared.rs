@@ -6,7 +6,7 @@ use crate::calls::sealed::Sealed;
 use crate::labels::Labels;
 use crate::{
     page, raw, texts, Call, Calls, Child, Error, LineError, Listing, ReplayError, Reply,
-    SavedError, Stat, Table, TextError,
+    SavedError, SpaceStat, Stat, Table, TextError,
 };
 use std::ops::{Deref, DerefMut};
 use std::sync::atomic::{AtomicBool, AtomicU32, AtomicU64, Ordering};
@@ -396,6 +396,14 @@ impl Shared {
         self.look().session_members(caller, number, from)
     }
 
+    /// As [`Record::space`].
+    ///
+    /// # Errors
+    /// `Busy`.
+    pub fn space(&self, id: u64) -> Result<Option<SpaceStat>, Error> {
+        self.look().space(id)
+    }
+
     /// As [`Record::counts`].
     ///
     /// # Errors
@@ -719,6 +727,25 @@ impl Record {
 
     fn belonging(&self, kind: u32, caller: u32, number: u32, from: u32) -> Result<Vec<u32>, Error> {
         page::all(|numbers, reply| self.raw.page(caller, kind, number, from, numbers, reply))
+    }
+
+    /// Reads the namespace with the id, as [`Table::space`] does. It is no call, and is not recorded.
+    ///
+    /// ```
+    /// use pidtab::{Calls, Shared};
+    ///
+    /// let shared = Shared::open(32768, 1)?;
+    /// shared.seat()?.fork(1, true)?;
+    /// assert_eq!(shared.space(1)?.and_then(|it| it.init), Some(2));
+    /// assert_eq!(shared.space(2)?, None);
+    /// # Ok::<(), pidtab::Error>(())
+    /// ```
+    ///
+    /// # Errors
+    /// `Busy`.
+    pub fn space(&self, id: u64) -> Result<Option<SpaceStat>, Error> {
+        let mut space = raw::Space::BLANK;
+        SpaceStat::of(self.raw.space(id, &mut space), space)
     }
 
     /// The ordinal of the first kept entry, and how many calls were recorded, the cut ones too.

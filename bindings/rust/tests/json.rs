@@ -1,5 +1,5 @@
-//! What methods answer as JSON, and tasks. Replies are in interface/cases.
-use pidtab::{Calls, Ended, Error, Reaped, Refusal, Table};
+//! What methods answer as JSON, tasks and namespaces. Replies are in interface/cases.
+use pidtab::{Calls, Ended, Error, Reaped, Refusal, SpaceStat, Table};
 
 #[test]
 fn answers() {
@@ -36,4 +36,26 @@ fn tasks() {
         told.ends_with(r#""state":"exited","status":7,"executed":true,"subreaper":true}"#),
         "{told}"
     );
+}
+
+#[test]
+fn namespaces() {
+    let mut table = Table::open(32768).expect("a table");
+    table.fork(1, true).expect("a child");
+    table.exit(2, 0).expect("an end");
+    for (id, wanted) in [
+        (
+            0,
+            r#"{"id":0,"parent":null,"level":0,"init":1,"fallen":false}"#,
+        ),
+        (1, r#"{"id":1,"parent":0,"level":1,"init":2,"fallen":true}"#),
+    ] {
+        let space = table.space(id).expect("a read").expect("a namespace");
+        assert_eq!(space.to_json(), wanted);
+        let gone = SpaceStat {
+            init: None,
+            ..space
+        };
+        assert!(gone.to_json().contains(r#""init":null"#));
+    }
 }

@@ -1,0 +1,150 @@
+package pidtab
+
+import (
+	"errors"
+	"reflect"
+	"sync"
+	"testing"
+)
+
+// spaceReader is what a Table and a Shared read namespaces by.
+type spaceReader interface {
+	Space(id uint64) (SpaceStat, error)
+}
+
+// inSpace is a namespace within the one with the id.
+func inSpace(parent uint64, space SpaceStat) SpaceStat {
+	space.Parent = &parent
+	return space
+}
+
+// isSpace sees to it that the namespace is so.
+func isSpace(t *testing.T, it spaceReader, wanted SpaceStat) {
+	t.Helper()
+	if found, err := it.Space(wanted.ID); err != nil || !reflect.DeepEqual(found, wanted) {
+		t.Error(found, wanted, err)
+	}
+}
+
+// isNoSpace sees to it that no namespace has the id.
+func isNoSpace(t *testing.T, it spaceReader, id uint64, wanted string) {
+	t.Helper()
+	found, err := it.Space(id)
+	if !errors.Is(err, ErrOutOfRange) || err.Error() != wanted || !reflect.DeepEqual(found, SpaceStat{}) {
+		t.Error(found, err)
+	}
+}
+
+// openSpaces has a table and a shared one. The ids are the numbers of calls: 2 is the init of 1, and 3 that of 2 within it. 4 is that of 3, in which is 5, a
+// child of the root init.
+func openSpaces(t *testing.T) (*Table, *Shared, *Seat) {
+	t.Helper()
+	table, shared := open(t, 32768), openShared(t, Settings{PidMax: 32768, Workers: 1})
+	seat, err := shared.Seat()
+	if err != nil {
+		t.Fatal(err)
+	}
+	makeBoth(t, table, seat, "fork 1 new", "fork 2 new", "fork 1 new", "join 1 4", "fork 1")
+	return table, shared, seat
+}
+
+// makeBoth makes calls at both.
+func makeBoth(t *testing.T, table *Table, seat *Seat, lines ...string) {
+	t.Helper()
+	play(t, table, lines...)
+	play(t, seat, lines...)
+}
+
+func TestNamespaces(t *testing.T) {
+	table, shared, seat := openSpaces(t)
+	both := []spaceReader{table, shared}
+	for _, it := range both {
+		isSpace(t, it, SpaceStat{ID: 0, Level: 0, Init: 1})
+		isSpace(t, it, inSpace(0, SpaceStat{ID: 1, Level: 1, Init: 2}))
+		isSpace(t, it, inSpace(1, SpaceStat{ID: 2, Level: 2, Init: 3}))
+		isSpace(t, it, inSpace(0, SpaceStat{ID: 3, Level: 1, Init: 4}))
+		// 4 is the number of a call that made no namespace, and 6 of no call.
+		isNoSpace(t, it, 4, "pidtab: no namespace has the id 4: it is gone, or there was none")
+		isNoSpace(t, it, 6, "pidtab: no namespace has the id 6: it is gone, or there was none")
+		isNoSpace(t, it, 1<<64-1, "pidtab: no namespace has the id 18446744073709551615: it is gone, or there was none")
+	}
+	makeBoth(t, table, seat, "exit 4 7")
+	for _, it := range both {
+		isSpace(t, it, inSpace(0, SpaceStat{ID: 3, Level: 1, Init: 4, Fallen: true}))
+	}
+	makeBoth(t, table, seat, "wait 1 pid 4")
+	for _, it := range both {
+		isSpace(t, it, inSpace(0, SpaceStat{ID: 3, Level: 1, Fallen: true}))
+	}
+	makeBoth(t, table, seat, "wait 1 pid 5", "exit 2 0")
+	for _, it := range both {
+		isNoSpace(t, it, 3, "pidtab: no namespace has the id 3: it is gone, or there was none")
+		// What is within a namespace goes at once with its init.
+		isSpace(t, it, inSpace(0, SpaceStat{ID: 1, Level: 1, Init: 2, Fallen: true}))
+		isNoSpace(t, it, 2, "pidtab: no namespace has the id 2: it is gone, or there was none")
+	}
+	if counts, err := shared.Counts(); err != nil || counts.Recorded != 9 {
+		t.Error(counts, err)
+	}
+	if id, err := table.Mk(0); err != nil || id != 10 {
+		t.Error(id, err)
+	}
+}
+
+func TestNamespacesOfWhatIsClosed(t *testing.T) {
+	table, shared, _ := openSpaces(t)
+	table.Close()
+	shared.Close()
+	for _, it := range []spaceReader{table, shared} {
+		if _, err := it.Space(0); !errors.Is(err, ErrClosed) {
+			t.Error(err)
+		}
+	}
+}
+
+func TestNamespacesAsJSON(t *testing.T) {
+	table := open(t, 32768)
+	play(t, table, "fork 1 new", "join 1 2", "fork 1", "exit 2 7")
+	root, _ := table.Space(0)
+	space, _ := table.Space(1)
+	table.Wait(1, Pid(2))
+	last, _ := table.Space(1)
+	wanted := `[{"id":0,"parent":null,"level":0,"init":1,"fallen":false},{"id":1,"parent":0,"level":1,"init":2,"fallen":true},` +
+		`{"id":1,"parent":0,"level":1,"init":null,"fallen":true}]`
+	if got := asJSON(t, []SpaceStat{root, space, last}); got != wanted {
+		t.Error(got)
+	}
+}
+
+func TestNamespacesBesideAWriter(t *testing.T) {
+	const forks, readers = 300, 3
+	shared := openShared(t, Settings{PidMax: 32768, Workers: 1})
+	seat, err := shared.Seat()
+	if err != nil {
+		t.Fatal(err)
+	}
+	var all sync.WaitGroup
+	for range [readers]int{} {
+		all.Add(1)
+		go func() {
+			defer all.Done()
+			for id := uint64(1); id <= forks; {
+				found, err := shared.Space(id)
+				if errors.Is(err, ErrOutOfRange) {
+					continue
+				}
+				if err != nil || !reflect.DeepEqual(found, inSpace(0, SpaceStat{ID: id, Level: 1, Init: uint32(id) + 1})) {
+					t.Error(found, err)
+					return
+				}
+				id++
+			}
+		}()
+	}
+	for range [forks]int{} {
+		if _, err := seat.Fork(1, NewNamespace); err != nil {
+			t.Fatal(err)
+		}
+	}
+	all.Wait()
+}

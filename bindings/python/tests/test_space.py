@@ -1,0 +1,223 @@
+"""Reads of namespaces. bindings/c/test_space.c compares more of them."""
+
+import json
+import random
+import threading
+import unittest
+
+import pidtab.native
+import pidtab.shared
+import pidtab.table
+from pidtab import Ask, LibraryFault, MemoryLog, Refusal, Replicated, Seat, Shared, SpaceStat, Table, TableClosed
+from pidtab.native import read_space
+from pidtab.raw import CLOSED, DONE, NO_MEMORY, OUT_OF_RANGE, PidtabSpace
+from tests.test_changes import validator
+from tests.test_ends import OTHERS, in_child
+from tests.test_interrupts import CallInterrupter
+from tests.ways import need_library, need_shared
+
+FILES = {pidtab.native.__file__, pidtab.shared.__file__, pidtab.table.__file__}
+
+SEED = 5
+FORKS = 300
+THREADS = 3
+
+ROOT = SpaceStat(id=0, parent=None, level=0, init=1, fallen=False)
+
+
+def make_spaces(table: Table | Seat) -> None:
+    """The ids are the numbers of calls. 2 is the init of 1, and 3 that of 2 within it. 4 is that of 3, which has fallen: 5, a child of the root init, is there."""
+    table.fork(1, new=True)
+    table.fork(2, new=True)
+    table.fork(1, new=True)
+    table.join(1, 4)
+    table.fork(1)
+    table.exit(4)
+
+
+class Spaces(unittest.TestCase):
+    """On a table of this process, on one for threads, and at a seat of that."""
+
+    def setUp(self) -> None:
+        need_library()
+        need_shared()
+        self.table, self.shared = Table(), Shared()
+        self.addCleanup(self.table.close)
+        self.addCleanup(self.shared.close)
+        self.seat = self.shared.seat()
+        for table in (self.table, self.seat):
+            make_spaces(table)
+
+    def ways(self) -> list[Ask]:
+        """What is asked."""
+        return [self.table.ask, self.shared.ask, self.seat.ask]
+
+    def is_none(self, ask: Ask, id: int) -> None:
+        """No namespace has the id."""
+        with self.assertRaisesRegex(LookupError, f"^no namespace has the id {id}: it is gone, or there was none$"):
+            ask.space(id)
+
+    def test_each_field(self) -> None:
+        for ask in self.ways():
+            self.assertEqual([ask.space(it) for it in (0, 1, 2, 3)], [ROOT, SpaceStat(1, 0, 1, 2, False), SpaceStat(2, 1, 2, 3, False), SpaceStat(3, 0, 1, 4, True)])
+            self.assertIs(ask.space(3).fallen, True)
+
+    def test_ends(self) -> None:
+        for table in (self.table, self.seat):
+            table.wait(1, pid=4)
+            self.assertEqual(table.ask.space(3), SpaceStat(3, 0, 1, None, True))
+            table.wait(1, pid=5)
+            self.is_none(table.ask, 3)
+            # That within it goes at once with its init.
+            table.exit(2)
+            self.assertEqual(table.ask.space(1), SpaceStat(1, 0, 1, 2, True))
+            self.is_none(table.ask, 2)
+
+    def test_ids(self) -> None:
+        for ask in self.ways():
+            # That of a call which made none, the next one, and the greatest.
+            for id in (4, 7, 2**32, 2**64 - 1):
+                self.is_none(ask, id)
+            for value in (-1, 2**64):
+                with self.assertRaisesRegex(ValueError, f"^id is 0 to 18446744073709551615, not {value}$"):
+                    ask.space(value)
+            for none in ("1", 1.0, None):
+                with self.assertRaises(TypeError):
+                    ask.space(none)  # type: ignore[arg-type]
+
+    def test_they_are_no_calls(self) -> None:
+        before = self.shared.counts()
+        for ask in self.ways():
+            ask.space(1)
+        self.assertEqual((self.table.mk(), self.shared.counts(), self.seat.ordinal), (7, before, 5))
+
+    def test_closed(self) -> None:
+        ways = self.ways()
+        self.table.close()
+        self.shared.close()
+        for ask in ways:
+            with self.assertRaises(TableClosed):
+                ask.space(0)
+
+    def test_in_a_child(self) -> None:
+        for ask in self.ways():
+            self.assertEqual(in_child(lambda: ask.space(0)), f"closed: {OTHERS}")
+            self.assertEqual(ask.space(0), ROOT)
+
+    def test_interrupts(self) -> None:
+        for ask in self.ways():
+            places = 0
+            while CallInterrupter(places + 1, FILES).run(lambda: ask.space(3)):
+                places += 1
+                self.assertEqual(ask.space(3), SpaceStat(3, 0, 1, 4, True))
+            self.assertGreater(places, 0)
+
+    def test_values(self) -> None:
+        space = self.table.ask.space(3)
+        with self.assertRaises(AttributeError):
+            space.init = 5  # type: ignore[misc]
+        self.assertEqual(json.dumps(space.to_object()), '{"id": 3, "parent": 0, "level": 1, "init": 4, "fallen": true}')
+        self.assertEqual(json.dumps(ROOT.to_object()), '{"id": 0, "parent": null, "level": 0, "init": 1, "fallen": false}')
+        self.assertEqual(len({space, self.table.ask.space(3), ROOT}), 2)
+
+
+class Others(unittest.TestCase):
+    """Beside the list, on many hosts, and for threads."""
+
+    def test_as_the_list_of_the_table_says(self) -> None:
+        need_library()
+        chance = random.Random(SEED)
+        with Table(301) as table:
+            roots = [1]
+            for _ in range(400):
+                caller, other = chance.choice(roots), chance.choice(roots)
+                calls = [lambda: table.fork(caller, chance.random() < 0.5), lambda: table.fork(1), lambda: table.join(1, other), lambda: table.join(1, 1)]
+                calls += [lambda: table.setpgid(1, other, 0), lambda: table.exit(caller), lambda: table.wait(1)]
+                try:
+                    chance.choice(calls)()
+                except Refusal:
+                    pass
+                self.check(table)
+                roots = [it.root for it in table.list().tasks]
+
+    def check(self, table: Table) -> None:
+        """The list has the namespaces, and the inits as tasks with the number 1 there."""
+        listing = table.list()
+        inits = {it.space: it.root for it in listing.tasks if it.numbers[-1] == 1}
+        levels: dict[int | None, int] = {None: -1}
+        for it in listing.spaces:
+            levels[it.id] = levels[it.parent] + 1
+            self.assertEqual(table.ask.space(it.id), SpaceStat(it.id, it.parent, levels[it.id], inits.get(it.id), it.fallen))
+
+    def test_one_table_on_many_hosts(self) -> None:
+        need_library()
+        log = MemoryLog()
+        with Replicated(log) as one, Replicated(log) as two:
+            root = one.fork(1, new=True).root
+            id = one.ask.stat(1, root).space
+            self.assertEqual([one.ask.space(id), two.ask(now=True).space(id)], [SpaceStat(id, 0, 1, 2, False)] * 2)
+
+    def test_threads_beside_a_writer(self) -> None:
+        need_shared()
+        with Shared(1) as shared:
+            seat, faults = shared.seat(), []
+
+            def read_spaces() -> None:
+                id = 1
+                while id <= FORKS:
+                    try:
+                        told = shared.ask.space(id)
+                    except LookupError:
+                        continue
+                    if told != SpaceStat(id, 0, 1, id + 1, False):
+                        faults.append(told)
+                        return
+                    id += 1
+
+            threads = [threading.Thread(target=read_spaces) for _ in range(THREADS)]
+            for it in threads:
+                it.start()
+            for _ in range(FORKS):
+                seat.fork(1, new=True)
+            for it in threads:
+                it.join()
+            self.assertEqual((faults, shared.counts().recorded), ([], FORKS))
+
+    def test_by_the_schema(self) -> None:
+        check = validator()
+        for space in (ROOT, SpaceStat(2**64 - 2, 0, 32, None, True)):
+            check.validate(space.to_object())
+        self.assertFalse(check.is_valid(SpaceStat(1, 0, 33, 2, False).to_object()))
+
+
+class Reading(unittest.TestCase):
+    """What is made of what the library answers; it is not needed."""
+
+    def read(self, status: int = DONE, **fields: int) -> SpaceStat:
+        """What is told where the library tells these fields."""
+
+        def write(asked: int, space: PidtabSpace) -> int:
+            self.assertEqual(asked, 3)
+            for name, value in fields.items():
+                setattr(space, name, value)
+            return status
+
+        return read_space(3, write)
+
+    def test_fields(self) -> None:
+        self.assertEqual(self.read(init=1), ROOT)
+        self.assertEqual(self.read(id=2**64 - 1, parent=2, level=32, fallen=1), SpaceStat(2**64 - 1, 2, 32, None, True))
+
+    def test_statuses(self) -> None:
+        with self.assertRaisesRegex(LookupError, "^no namespace has the id 3: it is gone, or there was none$"):
+            self.read(status=OUT_OF_RANGE)
+        with self.assertRaises(TableClosed):
+            self.read(status=CLOSED)
+        with self.assertRaises(MemoryError):
+            self.read(status=NO_MEMORY)
+        with self.assertRaises(LibraryFault):
+            self.read(status=99)
+
+
+if __name__ == "__main__":
+    unittest.main()

@@ -1,0 +1,125 @@
+//! A namespace in one read.
+use crate::{raw, Error, Table};
+
+/// A namespace, as a read of its id tells it.
+#[derive(Clone, Copy, Debug, PartialEq, Eq, Hash)]
+pub struct SpaceStat {
+    /// Its id.
+    pub id: u64,
+    /// The id of the namespace that it is in; none of the root namespace.
+    pub parent: Option<u64>,
+    /// How many namespaces are around it: 0 for the root namespace, 32 for the deepest.
+    pub level: u32,
+    /// The root number of its init, ended or not; none where that was reaped.
+    pub init: Option<u32>,
+    /// Whether its init has ended: it takes no task any more, and is gone with the last number in it.
+    pub fallen: bool,
+}
+
+impl SpaceStat {
+    /// The namespace that the library has read, with that status.
+    pub(crate) fn of(status: u32, space: raw::Space) -> Result<Option<SpaceStat>, Error> {
+        if status == raw::OUT_OF_RANGE {
+            return Ok(None);
+        }
+        Error::unless_done(status)?;
+        Ok(Some(SpaceStat {
+            id: space.id,
+            parent: (space.level != 0).then_some(space.parent),
+            level: space.level,
+            init: (space.init != 0).then_some(space.init),
+            fallen: space.fallen == 1,
+        }))
+    }
+}
+
+impl Table {
+    /// Reads the namespace with the id, where 0 is the root namespace; none where no namespace has it, or it is gone. It is no call, as [`Table::ask`]
+    /// makes none. It takes no memory, and costs two searches and a few reads.
+    ///
+    /// ```
+    /// use pidtab::{Calls, Table};
+    ///
+    /// // 2 is the init of a namespace, and 3 that of one within it, which ends.
+    /// let mut table = Table::open(32768)?;
+    /// table.fork(1, true)?;
+    /// table.fork(2, true)?;
+    /// table.exit(3, 0)?;
+    /// // The namespaces that it was in, from its own outwards.
+    /// let (mut id, mut told) = (table.stat(1, 3)?.space(), Vec::new());
+    /// while let Some(space) = table.space(id)? {
+    ///     told.push((space.level, space.init, space.fallen));
+    ///     let Some(parent) = space.parent else { break };
+    ///     id = parent;
+    /// }
+    /// assert_eq!(told, [(2, Some(3), true), (1, Some(2), false), (0, Some(1), false)]);
+    /// assert_eq!(table.space(9)?, None);
+    /// # Ok::<(), pidtab::Error>(())
+    /// ```
+    ///
+    /// # Errors
+    /// `Busy`.
+    pub fn space(&self, id: u64) -> Result<Option<SpaceStat>, Error> {
+        let mut space = raw::Space::BLANK;
+        SpaceStat::of(self.raw.space(id, &mut space), space)
+    }
+}
+
+#[cfg(test)]
+mod tests {
+    use super::*;
+    use crate::{Calls, Which};
+
+    fn told(id: u64, parent: Option<u64>, level: u32, init: u32, fallen: bool) -> SpaceStat {
+        SpaceStat {
+            id,
+            parent,
+            level,
+            init: (init != 0).then_some(init),
+            fallen,
+        }
+    }
+
+    /// The ids are the numbers of calls. 2 is the init of 1, and 3 that of 2 within it. 4 is that of 3, in which is 5, a child of the root init.
+    #[test]
+    fn each_field_and_each_end() {
+        let mut table = Table::open(32768).expect("a table");
+        assert_eq!(table.space(1), Ok(None));
+        table.fork(1, true).expect("a child");
+        table.fork(2, true).expect("a child");
+        table.fork(1, true).expect("a child");
+        table.join(1, 4).expect("a namespace");
+        table.fork(1, false).expect("a child");
+        let all = [
+            told(0, None, 0, 1, false),
+            told(1, Some(0), 1, 2, false),
+            told(2, Some(1), 2, 3, false),
+            told(3, Some(0), 1, 4, false),
+        ];
+        for (id, wanted) in (0..).zip(all) {
+            assert_eq!(table.space(id), Ok(Some(wanted)));
+        }
+        for none in [4, 6, 1 << 32, u64::MAX] {
+            assert_eq!(table.space(none), Ok(None));
+        }
+        table.exit(4, 0).expect("an end");
+        assert_eq!(table.space(3), Ok(Some(told(3, Some(0), 1, 4, true))));
+        table.wait(1, Which::Pid(4)).expect("a zombie");
+        assert_eq!(table.space(3), Ok(Some(told(3, Some(0), 1, 0, true))));
+        table.wait(1, Which::Pid(5)).expect("a zombie");
+        assert_eq!(table.space(3), Ok(None));
+        // What is within a namespace goes at once with its init.
+        table.exit(2, 0).expect("an end");
+        assert_eq!(table.space(1), Ok(Some(told(1, Some(0), 1, 2, true))));
+        assert_eq!(table.space(2), Ok(None));
+        // No read was a call.
+        assert_eq!(table.mk(0), Ok(10));
+    }
+
+    #[test]
+    fn statuses() {
+        let space = raw::Space::BLANK;
+        assert_eq!(SpaceStat::of(raw::BUSY, space), Err(Error::Busy));
+        assert_eq!(SpaceStat::of(raw::OUT_OF_RANGE, space), Ok(None));
+    }
+}
