@@ -172,7 +172,7 @@ class Checkout(unittest.TestCase):
         said = "docs/gate.tsv: the gate takes 2.4 processor minutes by the yardstick, and may take 2\n"
         self.assertEqual(self.run_gate("--budget", "2"), (1, "", said))
         self.run_gate("write")
-        self.assertIn("\nBy the yardstick it is 2 processor minutes, as `a`, `b` say.\n", self.page.read_text())
+        self.assertIn("\nBy the yardstick, of 2 crates, it is 2 processor minutes.\n", self.page.read_text())
 
     def test_a_budget_without_the_yardstick(self) -> None:
         said = "docs/gate.tsv: fewer than 4 crates of docs/yardstick.tsv were measured as they were, so machines do not compare\n"
