@@ -176,18 +176,18 @@ static void want_of_memory(void)
 
 	fill(&table);
 	struct text text = dumped(&table), again = { calloc(1, text.size), text.size };
-	for (at = 1; refuse_at = at, pidtab_dump(&table, again.bytes, again.size, &size) == PIDTAB_NO_MEMORY; at++)
+	for (at = 1; refuse(at), pidtab_dump(&table, again.bytes, again.size, &size) == PIDTAB_NO_MEMORY; at++)
 		CHECK(size == 7 && again.bytes[0] == 0);
 	refuse_at = 0;
 	CHECK(at > 5 && size == text.size && same_text(text, again));
-	for (at = 1; refuse_at = at, pidtab_load(&other, text.bytes, text.size, &fault) == PIDTAB_NO_MEMORY; at++) {
+	for (at = 1; refuse(at), pidtab_load(&other, text.bytes, text.size, &fault) == PIDTAB_NO_MEMORY; at++) {
 		CHECK(fault_is(fault, 0, 0) && other.at == NULL && !other.is_open && !other.in_use);
 		fault = UNTOLD;
 	}
 	refuse_at = 0;
 	CHECK(at > 20 && other.is_open && same_tables(&table, &other));
 	/* A text that is refused is refused as soon as there is memory to see why. */
-	for (at = 1, pidtab_close(&other); refuse_at = at, pidtab_load(&other, text.bytes, text.size - 1, &fault) == PIDTAB_NO_MEMORY; at++)
+	for (at = 1, pidtab_close(&other); refuse(at), pidtab_load(&other, text.bytes, text.size - 1, &fault) == PIDTAB_NO_MEMORY; at++)
 		CHECK(fault_is(fault, 0, 0));
 	refuse_at = 0;
 	CHECK(at > 1 && fault.kind == PIDTAB_FAULT_BAD_LINE && !other.is_open);

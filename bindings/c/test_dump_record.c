@@ -240,11 +240,11 @@ static void want_of_memory(void)
 
 	begin(&record, 1, &seed);
 	struct text text = record_dumped(&record), again = { calloc(1, text.size), text.size };
-	for (at = 1; refuse_at = at, pidtab_record_dump(&record, again.bytes, again.size, &size) == PIDTAB_NO_MEMORY; at++)
+	for (at = 1; refuse(at), pidtab_record_dump(&record, again.bytes, again.size, &size) == PIDTAB_NO_MEMORY; at++)
 		CHECK(size == 7 && again.bytes[0] == 0);
 	refuse_at = 0;
 	CHECK(at > 5 && size == text.size && same_text(text, again));
-	for (at = 1; refuse_at = at, pidtab_record_load(&loaded, text.bytes, text.size, counts, WORKERS, &fault) == PIDTAB_NO_MEMORY; at++) {
+	for (at = 1; refuse(at), pidtab_record_load(&loaded, text.bytes, text.size, counts, WORKERS, &fault) == PIDTAB_NO_MEMORY; at++) {
 		CHECK(fault_is(fault, 0, 0) && loaded.at == NULL && !loaded.is_open && !loaded.in_use);
 		fault = UNTOLD;
 	}

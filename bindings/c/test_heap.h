@@ -5,6 +5,12 @@
 /* The heap that heap.c is built with here: it refuses the allocation that the counter falls on. 0: none. */
 static _Atomic int refuse_at;
 
+/* Has the counter fall on the allocation. In a comma expression, gcc warns of a plain assignment to what is atomic. */
+static inline void refuse(int at)
+{
+	refuse_at = at;
+}
+
 /* How many bytes were asked for. */
 static _Atomic size_t bytes_asked;
 

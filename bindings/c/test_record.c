@@ -166,7 +166,7 @@ static void want_of_memory(void)
 	refuse_at = 0;
 	CHECK(at > 1 && record.is_open);
 	for (uint64_t i = 0; i < 40; i++) {
-		for (at = 1; refuse_at = at, pidtab_record_call(&record, i % 3, &fork_1, &reply, &ordinal) == PIDTAB_NO_MEMORY; at++, refusals++) {
+		for (at = 1; refuse(at), pidtab_record_call(&record, i % 3, &fork_1, &reply, &ordinal) == PIDTAB_NO_MEMORY; at++, refusals++) {
 			refuse_at = 0;
 			counts_are(&record, 0, i);
 		}
