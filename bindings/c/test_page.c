@@ -6,7 +6,8 @@
 #include <errno.h>
 #include <pthread.h>
 
-#define CALLS 20000
+#define TABLES 20
+#define CALLS 2000
 #define MOST 400
 #define HELD_TASKS 40
 #define READERS 3
@@ -311,16 +312,24 @@ static uint32_t random_number(uint32_t caller)
 	return random_below(4) == 0 || own.count == 0 || other.count < own.count ? 0 : other.levels[own.count - 1];
 }
 
+/* The children of the caller, whose namespace for them has fallen, go into its own again. */
+static void goes_home(uint32_t caller)
+{
+	CHECK(pidtab_join(&table, caller, (uint32_t)pidtab_getpid(&table, caller)) == 0);
+}
+
 static void make_random_call(void)
 {
-	static const uint32_t operations[] = { PIDTAB_FORK, PIDTAB_FORK, PIDTAB_FORK, PIDTAB_FORK, PIDTAB_EXIT, PIDTAB_WAIT, PIDTAB_WAIT, PIDTAB_SETPGID, PIDTAB_SETPGID,
+	static const uint32_t operations[] = { PIDTAB_FORK, PIDTAB_FORK, PIDTAB_FORK, PIDTAB_FORK, PIDTAB_WAIT, PIDTAB_WAIT, PIDTAB_SETPGID, PIDTAB_SETPGID,
 		PIDTAB_SETPGID, PIDTAB_SETSID, PIDTAB_JOIN, PIDTAB_SUBREAPER };
 	uint32_t operation = operations[random_below(sizeof operations / sizeof operations[0])], caller = random_task(), place = 1 + random_below(HELD_TASKS - 1);
 	struct pidtab_call call = { .operation = operation, .caller = caller, .number = operation == PIDTAB_JOIN ? random_number(caller) : 0,
-		.choice = operation == PIDTAB_WAIT ? (uint32_t)PIDTAB_ANY : random_below(4) == 0, .pid = (int32_t)random_number(caller), .pgid = (int32_t)random_number(caller) };
+		.choice = operation == PIDTAB_WAIT ? (uint32_t)PIDTAB_ANY : random_below(8) == 0, .pid = (int32_t)random_number(caller), .pgid = (int32_t)random_number(caller) };
 	struct pidtab_reply reply;
 
 	CHECK(pidtab_call(&table, &call, &reply) == PIDTAB_DONE);
+	if (reply.kind == PIDTAB_REFUSED && reply.refusal == PIDTAB_SPACE_FALLEN)
+		goes_home(caller);
 	if (reply.kind != PIDTAB_FORKED)
 		return;
 	if (held[place] != 0)
@@ -360,14 +369,17 @@ static void compare_random_page(void)
 
 static void are_as_searched(void)
 {
-	CHECK(pidtab_open(&table, 301) == PIDTAB_DONE);
-	for (int i = 0; i < CALLS; i++) {
-		make_random_call();
-		if (i % 4 == 0)
-			compare_random_page();
+	for (int i = 0; i < TABLES; i++) {
+		CHECK(pidtab_open(&table, 301) == PIDTAB_DONE);
+		memset(held + 1, 0, sizeof held - sizeof held[0]);
+		for (int j = 0; j < CALLS; j++) {
+			make_random_call();
+			if (j % 2 == 0)
+				compare_random_page();
+		}
+		CHECK(pidtab_close(&table) == PIDTAB_DONE);
 	}
 	CHECK(several > 50 && nested > 50 && unseen > 50 && short_of_room > 50);
-	CHECK(pidtab_close(&table) == PIDTAB_DONE);
 }
 
 static void of_a_record(void)
