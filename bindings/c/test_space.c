@@ -7,7 +7,8 @@
 #include <inttypes.h>
 #include <pthread.h>
 
-#define CALLS 20000
+#define TABLES 20
+#define CALLS 1000
 #define MOST 512
 #define HELD_TASKS 40
 #define READERS 3
@@ -338,25 +339,31 @@ static void make_random_call(void)
 		pidtab_wait(&table, 1, PIDTAB_ANY, 0, NULL);
 }
 
-static void are_as_listed(void)
+static void is_as_listed(void)
 {
-	int64_t next_id = 0;
-
 	CHECK(pidtab_open(&table, 301) == PIDTAB_DONE);
+	memset(held + 1, 0, sizeof held - sizeof held[0]);
 	for (int i = 0; i < CALLS; i++) {
 		make_random_call();
 		/* The root init may have joined a namespace that has fallen. */
 		if (i % 16 == 0)
 			pidtab_join(&table, 1, 1);
-		if (i % 8 == 0) {
+		if (i % 4 == 0) {
 			/* A control group tells the id of the call. */
-			next_id = pidtab_mk(&table, 0);
+			int64_t next_id = pidtab_mk(&table, 0);
+
 			CHECK(next_id > 0 && pidtab_rm(&table, (uint64_t)next_id) == 0);
 			compare_with_the_list((uint64_t)next_id);
 		}
 	}
-	CHECK(nested > 50 && fallen > 50 && kept_by_others > 50 && gone > 50);
 	CHECK(pidtab_close(&table) == PIDTAB_DONE);
+}
+
+static void are_as_listed(void)
+{
+	for (int i = 0; i < TABLES; i++)
+		is_as_listed();
+	CHECK(nested > 50 && fallen > 50 && kept_by_others > 50 && gone > 50);
 }
 
 static void of_a_record(void)
