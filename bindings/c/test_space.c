@@ -318,7 +318,6 @@ static uint32_t random_number(uint32_t caller)
 	return random_below(4) == 0 || own.count == 0 || other.count < own.count ? 0 : other.levels[own.count - 1];
 }
 
-/* Numbers of groups are kept apart from those of tasks, so that some outlive their tasks. */
 static void make_random_call(void)
 {
 	static const uint32_t operations[] = { PIDTAB_FORK, PIDTAB_FORK, PIDTAB_FORK, PIDTAB_FORK, PIDTAB_EXIT, PIDTAB_WAIT, PIDTAB_WAIT, PIDTAB_SETPGID, PIDTAB_SETPGID,
