@@ -6,6 +6,7 @@ pub mod Read
 pub mod Commands
 pub mod Room
 pub mod Joined
+pub mod Each
 pub mod Kept
 pub mod Within
 pub mod Said
