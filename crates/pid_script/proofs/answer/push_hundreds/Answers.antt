@@ -12,7 +12,10 @@ pub push_tens-requires : goal.push_tens-requires
 push_tens-requires g c = (search rules, (omega arith, omega (arith, length_more c.args.number c.if-number-lt10.false (omega arith))))
 
 pub push_ones-requires-2 : goal.push_ones-requires-2
-push_ones-requires-2 g c = (search rules, (omega arith, omega (arith, length_all _ c.args.text.now.items c.args.number c.push_tens.ensures.items c.if-number-lt10.false (omega arith))))
+push_ones-requires-2 g c = (
+  search rules,
+  (omega arith, omega (arith, length_all _ c.args.text.now.items c.args.number c.push_tens.ensures.items c.if-number-lt10.false (omega arith))),
+)
 
 pub returns : goal.returns
 returns g c = record {

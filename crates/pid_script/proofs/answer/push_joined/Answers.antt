@@ -1,6 +1,7 @@
-use Rattle.std.proofs.Common.{◌-◌, ◌++◌, ◌∷◌, length, decimal, arith, take, drop, sym, ap, ◌∙◌, append_assoc}
+use Rattle.std.proofs.Common.{rules, ◌-◌, ◌++◌, ◌∷◌, length, decimal, arith, take, drop, sym, ap, ◌∙◌, append_assoc}
 use Rattle.std.specs.List.{flat_map}
 use Rattle.pid_script.specs.Answers.{joined}
+use Rattle.pid_script.proofs.Room.{length_decimal_of_64, room}
 use Rattle.pid_script.proofs.Joined.{joined_parts}
 use Rattle.pid_script.proofs.answer.push_joined.Goals as goal
 
@@ -15,3 +16,12 @@ returns-in-len1-up-clause-items g c =
     ∙ ap (λ n. before ++ (decimal n ++ rest)) c.from.ensures
     ∙ ap (λ all. before ++ all) (sym (joined_parts c.args.separator numbers (omega (arith, c.in-len1-up.len_at_least))))
     ∙ ap (λ all. before ++ joined c.args.separator all) c.as_slice.ensures.value
+
+pub push_number-requires : goal.push_number-requires
+push_number-requires g c = (search rules, omega (arith, length_decimal_of_64 c.from.result c.from.type_inv))
+
+pub push_rest-requires : goal.push_rest-requires
+push_rest-requires g c = (search rules, grind (arith, room))
+
+pub returns-in-len1-up-clause-len : goal.returns-in-len1-up-clause-len
+returns-in-len1-up-clause-len g c = grind (arith, room)
