@@ -24,12 +24,7 @@ pub fn read_page(caller: u32, kind: u32, number: u32, from: u32) -> Option<Page>
 
 /// Writes the numbers of the page over the front of the room, and tells how many there are, or the refusal. The result
 /// is the status.
-pub fn tell_page(
-    table: &PidTable,
-    page: &Page,
-    room: &mut [u32],
-    reply: &mut ReplyNumbers,
-) -> u32
+pub fn tell_page(table: &PidTable, page: &Page, room: &mut [u32], reply: &mut ReplyNumbers) -> u32
     ensures done { result ≡ DONE → PutsPage table.now page.now room.old room.new reply.new }
     ensures not_done_room { result ≢ DONE → room.new ≡ room.old }
     ensures not_done_reply { result ≢ DONE → reply.new ≡ reply.old }
