@@ -29,3 +29,18 @@ static inline bool answers(struct pidtab *table, const char *line, const char *w
 	char answer[PIDTAB_LONGEST_ANSWER + 1];
 	return ask(table, line, answer) == PIDTAB_DONE && strcmp(answer, wanted) == 0;
 }
+
+/* Numbers that look random, the same in each run. */
+static inline uint32_t random_below(uint32_t most)
+{
+	static uint64_t state = 1;
+
+	state = state * 6364136223846793005u + 1442695040888963407u;
+	return (uint32_t)(state >> 33) % most;
+}
+
+/* Behind the levels is room that no function writes. */
+static inline bool is_same_reply(const struct pidtab_reply *a, const struct pidtab_reply *b)
+{
+	return memcmp(a, b, offsetof(struct pidtab_reply, levels) + sizeof a->levels) == 0;
+}

@@ -12,15 +12,6 @@ static struct pidtab_call calls[MOST];
 static struct pidtab_reply replies[MOST], alone[MOST];
 static struct pidtab_entry entries[2][MOST];
 
-/* Numbers that look random, the same in each run. */
-static uint32_t random_below(uint32_t most)
-{
-	static uint64_t state = 1;
-
-	state = state * 6364136223846793005u + 1442695040888963407u;
-	return (uint32_t)(state >> 33) % most;
-}
-
 /* Each operation with small numbers: some are refused, and none is out of range. */
 static struct pidtab_call random_call(void)
 {

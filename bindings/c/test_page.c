@@ -2,6 +2,7 @@
 #include "test.h"
 #include "pidtab_shared.h"
 #include "test_heap.h"
+#include "test_tasks.h"
 
 #include <errno.h>
 #include <pthread.h>
@@ -9,21 +10,9 @@
 #define TABLES 20
 #define CALLS 2000
 #define MOST 400
-#define HELD_TASKS 40
 #define READERS 3
 #define FORKS 300
 #define CHILDREN 100
-
-static char texts[2][1 << 20];
-
-/* Numbers that look random, the same in each run. */
-static uint32_t random_below(uint32_t most)
-{
-	static uint64_t state = 1;
-
-	state = state * 6364136223846793005u + 1442695040888963407u;
-	return (uint32_t)(state >> 33) % most;
-}
 
 static struct pidtab_reply blank(void)
 {
@@ -31,12 +20,6 @@ static struct pidtab_reply blank(void)
 
 	memset(&reply, 0x55, sizeof reply);
 	return reply;
-}
-
-/* Behind the levels is room that no function writes. */
-static bool is_same_reply(const struct pidtab_reply *a, const struct pidtab_reply *b)
-{
-	return memcmp(a, b, offsetof(struct pidtab_reply, levels) + sizeof a->levels) == 0;
 }
 
 /* What a page writes into, and the reply beside it. */
@@ -101,8 +84,6 @@ static void belong(const struct pidtab *table, uint32_t caller, uint32_t kind, u
 
 #define BELONG(caller, kind, number, ...) belong(&table, caller, kind, number, (const uint32_t[]){ __VA_ARGS__ }, sizeof (uint32_t[]){ __VA_ARGS__ } / sizeof(uint32_t))
 #define NOBODY(caller, kind, number) belong(&table, caller, kind, number, (const uint32_t[1]){ 0 }, 0)
-
-static struct pidtab table = PIDTAB_INIT;
 
 static void is_refused(uint32_t caller, uint32_t kind)
 {
@@ -220,14 +201,6 @@ static void each_status_of_a_table(void)
 	CHECK(pidtab_close(&table) == PIDTAB_DONE);
 }
 
-static size_t text_of(char *room)
-{
-	size_t size = 0;
-
-	CHECK(pidtab_dump(&table, room, sizeof texts[0], &size) == PIDTAB_DONE);
-	return size;
-}
-
 /* Each allocation finds no memory in turn: then nothing is told. Else all are, and nothing has changed. */
 static void want_of_memory(void)
 {
@@ -293,25 +266,6 @@ static size_t searched(uint32_t caller, uint32_t kind, uint32_t number, uint32_t
 	return count;
 }
 
-/* The root init, and tasks that were forked, by their root numbers. Who gives place to another one ends. */
-static uint32_t held[HELD_TASKS] = { 1 };
-
-static uint32_t random_task(void)
-{
-	uint32_t it = held[random_below(4) == 0 ? 0 : random_below(HELD_TASKS)];
-
-	return it == 0 ? 1 : it;
-}
-
-/* 0, or the number of a task in a namespace as deep as the caller's, perhaps in that. */
-static uint32_t random_number(uint32_t caller)
-{
-	struct pidtab_task own, other;
-
-	CHECK(pidtab_stat(&table, 1, caller, &own) == PIDTAB_DONE && pidtab_stat(&table, 1, random_task(), &other) == PIDTAB_DONE);
-	return random_below(4) == 0 || own.count == 0 || other.count < own.count ? 0 : other.levels[own.count - 1];
-}
-
 /* The children of the caller, whose namespace for them has fallen, go into its own again. */
 static void goes_home(uint32_t caller)
 {
@@ -371,7 +325,7 @@ static void are_as_searched(void)
 {
 	for (int i = 0; i < TABLES; i++) {
 		CHECK(pidtab_open(&table, 301) == PIDTAB_DONE);
-		memset(held + 1, 0, sizeof held - sizeof held[0]);
+		hold_none();
 		for (int j = 0; j < CALLS; j++) {
 			make_random_call();
 			if (j % 2 == 0)

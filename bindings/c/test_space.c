@@ -2,6 +2,7 @@
 #include "test.h"
 #include "pidtab_shared.h"
 #include "test_heap.h"
+#include "test_tasks.h"
 
 #include <errno.h>
 #include <inttypes.h>
@@ -10,21 +11,9 @@
 #define TABLES 20
 #define CALLS 1000
 #define MOST 512
-#define HELD_TASKS 40
 #define READERS 3
 #define FORKS 300
 #define DEEPEST 32
-
-static char texts[2][1 << 20];
-
-/* Numbers that look random, the same in each run. */
-static uint32_t random_below(uint32_t most)
-{
-	static uint64_t state = 1;
-
-	state = state * 6364136223846793005u + 1442695040888963407u;
-	return (uint32_t)(state >> 33) % most;
-}
 
 static struct pidtab_space blank(void)
 {
@@ -39,8 +28,6 @@ static bool is_same(const struct pidtab_space *a, const struct pidtab_space *b)
 {
 	return memcmp(a, b, offsetof(struct pidtab_space, fallen) + sizeof a->fallen) == 0;
 }
-
-static struct pidtab table = PIDTAB_INIT;
 
 /* The namespace is so. */
 static void is_told(uint64_t id, uint64_t parent, uint32_t level, uint32_t init, uint32_t fallen)
@@ -178,14 +165,6 @@ static void a_group_keeps_it(void)
 	CHECK(pidtab_close(&table) == PIDTAB_DONE);
 }
 
-static size_t text_of(char *room)
-{
-	size_t size = 0;
-
-	CHECK(pidtab_dump(&table, room, sizeof texts[0], &size) == PIDTAB_DONE);
-	return size;
-}
-
 /* A read takes no memory, and nothing has changed. */
 static void each_status_of_a_table(void)
 {
@@ -299,25 +278,6 @@ static void compare_with_the_list(uint64_t next_id)
 	}
 }
 
-/* The root init, and tasks that were forked, by their root numbers. Who gives place to another one ends. */
-static uint32_t held[HELD_TASKS] = { 1 };
-
-static uint32_t random_task(void)
-{
-	uint32_t it = held[random_below(4) == 0 ? 0 : random_below(HELD_TASKS)];
-
-	return it == 0 ? 1 : it;
-}
-
-/* The caller itself, or the number of a task in a namespace as deep as the caller's, perhaps in that. */
-static uint32_t random_number(uint32_t caller)
-{
-	struct pidtab_task own, other;
-
-	CHECK(pidtab_stat(&table, 1, caller, &own) == PIDTAB_DONE && pidtab_stat(&table, 1, random_task(), &other) == PIDTAB_DONE);
-	return random_below(4) == 0 || own.count == 0 || other.count < own.count ? 0 : other.levels[own.count - 1];
-}
-
 static void make_random_call(void)
 {
 	static const uint32_t operations[] = { PIDTAB_FORK, PIDTAB_FORK, PIDTAB_FORK, PIDTAB_FORK, PIDTAB_EXIT, PIDTAB_WAIT, PIDTAB_WAIT, PIDTAB_SETPGID, PIDTAB_SETPGID,
@@ -341,7 +301,7 @@ static void make_random_call(void)
 static void is_as_listed(void)
 {
 	CHECK(pidtab_open(&table, 301) == PIDTAB_DONE);
-	memset(held + 1, 0, sizeof held - sizeof held[0]);
+	hold_none();
 	for (int i = 0; i < CALLS; i++) {
 		make_random_call();
 		/* The root init may have joined a namespace that has fallen. */

@@ -9,15 +9,6 @@
 
 static char texts[2][1 << 20];
 
-/* Numbers that look random, the same in each run. */
-static uint32_t random_below(uint32_t most)
-{
-	static uint64_t state = 1;
-
-	state = state * 6364136223846793005u + 1442695040888963407u;
-	return (uint32_t)(state >> 33) % most;
-}
-
 /* The root control group, and the last ones that were made. */
 static uint64_t controls[5];
 
@@ -36,12 +27,6 @@ static size_t text_of(struct pidtab *table, char *room)
 
 	CHECK(pidtab_dump(table, room, sizeof texts[0], &size) == PIDTAB_DONE);
 	return size;
-}
-
-/* Behind the levels is room that no function writes. */
-static bool same_reply(const struct pidtab_reply *a, const struct pidtab_reply *b)
-{
-	return memcmp(a, b, offsetof(struct pidtab_reply, levels) + sizeof a->levels) == 0;
 }
 
 /* The next call of each kind has the reply that was told, and telling it changed nothing: the text is the same up to the digest. */
@@ -64,7 +49,7 @@ static void calls_answer_as_told(void)
 		CHECK(!is_looked_at || (text_of(&table, texts[1]) == size && memcmp(texts[0], texts[1], size) == 0));
 		CHECK(pidtab_call(&table, &call, &reply) == PIDTAB_DONE);
 		CHECK(told.kind == reply.kind && told.error == reply.error && told.refusal == reply.refusal && told.count == reply.count);
-		CHECK(told.first == reply.first && told.second == reply.second && same_reply(&told, &again));
+		CHECK(told.first == reply.first && told.second == reply.second && is_same_reply(&told, &again));
 		CHECK(memcmp(told.levels, reply.levels, reply.count * sizeof reply.levels[0]) == 0);
 		if (reply.kind == PIDTAB_CONTROL)
 			controls[1 + random_below(4)] = reply.first;
@@ -91,7 +76,7 @@ static void is_untold(const struct pidtab_reply *reply)
 {
 	struct pidtab_reply was = blank();
 
-	CHECK(same_reply(reply, &was));
+	CHECK(is_same_reply(reply, &was));
 }
 
 static const struct pidtab_call fork_1 = { .operation = PIDTAB_FORK, .caller = 1 };
@@ -256,7 +241,7 @@ static void *forks_as_told(void *unused)
 
 		CHECK(pidtab_shared_would(&shared, &fork_1, &told) == PIDTAB_DONE && told.kind == PIDTAB_FORKED);
 		status = pidtab_shared_fork_at(&shared, worker, 1, 0, (uint32_t)told.first, (uint32_t)told.second, &reply, &ordinal);
-		CHECK(status == PIDTAB_DONE ? same_reply(&told, &reply) : status == PIDTAB_DIFFERS && reply.first > told.first);
+		CHECK(status == PIDTAB_DONE ? is_same_reply(&told, &reply) : status == PIDTAB_DIFFERS && reply.first > told.first);
 		made += status == PIDTAB_DONE;
 	}
 	return NULL;

@@ -96,11 +96,7 @@ func TestMoreThanThereIsRoomForAtFirst(t *testing.T) {
 
 func TestListsBesideAWriter(t *testing.T) {
 	const forks, readers = 300, 3
-	shared, err := OpenShared(Settings{PidMax: 32768, Workers: 1})
-	if err != nil {
-		t.Fatal(err)
-	}
-	defer shared.Close()
+	shared := openShared(t, Settings{PidMax: 32768, Workers: 1})
 	seat, err := shared.Seat()
 	if err != nil {
 		t.Fatal(err)

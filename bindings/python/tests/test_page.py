@@ -13,7 +13,7 @@ from pidtab.native import SHORT_PAGE, read_page
 from pidtab.raw import CLOSED, COUNTED, DONE, NO_MEMORY, TASKS, PidtabReply
 from tests.test_ends import OTHERS, in_child
 from tests.test_interrupts import CallInterrupter
-from tests.ways import need_library, need_shared
+from tests.ways import OnEachTable, need_library, need_shared
 
 FILES = {pidtab.native.__file__, pidtab.shared.__file__, pidtab.table.__file__}
 
@@ -39,22 +39,11 @@ def make_tasks(table: Table | Seat) -> None:
     table.exit(5)
 
 
-class Pages(unittest.TestCase):
-    """On a table of this process, on one for threads, and at a seat of that."""
+class Pages(OnEachTable):
+    """On each table."""
 
-    def setUp(self) -> None:
-        need_library()
-        need_shared()
-        self.table, self.shared = Table(), Shared()
-        self.addCleanup(self.table.close)
-        self.addCleanup(self.shared.close)
-        self.seat = self.shared.seat()
-        for table in (self.table, self.seat):
-            make_tasks(table)
-
-    def ways(self) -> list[Ask]:
-        """What is asked."""
-        return [self.table.ask, self.shared.ask, self.seat.ask]
+    def fill(self, table: Table | Seat) -> None:
+        make_tasks(table)
 
     def test_each_kind(self) -> None:
         for ask in self.ways():

@@ -14,7 +14,7 @@ from pidtab.raw import CLOSED, DONE, NO_MEMORY, OUT_OF_RANGE, PidtabSpace
 from tests.test_changes import validator
 from tests.test_ends import OTHERS, in_child
 from tests.test_interrupts import CallInterrupter
-from tests.ways import need_library, need_shared
+from tests.ways import OnEachTable, need_library, need_shared
 
 FILES = {pidtab.native.__file__, pidtab.shared.__file__, pidtab.table.__file__}
 
@@ -35,22 +35,11 @@ def make_spaces(table: Table | Seat) -> None:
     table.exit(4)
 
 
-class Spaces(unittest.TestCase):
-    """On a table of this process, on one for threads, and at a seat of that."""
+class Spaces(OnEachTable):
+    """On each table."""
 
-    def setUp(self) -> None:
-        need_library()
-        need_shared()
-        self.table, self.shared = Table(), Shared()
-        self.addCleanup(self.table.close)
-        self.addCleanup(self.shared.close)
-        self.seat = self.shared.seat()
-        for table in (self.table, self.seat):
-            make_spaces(table)
-
-    def ways(self) -> list[Ask]:
-        """What is asked."""
-        return [self.table.ask, self.shared.ask, self.seat.ask]
+    def fill(self, table: Table | Seat) -> None:
+        make_spaces(table)
 
     def is_none(self, ask: Ask, id: int) -> None:
         """No namespace has the id."""

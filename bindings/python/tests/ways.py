@@ -7,7 +7,7 @@ from types import SimpleNamespace
 from typing import TYPE_CHECKING
 from unittest import mock
 
-from pidtab import Calls, LibraryFault, Process, ProgramMissing, Refusal, Seat, Shared, Table, find_library, find_program
+from pidtab import Ask, Calls, LibraryFault, Process, ProgramMissing, Refusal, Seat, Shared, Table, find_library, find_program
 from pidtab.forms import method_of, say_answer
 from pidtab.library import load_library, load_shared
 
@@ -116,3 +116,25 @@ def ask(table: Calls, line: str) -> str:
     except Refusal as refusal:
         assert refusal.errno is not None
         return f"{errno.errorcode[refusal.errno]} {refusal.why}"
+
+
+class OnEachTable(unittest.TestCase):
+    """On a table of this process, on one for threads, and at a seat of that."""
+
+    def setUp(self) -> None:
+        need_library()
+        need_shared()
+        self.table, self.shared = Table(), Shared()
+        self.addCleanup(self.table.close)
+        self.addCleanup(self.shared.close)
+        self.seat = self.shared.seat()
+        for table in (self.table, self.seat):
+            self.fill(table)
+
+    def fill(self, table: Table | Seat) -> None:
+        """Makes the tasks that the tests ask about."""
+        raise NotImplementedError
+
+    def ways(self) -> list[Ask]:
+        """What is asked."""
+        return [self.table.ask, self.shared.ask, self.seat.ask]

@@ -1,0 +1,38 @@
+/* A table of calls that look random, and its tasks, for tests that compare what is read of it. A test takes this in behind test.h. */
+#define HELD_TASKS 40
+
+static struct pidtab table = PIDTAB_INIT;
+
+static char texts[2][1 << 20];
+
+static size_t text_of(char *room)
+{
+	size_t size = 0;
+
+	CHECK(pidtab_dump(&table, room, sizeof texts[0], &size) == PIDTAB_DONE);
+	return size;
+}
+
+/* The root init, and tasks that were forked, by their root numbers. Who gives place to another one ends. */
+static uint32_t held[HELD_TASKS] = { 1 };
+
+static uint32_t random_task(void)
+{
+	uint32_t it = held[random_below(4) == 0 ? 0 : random_below(HELD_TASKS)];
+
+	return it == 0 ? 1 : it;
+}
+
+static void hold_none(void)
+{
+	memset(held + 1, 0, sizeof held - sizeof held[0]);
+}
+
+/* 0, which is the caller itself, or the number of a task in a namespace as deep as the caller's, perhaps in that. */
+static uint32_t random_number(uint32_t caller)
+{
+	struct pidtab_task own, other;
+
+	CHECK(pidtab_stat(&table, 1, caller, &own) == PIDTAB_DONE && pidtab_stat(&table, 1, random_task(), &other) == PIDTAB_DONE);
+	return random_below(4) == 0 || own.count == 0 || other.count < own.count ? 0 : other.levels[own.count - 1];
+}
