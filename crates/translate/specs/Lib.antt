@@ -5,3 +5,4 @@ pub mod Stat
 pub mod Pages
 pub mod Gathered
 pub mod Spaces
+pub mod Listed
