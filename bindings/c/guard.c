@@ -12,7 +12,7 @@ uint32_t proved_load(struct pidtab *table, const void *text, size_t length, stru
 uint32_t proved_call(struct pidtab *table, const struct pidtab_call *call, struct pidtab_reply *reply);
 uint32_t proved_ask(struct pidtab *table, const struct pidtab_call *call, struct pidtab_reply *reply);
 uint32_t proved_stat(struct pidtab *table, uint32_t caller, uint32_t number, struct pidtab_task *task);
-uint32_t proved_page(struct pidtab *table, uint32_t caller, uint32_t kind, uint32_t number, uint32_t from, uint32_t *numbers, size_t room, struct pidtab_reply *reply);
+uint32_t proved_page(struct pidtab *table, uint32_t caller, uint32_t whom, uint32_t number, uint32_t from, uint32_t *numbers, size_t room, struct pidtab_reply *reply);
 uint32_t proved_space(struct pidtab *table, uint64_t id, struct pidtab_space *space);
 uint32_t proved_would(struct pidtab *table, const struct pidtab_call *call, struct pidtab_reply *reply);
 uint32_t proved_fork_at(struct pidtab *table, uint32_t caller, uint32_t new_space, uint32_t child, uint32_t root, struct pidtab_reply *reply);
@@ -152,13 +152,13 @@ uint32_t pidtab_stat(const struct pidtab *table, uint32_t caller, uint32_t numbe
 	return leave_query(table, proved_stat(&held, caller, number, task));
 }
 
-uint32_t pidtab_page(const struct pidtab *table, uint32_t caller, uint32_t kind, uint32_t number, uint32_t from, uint32_t *numbers, size_t room, struct pidtab_reply *reply)
+uint32_t pidtab_page(const struct pidtab *table, uint32_t caller, uint32_t whom, uint32_t number, uint32_t from, uint32_t *numbers, size_t room, struct pidtab_reply *reply)
 {
 	struct pidtab held;
 
 	if (!enter_query(table, &held))
 		return PIDTAB_BUSY;
-	return leave_query(table, proved_page(&held, caller, kind, number, from, numbers, room, reply));
+	return leave_query(table, proved_page(&held, caller, whom, number, from, numbers, room, reply));
 }
 
 uint32_t pidtab_space(const struct pidtab *table, uint64_t id, struct pidtab_space *space)

@@ -9,7 +9,7 @@ uint32_t proved_record_calls(struct pidtab_record *record, uint32_t worker, cons
 uint32_t proved_record_line(struct pidtab_record *record, uint32_t worker, const void *line, size_t length, void *answer, size_t room, size_t *size, uint64_t *ordinal);
 uint32_t proved_record_ask(struct pidtab_record *record, const struct pidtab_call *call, struct pidtab_reply *reply);
 uint32_t proved_record_stat(struct pidtab_record *record, uint32_t caller, uint32_t number, struct pidtab_task *task);
-uint32_t proved_record_page(struct pidtab_record *record, uint32_t caller, uint32_t kind, uint32_t number, uint32_t from, uint32_t *numbers, size_t room, struct pidtab_reply *reply);
+uint32_t proved_record_page(struct pidtab_record *record, uint32_t caller, uint32_t whom, uint32_t number, uint32_t from, uint32_t *numbers, size_t room, struct pidtab_reply *reply);
 uint32_t proved_record_space(struct pidtab_record *record, uint64_t id, struct pidtab_space *space);
 uint32_t proved_record_would(struct pidtab_record *record, const struct pidtab_call *call, struct pidtab_reply *reply);
 uint32_t proved_record_fork_at(struct pidtab_record *record, uint32_t worker, uint32_t caller, uint32_t new_space, uint32_t child, uint32_t root, struct pidtab_reply *reply, uint64_t *ordinal);
@@ -152,13 +152,13 @@ uint32_t pidtab_record_stat(const struct pidtab_record *record, uint32_t caller,
 	return leave_query(record, proved_record_stat(&held, caller, number, task));
 }
 
-uint32_t pidtab_record_page(const struct pidtab_record *record, uint32_t caller, uint32_t kind, uint32_t number, uint32_t from, uint32_t *numbers, size_t room, struct pidtab_reply *reply)
+uint32_t pidtab_record_page(const struct pidtab_record *record, uint32_t caller, uint32_t whom, uint32_t number, uint32_t from, uint32_t *numbers, size_t room, struct pidtab_reply *reply)
 {
 	struct pidtab_record held;
 
 	if (!enter_query(record, &held))
 		return PIDTAB_BUSY;
-	return leave_query(record, proved_record_page(&held, caller, kind, number, from, numbers, room, reply));
+	return leave_query(record, proved_record_page(&held, caller, whom, number, from, numbers, room, reply));
 }
 
 uint32_t pidtab_record_space(const struct pidtab_record *record, uint64_t id, struct pidtab_space *space)

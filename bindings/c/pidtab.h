@@ -204,6 +204,14 @@ enum pidtab_use {
 	PIDTAB_GROUPS = 1,  /* a process group */
 	PIDTAB_SESSIONS = 2 /* a session */
 };
+
+enum pidtab_whom {
+	PIDTAB_CHILDREN = 0,          /* the children of the task with the number */
+	PIDTAB_GROUP_MEMBERS = 1,     /* the members of the process group with the number */
+	PIDTAB_SESSION_MEMBERS = 2,   /* the members of the session with the number */
+	PIDTAB_NAMESPACE_MEMBERS = 3, /* the tasks of the namespace that the task with the number is in, those in namespaces inside it too */
+	PIDTAB_NAMESPACE_OWN = 4      /* of these the tasks that are in no namespace inside it */
+};
 /* The end of choices. */
 
 struct pidtab_call {
@@ -308,17 +316,17 @@ struct pidtab_task {
  * call, as pidtab_ask is none. What the table refuses is PIDTAB_DONE: the task says so. DONE, CLOSED. */
 uint32_t pidtab_stat(const struct pidtab *table, uint32_t caller, uint32_t number, struct pidtab_task *task);
 
-/* Tells the children of a task, or the members of a process group or of a session. kind is an enum pidtab_use. number is that of the task, the group or
- * the session in the caller's namespace, or 0 for the caller, its own group or its own session; one that is nobody's has none. Zombies are
- * among them, and who is not visible in that namespace is left out.
+/* Tells the children of a task, the members of a process group or of a session, or the tasks of a namespace. whom is an enum pidtab_whom. number
+ * is that of the task, the group or the session in the caller's namespace, or 0 for the caller, its own group or its own session; one that is
+ * nobody's has none. Zombies are among them, and who is not visible in that namespace is left out.
  *
  * numbers has their numbers there from `from` on, in rising order, as many as there is room for; what is behind stays. reply is of the kind
  * PIDTAB_COUNTED, with how many there are in all from there on, or a refusal, PIDTAB_NO_CALLER. So the next page begins at the last number + 1, and
  * a room of 0 only counts.
  *
- * It is no call, as pidtab_ask makes none, but it takes memory for a list while it works. DONE; CLOSED; OUT_OF_RANGE for another kind; NO_MEMORY,
+ * It is no call, as pidtab_ask makes none, but it takes memory for a list while it works. DONE; CLOSED; OUT_OF_RANGE for another whom; NO_MEMORY,
  * and then numbers and reply are as they were. */
-uint32_t pidtab_page(const struct pidtab *table, uint32_t caller, uint32_t kind, uint32_t number, uint32_t from, uint32_t *numbers, size_t room, struct pidtab_reply *reply);
+uint32_t pidtab_page(const struct pidtab *table, uint32_t caller, uint32_t whom, uint32_t number, uint32_t from, uint32_t *numbers, size_t room, struct pidtab_reply *reply);
 
 /* A namespace. Its id and its parent's are those of the list. */
 struct pidtab_space {
@@ -579,7 +587,7 @@ uint32_t pidtab_record_ask(const struct pidtab_record *record, const struct pidt
 uint32_t pidtab_record_stat(const struct pidtab_record *record, uint32_t caller, uint32_t number, struct pidtab_task *task);
 
 /* Tells children or members, as pidtab_page does; it is not recorded. DONE, CLOSED, OUT_OF_RANGE, NO_MEMORY. */
-uint32_t pidtab_record_page(const struct pidtab_record *record, uint32_t caller, uint32_t kind, uint32_t number, uint32_t from, uint32_t *numbers, size_t room, struct pidtab_reply *reply);
+uint32_t pidtab_record_page(const struct pidtab_record *record, uint32_t caller, uint32_t whom, uint32_t number, uint32_t from, uint32_t *numbers, size_t room, struct pidtab_reply *reply);
 
 /* Reads a namespace, as pidtab_space does; it is not recorded. DONE, CLOSED, OUT_OF_RANGE. */
 uint32_t pidtab_record_space(const struct pidtab_record *record, uint64_t id, struct pidtab_space *space);

@@ -375,10 +375,10 @@ uint32_t pidtab_shared_stat(struct pidtab_shared *shared, uint32_t caller, uint3
 	return answered(shared, pidtab_record_stat(&shared->record, caller, number, task));
 }
 
-uint32_t pidtab_shared_page(struct pidtab_shared *shared, uint32_t caller, uint32_t kind, uint32_t number, uint32_t from, uint32_t *numbers, size_t room, struct pidtab_reply *reply)
+uint32_t pidtab_shared_page(struct pidtab_shared *shared, uint32_t caller, uint32_t whom, uint32_t number, uint32_t from, uint32_t *numbers, size_t room, struct pidtab_reply *reply)
 {
 	share_as_call(shared);
-	return answered(shared, pidtab_record_page(&shared->record, caller, kind, number, from, numbers, room, reply));
+	return answered(shared, pidtab_record_page(&shared->record, caller, whom, number, from, numbers, room, reply));
 }
 
 uint32_t pidtab_shared_space(struct pidtab_shared *shared, uint64_t id, struct pidtab_space *space)

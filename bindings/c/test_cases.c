@@ -326,22 +326,22 @@ static void read_task(uint32_t caller, uint32_t number)
 		it.group, it.session, it.control, end, it.executed ? " executed" : "", it.subreaper ? " subreaper" : "");
 }
 
-/* Who belongs to a number. A page that is cut short has the first of them. */
+/* Whom a page lists. One that is cut short has the first of them. */
 static void read_page(const uint64_t *numbers)
 {
-	uint32_t kind = (uint32_t)numbers[0], caller = (uint32_t)numbers[1], number = (uint32_t)numbers[2], from = (uint32_t)numbers[3];
+	uint32_t whom = (uint32_t)numbers[0], caller = (uint32_t)numbers[1], number = (uint32_t)numbers[2], from = (uint32_t)numbers[3];
 	uint32_t found[64] = { 0 }, others[64] = { 0 };
 	struct pidtab_reply reply, other;
 
-	CHECK(pidtab_shared_page(&shared, caller, kind, number, from, found, 64, &reply) == PIDTAB_DONE);
+	CHECK(pidtab_shared_page(&shared, caller, whom, number, from, found, 64, &reply) == PIDTAB_DONE);
 	for (int i = 0; i < 3 && has_tables; i++)
-		CHECK(pidtab_page(&tables[i], caller, kind, number, from, others, 64, &other) == PIDTAB_DONE && same_reply(&reply, &other) && memcmp(found, others, sizeof found) == 0);
+		CHECK(pidtab_page(&tables[i], caller, whom, number, from, others, 64, &other) == PIDTAB_DONE && same_reply(&reply, &other) && memcmp(found, others, sizeof found) == 0);
 	if (reply.kind == PIDTAB_REFUSED) {
 		say(told, &reply);
 		return;
 	}
 	CHECK(reply.kind == PIDTAB_COUNTED && reply.first <= 64);
-	CHECK(pidtab_shared_page(&shared, caller, kind, number, from, others, 1, &other) == PIDTAB_DONE && same_reply(&reply, &other) && others[0] == found[0]);
+	CHECK(pidtab_shared_page(&shared, caller, whom, number, from, others, 1, &other) == PIDTAB_DONE && same_reply(&reply, &other) && others[0] == found[0]);
 	strcpy(told, "none");
 	if (reply.first != 0)
 		say_levels(told, found, (uint32_t)reply.first, ' ');

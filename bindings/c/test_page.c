@@ -60,7 +60,7 @@ static void has_told(const struct page *it, size_t room, const uint32_t *wanted,
 }
 
 /* To the number these belong, from each number on, with each room, and one page behind another. */
-static void belong(const struct pidtab *table, uint32_t caller, uint32_t kind, uint32_t number, const uint32_t *wanted, size_t count)
+static void belong(const struct pidtab *table, uint32_t caller, uint32_t whom, uint32_t number, const uint32_t *wanted, size_t count)
 {
 	struct page it;
 
@@ -69,29 +69,29 @@ static void belong(const struct pidtab *table, uint32_t caller, uint32_t kind, u
 			uint32_t from = behind == 0 ? 0 : wanted[behind - 1] + 1;
 
 			clear(&it);
-			CHECK(pidtab_page(table, caller, kind, number, from, it.numbers, room, &it.reply) == PIDTAB_DONE);
+			CHECK(pidtab_page(table, caller, whom, number, from, it.numbers, room, &it.reply) == PIDTAB_DONE);
 			has_told(&it, room, wanted + behind, count - behind);
 			if (behind == count)
 				continue;
 			clear(&it);
-			CHECK(pidtab_page(table, caller, kind, number, wanted[behind], it.numbers, room, &it.reply) == PIDTAB_DONE);
+			CHECK(pidtab_page(table, caller, whom, number, wanted[behind], it.numbers, room, &it.reply) == PIDTAB_DONE);
 			has_told(&it, room, wanted + behind, count - behind);
 		}
 	clear(&it);
-	CHECK(pidtab_page(table, caller, kind, number, UINT32_MAX, it.numbers, MOST, &it.reply) == PIDTAB_DONE);
+	CHECK(pidtab_page(table, caller, whom, number, UINT32_MAX, it.numbers, MOST, &it.reply) == PIDTAB_DONE);
 	has_told(&it, MOST, wanted, 0);
 }
 
-#define BELONG(caller, kind, number, ...) belong(&table, caller, kind, number, (const uint32_t[]){ __VA_ARGS__ }, sizeof (uint32_t[]){ __VA_ARGS__ } / sizeof(uint32_t))
-#define NOBODY(caller, kind, number) belong(&table, caller, kind, number, (const uint32_t[1]){ 0 }, 0)
+#define BELONG(caller, whom, number, ...) belong(&table, caller, whom, number, (const uint32_t[]){ __VA_ARGS__ }, sizeof (uint32_t[]){ __VA_ARGS__ } / sizeof(uint32_t))
+#define NOBODY(caller, whom, number) belong(&table, caller, whom, number, (const uint32_t[1]){ 0 }, 0)
 
-static void is_refused(uint32_t caller, uint32_t kind)
+static void is_refused(uint32_t caller, uint32_t whom)
 {
 	struct pidtab_reply refused = { .kind = PIDTAB_REFUSED, .error = ESRCH, .refusal = PIDTAB_NO_CALLER };
 	struct page it;
 
 	clear(&it);
-	CHECK(pidtab_page(&table, caller, kind, 0, 0, it.numbers, MOST, &it.reply) == PIDTAB_DONE);
+	CHECK(pidtab_page(&table, caller, whom, 0, 0, it.numbers, MOST, &it.reply) == PIDTAB_DONE);
 	CHECK(is_same_reply(&it.reply, &refused) && is_rest_untold(&it, 0));
 }
 
@@ -111,92 +111,119 @@ static void each_kind(void)
 {
 	make_tasks();
 	for (uint32_t itself = 0; itself < 2; itself++) {
-		BELONG(1, PIDTAB_TASKS, itself, 2, 3, 6);
-		BELONG(1, PIDTAB_GROUPS, itself, 1, 3, 5, 6);
-		BELONG(1, PIDTAB_SESSIONS, itself, 1, 3, 5, 6);
+		BELONG(1, PIDTAB_CHILDREN, itself, 2, 3, 6);
+		BELONG(1, PIDTAB_GROUP_MEMBERS, itself, 1, 3, 5, 6);
+		BELONG(1, PIDTAB_SESSION_MEMBERS, itself, 1, 3, 5, 6);
 	}
 	for (uint32_t itself = 0; itself < 3; itself += 2) {
-		BELONG(2, PIDTAB_TASKS, itself, 7, 8);
-		BELONG(2, PIDTAB_GROUPS, itself, 2, 7);
-		BELONG(2, PIDTAB_SESSIONS, itself, 2, 7, 8);
+		BELONG(2, PIDTAB_CHILDREN, itself, 7, 8);
+		BELONG(2, PIDTAB_GROUP_MEMBERS, itself, 2, 7);
+		BELONG(2, PIDTAB_SESSION_MEMBERS, itself, 2, 7, 8);
 	}
-	BELONG(1, PIDTAB_TASKS, 3, 4);
-	BELONG(1, PIDTAB_TASKS, 4, 5);
-	BELONG(1, PIDTAB_GROUPS, 8, 8);
-	BELONG(8, PIDTAB_GROUPS, 0, 8);
-	BELONG(8, PIDTAB_SESSIONS, 0, 2, 7, 8);
-	BELONG(1, PIDTAB_SESSIONS, 4, 4);
+	BELONG(1, PIDTAB_CHILDREN, 3, 4);
+	BELONG(1, PIDTAB_CHILDREN, 4, 5);
+	BELONG(1, PIDTAB_GROUP_MEMBERS, 8, 8);
+	BELONG(8, PIDTAB_GROUP_MEMBERS, 0, 8);
+	BELONG(8, PIDTAB_SESSION_MEMBERS, 0, 2, 7, 8);
+	BELONG(1, PIDTAB_SESSION_MEMBERS, 4, 4);
 	/* 8 leads no session, 6 no group, 5 has no child, and of 9 there is none. */
-	NOBODY(1, PIDTAB_SESSIONS, 8);
-	NOBODY(1, PIDTAB_GROUPS, 6);
-	NOBODY(1, PIDTAB_TASKS, 5);
-	for (uint32_t kind = PIDTAB_TASKS; kind <= PIDTAB_SESSIONS; kind++) {
-		NOBODY(1, kind, 9);
-		NOBODY(1, kind, UINT32_MAX);
-		is_refused(0, kind);
-		is_refused(7, kind);
-		is_refused(9, kind);
+	NOBODY(1, PIDTAB_SESSION_MEMBERS, 8);
+	NOBODY(1, PIDTAB_GROUP_MEMBERS, 6);
+	NOBODY(1, PIDTAB_CHILDREN, 5);
+	for (uint32_t whom = PIDTAB_CHILDREN; whom <= PIDTAB_NAMESPACE_OWN; whom++) {
+		NOBODY(1, whom, 9);
+		NOBODY(1, whom, UINT32_MAX);
+		is_refused(0, whom);
+		is_refused(7, whom);
+		is_refused(9, whom);
 	}
 }
 
 /* The namespace of 3 sees neither the group nor the session of 1, in which 3 and 5 are, and their numbers there are its own. */
 static void in_a_namespace(void)
 {
-	BELONG(3, PIDTAB_TASKS, 0, 2);
-	BELONG(5, PIDTAB_TASKS, 1, 2);
-	BELONG(3, PIDTAB_TASKS, 2, 3);
-	NOBODY(3, PIDTAB_TASKS, 4);
-	BELONG(3, PIDTAB_GROUPS, 0, 1, 3);
-	BELONG(5, PIDTAB_SESSIONS, 0, 1, 3);
-	NOBODY(5, PIDTAB_GROUPS, 1);
-	NOBODY(5, PIDTAB_SESSIONS, 1);
-	BELONG(4, PIDTAB_GROUPS, 0, 2);
-	BELONG(5, PIDTAB_GROUPS, 2, 2);
-	BELONG(5, PIDTAB_SESSIONS, 2, 2);
+	BELONG(3, PIDTAB_CHILDREN, 0, 2);
+	BELONG(5, PIDTAB_CHILDREN, 1, 2);
+	BELONG(3, PIDTAB_CHILDREN, 2, 3);
+	NOBODY(3, PIDTAB_CHILDREN, 4);
+	BELONG(3, PIDTAB_GROUP_MEMBERS, 0, 1, 3);
+	BELONG(5, PIDTAB_SESSION_MEMBERS, 0, 1, 3);
+	NOBODY(5, PIDTAB_GROUP_MEMBERS, 1);
+	NOBODY(5, PIDTAB_SESSION_MEMBERS, 1);
+	BELONG(4, PIDTAB_GROUP_MEMBERS, 0, 2);
+	BELONG(5, PIDTAB_GROUP_MEMBERS, 2, 2);
+	BELONG(5, PIDTAB_SESSION_MEMBERS, 2, 2);
+}
+
+/* 9 is 4 of the namespace of 3, and 1 of a namespace inside it, which falls as it ends, and has it until it is reaped. */
+static void of_namespaces(void)
+{
+	for (uint32_t itself = 0; itself < 3; itself++) {
+		BELONG(1, PIDTAB_NAMESPACE_MEMBERS, itself, 1, 2, 3, 4, 5, 6, 7, 8);
+		BELONG(1, PIDTAB_NAMESPACE_OWN, itself, 1, 2, 6, 7, 8);
+	}
+	CHECK(pidtab_fork(&table, 5, 1, NULL) == 4);
+	for (uint32_t member = 3; member < 6; member++) {
+		BELONG(1, PIDTAB_NAMESPACE_MEMBERS, member, 3, 4, 5, 9);
+		BELONG(1, PIDTAB_NAMESPACE_OWN, member, 3, 4, 5);
+		BELONG(member, PIDTAB_NAMESPACE_MEMBERS, member - 2, 1, 2, 3, 4);
+		BELONG(member, PIDTAB_NAMESPACE_OWN, 0, 1, 2, 3);
+		BELONG(member, PIDTAB_NAMESPACE_MEMBERS, 4, 4);
+		NOBODY(member, PIDTAB_NAMESPACE_MEMBERS, 5);
+	}
+	for (uint32_t whom = PIDTAB_NAMESPACE_MEMBERS; whom <= PIDTAB_NAMESPACE_OWN; whom++) {
+		BELONG(1, whom, 9, 9);
+		BELONG(9, whom, 0, 1);
+		NOBODY(9, whom, 2);
+	}
+	CHECK(pidtab_exit(&table, 9, 0) == 0);
+	BELONG(1, PIDTAB_NAMESPACE_OWN, 9, 9);
+	CHECK(pidtab_wait(&table, 5, PIDTAB_ANY, 0, NULL) == 4);
+	NOBODY(1, PIDTAB_NAMESPACE_MEMBERS, 9);
 }
 
 /* Behind its last child a parent has none. A session stays whose leader was reaped, and so does its number, which no task has any more. */
 static void behind_ends(void)
 {
 	CHECK(pidtab_wait(&table, 2, PIDTAB_ANY, 0, NULL) == 7);
-	BELONG(1, PIDTAB_TASKS, 2, 8);
-	BELONG(1, PIDTAB_GROUPS, 2, 2);
+	BELONG(1, PIDTAB_CHILDREN, 2, 8);
+	BELONG(1, PIDTAB_GROUP_MEMBERS, 2, 2);
 	CHECK(pidtab_exit(&table, 2, 0) == 0);
-	BELONG(1, PIDTAB_TASKS, 1, 2, 3, 6, 8);
-	NOBODY(1, PIDTAB_TASKS, 2);
+	BELONG(1, PIDTAB_CHILDREN, 1, 2, 3, 6, 8);
+	NOBODY(1, PIDTAB_CHILDREN, 2);
 	CHECK(pidtab_wait(&table, 1, PIDTAB_ANY, 0, NULL) == 2);
-	BELONG(1, PIDTAB_SESSIONS, 2, 8);
-	NOBODY(1, PIDTAB_GROUPS, 2);
+	BELONG(1, PIDTAB_SESSION_MEMBERS, 2, 8);
+	NOBODY(1, PIDTAB_GROUP_MEMBERS, 2);
 	/* All of the namespace of 3 end with it, and 3 waits to be reaped. */
 	CHECK(pidtab_exit(&table, 3, 0) == 0);
-	BELONG(1, PIDTAB_TASKS, 0, 3, 6, 8);
-	BELONG(1, PIDTAB_GROUPS, 0, 1, 3, 6);
-	NOBODY(1, PIDTAB_SESSIONS, 4);
+	BELONG(1, PIDTAB_CHILDREN, 0, 3, 6, 8);
+	BELONG(1, PIDTAB_GROUP_MEMBERS, 0, 1, 3, 6);
+	NOBODY(1, PIDTAB_SESSION_MEMBERS, 4);
 	CHECK(pidtab_close(&table) == PIDTAB_DONE);
 }
 
-static void status_is(uint32_t kind, uint32_t caller, uint32_t status)
+static void status_is(uint32_t whom, uint32_t caller, uint32_t status)
 {
 	struct page it;
 
 	clear(&it);
-	CHECK(pidtab_page(&table, caller, kind, 0, 0, it.numbers, MOST, &it.reply) == status);
+	CHECK(pidtab_page(&table, caller, whom, 0, 0, it.numbers, MOST, &it.reply) == status);
 	is_untold(&it);
 }
 
 static void each_status_of_a_table(void)
 {
-	status_is(PIDTAB_TASKS, 1, PIDTAB_CLOSED);
-	status_is(3, 1, PIDTAB_CLOSED);
+	status_is(PIDTAB_CHILDREN, 1, PIDTAB_CLOSED);
+	status_is(5, 1, PIDTAB_CLOSED);
 	CHECK(pidtab_open(&table, 32768) == PIDTAB_DONE);
-	status_is(3, 1, PIDTAB_OUT_OF_RANGE);
-	status_is(3, 9, PIDTAB_OUT_OF_RANGE);
+	status_is(5, 1, PIDTAB_OUT_OF_RANGE);
+	status_is(5, 9, PIDTAB_OUT_OF_RANGE);
 	status_is(UINT32_MAX, 1, PIDTAB_OUT_OF_RANGE);
 	table.in_use = UINT8_MAX;
-	status_is(PIDTAB_TASKS, 1, PIDTAB_BUSY);
+	status_is(PIDTAB_CHILDREN, 1, PIDTAB_BUSY);
 	/* A page is told beside other queries. */
 	table.in_use = 1;
-	BELONG(1, PIDTAB_SESSIONS, 0, 1);
+	BELONG(1, PIDTAB_SESSION_MEMBERS, 0, 1);
 	table.in_use = 0;
 	CHECK(pidtab_close(&table) == PIDTAB_DONE);
 }
@@ -212,30 +239,30 @@ static void want_of_memory(void)
 	for (uint32_t i = 0; i < CHILDREN; i++)
 		CHECK(pidtab_fork(&table, 1, 0, NULL) == i + 2 && (all[i + 1] = children[i] = i + 2) == i + 2);
 	size = text_of(texts[0]);
-	for (uint32_t kind = PIDTAB_TASKS; kind <= PIDTAB_SESSIONS; kind++)
+	for (uint32_t whom = PIDTAB_CHILDREN; whom <= PIDTAB_NAMESPACE_OWN; whom++)
 		for (size_t room = 0; room <= MOST; room += MOST / 2) {
 			int at = 1;
 
 			for (uint32_t status = PIDTAB_NO_MEMORY; status != PIDTAB_DONE; at++) {
 				clear(&it);
 				refuse_at = at;
-				status = pidtab_page(&table, 1, kind, 1, 0, it.numbers, room, &it.reply);
+				status = pidtab_page(&table, 1, whom, 1, 0, it.numbers, room, &it.reply);
 				refuse_at = 0;
 				CHECK(status == PIDTAB_DONE || status == PIDTAB_NO_MEMORY);
 				if (status == PIDTAB_NO_MEMORY)
 					is_untold(&it);
 			}
 			CHECK(at > 2);
-			has_told(&it, room, kind == PIDTAB_TASKS ? children : all, kind == PIDTAB_TASKS ? CHILDREN : CHILDREN + 1);
+			has_told(&it, room, whom == PIDTAB_CHILDREN ? children : all, whom == PIDTAB_CHILDREN ? CHILDREN : CHILDREN + 1);
 		}
 	CHECK(text_of(texts[1]) == size && memcmp(texts[0], texts[1], size) == 0);
 	CHECK(pidtab_close(&table) == PIDTAB_DONE);
 }
 
 /* By the number of its parent, of its group or of its session. */
-static uint32_t number_of(const struct pidtab_task *task, uint32_t kind)
+static uint32_t number_of(const struct pidtab_task *task, uint32_t whom)
 {
-	return kind == PIDTAB_TASKS ? task->parent : kind == PIDTAB_GROUPS ? task->group : task->session;
+	return whom == PIDTAB_CHILDREN ? task->parent : whom == PIDTAB_GROUP_MEMBERS ? task->group : task->session;
 }
 
 static struct pidtab_task read_task(uint32_t caller, uint32_t number)
@@ -246,8 +273,29 @@ static struct pidtab_task read_task(uint32_t caller, uint32_t number)
 	return task;
 }
 
+/* Whether the first namespace is the second one, or inside it, as the parents of namespaces say. */
+static bool is_within(uint64_t inner, uint64_t outer)
+{
+	struct pidtab_space space;
+
+	while (inner != outer && inner != 0) {
+		CHECK(pidtab_space(&table, inner, &space) == PIDTAB_DONE);
+		inner = space.parent;
+	}
+	return inner == outer;
+}
+
+/* Whether the task is in the namespace that the task with the number is in. */
+static bool is_in_namespace(const struct pidtab_task *task, uint32_t caller, uint32_t whom, uint32_t number)
+{
+	struct pidtab_task named;
+
+	CHECK(pidtab_stat(&table, caller, number, &named) == PIDTAB_DONE);
+	return named.error == 0 && (whom == PIDTAB_NAMESPACE_OWN ? task->space == named.space : is_within(task->space, named.space));
+}
+
 /* Who belongs to the number, of all tasks from one on that the caller sees. The root namespace knows what the caller's own is that it does not see. */
-static size_t searched(uint32_t caller, uint32_t kind, uint32_t number, uint32_t from, uint32_t *found)
+static size_t searched(uint32_t caller, uint32_t whom, uint32_t number, uint32_t from, uint32_t *found)
 {
 	struct pidtab_call next = { .operation = PIDTAB_NEXT, .caller = caller, .choice = PIDTAB_TASKS, .number = from };
 	struct pidtab_task own = read_task(1, caller);
@@ -256,10 +304,11 @@ static size_t searched(uint32_t caller, uint32_t kind, uint32_t number, uint32_t
 
 	while (pidtab_ask(&table, &next, &reply) == PIDTAB_DONE && reply.kind == PIDTAB_NUMBER) {
 		struct pidtab_task seen = read_task(caller, (uint32_t)reply.first), whole = read_task(1, seen.root);
-		uint32_t wanted = number != 0 ? number : kind == PIDTAB_TASKS ? caller : number_of(&own, kind);
+		uint32_t wanted = number != 0 ? number : whom == PIDTAB_CHILDREN ? caller : number_of(&own, whom);
+		bool is_listed = whom < PIDTAB_NAMESPACE_MEMBERS ? number_of(number != 0 ? &seen : &whole, whom) == wanted : is_in_namespace(&whole, caller, whom, number);
 
 		next.number = (uint32_t)reply.first + 1;
-		if (number_of(number != 0 ? &seen : &whole, kind) == wanted && count < MOST)
+		if (is_listed && count < MOST)
 			found[count++] = (uint32_t)reply.first;
 	}
 	CHECK(reply.kind == PIDTAB_END);
@@ -294,30 +343,32 @@ static void make_random_call(void)
 		pidtab_wait(&table, 1, PIDTAB_ANY, 0, NULL);
 }
 
-/* What was met, so that the comparison is none of empty lists: those of several, from within a namespace, of what is not seen there, and cut short. */
-static int several, nested, unseen, short_of_room;
+/* What was met, so that the comparison is none of empty lists: those of several, from within a namespace, of what is not seen there, of a namespace
+ * without those inside it, and cut short. */
+static int several, nested, unseen, apart, short_of_room;
 
 static void compare_random_page(void)
 {
-	uint32_t caller = random_task(), kind = random_below(3), number = random_number(caller), from = random_below(2) * random_below(100);
-	uint32_t wanted[MOST];
+	uint32_t caller = random_task(), whom = random_below(5), number = random_number(caller), from = random_below(2) * random_below(100);
+	uint32_t wanted[MOST], others[MOST];
 	struct pidtab_task own;
 	struct page it;
 	size_t count, room;
 
 	CHECK(pidtab_stat(&table, caller, 0, &own) == PIDTAB_DONE);
 	if (own.error != 0) {
-		is_refused(caller, kind);
+		is_refused(caller, whom);
 		return;
 	}
-	count = searched(caller, kind, number, from, wanted);
+	count = searched(caller, whom, number, from, wanted);
 	room = random_below(2) == 0 ? MOST : random_below((uint32_t)count + 2);
 	clear(&it);
-	CHECK(pidtab_page(&table, caller, kind, number, from, it.numbers, room, &it.reply) == PIDTAB_DONE);
+	CHECK(pidtab_page(&table, caller, whom, number, from, it.numbers, room, &it.reply) == PIDTAB_DONE);
 	has_told(&it, room, wanted, count);
 	several += count > 2;
 	nested += count > 1 && own.root != own.levels[0];
-	unseen += count > 0 && number == 0 && kind != PIDTAB_TASKS && number_of(&own, kind) == 0;
+	unseen += count > 0 && number == 0 && whom != PIDTAB_CHILDREN && whom < PIDTAB_NAMESPACE_MEMBERS && number_of(&own, whom) == 0;
+	apart += whom == PIDTAB_NAMESPACE_OWN && count > 0 && searched(caller, PIDTAB_NAMESPACE_MEMBERS, number, from, others) > count;
 	short_of_room += room < count;
 }
 
@@ -333,7 +384,7 @@ static void are_as_searched(void)
 		}
 		CHECK(pidtab_close(&table) == PIDTAB_DONE);
 	}
-	CHECK(several > 50 && nested > 50 && unseen > 50 && short_of_room > 50);
+	CHECK(several > 50 && nested > 50 && unseen > 50 && apart > 50 && short_of_room > 50);
 }
 
 static void of_a_record(void)
@@ -345,24 +396,24 @@ static void of_a_record(void)
 	struct page it;
 
 	clear(&it);
-	CHECK(pidtab_record_page(&record, 1, PIDTAB_TASKS, 0, 0, it.numbers, MOST, &it.reply) == PIDTAB_CLOSED);
+	CHECK(pidtab_record_page(&record, 1, PIDTAB_CHILDREN, 0, 0, it.numbers, MOST, &it.reply) == PIDTAB_CLOSED);
 	CHECK(pidtab_record_open(&record, 32768, UINT64_MAX - 2, 1) == PIDTAB_DONE);
-	CHECK(pidtab_record_page(&record, 1, 3, 0, 0, it.numbers, MOST, &it.reply) == PIDTAB_OUT_OF_RANGE);
+	CHECK(pidtab_record_page(&record, 1, 5, 0, 0, it.numbers, MOST, &it.reply) == PIDTAB_OUT_OF_RANGE);
 	is_untold(&it);
 	CHECK(pidtab_record_call(&record, 0, &fork, &reply, &ordinal) == PIDTAB_DONE && pidtab_record_call(&record, 0, &fork, &reply, &ordinal) == PIDTAB_DONE);
 	/* The stamps are used up, and a page uses none. */
 	CHECK(pidtab_record_call(&record, 0, &fork, &reply, &ordinal) == PIDTAB_SPENT);
 	for (int turn = 0; turn < 2; turn++) {
 		clear(&it);
-		CHECK(pidtab_record_page(&record, 1, PIDTAB_TASKS, 0, 0, it.numbers, MOST, &it.reply) == PIDTAB_DONE);
+		CHECK(pidtab_record_page(&record, 1, PIDTAB_CHILDREN, 0, 0, it.numbers, MOST, &it.reply) == PIDTAB_DONE);
 		has_told(&it, MOST, (const uint32_t[]){ 2, 3 }, 2);
 		clear(&it);
 		refuse_at = 1;
-		CHECK(pidtab_record_page(&record, 1, PIDTAB_GROUPS, 0, 0, it.numbers, MOST, &it.reply) == PIDTAB_NO_MEMORY);
+		CHECK(pidtab_record_page(&record, 1, PIDTAB_GROUP_MEMBERS, 0, 0, it.numbers, MOST, &it.reply) == PIDTAB_NO_MEMORY);
 		CHECK(refuse_at == 0);
 		is_untold(&it);
 	}
-	CHECK(pidtab_record_page(&record, 4, PIDTAB_TASKS, 0, 0, it.numbers, MOST, &it.reply) == PIDTAB_DONE && it.reply.refusal == PIDTAB_NO_CALLER);
+	CHECK(pidtab_record_page(&record, 4, PIDTAB_CHILDREN, 0, 0, it.numbers, MOST, &it.reply) == PIDTAB_DONE && it.reply.refusal == PIDTAB_NO_CALLER);
 	CHECK(pidtab_record_counts(&record, &first_kept, &recorded) == PIDTAB_DONE && recorded == 2);
 	CHECK(pidtab_record_close(&record) == PIDTAB_DONE);
 }
@@ -376,7 +427,7 @@ static void *reads_pages(void *unused)
 	struct pidtab_reply reply;
 
 	for (size_t before = 0, room = 0; before < FORKS; before = reply.first, room = (room + 7) % (FORKS + 1)) {
-		CHECK(unused == NULL && pidtab_shared_page(&shared, 1, PIDTAB_TASKS, 0, 0, numbers, room, &reply) == PIDTAB_DONE);
+		CHECK(unused == NULL && pidtab_shared_page(&shared, 1, PIDTAB_CHILDREN, 0, 0, numbers, room, &reply) == PIDTAB_DONE);
 		CHECK(reply.kind == PIDTAB_COUNTED && reply.first >= before && reply.first <= FORKS);
 		for (uint32_t i = 0; i < room && i < reply.first; i++)
 			CHECK(numbers[i] == i + 2);
@@ -407,6 +458,7 @@ int main(void)
 {
 	each_kind();
 	in_a_namespace();
+	of_namespaces();
 	behind_ends();
 	each_status_of_a_table();
 	want_of_memory();

@@ -114,7 +114,7 @@ static void each_function_is_busy(void)
 	CHECK(size == 7 && strcmp(room, "kept") == 0);
 	CHECK(pidtab_ask(&table, &call, &reply) == PIDTAB_BUSY && reply.kind == 77);
 	CHECK(pidtab_stat(&table, 1, 0, &task) == PIDTAB_BUSY && task.count == 77);
-	CHECK(pidtab_page(&table, 1, PIDTAB_TASKS, 0, 0, &number, 1, &reply) == PIDTAB_BUSY && reply.kind == 77 && number == 7);
+	CHECK(pidtab_page(&table, 1, PIDTAB_CHILDREN, 0, 0, &number, 1, &reply) == PIDTAB_BUSY && reply.kind == 77 && number == 7);
 	CHECK(pidtab_space(&table, 0, &space) == PIDTAB_BUSY && space.level == 77);
 }
 
@@ -259,7 +259,7 @@ static void each_function_of_a_record_is_busy(void)
 
 	each_call_of_a_record_is_busy();
 	CHECK(pidtab_record_ask(&record, &call, &reply) == PIDTAB_BUSY && pidtab_record_stat(&record, 1, 0, &task) == PIDTAB_BUSY);
-	CHECK(pidtab_record_page(&record, 1, PIDTAB_TASKS, 0, 0, &number, 1, &reply) == PIDTAB_BUSY && reply.kind == 77 && number == 7);
+	CHECK(pidtab_record_page(&record, 1, PIDTAB_CHILDREN, 0, 0, &number, 1, &reply) == PIDTAB_BUSY && reply.kind == 77 && number == 7);
 	CHECK(pidtab_record_space(&record, 0, &space) == PIDTAB_BUSY && space.level == 77);
 	CHECK(pidtab_record_counts(&record, &one, &other) == PIDTAB_BUSY && pidtab_record_worker(&record, 0, &one) == PIDTAB_BUSY);
 	CHECK(pidtab_record_entry(&record, 0, &one, &call, &reply) == PIDTAB_BUSY);

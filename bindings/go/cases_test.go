@@ -298,11 +298,11 @@ func (it *caseWorld) stat(caller, pid uint32) string {
 		found.Group, found.Session, found.Control, end)
 }
 
-// page is who belongs to a number by the kind.
+// page is whom a page lists.
 func (it *caseWorld) page(numbers []uint64) string {
 	caller, number, from := uint32(numbers[1]), uint32(numbers[2]), uint32(numbers[3])
-	ask := func(of belonging) ([]uint32, error) {
-		return [...]func(caller, number, from uint32) ([]uint32, error){of.Children, of.GroupMembers, of.SessionMembers}[numbers[0]](caller, number, from)
+	ask := func(of lister) ([]uint32, error) {
+		return listsOf(of)[numbers[0]](caller, number, from)
 	}
 	found, err := ask(it.shared)
 	for _, table := range it.tables {

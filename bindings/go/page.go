@@ -12,49 +12,70 @@ const shortPage = 64
 // caller's namespace does not see is left out, and to a number that is nobody's nobody belongs. It is no call, as Ask makes none. It costs what is
 // read of each of them, and takes memory for a list. Refused as no-caller; ErrNoMemory, ErrClosed, ErrBusy.
 func (table *Table) Children(caller, pid, from uint32) ([]uint32, error) {
-	return table.belonging(C.PIDTAB_TASKS, caller, pid, from)
+	return table.page(C.PIDTAB_CHILDREN, caller, pid, from)
 }
 
 // GroupMembers are the numbers of the members of the process group, where 0 is the caller's own, as Children has those of a task.
 func (table *Table) GroupMembers(caller, group, from uint32) ([]uint32, error) {
-	return table.belonging(C.PIDTAB_GROUPS, caller, group, from)
+	return table.page(C.PIDTAB_GROUP_MEMBERS, caller, group, from)
 }
 
 // SessionMembers are the numbers of the members of the session, where 0 is the caller's own, as Children has those of a task.
 func (table *Table) SessionMembers(caller, session, from uint32) ([]uint32, error) {
-	return table.belonging(C.PIDTAB_SESSIONS, caller, session, from)
+	return table.page(C.PIDTAB_SESSION_MEMBERS, caller, session, from)
+}
+
+// NamespaceMembers are the numbers of the tasks of the namespace that the task pid is in, where 0 is the caller, those in namespaces inside it too, as
+// Children has those of a task. Of the caller's own namespace these are all that it sees: whom kill(2) of -1 reaches.
+func (table *Table) NamespaceMembers(caller, pid, from uint32) ([]uint32, error) {
+	return table.page(C.PIDTAB_NAMESPACE_MEMBERS, caller, pid, from)
+}
+
+// NamespaceOwn are of NamespaceMembers those that are in no namespace inside it.
+func (table *Table) NamespaceOwn(caller, pid, from uint32) ([]uint32, error) {
+	return table.page(C.PIDTAB_NAMESPACE_OWN, caller, pid, from)
 }
 
 // Children are the numbers of the children of the task pid, as Children of a Table has them; it is not recorded. Refused as no-caller; ErrNoMemory.
 func (shared *Shared) Children(caller, pid, from uint32) ([]uint32, error) {
-	return shared.belonging(C.PIDTAB_TASKS, caller, pid, from)
+	return shared.page(C.PIDTAB_CHILDREN, caller, pid, from)
 }
 
 // GroupMembers are the numbers of the members of the process group, as GroupMembers of a Table has them; it is not recorded.
 func (shared *Shared) GroupMembers(caller, group, from uint32) ([]uint32, error) {
-	return shared.belonging(C.PIDTAB_GROUPS, caller, group, from)
+	return shared.page(C.PIDTAB_GROUP_MEMBERS, caller, group, from)
 }
 
 // SessionMembers are the numbers of the members of the session, as SessionMembers of a Table has them; it is not recorded.
 func (shared *Shared) SessionMembers(caller, session, from uint32) ([]uint32, error) {
-	return shared.belonging(C.PIDTAB_SESSIONS, caller, session, from)
+	return shared.page(C.PIDTAB_SESSION_MEMBERS, caller, session, from)
 }
 
-func (table *Table) belonging(kind, caller, number, from uint32) ([]uint32, error) {
+// NamespaceMembers are the numbers of the tasks of a namespace, as NamespaceMembers of a Table has them; it is not recorded.
+func (shared *Shared) NamespaceMembers(caller, pid, from uint32) ([]uint32, error) {
+	return shared.page(C.PIDTAB_NAMESPACE_MEMBERS, caller, pid, from)
+}
+
+// NamespaceOwn are of NamespaceMembers those that are in no namespace inside it; it is not recorded.
+func (shared *Shared) NamespaceOwn(caller, pid, from uint32) ([]uint32, error) {
+	return shared.page(C.PIDTAB_NAMESPACE_OWN, caller, pid, from)
+}
+
+func (table *Table) page(whom, caller, number, from uint32) ([]uint32, error) {
 	held := table.held()
 	held.lock.RLock()
 	defer held.lock.RUnlock()
 	return allOf(func(numbers *C.uint32_t, room C.size_t, reply *C.struct_pidtab_reply) C.uint32_t {
-		return C.pidtab_page(&held.raw, C.uint32_t(caller), C.uint32_t(kind), C.uint32_t(number), C.uint32_t(from), numbers, room, reply)
+		return C.pidtab_page(&held.raw, C.uint32_t(caller), C.uint32_t(whom), C.uint32_t(number), C.uint32_t(from), numbers, room, reply)
 	})
 }
 
-func (shared *Shared) belonging(kind, caller, number, from uint32) ([]uint32, error) {
+func (shared *Shared) page(whom, caller, number, from uint32) ([]uint32, error) {
 	held := shared.held()
 	held.lock.RLock()
 	defer held.lock.RUnlock()
 	return allOf(func(numbers *C.uint32_t, room C.size_t, reply *C.struct_pidtab_reply) C.uint32_t {
-		return C.pidtab_record_page(held.raw, C.uint32_t(caller), C.uint32_t(kind), C.uint32_t(number), C.uint32_t(from), numbers, room, reply)
+		return C.pidtab_record_page(held.raw, C.uint32_t(caller), C.uint32_t(whom), C.uint32_t(number), C.uint32_t(from), numbers, room, reply)
 	})
 }
 

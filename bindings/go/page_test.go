@@ -7,11 +7,18 @@ import (
 	"testing"
 )
 
-// belonging is what a Table and a Shared answer lists by.
-type belonging interface {
+// lister is what a Table and a Shared answer lists by.
+type lister interface {
 	Children(caller, pid, from uint32) ([]uint32, error)
 	GroupMembers(caller, group, from uint32) ([]uint32, error)
 	SessionMembers(caller, session, from uint32) ([]uint32, error)
+	NamespaceMembers(caller, pid, from uint32) ([]uint32, error)
+	NamespaceOwn(caller, pid, from uint32) ([]uint32, error)
+}
+
+// listsOf are its lists, in the order of the numbers of the header.
+func listsOf(of lister) [5]func(caller, number, from uint32) ([]uint32, error) {
+	return [...]func(caller, number, from uint32) ([]uint32, error){of.Children, of.GroupMembers, of.SessionMembers, of.NamespaceMembers, of.NamespaceOwn}
 }
 
 // numbered has a list of these numbers.
@@ -45,9 +52,9 @@ func openBoth(t *testing.T) (*Table, *Shared) {
 	return table, shared
 }
 
-func TestWhoBelongsToANumber(t *testing.T) {
+func TestWhomAPageLists(t *testing.T) {
 	table, shared := openBoth(t)
-	for _, it := range []belonging{table, shared} {
+	for _, it := range []lister{table, shared} {
 		for _, row := range []struct {
 			ask                  func(caller, number, from uint32) ([]uint32, error)
 			caller, number, from uint32
@@ -59,14 +66,18 @@ func TestWhoBelongsToANumber(t *testing.T) {
 			{it.SessionMembers, 1, 2, 0, numbered(2, 5)}, {it.SessionMembers, 1, 0, 5, numbered()},
 			// The namespace of 4 sees no number of the group and the session of 1.
 			{it.GroupMembers, 4, 0, 0, numbered(1, 2)}, {it.GroupMembers, 4, 1, 0, numbered()}, {it.SessionMembers, 3, 0, 2, numbered(2)},
+			{it.NamespaceMembers, 1, 0, 0, numbered(1, 2, 3, 4, 5)}, {it.NamespaceMembers, 1, 4, 4, numbered(4)}, {it.NamespaceMembers, 4, 0, 0, numbered(1, 2)},
+			{it.NamespaceOwn, 1, 0, 2, numbered(2, 5)}, {it.NamespaceOwn, 1, 3, 0, numbered(3, 4)}, {it.NamespaceOwn, 3, 3, 0, numbered()},
 		} {
 			if found, err := row.ask(row.caller, row.number, row.from); err != nil || !reflect.DeepEqual(found, row.wanted) {
 				t.Error(row.caller, row.number, row.from, found, row.wanted, err)
 			}
 		}
 		var refusal Refusal
-		if found, err := it.Children(5, 0, 0); found != nil || !errors.As(err, &refusal) || refusal.Word != NoCaller {
-			t.Error(found, err)
+		for _, list := range listsOf(it) {
+			if found, err := list(5, 0, 0); found != nil || !errors.As(err, &refusal) || refusal.Word != NoCaller {
+				t.Error(found, err)
+			}
 		}
 	}
 	if counts, err := shared.Counts(); err != nil || counts.Recorded != 6 {
@@ -74,9 +85,11 @@ func TestWhoBelongsToANumber(t *testing.T) {
 	}
 	table.Close()
 	shared.Close()
-	for _, it := range []belonging{table, shared} {
-		if _, err := it.SessionMembers(1, 0, 0); !errors.Is(err, ErrClosed) {
-			t.Error(err)
+	for _, it := range []lister{table, shared} {
+		for _, list := range listsOf(it) {
+			if _, err := list(1, 0, 0); !errors.Is(err, ErrClosed) {
+				t.Error(err)
+			}
 		}
 	}
 }

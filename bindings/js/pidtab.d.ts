@@ -180,6 +180,10 @@ export interface Ask extends Queries {
   groupMembers(caller: number, group?: number, start?: number): number[];
   /** The members of the session, where 0 is the caller's own, in the same way. no-caller, NoMemory. */
   sessionMembers(caller: number, session?: number, start?: number): number[];
+  /** The tasks of the namespace that the task is in, where 0 is the caller, those in namespaces inside it too, in the same way. no-caller, NoMemory. */
+  namespaceMembers(caller: number, pid?: number, start?: number): number[];
+  /** Of these those that are in no namespace inside it. no-caller, NoMemory. */
+  namespaceOwn(caller: number, pid?: number, start?: number): number[];
   /** Reads the namespace with the id, where 0 is the root namespace. A RangeError where no namespace has it, or it is gone. */
   space(id: Long): SpaceStat;
 }

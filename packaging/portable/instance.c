@@ -263,7 +263,7 @@ uint32_t proved_stat(struct pidtab *table, uint32_t caller, uint32_t number, str
 }
 
 /* A function of the module that writes numbers into a room of its memory, and tells in its reply how many there are. */
-typedef uint32_t write_page(instance *it, uint32_t caller, uint32_t kind, uint32_t number, uint32_t from, uint32_t numbers, uint32_t room);
+typedef uint32_t write_page(instance *it, uint32_t caller, uint32_t whom, uint32_t number, uint32_t from, uint32_t numbers, uint32_t room);
 
 /* The numbers in a room of the caller: first they are counted. */
 static uint32_t paged(instance *it, write_page *page, const uint32_t taken[4], uint32_t *numbers, size_t room, struct pidtab_reply *reply)
@@ -287,9 +287,9 @@ static uint32_t paged(instance *it, write_page *page, const uint32_t taken[4], u
 	return fetched(it, status, REPLY, reply, sizeof *reply);
 }
 
-uint32_t proved_page(struct pidtab *table, uint32_t caller, uint32_t kind, uint32_t number, uint32_t from, uint32_t *numbers, size_t room, struct pidtab_reply *reply)
+uint32_t proved_page(struct pidtab *table, uint32_t caller, uint32_t whom, uint32_t number, uint32_t from, uint32_t *numbers, size_t room, struct pidtab_reply *reply)
 {
-	const uint32_t taken[4] = { caller, kind, number, from };
+	const uint32_t taken[4] = { caller, whom, number, from };
 
 	return table->is_open ? paged(table->at, Z_pidtabZ_page, taken, numbers, room, reply) : PIDTAB_CLOSED;
 }
@@ -416,9 +416,9 @@ uint32_t proved_record_stat(struct pidtab_record *record, uint32_t caller, uint3
 	return record->is_open ? fetched(it, Z_pidtabZ_record_stat(it, caller, number), TASK, task, sizeof *task) : PIDTAB_CLOSED;
 }
 
-uint32_t proved_record_page(struct pidtab_record *record, uint32_t caller, uint32_t kind, uint32_t number, uint32_t from, uint32_t *numbers, size_t room, struct pidtab_reply *reply)
+uint32_t proved_record_page(struct pidtab_record *record, uint32_t caller, uint32_t whom, uint32_t number, uint32_t from, uint32_t *numbers, size_t room, struct pidtab_reply *reply)
 {
-	const uint32_t taken[4] = { caller, kind, number, from };
+	const uint32_t taken[4] = { caller, whom, number, from };
 
 	return record->is_open ? paged(record->at, Z_pidtabZ_record_page, taken, numbers, room, reply) : PIDTAB_CLOSED;
 }

@@ -5,17 +5,17 @@
 
 #define ROOM 2
 
-/* Ends whoever belongs to the number, and first the children of each. The root init sees all by their root numbers. */
-static uint32_t end_all(struct pidtab *table, uint32_t kind, uint32_t number)
+/* Ends those of the page, and first the children of each. The root init sees all by their root numbers. */
+static uint32_t end_all(struct pidtab *table, enum pidtab_whom whom, uint32_t number)
 {
 	uint32_t numbers[ROOM], from = 0, status;
 	struct pidtab_reply reply;
 
 	do {
-		status = pidtab_page(table, 1, kind, number, from, numbers, ROOM, &reply);
+		status = pidtab_page(table, 1, whom, number, from, numbers, ROOM, &reply);
 		for (size_t i = 0; status == PIDTAB_DONE && i < ROOM && i < reply.first; i++) {
 			from = numbers[i] + 1;
-			status = end_all(table, PIDTAB_TASKS, numbers[i]);
+			status = end_all(table, PIDTAB_CHILDREN, numbers[i]);
 			/* Who has ended already is no caller. */
 			if (pidtab_exit(table, numbers[i], 0) == 0)
 				printf("%u ends\n", numbers[i]);
@@ -43,7 +43,7 @@ int main(void)
 
 	if (status == PIDTAB_DONE) {
 		make_job(&table);
-		status = end_all(&table, PIDTAB_GROUPS, 2);
+		status = end_all(&table, PIDTAB_GROUP_MEMBERS, 2);
 	}
 	if (status != PIDTAB_DONE)
 		fprintf(stderr, "%s\n", pidtab_text(status));

@@ -5,7 +5,7 @@
 
 import { checkLong, checkNumber, checkRange, checkSigned } from "./bounds.js";
 import { faultOf, readRefusal, Refusal, shorten } from "./faults.js";
-import { KIND, OPERATION, REPLY, STATUS, TASK, USES, WHICH } from "./header.js";
+import { KIND, OPERATION, REPLY, STATUS, TASK, USES, WHICH, WHOM } from "./header.js";
 import { readListing } from "./listing.js";
 import { aChild, anEndedChild, anId, aNumber, aSpace, aTask, nothing, numbersAt, refusalAt, theNext, theNumbers } from "./replies.js";
 
@@ -125,15 +125,23 @@ export class Ask extends onOwner(Queries) {
   }
 
   children(caller, pid = 0, start = 0) {
-    return this._page("children", "task", caller, checkNumber("pid", pid), start);
+    return this._page("children", WHOM.CHILDREN, caller, checkNumber("pid", pid), start);
   }
 
   groupMembers(caller, group = 0, start = 0) {
-    return this._page("groupMembers", "group", caller, checkNumber("group", group), start);
+    return this._page("groupMembers", WHOM.GROUP_MEMBERS, caller, checkNumber("group", group), start);
   }
 
   sessionMembers(caller, session = 0, start = 0) {
-    return this._page("sessionMembers", "session", caller, checkNumber("session", session), start);
+    return this._page("sessionMembers", WHOM.SESSION_MEMBERS, caller, checkNumber("session", session), start);
+  }
+
+  namespaceMembers(caller, pid = 0, start = 0) {
+    return this._page("namespaceMembers", WHOM.NAMESPACE_MEMBERS, caller, checkNumber("pid", pid), start);
+  }
+
+  namespaceOwn(caller, pid = 0, start = 0) {
+    return this._page("namespaceOwn", WHOM.NAMESPACE_OWN, caller, checkNumber("pid", pid), start);
   }
 
   space(id) {
@@ -147,10 +155,10 @@ export class Ask extends onOwner(Queries) {
     return aSpace(instance, instance.at.space.word);
   }
 
-  /** All who belong to the number, from one on. Where the room is too short, it is taken anew for as many as there are: none comes meanwhile. */
-  _page(name, use, caller, number, start, room = SHORT_PAGE) {
+  /** All whom the page lists, from one number on. Where the room is too short, it is taken anew for as many as there are: none comes meanwhile. */
+  _page(name, whom, caller, number, start, room = SHORT_PAGE) {
     const instance = this._open();
-    const taken = [checkNumber("caller", caller), choiceOf(use), number, checkNumber("start", start)];
+    const taken = [checkNumber("caller", caller), whom, number, checkNumber("start", start)];
     const asked = `${name} ${caller} ${number}`;
     const [count, numbers] = instance.withRoom(4 * room, asked, (address) => {
       const status = instance.page(...taken, address, room);
@@ -162,7 +170,7 @@ export class Ask extends onOwner(Queries) {
       const told = words[at + REPLY.first];
       return [told, numbersAt(words, address / 4, Math.min(told, room))];
     });
-    return count > room ? this._page(name, use, caller, number, start, count) : numbers;
+    return count > room ? this._page(name, whom, caller, number, start, count) : numbers;
   }
 }
 

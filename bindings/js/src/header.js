@@ -33,6 +33,9 @@ export const WHICH = { ANY: 0, CHILD: 1, OWN_GROUP: 2, GROUP: 3 };
 /** Of a next, in the order of their numbers. */
 export const USES = ["task", "group", "session"];
 
+/** Of a page: whom it lists. */
+export const WHOM = { CHILDREN: 0, GROUP_MEMBERS: 1, SESSION_MEMBERS: 2, NAMESPACE_MEMBERS: 3, NAMESPACE_OWN: 4 };
+
 export const KIND = { FORKED: 0, OK: 1, NUMBER: 2, LEVELS: 3, REAPED: 4, NONE_YET: 5, COUNTED: 6, CONTROL: 7, END: 8, REFUSED: 9 };
 // The end of kinds.
 

@@ -62,7 +62,7 @@ tested("a fork with given numbers", (table) => {
   assert.throws(() => table.forkAt(1, { child: 5 }), TypeError);
 });
 
-tested("children, and members of groups and sessions", (table) => {
+tested("children, members of groups and sessions, and tasks of namespaces", (table) => {
   table.fork(1);
   table.fork(1, { newSpace: true });
   table.fork(3);
@@ -77,6 +77,11 @@ tested("children, and members of groups and sessions", (table) => {
     assert.deepEqual([members(1), members(1, 1), members(2), members(1, 2), members(4), members(4, 1)], [[1, 3, 4], [1, 3, 4], [2, 5], [2, 5], [1, 2], []]);
     assert.deepEqual([members(1, 0, 2), members(1, 1, 4), members(1, 0, 5)], [[3, 4], [4], []]);
     assert.throws(() => members(5), { name: "Refusal", code: "ESRCH", word: "no-caller", id: null });
+  }
+  assert.deepEqual([ask.namespaceMembers(1), ask.namespaceMembers(1, 2, 4), ask.namespaceOwn(1), ask.namespaceOwn(1, 5, 2)], [[1, 2, 3, 4, 5], [4, 5], [1, 2, 5], [2, 5]]);
+  for (const tasks of [(...given) => ask.namespaceMembers(...given), (...given) => ask.namespaceOwn(...given)]) {
+    assert.deepEqual([tasks(1, 3), tasks(1, 4, 4), tasks(3), tasks(4, 1), tasks(4, 3)], [[3, 4], [4], [1, 2], [1, 2], []]);
+    assert.throws(() => tasks(5), { name: "Refusal", code: "ESRCH", word: "no-caller", id: null });
   }
   assert.throws(() => ask.children(9, 1), { message: "children 9 1: ESRCH no-caller" });
   assert.equal(table.mk(), 7n);

@@ -141,9 +141,9 @@ class World {
     return task;
   }
 
-  /** Who belongs to a number by the kind. */
-  page(kind, ...numbers) {
-    const name = ["children", "groupMembers", "sessionMembers"][kind];
+  /** Whom a page lists. */
+  page(whom, ...numbers) {
+    const name = ["children", "groupMembers", "sessionMembers", "namespaceMembers", "namespaceOwn"][whom];
     const [found, ...others] = [this.record, ...this.tables].map(({ ask }) => told(() => ask[name](...numbers.map(Number)).join(" ") || "none"));
     for (const other of others) assert.equal(other, found);
     return found;

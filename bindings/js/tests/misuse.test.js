@@ -8,6 +8,8 @@ import { pidtab, skip } from "./package.js";
 
 const { readListing, Table } = pidtab;
 
+const PAGES = ["children", "groupMembers", "sessionMembers", "namespaceMembers", "namespaceOwn"];
+
 test("numbers of another kind, and out of range", { skip }, () => {
   const table = new Table();
   const kinds = [() => table.getpid("1"), () => table.getpid(), () => table.getpid(null), () => table.mk("0"), () => table.getpid(1n)];
@@ -18,7 +20,7 @@ test("numbers of another kind, and out of range", { skip }, () => {
   for (const child of [{ child: -1, root: 2 }, { child: 2, root: 2 ** 32 }, { child: 2.5, root: 2 }]) assert.throws(() => table.forkAt(1, child), RangeError);
   assert.throws(() => would.exit(1, 256), RangeError);
   const { ask } = table;
-  const pages = [(...given) => ask.children(...given), (...given) => ask.groupMembers(...given), (...given) => ask.sessionMembers(...given)];
+  const pages = PAGES.map((name) => (...given) => ask[name](...given));
   for (const page of pages) {
     for (const given of [["1"], [], [1, "1"], [1, null], [1, 0, "2"], [1, 0, {}]]) assert.throws(() => page(...given), TypeError);
     for (const given of [[-1], [1, 2 ** 32], [1, 0, 0.5], [1, 0, -1]]) assert.throws(() => page(...given), RangeError);
@@ -55,7 +57,7 @@ test("a table that was closed", { skip }, () => {
   table.close();
   table.close();
   const foretold = [() => would.fork(1), () => would.mk(), () => table.forkAt(1, { child: 2, root: 2 })];
-  const pages = [() => ask.children(1), () => ask.groupMembers(1), () => ask.sessionMembers(1)];
+  const pages = PAGES.map((name) => () => ask[name](1));
   for (const call of [...foretold, () => table.fork(1), () => table.line("fork 1"), () => table.list(), () => table.dump(), () => ask.getpid(1), () => ask.stat(1), () => ask.space(0), () => table.mk(), ...pages]) {
     assert.throws(call, { name: "TableClosed", code: "EBADF", message: "the table was closed" });
   }

@@ -44,7 +44,7 @@ test("a line that is none, and one without a call, are not recorded", { skip }, 
 
 test("children and members, of a record and of a seat, are not recorded", { skip }, () => {
   const { record, seats } = recorded();
-  for (const { ask } of [record, ...seats]) assert.deepEqual([ask.children(1), ask.groupMembers(2), ask.sessionMembers(1, 0, 2)], [[2], [1, 2], [2, 3]]);
+  for (const { ask } of [record, ...seats]) assert.deepEqual([ask.children(1), ask.groupMembers(2), ask.sessionMembers(1, 0, 2), ask.namespaceMembers(2)], [[2], [1, 2], [2, 3], [1, 2]]);
   assert.equal(record.counts().recorded, 3n);
 });
 

@@ -98,9 +98,9 @@ uint32_t EXPORTED(stat)(uint32_t caller, uint32_t number)
 	return pidtab_stat(&held.table, caller, number, &at.task);
 }
 
-uint32_t EXPORTED(page)(uint32_t caller, uint32_t kind, uint32_t number, uint32_t from, uint32_t numbers, uint32_t room)
+uint32_t EXPORTED(page)(uint32_t caller, uint32_t whom, uint32_t number, uint32_t from, uint32_t numbers, uint32_t room)
 {
-	return pidtab_page(&held.table, caller, kind, number, from, pointer(numbers), room, &at.reply);
+	return pidtab_page(&held.table, caller, whom, number, from, pointer(numbers), room, &at.reply);
 }
 
 uint32_t EXPORTED(space)(void)
@@ -158,9 +158,9 @@ uint32_t EXPORTED(record_stat)(uint32_t caller, uint32_t number)
 	return pidtab_record_stat(&held.record, caller, number, &at.task);
 }
 
-uint32_t EXPORTED(record_page)(uint32_t caller, uint32_t kind, uint32_t number, uint32_t from, uint32_t numbers, uint32_t room)
+uint32_t EXPORTED(record_page)(uint32_t caller, uint32_t whom, uint32_t number, uint32_t from, uint32_t numbers, uint32_t room)
 {
-	return pidtab_record_page(&held.record, caller, kind, number, from, pointer(numbers), room, &at.reply);
+	return pidtab_record_page(&held.record, caller, whom, number, from, pointer(numbers), room, &at.reply);
 }
 
 uint32_t EXPORTED(record_space)(void)

@@ -16,17 +16,19 @@ from pidtab.raw import (
     BAD_LINE,
     BAD_TEXT,
     CALL_FIELDS,
+    CHILDREN,
     CLOSED,
     DIFFERS,
     DONE,
-    GROUPS,
+    GROUP_MEMBERS,
+    NAMESPACE_MEMBERS,
+    NAMESPACE_OWN,
     NO_MEMORY,
     NO_ROOM,
     OUT_OF_RANGE,
     REFUSED,
-    SESSIONS,
+    SESSION_MEMBERS,
     SPENT,
-    TASKS,
     Answer,
     PidtabCall,
     PidtabFault,
@@ -41,8 +43,14 @@ SHORT_TEXT = 4096
 # The same of a page, in numbers.
 SHORT_PAGE = 64
 
-# Who belongs to a number: the method that asks for them, and what the number is.
-BELONGING = {TASKS: ("children", "pid"), GROUPS: ("group_members", "group"), SESSIONS: ("session_members", "session")}
+# Whom a page lists: the method that asks for them, and what the number is.
+LISTED = {
+    CHILDREN: ("children", "pid"),
+    GROUP_MEMBERS: ("group_members", "group"),
+    SESSION_MEMBERS: ("session_members", "session"),
+    NAMESPACE_MEMBERS: ("namespace_members", "pid"),
+    NAMESPACE_OWN: ("namespace_own", "pid"),
+}
 
 GREATEST_PID = 2**32 - 1
 GREATEST_ID = 2**64 - 1
@@ -156,14 +164,14 @@ def read_task(caller: SupportsIndex, pid: SupportsIndex, read: Callable[[int, in
     return tell_stat(task)
 
 
-def read_page(kind: int, asked: Sequence[SupportsIndex], read: Callable[..., int]) -> tuple[int, ...]:
-    """All who belong to a number, by a function that writes a page of them into a room, and answers a status."""
-    method, name = BELONGING[kind]
+def read_page(whom: int, asked: Sequence[SupportsIndex], read: Callable[..., int]) -> tuple[int, ...]:
+    """All whom a page lists, by a function that writes a page of them into a room, and answers a status."""
+    method, name = LISTED[whom]
     caller, number, start = (check_range(it, given, 0, GREATEST_PID) for it, given in zip(("caller", name, "start"), asked))
     line, reply, there = f"{method} {caller} {number}", PidtabReply(), SHORT_PAGE
     while True:
         room = (ctypes.c_uint32 * there)()
-        status = read(caller, kind, number, start, room, there, reply)
+        status = read(caller, whom, number, start, room, there, reply)
         if status != DONE:
             raise fault_of(status, line)
         if reply.kind == REFUSED:
@@ -244,24 +252,35 @@ class Ask(OfTable, Queries):
         Who is not visible in the caller's namespace is left out, and to a number that is nobody's nobody belongs. It costs what is read of each of
         them, and takes memory for a list: where there is none, it is a MemoryError.
         """
-        return self._belonging(TASKS, caller, pid, start)
+        return self._page(CHILDREN, caller, pid, start)
 
     def group_members(self, caller: int, group: int = 0, start: int = 0) -> tuple[int, ...]:
         """The members of the process group, where 0 is the caller's own, as `children` has those of a task. no-caller."""
-        return self._belonging(GROUPS, caller, group, start)
+        return self._page(GROUP_MEMBERS, caller, group, start)
 
     def session_members(self, caller: int, session: int = 0, start: int = 0) -> tuple[int, ...]:
         """The members of the session, where 0 is the caller's own, as `children` has those of a task. no-caller."""
-        return self._belonging(SESSIONS, caller, session, start)
+        return self._page(SESSION_MEMBERS, caller, session, start)
+
+    def namespace_members(self, caller: int, pid: int = 0, start: int = 0) -> tuple[int, ...]:
+        """The tasks of the namespace that the task is in, those in namespaces inside it too, as `children` has those of a task. no-caller.
+
+        Of the caller's own namespace these are all that it sees: whom `kill` of -1 reaches.
+        """
+        return self._page(NAMESPACE_MEMBERS, caller, pid, start)
+
+    def namespace_own(self, caller: int, pid: int = 0, start: int = 0) -> tuple[int, ...]:
+        """Of `namespace_members` those that are in no namespace inside it. no-caller."""
+        return self._page(NAMESPACE_OWN, caller, pid, start)
 
     def space(self, id: int) -> SpaceStat:
         """The namespace with the id, where 0 is the root namespace, in one read; LookupError where there is none, or it is gone."""
         self._table._check_owner()
         return read_space(id, self._table._space)
 
-    def _belonging(self, kind: int, *asked: int) -> tuple[int, ...]:
+    def _page(self, whom: int, *asked: int) -> tuple[int, ...]:
         self._table._check_owner()
-        return read_page(kind, asked, self._table._page)
+        return read_page(whom, asked, self._table._page)
 
     # Not for a checker of types, which then finds a call that is no query.
     if not TYPE_CHECKING:

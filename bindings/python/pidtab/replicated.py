@@ -48,9 +48,9 @@ class ReplicaAsk(Ask):
         self._wait()
         return super().space(id)
 
-    def _belonging(self, kind: int, *asked: int) -> tuple[int, ...]:
+    def _page(self, whom: int, *asked: int) -> tuple[int, ...]:
         self._wait()
-        return super()._belonging(kind, *asked)
+        return super()._page(whom, *asked)
 
     def _make(self, call: Call, form: Form[T]) -> T:
         self._wait()

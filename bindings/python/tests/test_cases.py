@@ -11,6 +11,7 @@ from pidtab.calls import Call
 from pidtab.forms import QUERIES, say_answer
 from pidtab.history import Entry
 from tests.pages import REPOSITORY
+from tests.test_page import lists_of
 from tests.ways import ask, make_call, need_library, need_shared
 
 FILES = sorted((REPOSITORY / "interface" / "cases").glob("*.cases"))
@@ -173,13 +174,13 @@ class World:
         (task,) = told
         return task
 
-    def page(self, kind: int, *numbers: int) -> str:
-        """Who belongs to a number by the kind."""
+    def page(self, whom: int, *numbers: int) -> str:
+        """Whom a page lists."""
         assert self.shared is not None
         told = set()
         for queries in [self.shared.ask, *[it.ask for it in self.tables if isinstance(it, Table)]]:
             try:
-                found = (queries.children, queries.group_members, queries.session_members)[kind](*numbers)
+                found = lists_of(queries)[whom](*numbers)
                 told.add(" ".join(map(str, found)) or "none")
             except Refusal as fault:
                 told.add(say_fault(fault))

@@ -1,4 +1,4 @@
-"""The children of tasks, and the members of process groups and of sessions. bindings/c/test_page.c compares more of them."""
+"""The children of tasks, the members of groups and sessions, and the tasks of namespaces. bindings/c/test_page.c compares more of them."""
 
 import random
 import threading
@@ -10,7 +10,7 @@ import pidtab.shared
 import pidtab.table
 from pidtab import Ask, MemoryLog, Refusal, Replicated, Seat, Shared, Table, TableClosed
 from pidtab.native import SHORT_PAGE, read_page
-from pidtab.raw import CLOSED, COUNTED, DONE, NO_MEMORY, TASKS, PidtabReply
+from pidtab.raw import CHILDREN, CLOSED, COUNTED, DONE, NO_MEMORY, PidtabReply
 from tests.test_ends import OTHERS, in_child
 from tests.test_interrupts import CallInterrupter
 from tests.ways import OnEachTable, need_library, need_shared
@@ -21,12 +21,14 @@ SEED = 5
 FORKS = 300
 THREADS = 3
 
+NAMES = ("children", "group_members", "session_members", "namespace_members", "namespace_own")
+
 Lists = tuple[Callable[..., tuple[int, ...]], ...]
 
 
 def lists_of(ask: Ask) -> Lists:
     """The methods that answer lists."""
-    return (ask.children, ask.group_members, ask.session_members)
+    return (ask.children, ask.group_members, ask.session_members, ask.namespace_members, ask.namespace_own)
 
 
 def make_tasks(table: Table | Seat) -> None:
@@ -49,15 +51,22 @@ class Pages(OnEachTable):
         for ask in self.ways():
             told = [ask.children(1), ask.children(1, 1), ask.children(2), ask.children(1, 2), ask.children(1, 3), ask.children(1, 4)]
             self.assertEqual(told, [(2, 3), (2, 3), (5,), (5,), (4,), ()])
-            for members in lists_of(ask)[1:]:
+            for members in lists_of(ask)[1:3]:
                 self.assertEqual([members(1), members(1, 1), members(2), members(1, 2), members(1, 3)], [(1, 3, 4), (1, 3, 4), (2, 5), (2, 5), ()])
 
     def test_in_a_namespace(self) -> None:
         for ask in self.ways():
             self.assertEqual([ask.children(3), ask.children(4, 1), ask.children(4)], [(2,), (2,), ()])
             # It sees no number of the group and the session of 1, in which both are.
-            for members in lists_of(ask)[1:]:
+            for members in lists_of(ask)[1:3]:
                 self.assertEqual([members(3), members(4), members(4, 1)], [(1, 2), (1, 2), ()])
+
+    def test_of_a_namespace(self) -> None:
+        for ask in self.ways():
+            self.assertEqual([ask.namespace_members(1), ask.namespace_members(2, 5, 4)], [(1, 2, 3, 4, 5), (4, 5)])
+            self.assertEqual([ask.namespace_own(1), ask.namespace_own(1, 2, 2)], [(1, 2, 5), (2, 5)])
+            for members in lists_of(ask)[3:]:
+                self.assertEqual([members(1, 3), members(1, 4), members(3), members(4, 1, 2), members(3, 3)], [(3, 4), (3, 4), (1, 2), (2,), ()])
 
     def test_from_a_number_on(self) -> None:
         for ask in self.ways():
@@ -67,7 +76,7 @@ class Pages(OnEachTable):
     def test_refusals(self) -> None:
         for ask in self.ways():
             for caller in (0, 5, 9):
-                for ask_list, name in zip(lists_of(ask), ("children", "group_members", "session_members")):
+                for ask_list, name in zip(lists_of(ask), NAMES):
                     with self.assertRaisesRegex(Refusal, f"^.*{name} {caller} 7: no-caller$") as raised:
                         ask_list(caller, 7)
                     self.assertEqual((raised.exception.errno, raised.exception.why), (3, "no-caller"))
@@ -81,7 +90,7 @@ class Pages(OnEachTable):
 
     def test_numbers(self) -> None:
         for ask in self.ways():
-            for ask_list, name in zip(lists_of(ask), ("pid", "group", "session")):
+            for ask_list, name in zip(lists_of(ask), ("pid", "group", "session", "pid", "pid")):
                 for place, what in enumerate(("caller", name, "start")):
                     for value in (-1, 2**32):
                         with self.assertRaisesRegex(ValueError, f"^{what} is 0 to 4294967295, not {value}$"):
@@ -186,7 +195,7 @@ class Reading(unittest.TestCase):
         self.rooms: list[int] = []
 
         def write(caller: int, kind: int, number: int, start: int, numbers: list[int], room: int, reply: PidtabReply) -> int:
-            self.assertEqual((caller, kind, number, start), (1, TASKS, 2, 3))
+            self.assertEqual((caller, kind, number, start), (1, CHILDREN, 2, 3))
             self.rooms.append(room)
             if status != DONE:
                 return status
@@ -194,7 +203,7 @@ class Reading(unittest.TestCase):
             numbers[: min(room, reply.first)] = range(3, 3 + min(room, reply.first))
             return DONE
 
-        return read_page(TASKS, (1, 2, 3), write)
+        return read_page(CHILDREN, (1, 2, 3), write)
 
     def test_rooms(self) -> None:
         self.assertEqual(self.read(0), ())

@@ -140,19 +140,23 @@ impl World {
         told.map_or_else(|fault| say_error(&fault), |it| say_task(&it))
     }
 
-    /// Who belongs to a number by the kind.
+    /// Whom a page lists.
     fn page(&mut self, numbers: &[u64]) -> String {
-        let kind = numbers[0] as usize;
+        let whom = numbers[0] as usize;
         let of_shared = [
             Shared::children,
             Shared::group_members,
             Shared::session_members,
-        ][kind];
+            Shared::namespace_members,
+            Shared::namespace_own,
+        ][whom];
         let of_table = [
             Table::children,
             Table::group_members,
             Table::session_members,
-        ][kind];
+            Table::namespace_members,
+            Table::namespace_own,
+        ][whom];
         let [caller, number, from] = [1, 2, 3].map(|place| numbers[place] as u32);
         let told = of_shared(self.shared, caller, number, from);
         assert!(self

@@ -1,4 +1,4 @@
-//! Who belongs to a number: the children of a task, and the members of a process group or of a session.
+//! Whom a page lists: the children of a task, the members of a process group or of a session, and the tasks of a namespace.
 use crate::{raw, Error, Reply, Table};
 
 /// The room for a first try, in numbers.
@@ -62,7 +62,7 @@ impl Table {
     /// # Errors
     /// `Refused` as `NoCaller`; `NoMemory`, `Busy`.
     pub fn children(&self, caller: u32, number: u32, from: u32) -> Result<Vec<u32>, Error> {
-        self.belonging(raw::TASKS, caller, number, from)
+        self.page(raw::CHILDREN, caller, number, from)
     }
 
     /// The members of the process group with the number in the caller's namespace, where 0 is the caller's own, as [`Table::children`] has those of
@@ -71,7 +71,7 @@ impl Table {
     /// # Errors
     /// `Refused` as `NoCaller`; `NoMemory`, `Busy`.
     pub fn group_members(&self, caller: u32, number: u32, from: u32) -> Result<Vec<u32>, Error> {
-        self.belonging(raw::GROUPS, caller, number, from)
+        self.page(raw::GROUP_MEMBERS, caller, number, from)
     }
 
     /// The members of the session with the number in the caller's namespace, where 0 is the caller's own, as [`Table::children`] has those of a task.
@@ -79,11 +79,28 @@ impl Table {
     /// # Errors
     /// `Refused` as `NoCaller`; `NoMemory`, `Busy`.
     pub fn session_members(&self, caller: u32, number: u32, from: u32) -> Result<Vec<u32>, Error> {
-        self.belonging(raw::SESSIONS, caller, number, from)
+        self.page(raw::SESSION_MEMBERS, caller, number, from)
     }
 
-    fn belonging(&self, kind: u32, caller: u32, number: u32, from: u32) -> Result<Vec<u32>, Error> {
-        all(|numbers, reply| self.raw.page(caller, kind, number, from, numbers, reply))
+    /// The tasks of the namespace that the task with the number is in, where 0 is the caller, those in namespaces inside it too, as
+    /// [`Table::children`] has those of a task. Of the caller's own namespace these are all that it sees: whom `kill(2)` of -1 reaches.
+    ///
+    /// # Errors
+    /// `Refused` as `NoCaller`; `NoMemory`, `Busy`.
+    pub fn namespace_members(&self, caller: u32, number: u32, from: u32) -> Result<Vec<u32>, Error> {
+        self.page(raw::NAMESPACE_MEMBERS, caller, number, from)
+    }
+
+    /// Of [`Table::namespace_members`] those that are in no namespace inside it.
+    ///
+    /// # Errors
+    /// `Refused` as `NoCaller`; `NoMemory`, `Busy`.
+    pub fn namespace_own(&self, caller: u32, number: u32, from: u32) -> Result<Vec<u32>, Error> {
+        self.page(raw::NAMESPACE_OWN, caller, number, from)
+    }
+
+    fn page(&self, whom: u32, caller: u32, number: u32, from: u32) -> Result<Vec<u32>, Error> {
+        all(|numbers, reply| self.raw.page(caller, whom, number, from, numbers, reply))
     }
 }
 
@@ -127,6 +144,17 @@ mod tests {
             let found = table.group_members(caller, number, 0);
             assert_eq!(found.as_deref(), Ok(members));
             assert_eq!(table.session_members(caller, number, 0), found);
+        }
+        // 3 and 4 are 1 and 2 of their own namespace.
+        for (caller, number, all, own) in [
+            (1, 0, &[1, 2, 3, 4, 5][..], &[1, 2, 5][..]),
+            (1, 4, &[3, 4], &[3, 4]),
+            (4, 0, &[1, 2], &[1, 2]),
+            (4, 3, &[], &[]),
+        ] {
+            let found = table.namespace_members(caller, number, 0);
+            assert_eq!(found.as_deref(), Ok(all));
+            assert_eq!(table.namespace_own(caller, number, 0).as_deref(), Ok(own));
         }
         assert_eq!(table.children(1, 0, 3), Ok(vec![3]));
         assert_eq!(table.group_members(1, 0, u32::MAX), Ok(vec![]));

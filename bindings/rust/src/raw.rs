@@ -85,6 +85,11 @@ mod kinds {
     pub(crate) const TASKS: u32 = 0;
     pub(crate) const GROUPS: u32 = 1;
     pub(crate) const SESSIONS: u32 = 2;
+    pub(crate) const CHILDREN: u32 = 0;
+    pub(crate) const GROUP_MEMBERS: u32 = 1;
+    pub(crate) const SESSION_MEMBERS: u32 = 2;
+    pub(crate) const NAMESPACE_MEMBERS: u32 = 3;
+    pub(crate) const NAMESPACE_OWN: u32 = 4;
 }
 pub(crate) use kinds::*;
 // The end of kinds.
@@ -321,7 +326,7 @@ extern "C" {
     fn pidtab_page(
         table: *const Held,
         caller: u32,
-        kind: u32,
+        whom: u32,
         number: u32,
         from: u32,
         numbers: *mut u32,
@@ -388,7 +393,7 @@ extern "C" {
     fn pidtab_record_page(
         record: *const Held,
         caller: u32,
-        kind: u32,
+        whom: u32,
         number: u32,
         from: u32,
         numbers: *mut u32,
@@ -594,7 +599,7 @@ impl Table {
     pub(crate) fn page(
         &self,
         caller: u32,
-        kind: u32,
+        whom: u32,
         number: u32,
         from: u32,
         numbers: &mut [u32],
@@ -605,7 +610,7 @@ impl Table {
             pidtab_page(
                 &*self.held,
                 caller,
-                kind,
+                whom,
                 number,
                 from,
                 numbers.as_mut_ptr(),
@@ -756,7 +761,7 @@ impl Record {
     pub(crate) fn page(
         &self,
         caller: u32,
-        kind: u32,
+        whom: u32,
         number: u32,
         from: u32,
         numbers: &mut [u32],
@@ -767,7 +772,7 @@ impl Record {
             pidtab_record_page(
                 &*self.held,
                 caller,
-                kind,
+                whom,
                 number,
                 from,
                 numbers.as_mut_ptr(),

@@ -396,6 +396,22 @@ impl Shared {
         self.look().session_members(caller, number, from)
     }
 
+    /// As [`Record::namespace_members`].
+    ///
+    /// # Errors
+    /// `Refused` as `NoCaller`; `NoMemory`, `Busy`.
+    pub fn namespace_members(&self, caller: u32, number: u32, from: u32) -> Result<Vec<u32>, Error> {
+        self.look_first().namespace_members(caller, number, from)
+    }
+
+    /// As [`Record::namespace_own`].
+    ///
+    /// # Errors
+    /// `Refused` as `NoCaller`; `NoMemory`, `Busy`.
+    pub fn namespace_own(&self, caller: u32, number: u32, from: u32) -> Result<Vec<u32>, Error> {
+        self.look_first().namespace_own(caller, number, from)
+    }
+
     /// As [`Record::space`].
     ///
     /// # Errors
@@ -706,7 +722,7 @@ impl Record {
     /// # Errors
     /// `Refused` as `NoCaller`; `NoMemory`, `Busy`.
     pub fn children(&self, caller: u32, number: u32, from: u32) -> Result<Vec<u32>, Error> {
-        self.belonging(raw::TASKS, caller, number, from)
+        self.page(raw::CHILDREN, caller, number, from)
     }
 
     /// The members of the process group with the number in the caller's namespace, as [`Table::group_members`] has them. It is not recorded.
@@ -714,7 +730,7 @@ impl Record {
     /// # Errors
     /// `Refused` as `NoCaller`; `NoMemory`, `Busy`.
     pub fn group_members(&self, caller: u32, number: u32, from: u32) -> Result<Vec<u32>, Error> {
-        self.belonging(raw::GROUPS, caller, number, from)
+        self.page(raw::GROUP_MEMBERS, caller, number, from)
     }
 
     /// The members of the session with the number in the caller's namespace, as [`Table::session_members`] has them. It is not recorded.
@@ -722,11 +738,27 @@ impl Record {
     /// # Errors
     /// `Refused` as `NoCaller`; `NoMemory`, `Busy`.
     pub fn session_members(&self, caller: u32, number: u32, from: u32) -> Result<Vec<u32>, Error> {
-        self.belonging(raw::SESSIONS, caller, number, from)
+        self.page(raw::SESSION_MEMBERS, caller, number, from)
     }
 
-    fn belonging(&self, kind: u32, caller: u32, number: u32, from: u32) -> Result<Vec<u32>, Error> {
-        page::all(|numbers, reply| self.raw.page(caller, kind, number, from, numbers, reply))
+    /// The tasks of the namespace that the task with the number is in, as [`Table::namespace_members`] has them. It is not recorded.
+    ///
+    /// # Errors
+    /// `Refused` as `NoCaller`; `NoMemory`, `Busy`.
+    pub fn namespace_members(&self, caller: u32, number: u32, from: u32) -> Result<Vec<u32>, Error> {
+        self.page(raw::NAMESPACE_MEMBERS, caller, number, from)
+    }
+
+    /// Of them those that are in no namespace inside it, as [`Table::namespace_own`] has them. It is not recorded.
+    ///
+    /// # Errors
+    /// `Refused` as `NoCaller`; `NoMemory`, `Busy`.
+    pub fn namespace_own(&self, caller: u32, number: u32, from: u32) -> Result<Vec<u32>, Error> {
+        self.page(raw::NAMESPACE_OWN, caller, number, from)
+    }
+
+    fn page(&self, whom: u32, caller: u32, number: u32, from: u32) -> Result<Vec<u32>, Error> {
+        page::all(|numbers, reply| self.raw.page(caller, whom, number, from, numbers, reply))
     }
 
     /// Reads the namespace with the id, as [`Table::space`] does. It is no call, and is not recorded.

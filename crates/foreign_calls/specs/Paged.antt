@@ -5,13 +5,14 @@ use Rattle.pid_types.specs.State.{State}
 use Rattle.translate.specs.declared.page.Page.{Page}
 use Rattle.translate.specs.Pages.{TellsPage}
 use Rattle.saved_form.specs.declared.numbers.ReplyNumbers.{ReplyNumbers}
-use Rattle.foreign_numbers.specs.Numbers.{kind_of, numbers_of}
+use Rattle.foreign_numbers.specs.Numbers.{numbers_of}
+use Rattle.foreign_numbers.specs.Whom.{whom_of}
 use Rattle.foreign_numbers.specs.declared.status.TheConstants.{DONE, OUT_OF_RANGE}
 use Rattle.foreign_calls.specs.Records.{Has}
 
--- the page, if the number of its kind is one
+-- the page, if the number of whom it lists is one
 abbrev pub page_by : ℕ → ℕ → ℕ → ℕ → Option Page
-page_by caller kind number from = option_map (λ k. record { caller = caller; kind = k; number = number; from = from }) (kind_of kind)
+page_by caller whom number from = option_map (λ w. record { caller = caller; whom = w; number = number; from = from }) (whom_of whom)
 
 -- the page of the state is in the room, and its answer is told as numbers
 abbrev pub PutsPage : State → Page → List ℕ → List ℕ → ReplyNumbers → Type 0

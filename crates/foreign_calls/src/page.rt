@@ -1,22 +1,23 @@
-//! Pages: who belongs to a task, a process group or a session, as numbers.
+//! Pages: who belongs to a task, a process group or a session, or is in a namespace, as numbers.
 ghost use Rattle.std.specs.Prelude.{◌≡◌, ◌≢◌, [], ◌∷◌};
 ghost use Rattle.foreign_calls.specs.Held.{IsDoneOr};
 ghost use Rattle.foreign_calls.specs.Paged.{page_by, PutsPage};
 
-use foreign_numbers::numbers::{ReplyNumbers, put_reply, read_kind};
+use foreign_numbers::numbers::{ReplyNumbers, put_reply};
 use foreign_numbers::status::{DONE, NO_MEMORY};
+use foreign_numbers::whom::read_whom;
 use pid_table::PidTable;
 use pid_types::reply::Reply;
 pub use translate::page::Page;
 
-/// The page that the numbers say; none where the kind is none of a page.
-pub fn read_page(caller: u32, kind: u32, number: u32, from: u32) -> Option<Page>
-    ensures { result ≡ page_by caller kind number from }
+/// The page that the numbers say; none where the first of them says nobody whom a page lists.
+pub fn read_page(caller: u32, whom: u32, number: u32, from: u32) -> Option<Page>
+    ensures { result ≡ page_by caller whom number from }
 {
-    let kind = read_kind(kind)?;
+    let whom = read_whom(whom)?;
     Some(Page {
         caller,
-        kind,
+        whom,
         number,
         from,
     })

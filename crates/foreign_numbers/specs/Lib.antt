@@ -3,3 +3,4 @@ pub mod CallNumbers
 pub mod Tasks
 pub mod Spaces
 pub mod Replies
+pub mod Whom

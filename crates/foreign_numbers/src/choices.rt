@@ -1,4 +1,4 @@
-//! The choices of a wait and of a next, by their names.
+//! The choices of a wait, of a next and of a page, by their names.
 
 // Written by tools/interface: choices.
 /// Any child.
@@ -21,4 +21,19 @@ pub const GROUPS: u32 = 1;
 
 /// A session.
 pub const SESSIONS: u32 = 2;
+
+/// The children of the task with the number.
+pub const CHILDREN: u32 = 0;
+
+/// The members of the process group with the number.
+pub const GROUP_MEMBERS: u32 = 1;
+
+/// The members of the session with the number.
+pub const SESSION_MEMBERS: u32 = 2;
+
+/// The tasks of the namespace that the task with the number is in, those in namespaces inside it too.
+pub const NAMESPACE_MEMBERS: u32 = 3;
+
+/// Of these the tasks that are in no namespace inside it.
+pub const NAMESPACE_OWN: u32 = 4;
 // The end of choices.

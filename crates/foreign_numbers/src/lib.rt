@@ -13,3 +13,4 @@ pub mod replies;
 pub mod space;
 pub mod status;
 pub mod task;
+pub mod whom;

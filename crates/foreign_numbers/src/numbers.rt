@@ -37,7 +37,7 @@ fn read_which(choice: u32, number: u32) -> Option<Which>
 }
 
 /// What a number is in use as.
-pub fn read_kind(choice: u32) -> Option<Kind>
+fn read_kind(choice: u32) -> Option<Kind>
     ensures { result ≡ kind_of choice }
 {
     match choice {

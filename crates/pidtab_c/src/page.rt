@@ -1,4 +1,4 @@
-//! Going over the children of a task, or the members of a process group or of a session, for C.
+//! Going over the children of a task, the members of a process group or of a session, or the tasks of a namespace, for C.
 //!
 //! A page is no call: it uses no stamp, and changes nothing.
 ghost use Rattle.std.specs.Prelude.{[], ◌∷◌};
@@ -11,35 +11,37 @@ use foreign_calls::table::Pidtab;
 use foreign_numbers::numbers::ReplyNumbers;
 use foreign_numbers::status::{CLOSED, NO_MEMORY, OUT_OF_RANGE};
 
-/// Writes the numbers, from one on, of the children of the task with the number, where the kind is `TASKS`; of the
-/// members of the process group with it, where it is `GROUPS`; or of those of the session with it, where it is
-/// `SESSIONS`. They are those in the caller's namespace, in rising order, and whoever has none there is left out.
-/// A number of 0 is the caller itself, its own group or its own session, seen or not. One that names nobody has an
-/// empty page.
+/// Writes the numbers, from one on, of those whom a number of `foreign_numbers::choices` says: `CHILDREN` of the task
+/// with the number; `GROUP_MEMBERS` or `SESSION_MEMBERS` of the process group or the session with it;
+/// `NAMESPACE_MEMBERS`, the tasks that the namespace sees in which the task with it is; or `NAMESPACE_OWN`, those of
+/// them that are in no namespace inside it. They are the numbers in the caller's namespace, in rising order, and
+/// whoever has none there is left out. A number of 0 is the caller itself, its own group or its own session, seen or
+/// not. One that names nobody has an empty page.
 ///
 /// As many are written as there is room for, and what is behind them stays. The reply tells how many there are in all,
 /// as that of a count, or that there is no caller.
 ///
-/// `CLOSED` where there is no open table; then `OUT_OF_RANGE` for another kind; `NO_MEMORY`. It costs a search, a few
-/// reads for each child or member, and the sorting of their numbers, for which it takes memory while it lasts.
+/// `CLOSED` where there is no open table; then `OUT_OF_RANGE` where nobody is said so; `NO_MEMORY`. It costs a search, a
+/// few reads for each child or member, for each task that a namespace sees a search more, and the sorting of their
+/// numbers, for which it takes memory while it lasts.
 #[unsafe(no_mangle)]
 pub extern "C" fn pidtab_page(
     table: &mut Pidtab,
     caller: u32,
-    kind: u32,
+    whom: u32,
     number: u32,
     from: u32,
     numbers: &mut [u32],
     reply: &mut ReplyNumbers,
 ) -> u32
     ensures reads { OnlyReads table.old.handle.held table.new.handle.held result (OUT_OF_RANGE ∷ NO_MEMORY ∷ []) }
-    ensures answers { AnswersPage table.old.handle.held (λ s. s.state) (page_by caller kind number from)
+    ensures answers { AnswersPage table.old.handle.held (λ s. s.state) (page_by caller whom number from)
         numbers.old numbers.new reply.old reply.new result }
 {
     if !table.is_open {
         return CLOSED;
     }
-    let Some(page) = read_page(caller, kind, number, from) else {
+    let Some(page) = read_page(caller, whom, number, from) else {
         return OUT_OF_RANGE;
     };
     tell_page(table.handle.look().table(), &page, numbers, reply)
@@ -51,20 +53,20 @@ pub extern "C" fn pidtab_page(
 pub extern "C" fn pidtab_record_page(
     table: &mut PidtabRecord,
     caller: u32,
-    kind: u32,
+    whom: u32,
     number: u32,
     from: u32,
     numbers: &mut [u32],
     reply: &mut ReplyNumbers,
 ) -> u32
     ensures reads { OnlyReads table.old.handle.held table.new.handle.held result (OUT_OF_RANGE ∷ NO_MEMORY ∷ []) }
-    ensures answers { AnswersPage table.old.handle.held (λ c. c.present) (page_by caller kind number from)
+    ensures answers { AnswersPage table.old.handle.held (λ c. c.present) (page_by caller whom number from)
         numbers.old numbers.new reply.old reply.new result }
 {
     if !table.is_open {
         return CLOSED;
     }
-    let Some(page) = read_page(caller, kind, number, from) else {
+    let Some(page) = read_page(caller, whom, number, from) else {
         return OUT_OF_RANGE;
     };
     tell_page(table.handle.look().present(), &page, numbers, reply)

@@ -27,7 +27,7 @@ use Rattle.task_table.proofs.Keys.{number-is_key}
 use Rattle.task_table.proofs.Places.{each-in}
 use Rattle.std.proofs.Math.ListN.{get_or-map}
 use Rattle.task_table.proofs.LookUps.{named, group-named, session-named, in-rows, rows-in}
-use Rattle.translate.specs.Pages.{belongs_to, is_meant, belongs, numbers_asked, AreListed}
+use Rattle.translate.specs.Pages.{belongs_to, is_meant, belongs, numbers_belonging, AreListed}
 use Rattle.translate.specs.Gathered.{owner_in, numbers_from, IsOwned, AreGathered, IsMeantAlone}
 use Rattle.translate.proofs.Rising.{zero-of, times-cons, times-later, IsIn-times, times-IsIn, times-permuted, IsIn-permuted, IsIn-unpermuted, rising-once}
 
@@ -97,7 +97,7 @@ module _ (s : Store) (l : IsLawful s) where
           go (Some p) is = let u = owner-named kind k p is in alone p (ap is_some u.1)
 
       -- the numbers of the model are those of the keys
-      page-in : (q : ℕ) → o ≡ Some q → (m : ℕ) → IsIn m (numbers_asked (state_of s) caller kind n) → IsOwned s sp kind q m
+      page-in : (q : ℕ) → o ≡ Some q → (m : ℕ) → IsIn m (numbers_belonging (state_of s) caller kind n) → IsOwned s sp kind q m
       page-in q is m on =
           let f = IsIn-from_filter_map (λ row. number (state_of s).spaces row.name caller.name.space) m (filter (belongs (state_of s) caller kind n) (state_of s).rows) on in
           let g = IsIn-from_filter (belongs (state_of s) caller kind n) f.0 (state_of s).rows f.1 in
@@ -114,7 +114,7 @@ module _ (s : Store) (l : IsLawful s) where
           owned None passes = absurd (cc)
           owned (Some p) passes = let same : Some q ≡ Some p = sym is ∙ some_number o p passes in sym same
 
-      page-of : (q : ℕ) → o ≡ Some q → (m : ℕ) → IsOwned s sp kind q m → IsIn m (numbers_asked (state_of s) caller kind n)
+      page-of : (q : ℕ) → o ≡ Some q → (m : ℕ) → IsOwned s sp kind q m → IsIn m (numbers_belonging (state_of s) caller kind n)
       page-of q is m one =
           let t = tasked kind one.key q one.belongs in
           let u = named s l one.key t.0 t.1 in
@@ -125,7 +125,7 @@ module _ (s : Store) (l : IsLawful s) where
 
       -- what was gathered, in order
       pub listed : (q from : ℕ) (xs ys : List ℕ) → o ≡ Some q → AreGathered s sp kind q from xs → IsPermutation xs ys → IsSorted nat_cmp ys
-          → AreListed (numbers_asked (state_of s) caller kind n) from ys
+          → AreListed (numbers_belonging (state_of s) caller kind n) from ys
       listed q from xs ys is g p sorted = record {
         rising = rising-once ys (IsNonDecreasingBy-from_sort (λ x. x) ys sorted) (λ m. let e = times-permuted m xs ys p in let one = g.once m in omega (arith, e, one));
         each = λ m. (
@@ -135,14 +135,14 @@ module _ (s : Store) (l : IsLawful s) where
       }
 
       -- where nothing is meant, nobody is listed
-      pub listed_none : (from : ℕ) → o ≡ None → AreListed (numbers_asked (state_of s) caller kind n) from []
+      pub listed_none : (from : ℕ) → o ≡ None → AreListed (numbers_belonging (state_of s) caller kind n) from []
       listed_none from is = record { rising = tt; each = λ m. ((λ on. absurd on), (λ h. absurd (nobody_in m h.1))) }
         where
           refused : (x : Option ℕ) → option_map_or (λ p. option_eq ◌==◌ o (Some p)) x false ≡ false
           refused None = refl
           refused (Some p) = ap (λ x. option_eq ◌==◌ x (Some p)) is
 
-          nobody_in : (m : ℕ) → IsIn m (numbers_asked (state_of s) caller kind n) → ⊥
+          nobody_in : (m : ℕ) → IsIn m (numbers_belonging (state_of s) caller kind n) → ⊥
           nobody_in m on =
               let f = IsIn-from_filter_map (λ row. number (state_of s).spaces row.name caller.name.space) m (filter (belongs (state_of s) caller kind n) (state_of s).rows) on in
               let g = IsIn-from_filter (belongs (state_of s) caller kind n) f.0 (state_of s).rows f.1 in

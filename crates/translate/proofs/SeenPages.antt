@@ -1,7 +1,7 @@
 -- A page is answered from what the caller's namespace sees.
-use Rattle.std.proofs.Common.{◌≡◌, ℕ, ◌<◌, ◌==◌, Bool, true, false, nat_lt, List, map, filter, Option, Some, None, if◌then◌else◌, option_map, unwrap_or, refl, sym, ap, subst, ◌∙◌, arith}
+use Rattle.std.proofs.Common.{◌≡◌, ℕ, ◌<◌, ◌==◌, Bool, true, false, nat_lt, List, [], length, map, filter, Option, Some, None, if◌then◌else◌, option_map, unwrap_or, refl, sym, ap, subst, ◌∙◌, arith}
 use Rattle.std.specs.Option.{option_map_or, option_eq}
-use Rattle.std.proofs.lemmas.Bool.{ne_eqb}
+use Rattle.std.proofs.lemmas.Bool.{eq-eqb, eqb-false, eqb-true, ne_eqb}
 use Rattle.pid_types.proofs.General.{some_number, number_tested}
 use Rattle.pid_types.specs.declared.call.Kind.{Kind}
 use Rattle.pid_types.specs.declared.call.Kind.TheVariants.{Task, Group, Session}
@@ -9,28 +9,26 @@ use Rattle.pid_types.specs.declared.plain.Name.{Name}
 use Rattle.pid_types.specs.declared.plain.Row.{Row}
 use Rattle.pid_types.specs.declared.reply.Reply.{Reply}
 use Rattle.pid_types.specs.Membership.{IsIn}
-use Rattle.pid_types.specs.Names.{number, number_or_zero, is_numbered, same_name, names_in_use, live_row}
-use Rattle.pid_types.specs.Queries.{name_by}
-use Rattle.pid_types.specs.Sight.{sight, is_seen, glimpse_of, glimpse_at, number_by}
+use Rattle.pid_types.specs.Names.{number, number_or_zero, numbers_from, is_numbered, same_name, names_in_use, live_row, task_at}
+use Rattle.pid_types.specs.Queries.{name_by, self_or_task}
+use Rattle.pid_types.specs.Sight.{Glimpse, sight, is_seen, glimpse_of, glimpse_at, number_by, self_or_glimpse}
 use Rattle.pid_types.specs.Sound.{IsCoherent}
 use Rattle.pid_types.specs.State.{State}
-use Rattle.model_laws.proofs.Lists.{IsIn-map, IsIn-from_map, IsIn-filter, IsIn-from_filter, IsIn-filter_map, IsIn-from_filter_map}
-use Rattle.model_laws.proofs.Names.{own_name_in_use, group_in_use, session_in_use, same_name-true, same_name-refl}
+use Rattle.model_laws.proofs.Lists.{find-Some, IsIn-map, IsIn-from_map, IsIn-filter, IsIn-from_filter, IsIn-filter_map, IsIn-from_filter_map}
+use Rattle.model_laws.proofs.Names.{number-within, own_name_in_use, group_in_use, session_in_use, same_name-true, same_name-refl}
 use Rattle.model_laws.proofs.Glimpses.{first-numbers_from, glimpse_at-sight, there, above_zero, own_above_zero, own_task, kind_in_use, kind_number}
+use Rattle.translate.specs.declared.members.Reach.{Reach}
 use Rattle.translate.specs.declared.page.Page.{Page}
-use Rattle.translate.specs.Pages.{belongs_to, is_meant, belongs, numbers_asked, AreListed, TellsPage, owner_seen, numbers_seen, TellsSeenPage}
+use Rattle.translate.specs.declared.page.Whom.{Whom}
+use Rattle.translate.specs.declared.page.Whom.TheVariants.{Belonging, Namespace}
+use Rattle.translate.specs.Members.{numbers_in, members_seen}
+use Rattle.translate.specs.Pages.{belongs_to, is_meant, belongs, numbers_belonging, numbers_asked, AreListed, TellsPage, owner_seen, numbers_seen, numbers_seen_by, IsInSight, TellsSeenPage}
+use Rattle.translate.proofs.SeenMembers.{alone, members_listed, seen_with, has_seen}
 
 -- what has the number above 0 is seen with it
 tested : (o : Option ℕ) (n : ℕ) → 0 < n → option_eq ◌==◌ o (Some n) ≡ (unwrap_or o 0 == n)
 tested None n h = sym (ne_eqb 0 n (λ e. omega (arith, e, h)))
 tested (Some m) n h = refl
-
-seen_with : (o : Option ℕ) (m : ℕ) → o ≡ Some m → unwrap_or o 0 ≡ m
-seen_with o m e = ap (λ x. unwrap_or x 0) e
-
-has_seen : (o : Option ℕ) (m : ℕ) → 0 < m → unwrap_or o 0 ≡ m → o ≡ Some m
-has_seen None m h e = absurd (omega (arith, h, e))
-has_seen (Some x) m h e = ap Some e
 
 module _ (state : State) (sound : IsCoherent state) (root : ℕ) (caller : Row) (own : ℕ) (live : live_row state.rows root ≡ Some caller)
     (is_own : number state.spaces caller.name caller.name.space ≡ Some own) where
@@ -103,7 +101,7 @@ module _ (state : State) (sound : IsCoherent state) (root : ℕ) (caller : Row) 
           go (Some name) is = meant-is row i name is ∙ tested (number state.spaces name s) page_number h
 
       -- the numbers are those that are seen
-      to_seen : (m : ℕ) → IsIn m (numbers_asked state caller kind n) → IsIn m (numbers_seen (sight state s) kind page_number)
+      to_seen : (m : ℕ) → IsIn m (numbers_belonging state caller kind n) → IsIn m (numbers_seen (sight state s) kind page_number)
       unfolding sight
       to_seen m on =
           let f = IsIn-from_filter_map (λ row. number state.spaces row.name s) m (filter (belongs state caller kind n) state.rows) on in
@@ -119,7 +117,7 @@ module _ (state : State) (sound : IsCoherent state) (root : ℕ) (caller : Row) 
           (IsIn-map (glimpse_of state s) row (filter (is_seen state s) state.rows) (IsIn-filter (is_seen state s) row state.rows g.0 there)) (sym (belongs-is row g.0) ∙ g.1))))
           (grind (arith, above))
 
-      of_seen : (m : ℕ) → IsIn m (numbers_seen (sight state s) kind page_number) → IsIn m (numbers_asked state caller kind n)
+      of_seen : (m : ℕ) → IsIn m (numbers_seen (sight state s) kind page_number) → IsIn m (numbers_belonging state caller kind n)
       unfolding sight
       of_seen m on =
           let f = IsIn-from_filter (nat_lt 0) m (map (number_by Task) (filter (λ k. owner_seen kind k == page_number) (sight state s))) on in
@@ -134,14 +132,60 @@ module _ (state : State) (sound : IsCoherent state) (root : ℕ) (caller : Row) 
           (IsIn-filter (belongs state caller kind n) row state.rows among (belongs-is row among ∙ ap (λ k. owner_seen kind k == page_number) (sym r.2) ∙ q.1))
           has
 
-      pub listed_seen : (from : ℕ) (listed : List ℕ) → AreListed (numbers_asked state caller kind n) from listed → AreListed (numbers_seen (sight state s) kind page_number) from listed
+      pub listed_seen : (from : ℕ) (listed : List ℕ) → AreListed (numbers_belonging state caller kind n) from listed → AreListed (numbers_seen (sight state s) kind page_number) from listed
       listed_seen from listed l = record {
         rising = l.rising;
         each = λ m. ((λ i. let h = (l.each m).0 i in (h.0, to_seen m h.1)), (λ h. (l.each m).1 (h.0, of_seen m h.1)));
       }
 
+  -- whom a page names, as it is seen
+  self_seen : (n : ℕ) → self_or_glimpse (sight state s) own n ≡ option_map (glimpse_of state s) (self_or_task state caller n)
+  self_seen n = go (n == 0) refl
+    where
+      go : (b : Bool) → (n == 0) ≡ b → glimpse_at (sight state s) (if b then own else n) ≡ option_map (glimpse_of state s) (if b then Some caller else task_at state s n)
+      go true e =
+          glimpse_at-sight state s own (own_above_zero state sound root caller own live is_own)
+          ∙ ap (option_map (glimpse_of state s)) (own_task state sound root caller own live is_own)
+      go false e = glimpse_at-sight state s n (let differs : n ≡ 0 → ⊥ = eqb-false n 0 e in omega (arith, differs))
+
+  -- and it is a task that has a number in the caller's namespace
+  self-there : (n : ℕ) (task : Row) → self_or_task state caller n ≡ Some task → IsIn task state.rows × ((m : ℕ) × (number state.spaces task.name s ≡ Some m))
+  unfolding task_at
+  self-there n task e = go (n == 0) e
+    where
+      go : (b : Bool) → (if b then Some caller else task_at state s n) ≡ Some task → IsIn task state.rows × ((m : ℕ) × (number state.spaces task.name s ≡ Some m))
+      go true e =
+          let same : caller ≡ task = ap (λ o. unwrap_or o caller) e in
+          subst (λ (row : Row). IsIn row state.rows × ((m : ℕ) × (number state.spaces row.name s ≡ Some m))) same (there state sound root caller own live is_own, (own, is_own))
+      go false e = let f = find-Some (λ row. is_numbered state.spaces row.name s n) state.rows task e in (f.0, (n, some_number (number state.spaces task.name s) n f.1))
+
+  -- the tasks of the caller's own namespace are those that are seen
+  listed_namespace : (reach : Reach) (n from : ℕ) (listed : List ℕ) → IsInSight (sight state s) own (Namespace reach) n → AreListed (numbers_asked state caller (Namespace reach) n) from listed
+      → AreListed (members_seen reach (sight state s)) from listed
+  listed_namespace reach n from listed alone_there l = go (self_or_task state caller n) refl
+    where
+      go : (o : Option Row) → self_or_task state caller n ≡ o → AreListed (members_seen reach (sight state s)) from listed
+      go None is =
+          absurd (let z : None ≡ Some 1 = sym (ap (option_map (λ (g : Glimpse). length g.numbers)) (self_seen n ∙ ap (option_map (glimpse_of state s)) is)) ∙ alone_there in cc)
+      go (Some task) is =
+          let h = self-there n task is in
+          let one : Some (length (numbers_from state.spaces task.name s)) ≡ Some 1 =
+              sym (ap (option_map (λ (g : Glimpse). length g.numbers)) (self_seen n ∙ ap (option_map (glimpse_of state s)) is)) ∙ alone_there in
+          let count : length (numbers_from state.spaces task.name s) ≡ 1 = ap (λ o. unwrap_or o 0) one in
+          let own_space = eqb-true task.name.space s
+              (sym (alone state sound s task h.0 (number-within state.spaces task.name s h.1.0 h.1.1).0) ∙ eq-eqb (length (numbers_from state.spaces task.name s)) 1 count) in
+          members_listed state sound s reach from listed
+          (subst (λ t. AreListed (numbers_in state reach t s) from listed) own_space
+          (subst (λ ns. AreListed ns from listed) (ap (λ o. option_map_or (λ (row : Row). numbers_in state reach row.name.space s) o []) is) l))
+
+  -- whatever is in sight is told as it is seen
+  listed_by : (whom : Whom) (n from : ℕ) (listed : List ℕ) → IsInSight (sight state s) own whom n → AreListed (numbers_asked state caller whom n) from listed
+      → AreListed (numbers_seen_by (sight state s) own whom n) from listed
+  listed_by (Belonging kind) n from listed above l = listed_seen kind n above from listed l
+  listed_by (Namespace reach) n from listed one l = listed_namespace reach n from listed one l
+
 -- so a page that is told is told of what is seen
 pub told_seen : (state : State) (page : Page) (old new : List ℕ) (reply : Reply) → TellsPage state page old new reply → TellsSeenPage state page old new reply
-told_seen state page old new reply t caller own c above =
+told_seen state page old new reply t caller own c seen =
     let p = t.listed caller c.live in
-    (p.0, listed_seen state c.sound.coherent page.caller caller own c.live c.own page.kind page.number above page.from p.0 p.1, p.2, p.3)
+    (p.0, listed_by state c.sound.coherent page.caller caller own c.live c.own page.whom page.number page.from p.0 seen p.1, p.2, p.3)

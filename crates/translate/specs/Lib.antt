@@ -6,3 +6,5 @@ pub mod Pages
 pub mod Gathered
 pub mod Spaces
 pub mod Listed
+pub mod Members
+pub mod Passed

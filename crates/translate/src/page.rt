@@ -1,5 +1,6 @@
-//! Pages: the children of a task, or the members of a process group or of a session, by their numbers as a caller's
-//! namespace has them. So whom `kill(2)` of a process group reaches, and what `pgrep -P` and `pgrep -s` list.
+//! Pages: the children of a task, the members of a process group or of a session, or the tasks of a namespace, by their
+//! numbers as a caller's namespace has them. So whom `kill(2)` of a process group or of -1 reaches, and what `pgrep -P`,
+//! `pgrep -s` and an `ls` of `/proc` list.
 
 ghost use Rattle.std.specs.Prelude.{◌≡◌, ◌<◌, ◌++◌, ℕ, length, Some, IfOk, OnOk, OnErr};
 ghost use Rattle.std.specs.List.{AllByRecursion};
@@ -11,8 +12,12 @@ ghost use Rattle.task_table.specs.Found.{IsFound};
 ghost use Rattle.task_table.specs.View.{name_at, row_of, state_of};
 ghost use Rattle.task_table.specs.Whole.{HasParents, IsWhole};
 ghost use Rattle.translate.specs.Gathered.{numbers_from, AddsGroups, AreGathered, IsMeantAlone};
-ghost use Rattle.translate.specs.Pages.{numbers_asked, with_front, AreListed, TellsPage, TellsSeenPage};
+ghost use Rattle.translate.specs.Pages.{numbers_asked, numbers_belonging, with_front, AreListed};
+ghost use Rattle.translate.specs.Pages.{TellsPage, TellsSeenPage};
+ghost use Rattle.translate.specs.declared.page.Whom.TheVariants as whoms;
 
+use crate::members::{Asked, Reach, list_members};
+use crate::queries::self_or_task;
 use groups_sessions::GroupMembers;
 use pid_types::call::Kind;
 use pid_types::keys::{IdentKey, Pid, SpaceKey, TaskKey};
@@ -21,13 +26,21 @@ use std::alloc::AllocError;
 use task_table::Tasks;
 use task_table::view::{Found, find_live, laws};
 
+/// Whom a page lists.
+#[derive(Clone, Copy, Debug, PartialEq, Eq)]
+pub enum Whom {
+    /// With `Task` the children of a task, with `Group` the members of a process group, with `Session` those of a session.
+    Belonging(Kind),
+    /// The tasks of the namespace that a task is in.
+    Namespace(Reach),
+}
+
 /// Whom a page lists, and from which number on.
 #[derive(Clone, Copy, Debug, PartialEq, Eq)]
 pub struct Page {
     /// The caller's root number. Its namespace has all other numbers.
     pub caller: Pid,
-    /// `Task` for the children of a task, `Group` for the members of a process group, `Session` for those of a session.
-    pub kind: Kind,
+    pub whom: Whom,
     /// The number of the task, the group or the session. 0 is the caller itself, its own group or its own session, seen
     /// or not, as `kill(2)` has it.
     pub number: Pid,
@@ -169,20 +182,62 @@ fn find_owner(store: &Tasks, caller: &Found, kind: Kind, number: Pid) -> Option<
     })
 }
 
+/// The numbers of those who belong to what the caller means, in rising order.
+fn list_belonging(
+    store: &Tasks,
+    caller: &Found,
+    kind: Kind,
+    page: &Page,
+) -> Result<Vec<Pid>, AllocError>
+    requires parents { HasParents store.now }
+    requires caller { IsFound store.now caller.now }
+    ensures { IfOk result (λ r. AreListed (numbers_belonging (state_of store.now)
+        (row_of store.now caller.now.key caller.now.task) kind page.now.number) page.now.from r.items) }
+{
+    laws(store);
+    let Some(owner) = find_owner(store, caller, kind, page.number) else {
+        return Ok(Vec::new(store.numbers().allocator()));
+    };
+    let mut numbers = belonging(store, caller.space, kind, owner, page.from)?;
+    numbers.sort()?;
+    Ok(numbers)
+}
+
+/// The numbers of the tasks of the namespace that the task with the page's number is in, in rising order.
+fn list_namespace(
+    store: &Tasks,
+    caller: &Found,
+    reach: Reach,
+    page: &Page,
+) -> Result<Vec<Pid>, AllocError>
+    requires { IsFound store.now caller.now }
+    ensures { IfOk result (λ r. AreListed (numbers_asked (state_of store.now)
+        (row_of store.now caller.now.key caller.now.task) (whoms.Namespace reach) page.now.number)
+        page.now.from r.items) }
+{
+    let Some(task) = self_or_task(store, caller, page.number) else {
+        return Ok(Vec::new(store.numbers().allocator()));
+    };
+    let asked = Asked {
+        space: task.space,
+        reach,
+        viewer: caller.space,
+        from: page.from,
+    };
+    list_members(store, &asked)
+}
+
 /// The numbers that the caller's page asks for, in rising order.
 fn list_numbers(store: &Tasks, caller: &Found, page: &Page) -> Result<Vec<Pid>, AllocError>
     requires parents { HasParents store.now }
     requires caller { IsFound store.now caller.now }
     ensures { IfOk result (λ r. AreListed (numbers_asked (state_of store.now)
-        (row_of store.now caller.now.key caller.now.task) page.now.kind page.now.number) page.now.from r.items) }
+        (row_of store.now caller.now.key caller.now.task) page.now.whom page.now.number) page.now.from r.items) }
 {
-    laws(store);
-    let Some(owner) = find_owner(store, caller, page.kind, page.number) else {
-        return Ok(Vec::new(store.numbers().allocator()));
-    };
-    let mut numbers = belonging(store, caller.space, page.kind, owner, page.from)?;
-    numbers.sort()?;
-    Ok(numbers)
+    match page.whom {
+        Whom::Belonging(kind) => list_belonging(store, caller, kind, page),
+        Whom::Namespace(reach) => list_namespace(store, caller, reach, page),
+    }
 }
 
 /// Writes as much of the list over the front of the room as it takes.
@@ -198,7 +253,8 @@ pub(crate) fn put_front(listed: &[Pid], room: &mut [Pid])
 ///
 /// The refusal is `NoCaller` where no live task has the caller's root number. A number that names nobody has an empty
 /// page. The error is want of memory, and then the room is as it was. It costs a search, a few reads for each child or
-/// member, and the sorting of their numbers; it looks at no other task.
+/// member, for each task that a namespace sees a search more, and the sorting of their numbers; it looks at no other
+/// task.
 pub fn read_page(store: &Tasks, page: &Page, room: &mut [Pid]) -> Result<ShortReply, AllocError>
     requires { IsWhole store.now }
     ensures told { IfOk result (λ reply. TellsPage (state_of store.now) page.now room.old room.new (reply_of reply)) }

@@ -1,19 +1,19 @@
 use Rattle.std.proofs.Common.{sym, subst}
 use Rattle.task_table.specs.View.{row_of, state_of}
-use Rattle.translate.specs.Pages.{numbers_asked, AreListed}
+use Rattle.translate.specs.Pages.{numbers_belonging, AreListed}
 use Rattle.translate.proofs.Pages.{listed, listed_none}
-use Rattle.translate.proofs.page.list_numbers.Goals as goal
+use Rattle.translate.proofs.page.list_belonging.Goals as goal
 
 pub returns : goal.returns
 returns c =
     listed c.args.store.now c.laws.ensures c.requires.parents c.args.caller.now.space (row_of c.args.store.now c.args.caller.now.key c.args.caller.now.task)
-    c.requires.caller.own c.args.page.now.kind c.args.page.now.number c.find_owner.result c.find_owner.ensures c.in-Some.owner c.args.page.now.from
+    c.requires.caller.own c.args.kind c.args.page.now.number c.find_owner.result c.find_owner.ensures c.in-Some.owner c.args.page.now.from
     c.in_ok-numbers.numbers.items c.sort.new.self.items c.in-Some.is c.in_ok-numbers.ensures c.sort.ensures.permutation c.in_ok-sort.ensures.sorted
 
 pub returns-in_default : goal.returns-in_default
 returns-in_default c =
     let s = c.args.store.now in
     let caller = row_of s c.args.caller.now.key c.args.caller.now.task in
-    subst (AreListed (numbers_asked (state_of s) caller c.args.page.now.kind c.args.page.now.number) c.args.page.now.from) (sym c.new.ensures.items)
-    (listed_none s c.laws.ensures c.requires.parents c.args.caller.now.space caller c.requires.caller.own c.args.page.now.kind c.args.page.now.number
+    subst (AreListed (numbers_belonging (state_of s) caller c.args.kind c.args.page.now.number) c.args.page.now.from) (sym c.new.ensures.items)
+    (listed_none s c.laws.ensures c.requires.parents c.args.caller.now.space caller c.requires.caller.own c.args.kind c.args.page.now.number
     c.find_owner.result c.find_owner.ensures c.args.page.now.from c.in_default.is)
