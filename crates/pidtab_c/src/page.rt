@@ -1,4 +1,5 @@
-//! Going over the children of a task, the members of a process group or of a session, or the tasks of a namespace, for C.
+//! Going over the children of a task, the members of a process group or of a session, or the tasks of a namespace, for
+//! C.
 //!
 //! A page is no call: it uses no stamp, and changes nothing.
 ghost use Rattle.std.specs.Prelude.{[], ◌∷◌};
@@ -21,9 +22,9 @@ use foreign_numbers::status::{CLOSED, NO_MEMORY, OUT_OF_RANGE};
 /// As many are written as there is room for, and what is behind them stays. The reply tells how many there are in all,
 /// as that of a count, or that there is no caller.
 ///
-/// `CLOSED` where there is no open table; then `OUT_OF_RANGE` where nobody is said so; `NO_MEMORY`. It costs a search, a
-/// few reads for each child or member, for each task that a namespace sees a search more, and the sorting of their
-/// numbers, for which it takes memory while it lasts.
+/// `CLOSED` where there is no open table; then `OUT_OF_RANGE` for another `whom`; `NO_MEMORY`. It costs a search, a few
+/// reads for each child or member, for each task that a namespace sees a search more, and the sorting of their numbers,
+/// for which it takes memory while it lasts.
 #[unsafe(no_mangle)]
 pub extern "C" fn pidtab_page(
     table: &mut Pidtab,

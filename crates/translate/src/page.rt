@@ -1,6 +1,6 @@
 //! Pages: the children of a task, the members of a process group or of a session, or the tasks of a namespace, by their
-//! numbers as a caller's namespace has them. So whom `kill(2)` of a process group or of -1 reaches, and what `pgrep -P`,
-//! `pgrep -s` and an `ls` of `/proc` list.
+//! numbers as a caller's namespace has them. So whom `kill(2)` of a process group or of -1 reaches, and what
+//! `pgrep -P`, `pgrep -s` and an `ls` of `/proc` list.
 
 ghost use Rattle.std.specs.Prelude.{◌≡◌, ◌<◌, ◌++◌, ℕ, length, Some, IfOk, OnOk, OnErr};
 ghost use Rattle.std.specs.List.{AllByRecursion};
@@ -29,7 +29,7 @@ use task_table::view::{Found, find_live, laws};
 /// Whom a page lists.
 #[derive(Clone, Copy, Debug, PartialEq, Eq)]
 pub enum Whom {
-    /// With `Task` the children of a task, with `Group` the members of a process group, with `Session` those of a session.
+    /// The children of a task, the members of a process group, or those of a session, as the kind says.
     Belonging(Kind),
     /// The tasks of the namespace that a task is in.
     Namespace(Reach),
