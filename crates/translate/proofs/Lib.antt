@@ -6,5 +6,5 @@ pub mod Pages
 pub mod Groups
 pub mod SeenPages
 pub mod Meant
-pub mod Members
+pub mod Passed
 pub mod SeenMembers

@@ -58,9 +58,10 @@ fn pass(
         return Ok(());
     }
     match store.numbers().number_in(key, asked.viewer) {
-        Some(number) if number >= asked.from => numbers.push(number),
-        _ => Ok(()),
+        Some(number) if number >= asked.from => numbers.push(number)?,
+        _ => {}
     }
+    Ok(())
 }
 
 /// The numbers of all tasks that are meant, by a walk over the numbers of the namespace.

@@ -1,6 +1,6 @@
 use Rattle.std.proofs.Common.{sym, subst, arith, ◌<◌}
 use Rattle.translate.specs.Passed.{ArePassed}
-use Rattle.translate.proofs.Members.{none-passed, one-passed, all-passed}
+use Rattle.translate.proofs.Passed.{none-passed, one-passed, all-passed}
 use Rattle.translate.proofs.members.gather.Goals as goal
 
 pub loop-number-init : goal.loop-number-init

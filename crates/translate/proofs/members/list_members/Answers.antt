@@ -1,4 +1,4 @@
-use Rattle.translate.proofs.Members.{listed}
+use Rattle.translate.proofs.Passed.{listed}
 use Rattle.translate.proofs.members.list_members.Goals as goal
 
 pub returns : goal.returns
