@@ -4,4 +4,5 @@ pub mod Paths
 pub mod Growth
 pub mod Orders
 mod Nodes
+mod Inner
 mod Fallen

@@ -1,5 +1,5 @@
 -- The places of namespaces: what is seen of one that is written.
-use Rattle.std.proofs.Common.{inl, inr, zero, suc, ◌≡◌, ℕ, ◌<◌, List, [], ◌∷◌, length, get_or, set, Option, Some, None, IsSome, refl, sym, ap, subst, ◌∙◌, arith, rules, option_map}
+use Rattle.std.proofs.Common.{inl, inr, zero, suc, ◌≡◌, ℕ, ◌<◌, List, [], ◌∷◌, length, get_or, set, slice_get, Option, Some, None, IsSome, refl, sym, ap, subst, ◌∙◌, arith, rules, option_map}
 use Rattle.std.specs.Option.{option_map_or}
 use Rattle.std.proofs.lemmas.List.{length-map}
 use Rattle.std.proofs.lemmas.Bool.{cases_lt}
@@ -90,11 +90,13 @@ vacant-same old new len ways keys room v =
 
 -- where the paths and the ids stay, all that is known stays
 pub kept-same : (old new : List Place) → length new ≡ length old → ((s : ℕ) → way (nodes_of new) s ≡ way (nodes_of old) s) → ((s : ℕ) → id_in (nodes_of new) s ≡ id_in (nodes_of old) s)
-    → (vacant : List ℕ) (room : ℕ) (order : List (ℕ × ℕ)) → IsKept old vacant room order → IsKept new vacant room order
-kept-same old new len ways ids vacant room order k = record {
+    → (vacant : List ℕ) (room : ℕ) (order : List (ℕ × ℕ)) (children : List (Option ℕ)) → IsKept old vacant room order children → IsKept new vacant room order children
+kept-same old new len ways ids vacant room order children k = record {
   tree = subst IsTree (λ i s. sym (ways s) i) k.tree;
   listed = orders.listed-same (id_in (nodes_of old)) (id_in (nodes_of new)) order k.listed ids;
   vacancies = vacant-same old new len ways vacant room k.vacancies;
+  owners = λ s. k.owners s ∙ ap (λ p. slice_get p 1) (sym (ways s));
+  lists = let l = k.lists in omega (arith, len, l);
 }
 
 -- a namespace that fell keeps its path and its id

@@ -1,8 +1,9 @@
 -- What a contract sees of `SpaceTree`: the namespaces by key, and the order of their ids.
-use Rattle.std.specs.Prelude.{◌≡◌, ◌⊎◌, ℕ, ◌<◌, ◌≤◌, ◌+◌, ◌||◌, Bool, true, false, List, [], ◌∷◌, length, Option, Some, None, option_map, nat_lt, if◌then◌else◌, slice_index_or}
+use Rattle.std.specs.Prelude.{◌≡◌, ◌⊎◌, ℕ, ◌<◌, ◌≤◌, ◌+◌, ◌||◌, Bool, true, false, List, [], ◌∷◌, length, Option, Some, None, option_map, nat_lt, if◌then◌else◌, slice_get, slice_index_or}
 use Rattle.std.specs.Option.{option_map_or}
 use Rattle.std.specs.List.{AllByRecursion}
 use Rattle.id_slab.specs.Ids.{key_of}
+use Rattle.member_lists.specs.Owners.{times}
 use Rattle.pid_types.specs.Bounds.{deepest_space}
 use Rattle.pid_types.specs.Chains.{contains}
 
@@ -57,6 +58,15 @@ IsPath ways (s ∷ ss) = (ways s ≡ s ∷ ss) × IsPath ways ss
 -- the namespace's path, if it has one, begins with it
 abbrev pub IsHead : (ℕ → List ℕ) → ℕ → Type 0
 IsHead ways s = (ways s ≡ []) ⊎ ((rest : List ℕ) × (ways s ≡ s ∷ rest))
+
+-- the key of the namespace that a namespace is directly in, the second of its path; none of the root's, and none of one that is not there
+abbrev pub outer_of : (ℕ → List ℕ) → ℕ → Option ℕ
+outer_of ways s = slice_get (ways s) 1
+
+-- the list has the key of each namespace directly inside one, once, and no other: pid_namespaces(7), "Nesting PID namespaces"
+pub record AreInside (ways : ℕ → List ℕ) (outer : ℕ) (keys : List ℕ) : Type 0 where
+  pub once : (s : ℕ) → outer_of ways s ≡ Some outer → times s keys ≡ 1
+  pub each : AllByRecursion (λ s. outer_of ways s ≡ Some outer) keys
 
 -- the paths are those of a tree below the namespace with key 0
 pub record IsTree (ways : ℕ → List ℕ) : Type 0 where

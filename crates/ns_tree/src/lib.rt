@@ -12,7 +12,7 @@ ghost use Rattle.id_slab.specs.Ids.{AreBelow, AreRising};
 ghost use Rattle.pid_types.specs.Bounds.{deepest_space};
 ghost use Rattle.pid_types.specs.Chains.{contains};
 ghost use Rattle.ns_tree.specs.Tree.{node_in, new_node, way, id_in, fell, felled, felled_within, grown, IsTree};
-ghost use Rattle.ns_tree.specs.Tree.{AreListed};
+ghost use Rattle.ns_tree.specs.Tree.{AreListed, AreInside};
 
 mod fall;
 mod places;
@@ -20,6 +20,8 @@ mod places;
 use arrayvec::ArrayVec;
 use fall::{fall_among, mark_at};
 use id_slab::{Iter, RisingIds};
+use member_lists::MemberLists;
+pub use member_lists::Members as InnerSpaces;
 use pid_types::keys::SpaceKey;
 use pid_types::plain::LEVELS;
 use places::{
@@ -28,12 +30,14 @@ use places::{
 use std::alloc::{AllocError, Global};
 use std::marker::Model;
 
-/// Namespaces by key: the id of each, whether it has fallen, and the path from it to the root.
+/// Namespaces by key: the id of each, whether it has fallen, the path from it to the root, and those directly inside.
 pub struct SpaceTree {
     places: Vec<Place>,
     /// The keys of vacant places.
     vacant: Vec<SpaceKey>,
     order: RisingIds,
+    /// Under each key the namespaces directly inside.
+    children: MemberLists,
 }
 
 // Written out, and not derived: so the crates above cite this drop, and do not prove it anew.
@@ -43,6 +47,7 @@ impl Drop for SpaceTree {
             places: _,
             vacant: _,
             order: _,
+            children: _,
         } = self;
     }
 }
@@ -56,7 +61,7 @@ impl Model for SpaceTree {
 
     ghost view = { λ a. record { nodes = nodes_of a.places.items; order = a.order } };
 
-    ghost invariant = { λ a. IsKept a.places.items a.vacant.items (vec_capacity a.vacant) a.order };
+    ghost invariant = { λ a. IsKept a.places.items a.vacant.items (vec_capacity a.vacant) a.order a.children };
 }
 
 impl SpaceTree {
@@ -66,6 +71,8 @@ impl SpaceTree {
     {
         let mut order = RisingIds::new(alloc);
         order.push(0, 0)?;
+        let mut children = MemberLists::new(alloc);
+        children.grow(1)?;
         let mut places = Vec::with_capacity(alloc, 1)?;
         let vacant = Vec::with_capacity(alloc, 1)?;
         let mut path = ArrayVec::<SpaceKey, LEVELS>::new();
@@ -79,6 +86,7 @@ impl SpaceTree {
             places,
             vacant,
             order,
+            children,
         })
     }
 
@@ -183,6 +191,15 @@ impl SpaceTree {
         }
     }
 
+    /// The namespaces directly inside the one with the key, one after the other, in no order that a caller may rely on.
+    /// A step costs one read.
+    pub fn children(&self, key: SpaceKey) -> InnerSpaces<'_>
+        requires { IsSome (node_in self.now.nodes key) }
+        ensures { AreInside (way self.now.nodes) key result }
+    {
+        self.children.members(key)
+    }
+
     /// Whether the first namespace is the second one or inside it. It costs a few reads at any level.
     #[inline(always)]
     pub fn is_within(&self, key: SpaceKey, outer: SpaceKey) -> bool
@@ -207,7 +224,7 @@ impl SpaceTree {
         ensures order { IfOk result (λ key. self.new.order ≡ self.old.order ++ (id, key) ∷ []) }
         ensures err { OnErr result (self.new ≡ self.old) }
     {
-        let key = reserve_place(&mut self.places, &mut self.vacant)?;
+        let key = reserve_place(&mut self.places, &mut self.vacant, &mut self.children)?;
         self.order.push(id, key)?;
         let path = path_below(&self.places, key, parent);
         let space = Place {
@@ -216,6 +233,7 @@ impl SpaceTree {
             path,
         };
         fill_place(&mut self.places, &mut self.vacant, space);
+        self.children.add(key, parent);
         Ok(key)
     }
 
@@ -254,5 +272,6 @@ impl SpaceTree {
         space.path.clear();
         let _ = self.order.remove(space.id);
         self.vacant.push_reserved(key);
+        self.children.remove(key);
     }
 }

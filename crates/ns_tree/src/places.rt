@@ -1,8 +1,9 @@
 //! The places of namespaces, and their paths.
 
 ghost use Rattle.std.specs.Prelude.{vec_capacity, ◌≡◌, ◌≢◌, ℕ, ◌+◌, ◌<◌, ◌≤◌, length, option_map, Some, None, IfOk};
-ghost use Rattle.std.specs.Prelude.{OnOk, slice_index_or, [], ◌∷◌};
+ghost use Rattle.std.specs.Prelude.{OnOk, slice_index_or, [], ◌∷◌, ◌^◌};
 ghost use Rattle.std.specs.Option.{option_copied};
+ghost use Rattle.member_lists.specs.Owners.{owner_of};
 ghost use Rattle.pid_types.specs.Bounds.{deepest_space};
 ghost use Rattle.pid_types.specs.Chains.{contains};
 ghost use Rattle.ns_tree.specs.Tree.{node_in, way, grown, IsTree};
@@ -10,6 +11,7 @@ ghost use Rattle.ns_tree.specs.Places.{node_of, nodes_of};
 ghost use Rattle.ns_tree.specs.Vacancy.{next_place, AreVacant};
 
 use arrayvec::ArrayVec;
+use member_lists::{MemberLists, keys_with_room};
 use pid_types::keys::SpaceKey;
 use pid_types::plain::LEVELS;
 use std::alloc::AllocError;
@@ -83,19 +85,38 @@ pub(crate) fn path_below(
     path
 }
 
+/// Makes room in the lists for the namespace with the key, and for all below. The error is want of memory.
+fn grow_lists(children: &mut MemberLists, key: SpaceKey) -> Result<(), AllocError>
+    requires { key < 2 ^ 30 }
+    ensures owners { (s : ℕ) → owner_of children.new s ≡ owner_of children.old s }
+    ensures longer { length children.old ≤ length children.new }
+    ensures room { OnOk result (key < length children.new) }
+{
+    let keys = children.keys();
+    if (key as usize) < keys {
+        return Ok(());
+    }
+    children.grow(keys_with_room(key) - keys)
+}
+
 /// Takes the memory for one more namespace, and answers the key that it will have. The error is want of memory, or that
 /// there are 2^30 places.
 pub(crate) fn reserve_place(
     places: &mut Vec<Place>,
     vacant: &mut Vec<SpaceKey>,
+    children: &mut MemberLists,
 ) -> Result<SpaceKey, AllocError>
-    requires { AreVacant (nodes_of places.old.items) vacant.old.items (vec_capacity vacant.old) }
+    requires lists { length places.old.items ≤ length children.old }
+    requires vacant { AreVacant (nodes_of places.old.items) vacant.old.items (vec_capacity vacant.old) }
     ensures vacant { AreVacant (nodes_of places.new.items) vacant.new.items (vec_capacity vacant.new) }
     ensures places { places.new.items ≡ places.old.items }
     ensures keys { vacant.new.items ≡ vacant.old.items }
     ensures key { IfOk result (λ key. key ≡ next_place places.old.items vacant.old.items) }
     ensures room { OnOk result (vacant.old.items ≡ [] → length places.new.items < vec_capacity places.new) }
     ensures rooms { OnOk result (vacant.old.items ≡ [] → length places.new.items < vec_capacity vacant.new) }
+    ensures owners { (s : ℕ) → owner_of children.new s ≡ owner_of children.old s }
+    ensures longer { length children.old ≤ length children.new }
+    ensures list { IfOk result (λ key. key < length children.new) }
 {
     if let Some(&key) = vacant.last() {
         return Ok(key);
@@ -106,6 +127,7 @@ pub(crate) fn reserve_place(
     }
     places.try_reserve(1)?;
     vacant.try_reserve(count + 1)?;
+    grow_lists(children, count as SpaceKey)?;
     Ok(count as SpaceKey)
 }
 

@@ -1,17 +1,20 @@
 -- An empty path makes the place vacant: its key was not vacant before, so there is room for it, and its id alone leaves the order
-use Rattle.std.proofs.Common.{◌≡◌, ◌≢◌, inl, inr, ◌++◌, ◌∷◌, [], ℕ, ◌<◌, List, length, get_or, subst, ◌∙◌, sym, ap, Some, None, IsSome, is_some, true, false, option_map, set, arith}
+use Rattle.std.proofs.Common.{◌≡◌, ◌≢◌, inl, inr, ◌++◌, ◌∷◌, [], ℕ, ◌<◌, List, length, get_or, Option, subst, ◌∙◌, sym, ap, Some, None, IsSome, is_some, true, false, option_map, set, slice_get, arith}
 use Rattle.std.specs.Prelude.{vec_capacity}
 use Rattle.std.specs.List.{filter}
 use Rattle.std.specs.Option.{option_map_or}
 use Rattle.ns_tree.specs.declared.places.Place.{Place}
 use Rattle.std.proofs.lemmas.Bool.{both_ways, cases_eq}
+use Rattle.std.proofs.lemmas.List.{length-set}
 use Rattle.id_slab.specs.Ids.{without}
+use Rattle.member_lists.specs.Owners.{owner_of}
 use Rattle.pid_types.specs.Chains.{contains}
-use Rattle.ns_tree.specs.Tree.{Tree, AreListed, node_in, way, id_in}
+use Rattle.ns_tree.specs.Tree.{Tree, AreListed, node_in, way, id_in, outer_of}
 use Rattle.ns_tree.specs.Places.{node_of, nodes_of}
 use Rattle.ns_tree.specs.Vacancy.{AreVacant}
 use Rattle.ns_tree.proofs.Filled as filled
 use Rattle.ns_tree.proofs.Growth as growth
+use Rattle.ns_tree.proofs.Inner as inner
 use Rattle.ns_tree.proofs.Nodes as nodes
 use Rattle.ns_tree.proofs.Orders as orders
 use Rattle.ns_tree.proofs.Vacancy as vacancy
@@ -61,6 +64,19 @@ push_reserved-requires c =
     let more = vacancy.room-more (nodes_of c.self.inside.places.items) c.self.inside.vacant.items (vec_capacity c.self.inside.vacant) c.args.key (node_of c.index_mut-space.result.now) c.self.invariant.vacancies (was b) in
     omega (arith, more, c.self.inside.vacant.ok.0)
 
+pub remove-requires-2-clause-key : goal.remove-requires-2-clause-key
+remove-requires-2-clause-key c =
+    let b = bared (goal.at.remove-requires-2-clause-key c).After-clear in
+    let lt = nodes.way-in c.self.inside.places.items c.args.key b.some in
+    let lists = c.self.invariant.lists in
+    omega (arith, lt, lists)
+
+pub remove-requires-2-clause-owned : goal.remove-requires-2-clause-owned
+remove-requires-2-clause-owned c =
+    let b = bared (goal.at.remove-requires-2-clause-owned c).After-clear in
+    subst IsSome (sym (c.self.invariant.owners c.args.key))
+    (inner.outer-some (way (nodes_of c.self.inside.places.items)) c.self.invariant.tree c.args.key c.requires.inner b.some)
+
 pub invariant_of-self : goal.invariant_of-self
 invariant_of-self c =
     let b = bared (goal.at.invariant_of-self c).After-clear in
@@ -70,6 +86,10 @@ invariant_of-self c =
     let z : Place = record y { path = c.clear.new.self } in
     let vacant = c.self.inside.vacant.items in
     let room = vec_capacity c.self.inside.vacant in
+    let children = c.self.inside.children in
+    let lists = c.self.invariant.lists in
+    let lt = nodes.way-in places key b.some in
+    let nothing : Option ℕ = None in
     let v = vacancy.one-more (nodes_of places) vacant room key (node_of y) c.self.invariant.vacancies (was b) in
     let w = subst (λ l. AreVacant l (vacant ++ key ∷ []) room) (sym (filled.slots-set nodes.path_len node_of places key z None (filled.show-none nodes.path_len node_of z (ap length c.clear.ensures)))) v in
     record {
@@ -78,6 +98,10 @@ invariant_of-self c =
           (ap (λ o. option_map_or (λ t. t.path) o []) (gone b)) (λ s m. ap (λ o. option_map_or (λ t. t.path) o []) (others b s m));
       listed = subst (AreListed (id_in (nodes_of (set places key z)))) (sym (c.remove.ensures.rest ∙ left b c.self.inside.order c.self.invariant.listed)) (listed b c.self.inside.order c.self.invariant.listed);
       vacancies = rw (← c.push_reserved.ensures.items, ← c.push_reserved.ensures.capacity) at w;
+      owners = subst (λ l. (s : ℕ) → owner_of l s ≡ outer_of (way (nodes_of (set places key z))) s) (sym c.remove-2.ensures)
+          (inner.owners-set (way (nodes_of places)) children c.self.invariant.owners (way (nodes_of (set places key z))) key None (omega (arith, lt, lists))
+          (ap (λ o. slice_get (option_map_or (λ t. t.path) o []) 1) (gone b)) (λ s m. ap (λ o. option_map_or (λ t. t.path) o []) (others b s m)));
+      lists = (let n = length-set places key z in let m = length-set children key nothing in let l = ap length c.remove-2.ensures in omega (arith, n, m, l, lists));
     }
 
 pub returns-clause-here : goal.returns-clause-here

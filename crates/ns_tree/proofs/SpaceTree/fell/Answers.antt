@@ -12,4 +12,4 @@ invariant_of-self c =
     nodes.kept-same old c.fall_among.new.places.items c.fall_among.ensures.count
     (λ s. ap (λ o. option_map_or (λ t. t.path) o []) (c.fall_among.ensures.nodes s) ∙ nodes.same-path (felled_within c.args.outer) (λ t. refl) (node_in (nodes_of old) s))
     (λ s. ap (option_map (λ t. t.id)) (c.fall_among.ensures.nodes s) ∙ nodes.same-id (felled_within c.args.outer) (λ t. refl) (node_in (nodes_of old) s))
-    c.self.inside.vacant.items (vec_capacity c.self.inside.vacant) c.self.inside.order c.self.invariant
+    c.self.inside.vacant.items (vec_capacity c.self.inside.vacant) c.self.inside.order c.self.inside.children c.self.invariant

@@ -15,4 +15,4 @@ invariant_of-self c =
     nodes.kept-same old new c.mark_at.ensures.count
     (everywhere (way (nodes_of new)) (way (nodes_of old)) c.args.key (ap (λ o. option_map_or (λ t. t.path) o []) c.mark_at.ensures.here ∙ nodes.same-path felled (λ t. refl) was) (λ s m. ap (λ o. option_map_or (λ t. t.path) o []) (c.mark_at.ensures.others s m)))
     (everywhere (id_in (nodes_of new)) (id_in (nodes_of old)) c.args.key (ap (option_map (λ t. t.id)) c.mark_at.ensures.here ∙ nodes.same-id felled (λ t. refl) was) (λ s m. ap (option_map (λ t. t.id)) (c.mark_at.ensures.others s m)))
-    c.self.inside.vacant.items (vec_capacity c.self.inside.vacant) c.self.inside.order c.self.invariant
+    c.self.inside.vacant.items (vec_capacity c.self.inside.vacant) c.self.inside.order c.self.inside.children c.self.invariant
