@@ -14,6 +14,7 @@ ghost use Rattle.std.specs.Prelude.{slice_index_or, is_some, reverse, true, fals
 ghost use Rattle.std.specs.Prelude.{if◌then◌else◌};
 ghost use Rattle.std.specs.List.{AllByRecursion, filter};
 ghost use Rattle.id_slab.specs.Ids.{key_of, AreBelow, AreRising};
+ghost use Rattle.ns_tree.specs.Tree.{AreInside};
 ghost use Rattle.pid_numbers.specs.Numbering.{Identifier, is_there, id_at, namespace_at, identifier_at, number_of};
 ghost use Rattle.pid_numbers.specs.Numbering.{path_at, draw_in, moved, more, less, left_of, uses, is_used, is_used_as};
 ghost use Rattle.pid_numbers.specs.Numbering.{swept_at, new_namespace, new_identifier, levels_of, fallen_within};
@@ -39,6 +40,7 @@ use id_slab::Iter;
 use idents::{Ident, Idents};
 use levels::LevelNumbers;
 use names::{count_at, has_use, home_of, in_use, mark_numbers, number_at, write_numbers_inwards};
+pub use ns_tree::InnerSpaces;
 use ns_tree::SpaceTree;
 use pid_types::call::Kind;
 use pid_types::keys::{IdentKey, Pid, SpaceKey};
@@ -244,6 +246,15 @@ impl Numbers {
             (slice_index_or (path_at self.now space) 1 0) else None }
     {
         self.tree.parent(space)
+    }
+
+    /// The namespaces directly inside the one with the key, one after the other, in no order that a caller may rely on.
+    /// A step costs one read.
+    pub fn inner_spaces(&self, space: SpaceKey) -> InnerSpaces<'_>
+        requires { IsSome (namespace_at self.now space) }
+        ensures { AreInside (path_at self.now) space result }
+    {
+        self.tree.children(space)
     }
 
     /// The namespace of the identifier.
