@@ -14,6 +14,8 @@ ghost use Rattle.pid_types.specs.State.{root_state};
 ghost use Rattle.task_table.specs.View.{state_of};
 ghost use Rattle.task_table.specs.Whole.{IsWhole};
 ghost use Rattle.translate.specs.From.{rows_from};
+ghost use Rattle.translate.specs.Inside.{ids_inside};
+ghost use Rattle.translate.specs.Listed.{TellsList};
 ghost use Rattle.translate.specs.Pages.{TellsPage, TellsSeenPage};
 ghost use Rattle.translate.specs.Spaces.{space_stat_at};
 ghost use Rattle.translate.specs.Stat.{stat_at, glimpse_in, IsSeen};
@@ -31,6 +33,7 @@ use std::marker::Model;
 use task_table::Tasks;
 use task_table::view::laws;
 use task_tree::Task;
+use translate::inside::{Inside, read_inside};
 use translate::page::{Page, read_page};
 use translate::shown;
 use translate::space::{SpaceStat, read_space};
@@ -169,6 +172,17 @@ impl PidTable {
         ensures err { OnErr result (room.new ≡ room.old) }
     {
         read_page(&self.store, page, room)
+    }
+
+    /// Writes the ids of what is directly inside a namespace or a control group over the front of the room, and answers
+    /// how many there are; none where there is no such namespace or group: [`read_inside`]. The error is want of
+    /// memory, and then the room is as it was.
+    pub fn inside(&self, inside: &Inside, room: &mut [u64]) -> Result<Option<u64>, AllocError>
+        ensures told { IfOk result (λ count.
+            TellsList (ids_inside self.now inside.now) inside.now.from room.old room.new count) }
+        ensures err { OnErr result (room.new ≡ room.old) }
+    {
+        read_inside(&self.store, inside, room)
     }
 
     /// One read of the namespace with the id: [`read_space`]. None where there is none.

@@ -15,3 +15,4 @@ pub mod Made
 pub mod Begun
 pub mod Listed
 pub mod HomeIds
+pub mod Children

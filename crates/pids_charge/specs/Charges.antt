@@ -1,7 +1,8 @@
 -- What a contract sees of `Controls`: the control groups of the model, and at each key where its tasks are and how many they are.
-use Rattle.std.specs.Prelude.{◌≡◌, ℕ, ◌+◌, ◌-◌, ◌==◌, Bool, false, ◌||◌, nat_lt, List, Option, Some, None, option_map, option_and_then, is_some, if◌then◌else◌, find, slice_index_or, ◌≢◌}
+use Rattle.std.specs.Prelude.{◌≡◌, ℕ, ◌+◌, ◌-◌, ◌==◌, Bool, true, false, ◌||◌, nat_lt, List, map, Option, Some, None, option_map, option_and_then, is_some, if◌then◌else◌, find, slice_index_or, ◌≢◌}
 use Rattle.std.specs.Option.{option_map_or, option_eq}
-use Rattle.std.specs.List.{sum_by, list_any}
+use Rattle.std.specs.List.{sum_by, list_any, AllByRecursion}
+use Rattle.member_lists.specs.Owners.{times}
 use Rattle.pid_types.specs.declared.plain.Control.{Control}
 use Rattle.pid_types.specs.declared.reply.Refusal.{Refusal}
 use Rattle.pid_types.specs.declared.reply.Refusal.TheVariants.{PidsLimit, RootControl, ControlBusy, BadLimit}
@@ -95,6 +96,11 @@ moved from to k h = record h { live = h.live - (if k == from then 1 else 0) + (i
 -- what the removal of a control group leaves at a key: its zombies, and those of groups that were removed below it, go to the parent
 abbrev pub handed_on : ℕ → ℕ → Home → Option Home
 handed_on from to h = if h.id == from then kept (record h { id = to; stands = false }) else Some h
+
+-- the list has the keys of the control groups directly in the one with the key: each id of one comes once, and no other
+pub record AreControlsIn (v : Charges) (c : ℕ) (keys : List ℕ) : Type 0 where
+  pub once : (id : ℕ) → parent_control v.controls id ≡ Some (id_at v c) → times id (map (id_at v) keys) ≡ 1
+  pub each : AllByRecursion (λ k. (stands v k ≡ true) × (parent_control v.controls (id_at v k) ≡ Some (id_at v c))) keys
 
 -- one key's home changed, and all else stayed
 pub record ChangesHome (old new : Charges) (key : ℕ) (home : Option Home) : Type 0 where

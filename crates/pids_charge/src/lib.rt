@@ -17,6 +17,7 @@ ghost use Rattle.pids_charge.specs.declared.ControlFault.{ControlFault};
 ghost use Rattle.pids_charge.specs.Charges.{Home, home_at, stands, id_at, live_at, zombies_at, tasks_of};
 ghost use Rattle.pids_charge.specs.Charges.{count as count_of, all_tasks, limit_of, charge_refusal, remove_refusal};
 ghost use Rattle.pids_charge.specs.Charges.{limit_refusal, kept, handed_on, moved, ChangesHome};
+ghost use Rattle.pids_charge.specs.Charges.{AreControlsIn};
 
 mod counter;
 mod limits;
@@ -30,6 +31,7 @@ use counter::Counter;
 use id_slab::{Iter, RisingIds};
 use limits::{full_above, is_too_high};
 use member_lists::MemberLists;
+pub use member_lists::Members as InnerControls;
 use node::{Node, node_at, set_node};
 use pid_types::keys::ControlKey;
 use pid_types::reply::Refusal;
@@ -302,6 +304,15 @@ impl Controls {
         ensures stands { IfSome result (λ p. stands self.now p ≡ true) }
     {
         node_at(&self.nodes, c).parent
+    }
+
+    /// The control groups directly in a control group, one after the other, in no order that a caller may rely on. A
+    /// step costs one read.
+    pub fn children(&self, c: ControlKey) -> InnerControls<'_>
+        requires { stands self.now c ≡ true }
+        ensures { AreControlsIn self.now c result }
+    {
+        self.children.members(c)
     }
 
     /// The limit of a control group: `pids.max`.

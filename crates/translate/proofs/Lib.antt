@@ -8,3 +8,4 @@ pub mod SeenPages
 pub mod Meant
 pub mod Passed
 pub mod SeenMembers
+pub mod Inner

@@ -8,3 +8,4 @@ pub mod Spaces
 pub mod Listed
 pub mod Members
 pub mod Passed
+pub mod Inside

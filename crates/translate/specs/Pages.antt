@@ -52,7 +52,7 @@ pub record AreListed (numbers : List ℕ) (from : ℕ) (listed : List ℕ) : Typ
   pub each : (m : ℕ) → IsIn m listed ↔ ((from ≤ m) × IsIn m numbers)
 
 -- the room, with as much of the list at its front as it takes
-abbrev pub with_front : List ℕ → List ℕ → List ℕ
+abbrev pub with_front : {X : Type 0} → List X → List X → List X
 with_front listed room = take (length room) listed ++ drop (length listed) room
 
 -- the list for the caller is in the room, and its length is told; or else that nobody calls

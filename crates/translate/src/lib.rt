@@ -15,6 +15,7 @@ ghost use Rattle.task_table.specs.Whole.{IsWhole};
 ghost use Rattle.translate.specs.Seen.{IsSeenReply};
 
 pub mod members;
+pub mod inside;
 pub mod page;
 mod queries;
 pub mod shown;

@@ -241,7 +241,7 @@ fn list_numbers(store: &Tasks, caller: &Found, page: &Page) -> Result<Vec<Pid>, 
 }
 
 /// Writes as much of the list over the front of the room as it takes.
-pub(crate) fn put_front(listed: &[Pid], room: &mut [Pid])
+pub(crate) fn put_front<T: Copy>(listed: &[T], room: &mut [T])
     ensures { room.new ≡ with_front listed.now room.old }
 {
     let count = listed.len().min(room.len());
