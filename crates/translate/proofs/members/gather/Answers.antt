@@ -1,4 +1,4 @@
-use Rattle.std.proofs.Common.{sym, subst, arith, ◌<◌}
+use Rattle.std.proofs.Common.{sym, subst, arith, ◌<◌, ◌+◌}
 use Rattle.translate.specs.Passed.{ArePassed}
 use Rattle.translate.proofs.Passed.{none-passed, one-passed, all-passed}
 use Rattle.translate.proofs.members.gather.Goals as goal
@@ -12,7 +12,7 @@ loop-number-init c = record {
 pub loop-number-preserved : goal.loop-number-preserved
 loop-number-preserved c =
     let s = c.args.store.now in
-    let next = rw c.numbers.ensures at c.in-Some.ensures in
+    let next = rw c.numbers-in-loop-number.ensures at c.in-Some.ensures in
     let here = rw c.numbers-in-Some.ensures at c.in-Some-find.ensures in
     let in_range : c.in-Some.number < s.numbering.pid_max = (c.laws.ensures.numbering.range c.in-Some-find.key c.args.asked.now.space c.in-Some.number here).1 in
     record {
@@ -23,5 +23,5 @@ loop-number-preserved c =
 
 pub returns : goal.returns
 returns c =
-    let none = rw c.numbers.ensures at c.in_default.ensures in
+    let none = rw c.numbers-in-loop-number.ensures at c.in_default.ensures in
     all-passed c.args.store.now c.laws.ensures c.args.asked.now c.loop-number.at c.loop-number.numbers.items c.loop-number.invariant.passed c.loop-number.invariant.below none
