@@ -212,6 +212,11 @@ enum pidtab_whom {
 	PIDTAB_NAMESPACE_MEMBERS = 3, /* the tasks of the namespace that the task with the number is in, those in namespaces inside it too */
 	PIDTAB_NAMESPACE_OWN = 4      /* of these the tasks that are in no namespace inside it */
 };
+
+enum pidtab_tree {
+	PIDTAB_SPACES = 0,  /* the namespaces that are directly in the one with the id */
+	PIDTAB_CONTROLS = 1 /* the control groups that are directly in the one with the id */
+};
 /* The end of choices. */
 
 struct pidtab_call {

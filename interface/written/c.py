@@ -89,9 +89,9 @@ def bounds_of(tables, owner):
 
 
 def choices(tables):
-    """What the choice of a wait and of a next says, and whom a page lists."""
+    """What the choice of a wait and of a next says, and what pages list."""
     lines = []
-    for name in ("which", "use", "whom"):
+    for name in ("which", "use", "whom", "tree"):
         lines += ["", *enum(f"pidtab_{name}", [(f"PIDTAB_{it.name}", it.number, it.tells) for it in tables["kinds"] if it.of == name])]
     return lines[1:]
 

@@ -48,9 +48,9 @@ def named(name, rows):
 
 def kinds(tables):
     """What a choice says, and the kinds of a reply."""
-    which, use, whom, reply = [[it for it in tables["kinds"] if it.of == name] for name in ("which", "use", "whom", "reply")]
+    which, use, whom, tree, reply = [[it for it in tables["kinds"] if it.of == name] for name in ("which", "use", "whom", "tree", "reply")]
     uses = f"export const USES = [{strings([it.word for it in use])}];"
-    return ["/** Of a wait: whom it means. */", named("WHICH", which), "", "/** Of a next, in the order of their numbers. */", uses, "", "/** Of a page: whom it lists. */", named("WHOM", whom), "", named("KIND", reply)]
+    return ["/** Of a wait: whom it means. */", named("WHICH", which), "", "/** Of a next, in the order of their numbers. */", uses, "", "/** Of a page: whom it lists. */", named("WHOM", whom), "", "/** Of a page of ids: in which tree it goes down. */", named("TREE", tree), "", named("KIND", reply)]
 
 
 def bounds(tables):

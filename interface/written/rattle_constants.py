@@ -23,8 +23,8 @@ def operations(tables):
 
 
 def choices(tables):
-    """What a wait selects, what a next looks for, and whom a page lists."""
-    return constants([(it.name, it.number, sentence(it.tells)) for name in ("which", "use", "whom") for it in of(tables, name)])
+    """What a wait selects, what a next looks for, and what pages list."""
+    return constants([(it.name, it.number, sentence(it.tells)) for name in ("which", "use", "whom", "tree") for it in of(tables, name)])
 
 
 def kinds(tables):

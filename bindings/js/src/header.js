@@ -36,6 +36,9 @@ export const USES = ["task", "group", "session"];
 /** Of a page: whom it lists. */
 export const WHOM = { CHILDREN: 0, GROUP_MEMBERS: 1, SESSION_MEMBERS: 2, NAMESPACE_MEMBERS: 3, NAMESPACE_OWN: 4 };
 
+/** Of a page of ids: in which tree it goes down. */
+export const TREE = { SPACES: 0, CONTROLS: 1 };
+
 export const KIND = { FORKED: 0, OK: 1, NUMBER: 2, LEVELS: 3, REAPED: 4, NONE_YET: 5, COUNTED: 6, CONTROL: 7, END: 8, REFUSED: 9 };
 // The end of kinds.
 

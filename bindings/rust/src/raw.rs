@@ -90,6 +90,8 @@ mod kinds {
     pub(crate) const SESSION_MEMBERS: u32 = 2;
     pub(crate) const NAMESPACE_MEMBERS: u32 = 3;
     pub(crate) const NAMESPACE_OWN: u32 = 4;
+    pub(crate) const SPACES: u32 = 0;
+    pub(crate) const CONTROLS: u32 = 1;
 }
 pub(crate) use kinds::*;
 // The end of kinds.

@@ -10,5 +10,6 @@ pub mod Turns
 pub mod Would
 pub mod Paged
 pub mod Spaces
+pub mod Inside
 pub mod Saved
 pub mod SavedBytes

@@ -6,6 +6,7 @@
 
 pub mod ask;
 pub mod history;
+pub mod inside;
 pub mod many_calls;
 pub mod page;
 pub mod read;

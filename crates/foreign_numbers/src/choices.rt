@@ -1,4 +1,4 @@
-//! The choices of a wait, of a next and of a page, by their names.
+//! The choices of a wait, of a next and of pages, by their names.
 
 // Written by tools/interface: choices.
 /// Any child.
@@ -36,4 +36,10 @@ pub const NAMESPACE_MEMBERS: u32 = 3;
 
 /// Of these the tasks that are in no namespace inside it.
 pub const NAMESPACE_OWN: u32 = 4;
+
+/// The namespaces that are directly in the one with the id.
+pub const SPACES: u32 = 0;
+
+/// The control groups that are directly in the one with the id.
+pub const CONTROLS: u32 = 1;
 // The end of choices.

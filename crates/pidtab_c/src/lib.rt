@@ -30,6 +30,7 @@ ghost use Rattle.stamped_table.specs.Stamped.{IsInOrder};
 
 mod ask;
 mod history;
+mod inside;
 mod many_calls;
 mod page;
 mod read;

@@ -1,5 +1,5 @@
 -- What is directly inside, by keys and in the model.
-use Rattle.std.proofs.Common.{◌≡◌, ◌≢◌, ℕ, zero, suc, ◌+◌, ◌<◌, ◌≤◌, ◌==◌, Bool, true, false, nat_le, List, [], ◌∷◌, map, filter, filter_map, slice_get, Option, Some, None, IsSome, cond, option_map, option_and_then, length, refl, sym, ap, subst, ◌∙◌, arith}
+use Rattle.std.proofs.Common.{◌≡◌, ℕ, zero, suc, ◌+◌, ◌≤◌, ◌==◌, Bool, true, false, nat_le, List, [], ◌∷◌, map, filter, filter_map, slice_get, Option, Some, None, IsSome, cond, option_map, option_and_then, length, refl, sym, ap, subst, ◌∙◌, arith}
 use Rattle.std.specs.Option.{option_eq}
 use Rattle.std.specs.List.{AllByRecursion}
 use Rattle.std.specs.List.Sorted.{IsPermutation, IsSorted}
@@ -7,7 +7,7 @@ use Rattle.std.specs.Ordering.{nat_cmp}
 use Rattle.std.proofs.lemmas.Bool.{eq-eqb, eqb-true}
 use Rattle.std.proofs.lemmas.List.Sorted.{IsNonDecreasingBy-from_sort}
 use Rattle.member_lists.specs.Owners.{times}
-use Rattle.pid_types.proofs.General.{held, some_number, number_tested}
+use Rattle.pid_types.proofs.General.{some_number, number_tested}
 use Rattle.pid_types.specs.declared.plain.Control.{Control}
 use Rattle.pid_types.specs.declared.plain.Space.{Space}
 use Rattle.pid_types.specs.Controls.{control_at, parent_control}
@@ -16,7 +16,7 @@ use Rattle.pid_types.specs.Sound.{IsRising}
 use Rattle.model_laws.proofs.Lists.{IsIn-map, IsIn-from_map, IsIn-filter, IsIn-from_filter, IsIn-filter_map, IsIn-from_filter_map}
 use Rattle.model_laws.proofs.Rising.{find-key, find-key_at}
 use Rattle.ns_tree.specs.Tree.{AreInside, outer_of}
-use Rattle.pid_numbers.specs.Numbering.{Numbering, id_at, path_at}
+use Rattle.pid_numbers.specs.Numbering.{Namespace, Numbering, id_at, namespace_at, path_at}
 use Rattle.pids_charge.specs.Charges.{Charges, AreControlsIn, stands, id_at as control_id}
 use Rattle.task_table.specs.Lawful.{HasLaws}
 use Rattle.task_table.specs.View.{parent_id, space_of, spaces_of}
@@ -94,6 +94,14 @@ from-same numbers ns from once to back = record {
 }
 
 -- ---- namespaces
+
+-- a namespace with an id is there
+pub space-there : (b : Numbering) (s i : ℕ) → id_at b s ≡ Some i → IsSome (namespace_at b s)
+space-there b s i at = go (namespace_at b s) at
+  where
+    go : (o : Option Namespace) → option_map (λ t. t.id) o ≡ Some i → IsSome o
+    go None e = absurd (cc)
+    go (Some t) e = refl
 
 module _ (b : Numbering) (l : HasLaws b) (key id : ℕ) (at : id_at b key ≡ Some id) (keys : List ℕ) (inner : AreInside (path_at b) key keys) where
   abbrev is_in : Space → Bool
@@ -188,10 +196,10 @@ pub told-some : (numbers : Option (List ℕ)) (from : ℕ) (xs ys old new : List
 told-some numbers from xs ys old new count found p sorted many put = record {
   none = λ e. absurd (let z : None ≡ Some found.0 = sym e ∙ found.1 in cc);
   listed = λ all e. (
-    let z : Some found.0 ≡ Some all = sym found.1 ∙ e in
-    let same : found.0 ≡ all = cc in
-    (ys, subst (λ ns. AreListed ns from ys) same (in-order found.0 from xs ys found.2 p sorted), many, put)
-  );
+      let z : Some found.0 ≡ Some all = sym found.1 ∙ e in
+      let same : found.0 ≡ all = cc in
+      (ys, subst (λ ns. AreListed ns from ys) same (in-order found.0 from xs ys found.2 p sorted), many, put)
+      );
 }
 
 pub told-none : (numbers : Option (List ℕ)) (from : ℕ) (old : List ℕ) → numbers ≡ None → TellsList numbers from old old None

@@ -1,19 +1,17 @@
-use Rattle.std.proofs.Common.{◌∙◌, ◌++◌, sym, ap, subst, filter, filter_map, nat_le, option_map, is_some, IsSome}
-use Rattle.ns_tree.specs.Tree.{AreInside}
-use Rattle.pid_numbers.specs.Numbering.{id_at, namespace_at, path_at}
+use Rattle.std.proofs.Common.{◌∙◌, ◌++◌, sym, ap, subst, filter, filter_map, nat_le, option_map}
+use Rattle.pid_numbers.specs.Numbering.{id_at}
 use Rattle.task_table.specs.View.{space_of, state_of}
-use Rattle.task_table.proofs.Keys.{space_at-is, space_at-key, there}
+use Rattle.task_table.proofs.Keys.{space_at-is, space_at-key}
 use Rattle.task_table.proofs.Around.{key-nobody}
 use Rattle.translate.specs.Inside.{spaces_inside, AreFrom}
-use Rattle.translate.proofs.Inner.{spaces-from}
+use Rattle.translate.proofs.Inner.{spaces-from, space-there}
 use Rattle.translate.proofs.inside.inner_spaces.Goals as goal
 
 pub inner_spaces-keys-requires : goal.inner_spaces-keys-requires
 inner_spaces-keys-requires c =
     let s = c.args.store.now in
     let at = rw c.numbers.ensures at c.in-Some.ensures in
-    let h = there s.numbering c.laws.ensures.numbering c.in-Some.key c.args.id at in
-    rw c.numbers-2.ensures (ap is_some h.1)
+    rw c.numbers-2.ensures (space-there s.numbering c.in-Some.key c.args.id at)
 
 pub returns-in_default : goal.returns-in_default
 returns-in_default c =
