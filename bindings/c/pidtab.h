@@ -346,6 +346,17 @@ struct pidtab_space {
  * OUT_OF_RANGE where no namespace has the id, or it is gone, and then space is as it was. */
 uint32_t pidtab_space(const struct pidtab *table, uint64_t id, struct pidtab_space *space);
 
+/* Tells what is directly inside a namespace, or a control group: the ids from `from` on of the namespaces directly in the one with the id, or of the
+ * control groups directly in the one with the id, as tree says, an enum pidtab_tree. 0 is the root of both. A namespace that has fallen is among them
+ * as long as pidtab_space reads it.
+ *
+ * ids has them in rising order, as many as there is room for; what is behind stays. count is how many there are in all from there on, so the next page
+ * begins at the last id + 1, and a room of 0 only counts.
+ *
+ * It is no call, as pidtab_ask makes none, but it takes memory for a list while it works. DONE; CLOSED; OUT_OF_RANGE for another tree, and where it
+ * has no such id; NO_MEMORY; and then ids and count are as they were. */
+uint32_t pidtab_inside(const struct pidtab *table, uint32_t tree, uint64_t id, uint64_t from, uint64_t *ids, size_t room, uint64_t *count);
+
 /* Tells the reply that the call would get now, and changes nothing: the numbers of a fork, and whom a wait would reap (waitid(2) with WNOWAIT).
  * Whether there is memory for the call it does not say. DONE, CLOSED, OUT_OF_RANGE, SPENT. */
 uint32_t pidtab_would(const struct pidtab *table, const struct pidtab_call *call, struct pidtab_reply *reply);
@@ -596,6 +607,9 @@ uint32_t pidtab_record_page(const struct pidtab_record *record, uint32_t caller,
 
 /* Reads a namespace, as pidtab_space does; it is not recorded. DONE, CLOSED, OUT_OF_RANGE. */
 uint32_t pidtab_record_space(const struct pidtab_record *record, uint64_t id, struct pidtab_space *space);
+
+/* Tells what is directly inside, as pidtab_inside does; it is not recorded. DONE, CLOSED, OUT_OF_RANGE, NO_MEMORY. */
+uint32_t pidtab_record_inside(const struct pidtab_record *record, uint32_t tree, uint64_t id, uint64_t from, uint64_t *ids, size_t room, uint64_t *count);
 
 /* Tells the reply that the call would get now, as pidtab_would does; it is not recorded. DONE, CLOSED, OUT_OF_RANGE, SPENT. */
 uint32_t pidtab_record_would(const struct pidtab_record *record, const struct pidtab_call *call, struct pidtab_reply *reply);

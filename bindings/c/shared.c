@@ -387,6 +387,12 @@ uint32_t pidtab_shared_space(struct pidtab_shared *shared, uint64_t id, struct p
 	return answered(shared, pidtab_record_space(&shared->record, id, space));
 }
 
+uint32_t pidtab_shared_inside(struct pidtab_shared *shared, uint32_t tree, uint64_t id, uint64_t from, uint64_t *ids, size_t room, uint64_t *count)
+{
+	share_as_call(shared);
+	return answered(shared, pidtab_record_inside(&shared->record, tree, id, from, ids, room, count));
+}
+
 uint32_t pidtab_shared_would(struct pidtab_shared *shared, const struct pidtab_call *call, struct pidtab_reply *reply)
 {
 	share_as_call(shared);

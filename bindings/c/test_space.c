@@ -1,4 +1,4 @@
-/* Tests of reads of namespaces: by hand, and beside the list. */
+/* Tests of reads of namespaces, and of what is directly inside one, or inside a control group: by hand, and beside the list. */
 #include "test.h"
 #include "pidtab_shared.h"
 #include "test_heap.h"
@@ -50,6 +50,60 @@ static void is_none(uint64_t id)
 	status_is(id, PIDTAB_OUT_OF_RANGE);
 }
 
+/* A room for ids, and what is told of them. */
+struct inside {
+	uint64_t ids[MOST];
+	uint64_t count;
+};
+
+static const uint64_t UNTOLD = 0x5555555555555555;
+
+static void clear(struct inside *it)
+{
+	memset(it, 0x55, sizeof *it);
+}
+
+static bool is_rest_untold(const struct inside *it, size_t place)
+{
+	while (place < MOST && it->ids[place] == UNTOLD)
+		place++;
+	return place == MOST;
+}
+
+/* A page from an id on, with room for so many, has these. */
+static void page_has(uint32_t tree, uint64_t id, uint64_t from, size_t room, const uint64_t *wanted, size_t count)
+{
+	size_t told = count < room ? count : room;
+	struct inside it;
+
+	clear(&it);
+	CHECK(pidtab_inside(&table, tree, id, from, it.ids, room, &it.count) == PIDTAB_DONE && it.count == count);
+	CHECK(memcmp(it.ids, wanted, told * sizeof *wanted) == 0 && is_rest_untold(&it, told));
+}
+
+/* These are directly inside, from each id on, with each room, and one page behind another. */
+static void are_inside(uint32_t tree, uint64_t id, const uint64_t *wanted, size_t count)
+{
+	for (size_t behind = 0; behind <= count; behind++)
+		for (size_t room = 0; room <= count + 2; room++) {
+			page_has(tree, id, behind == 0 ? 0 : wanted[behind - 1] + 1, room, wanted + behind, count - behind);
+			if (behind < count)
+				page_has(tree, id, wanted[behind], room, wanted + behind, count - behind);
+		}
+	page_has(tree, id, UINT64_MAX, 1, wanted, 0);
+}
+
+#define INSIDE(tree, id, ...) are_inside(tree, id, (const uint64_t[]){ __VA_ARGS__ }, sizeof (uint64_t[]){ __VA_ARGS__ } / sizeof(uint64_t))
+#define NONE_INSIDE(tree, id) are_inside(tree, id, (const uint64_t[1]){ 0 }, 0)
+
+static void inside_status_is(uint32_t tree, uint64_t id, uint32_t status)
+{
+	struct inside it;
+
+	clear(&it);
+	CHECK(pidtab_inside(&table, tree, id, 0, it.ids, MOST, &it.count) == status && it.count == UNTOLD && is_rest_untold(&it, 0));
+}
+
 /* Reaps the child of the root init. */
 static void is_reaped(uint32_t child)
 {
@@ -90,6 +144,74 @@ static void each_field(void)
 	is_none((1ull << 32) + 1);
 	CHECK(pidtab_mk(&table, 0) == 7);
 	is_none(7);
+	CHECK(pidtab_close(&table) == PIDTAB_DONE);
+}
+
+/* Of the nest: the namespaces 1 and 4 are in the root, 3 in 1, and 6 in 3. The control groups 7 and 9 are in 5, and 8 in 7. */
+static void each_tree(void)
+{
+	CHECK(pidtab_open(&table, 32768) == PIDTAB_DONE);
+	NONE_INSIDE(PIDTAB_SPACES, 0);
+	NONE_INSIDE(PIDTAB_CONTROLS, 0);
+	CHECK(pidtab_close(&table) == PIDTAB_DONE);
+	make_nest();
+	CHECK(pidtab_mk(&table, 5) == 7 && pidtab_mk(&table, 7) == 8 && pidtab_mk(&table, 5) == 9);
+	INSIDE(PIDTAB_SPACES, 0, 1, 4);
+	INSIDE(PIDTAB_SPACES, 1, 3);
+	INSIDE(PIDTAB_SPACES, 3, 6);
+	NONE_INSIDE(PIDTAB_SPACES, 4);
+	NONE_INSIDE(PIDTAB_SPACES, 6);
+	INSIDE(PIDTAB_CONTROLS, 0, 5);
+	INSIDE(PIDTAB_CONTROLS, 5, 7, 9);
+	INSIDE(PIDTAB_CONTROLS, 7, 8);
+	NONE_INSIDE(PIDTAB_CONTROLS, 9);
+	/* 5 is no namespace, 4 no control group, and 10 is neither. */
+	inside_status_is(PIDTAB_SPACES, 5, PIDTAB_OUT_OF_RANGE);
+	inside_status_is(PIDTAB_CONTROLS, 4, PIDTAB_OUT_OF_RANGE);
+	for (uint32_t tree = PIDTAB_SPACES; tree <= PIDTAB_CONTROLS; tree++) {
+		inside_status_is(tree, 10, PIDTAB_OUT_OF_RANGE);
+		inside_status_is(tree, UINT64_MAX, PIDTAB_OUT_OF_RANGE);
+	}
+	CHECK(pidtab_rm(&table, 8) == 0 && pidtab_rm(&table, 7) == 0 && pidtab_exit(&table, 2, 0) == 0);
+	INSIDE(PIDTAB_CONTROLS, 5, 9);
+	inside_status_is(PIDTAB_CONTROLS, 7, PIDTAB_OUT_OF_RANGE);
+	/* 1 has fallen, and is there until its init is reaped. Those in it are gone. */
+	INSIDE(PIDTAB_SPACES, 0, 1, 4);
+	NONE_INSIDE(PIDTAB_SPACES, 1);
+	is_reaped(2);
+	INSIDE(PIDTAB_SPACES, 0, 4);
+	inside_status_is(PIDTAB_SPACES, 1, PIDTAB_OUT_OF_RANGE);
+	CHECK(pidtab_close(&table) == PIDTAB_DONE);
+}
+
+/* Each allocation finds no memory in turn: then nothing is told. Else all are, and nothing has changed. */
+static void want_of_memory(void)
+{
+	uint64_t wanted[2][FORKS];
+	size_t size;
+	struct inside it;
+
+	CHECK(pidtab_open(&table, 32768) == PIDTAB_DONE);
+	for (size_t i = 0; i < FORKS; i++) {
+		CHECK(pidtab_fork(&table, 1, 1, NULL) > 0 && pidtab_mk(&table, 0) == (int64_t)(2 * i + 2));
+		wanted[PIDTAB_SPACES][i] = 2 * i + 1;
+		wanted[PIDTAB_CONTROLS][i] = 2 * i + 2;
+	}
+	size = text_of(texts[0]);
+	for (uint32_t tree = PIDTAB_SPACES; tree <= PIDTAB_CONTROLS; tree++) {
+		int at = 1;
+
+		for (uint32_t status = PIDTAB_NO_MEMORY; status != PIDTAB_DONE; at++) {
+			clear(&it);
+			refuse_at = at;
+			status = pidtab_inside(&table, tree, 0, 0, it.ids, MOST, &it.count);
+			refuse_at = 0;
+			CHECK(status == PIDTAB_DONE || (status == PIDTAB_NO_MEMORY && it.count == UNTOLD && is_rest_untold(&it, 0)));
+		}
+		CHECK(at > 2);
+		page_has(tree, 0, 0, MOST, wanted[tree], FORKS);
+	}
+	CHECK(text_of(texts[1]) == size && memcmp(texts[0], texts[1], size) == 0);
 	CHECK(pidtab_close(&table) == PIDTAB_DONE);
 }
 
@@ -172,7 +294,11 @@ static void each_status_of_a_table(void)
 
 	status_is(0, PIDTAB_CLOSED);
 	status_is(1, PIDTAB_CLOSED);
+	inside_status_is(PIDTAB_SPACES, 0, PIDTAB_CLOSED);
+	inside_status_is(2, 0, PIDTAB_CLOSED);
 	make_nest();
+	inside_status_is(2, 0, PIDTAB_OUT_OF_RANGE);
+	inside_status_is(UINT32_MAX, 9, PIDTAB_OUT_OF_RANGE);
 	size = text_of(texts[0]);
 	refuse_at = 1;
 	bytes_asked = 0;
@@ -183,8 +309,10 @@ static void each_status_of_a_table(void)
 	CHECK(text_of(texts[1]) == size && memcmp(texts[0], texts[1], size) == 0);
 	table.in_use = UINT8_MAX;
 	status_is(0, PIDTAB_BUSY);
+	inside_status_is(PIDTAB_CONTROLS, 0, PIDTAB_BUSY);
 	/* A namespace is read beside other queries. */
 	table.in_use = 1;
+	INSIDE(PIDTAB_SPACES, 0, 1, 4);
 	is_told(0, 0, 0, 1, 0);
 	CHECK(table.in_use == 1);
 	table.in_use = 0;
@@ -236,6 +364,23 @@ static void read_task_line(const char *line)
 	}
 }
 
+/* The control groups of a list, in its order, each with the one that it is in. */
+static struct group {
+	uint64_t id, parent;
+} groups[MOST];
+static size_t count_groups;
+
+/* `control 5 parent 0 limit max count 1`: only the root's has no number. */
+static void read_control_line(const char *line)
+{
+	struct group *it = &groups[count_groups];
+
+	CHECK(count_groups < MOST && sscanf(line, "control %" SCNu64, &it->id) == 1);
+	if (sscanf(line, "control %*u parent %" SCNu64, &it->parent) != 1)
+		it->parent = UINT64_MAX;
+	count_groups++;
+}
+
 static void read_lines(const char *word, void (*read)(const char *line))
 {
 	for (const char *line = texts[0]; *line; line = strchr(line, '\n') + 1)
@@ -250,12 +395,39 @@ static void read_list(void)
 	CHECK(pidtab_list(&table, texts[0], sizeof texts[0] - 1, &size) == PIDTAB_DONE);
 	texts[0][size] = 0;
 	count_listed = 0;
+	count_groups = 0;
 	read_lines("space ", read_space_line);
+	read_lines("control ", read_control_line);
 	read_lines("task ", read_task_line);
 }
 
 /* What was met, so that the comparison is none of the root namespace alone. */
-static int nested, fallen, kept_by_others, gone;
+static int nested, fallen, kept_by_others, gone, several, groups_inside;
+
+/* The namespaces that the list has in this one. */
+static void inside_as_listed(const struct pidtab_space *outer)
+{
+	uint64_t wanted[MOST];
+	size_t count = 0;
+
+	for (size_t i = 0; i < count_listed; i++)
+		if (listed[i].parent == outer->id && listed[i].level != 0)
+			wanted[count++] = listed[i].id;
+	page_has(PIDTAB_SPACES, outer->id, 0, MOST, wanted, count);
+	several += count > 1;
+}
+
+static void groups_as_listed(uint64_t outer)
+{
+	uint64_t wanted[MOST];
+	size_t count = 0;
+
+	for (size_t i = 0; i < count_groups; i++)
+		if (groups[i].parent == outer)
+			wanted[count++] = groups[i].id;
+	page_has(PIDTAB_CONTROLS, outer, 0, MOST, wanted, count);
+	groups_inside += count > 0;
+}
 
 static void compare_with_the_list(uint64_t next_id)
 {
@@ -264,19 +436,26 @@ static void compare_with_the_list(uint64_t next_id)
 		const struct pidtab_space *it = &listed[i];
 
 		is_told(it->id, it->parent, it->level, it->init, it->fallen);
+		inside_as_listed(it);
 		nested += it->level > 1;
 		fallen += it->fallen && it->init != 0;
 		kept_by_others += it->fallen && it->init == 0;
 	}
+	for (size_t i = 0; i < count_groups; i++)
+		groups_as_listed(groups[i].id);
 	for (int i = 0; i < 10; i++) {
 		uint64_t id = random_below((uint32_t)next_id + 2);
 
 		if (find_listed(id) == NULL) {
 			is_none(id);
+			inside_status_is(PIDTAB_SPACES, id, PIDTAB_OUT_OF_RANGE);
 			gone++;
 		}
 	}
 }
+
+/* The control group in which the next one is made, mostly the last one. */
+static uint64_t made;
 
 static void make_random_call(void)
 {
@@ -284,10 +463,12 @@ static void make_random_call(void)
 		PIDTAB_SETSID, PIDTAB_JOIN, PIDTAB_JOIN, PIDTAB_MK };
 	uint32_t operation = operations[random_below(sizeof operations / sizeof operations[0])], caller = random_task(), place = 1 + random_below(HELD_TASKS - 1);
 	struct pidtab_call call = { .operation = operation, .caller = caller, .number = operation == PIDTAB_JOIN ? random_number(caller) : 0,
-		.choice = operation == PIDTAB_WAIT ? (uint32_t)PIDTAB_ANY : random_below(3) == 0, .pid = (int32_t)random_number(caller), .pgid = (int32_t)random_number(caller) };
+		.choice = operation == PIDTAB_WAIT ? (uint32_t)PIDTAB_ANY : random_below(3) == 0, .id = made, .pid = (int32_t)random_number(caller), .pgid = (int32_t)random_number(caller) };
 	struct pidtab_reply reply;
 
 	CHECK(pidtab_call(&table, &call, &reply) == PIDTAB_DONE);
+	if (reply.kind == PIDTAB_CONTROL)
+		made = random_below(3) == 0 ? 0 : reply.first;
 	if (reply.kind != PIDTAB_FORKED)
 		return;
 	if (held[place] != 0)
@@ -302,6 +483,7 @@ static void is_as_listed(void)
 {
 	CHECK(pidtab_open(&table, 301) == PIDTAB_DONE);
 	hold_none();
+	made = 0;
 	for (int i = 0; i < CALLS; i++) {
 		make_random_call();
 		/* The root init may have joined a namespace that has fallen. */
@@ -322,7 +504,7 @@ static void are_as_listed(void)
 {
 	for (int i = 0; i < TABLES; i++)
 		is_as_listed();
-	CHECK(nested > 50 && fallen > 50 && kept_by_others > 50 && gone > 50);
+	CHECK(nested > 50 && fallen > 50 && kept_by_others > 50 && gone > 50 && several > 50 && groups_inside > 50);
 }
 
 static void of_a_record(void)
@@ -330,10 +512,10 @@ static void of_a_record(void)
 	struct pidtab_record record = PIDTAB_RECORD_INIT;
 	struct pidtab_call fork = { .operation = PIDTAB_FORK, .caller = 1, .choice = 1 };
 	struct pidtab_space was = blank(), told = blank(), wanted = { UINT64_MAX - 2, 0, 1, 2, 0 };
-	uint64_t ordinal, first_kept, recorded;
+	uint64_t ordinal, first_kept, recorded, ids[3] = { 7, 7, 7 }, count;
 	struct pidtab_reply reply;
 
-	CHECK(pidtab_record_space(&record, 0, &told) == PIDTAB_CLOSED);
+	CHECK(pidtab_record_space(&record, 0, &told) == PIDTAB_CLOSED && pidtab_record_inside(&record, PIDTAB_SPACES, 0, 0, ids, 3, &count) == PIDTAB_CLOSED);
 	CHECK(pidtab_record_open(&record, 32768, UINT64_MAX - 2, 1) == PIDTAB_DONE);
 	CHECK(pidtab_record_space(&record, UINT64_MAX - 2, &told) == PIDTAB_OUT_OF_RANGE && is_same(&told, &was));
 	CHECK(pidtab_record_call(&record, 0, &fork, &reply, &ordinal) == PIDTAB_DONE && pidtab_record_call(&record, 0, &fork, &reply, &ordinal) == PIDTAB_DONE);
@@ -346,6 +528,7 @@ static void of_a_record(void)
 		CHECK(pidtab_record_space(&record, UINT64_MAX - 1, &told) == PIDTAB_DONE && is_same(&told, &wanted));
 		wanted = (struct pidtab_space){ UINT64_MAX - 2, 0, 1, 2, 0 };
 	}
+	CHECK(pidtab_record_inside(&record, PIDTAB_SPACES, 0, 0, ids, 3, &count) == PIDTAB_DONE && count == 2 && ids[0] == UINT64_MAX - 2 && ids[1] == UINT64_MAX - 1 && ids[2] == 7);
 	CHECK(pidtab_record_counts(&record, &first_kept, &recorded) == PIDTAB_DONE && recorded == 2);
 	record.in_use = UINT8_MAX;
 	told = blank();
@@ -393,6 +576,8 @@ static void threads_read_beside_a_writer(void)
 int main(void)
 {
 	each_field();
+	each_tree();
+	want_of_memory();
 	each_level();
 	falls_with_its_init();
 	a_zombie_keeps_it();

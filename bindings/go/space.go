@@ -6,6 +6,7 @@ import "C"
 import (
 	"encoding/json"
 	"fmt"
+	"unsafe"
 )
 
 // SpaceStat is a namespace in one read.
@@ -32,6 +33,81 @@ func (shared *Shared) Space(id uint64) (SpaceStat, error) {
 	held.lock.RLock()
 	defer held.lock.RUnlock()
 	return spaceOf(id, C.pidtab_record_space(held.raw, C.uint64_t(id), space), space)
+}
+
+// SpacesInside are the ids of the namespaces directly in the one with the id, from one on, in rising order. It is no call, as Ask makes none. It costs
+// what is read of each of them, and takes memory for a list. ErrOutOfRange, by errors.Is, where there is no such namespace; ErrNoMemory, ErrClosed, ErrBusy.
+func (table *Table) SpacesInside(id, from uint64) ([]uint64, error) {
+	return table.inside(C.PIDTAB_SPACES, id, from)
+}
+
+// ControlsInside are the ids of the control groups directly in the one with the id, as SpacesInside has those of a namespace.
+func (table *Table) ControlsInside(id, from uint64) ([]uint64, error) {
+	return table.inside(C.PIDTAB_CONTROLS, id, from)
+}
+
+// SpacesInside are the ids of the namespaces directly in the one with the id, as that of a Table has them; it is not recorded.
+func (shared *Shared) SpacesInside(id, from uint64) ([]uint64, error) {
+	return shared.inside(C.PIDTAB_SPACES, id, from)
+}
+
+// ControlsInside are the ids of the control groups directly in the one with the id, as that of a Table has them; it is not recorded.
+func (shared *Shared) ControlsInside(id, from uint64) ([]uint64, error) {
+	return shared.inside(C.PIDTAB_CONTROLS, id, from)
+}
+
+func (table *Table) inside(tree C.uint32_t, id, from uint64) ([]uint64, error) {
+	held := table.held()
+	held.lock.RLock()
+	defer held.lock.RUnlock()
+	return insideOf(tree, id, func(ids *C.uint64_t, room C.size_t, count *C.uint64_t) C.uint32_t {
+		return C.pidtab_inside(&held.raw, tree, C.uint64_t(id), C.uint64_t(from), ids, room, count)
+	})
+}
+
+func (shared *Shared) inside(tree C.uint32_t, id, from uint64) ([]uint64, error) {
+	held := shared.held()
+	held.lock.RLock()
+	defer held.lock.RUnlock()
+	return insideOf(tree, id, func(ids *C.uint64_t, room C.size_t, count *C.uint64_t) C.uint32_t {
+		return C.pidtab_record_inside(held.raw, tree, C.uint64_t(id), C.uint64_t(from), ids, room, count)
+	})
+}
+
+// insideOf are all ids of a function of the library that writes as many as there is room for, and counts all. Nothing changes between two tries, as the
+// lock is held.
+func insideOf(tree C.uint32_t, id uint64, page func(ids *C.uint64_t, room C.size_t, count *C.uint64_t) C.uint32_t) ([]uint64, error) {
+	count := new(C.uint64_t)
+	for there := shortPage; ; {
+		ids := make([]uint64, there)
+		status := page((*C.uint64_t)(unsafe.Pointer(&ids[0])), C.size_t(there), count)
+		if status == C.PIDTAB_OUT_OF_RANGE && tree == C.PIDTAB_CONTROLS {
+			return nil, noControl(id)
+		}
+		if status == C.PIDTAB_OUT_OF_RANGE {
+			return nil, noSpace(id)
+		}
+		if err := faultOf(uint32(status)); err != nil {
+			return nil, err
+		}
+		there = int(*count)
+		if there <= len(ids) {
+			return ids[:there], nil
+		}
+	}
+}
+
+// noControl is an id that no control group has.
+type noControl uint64
+
+// Error tells the id.
+func (id noControl) Error() string {
+	return fmt.Sprintf("pidtab: no control group has the id %d: it is gone, or there was none", uint64(id))
+}
+
+// Unwrap is the error of all that is out of range.
+func (id noControl) Unwrap() error {
+	return ErrOutOfRange
 }
 
 // noSpace is an id that no namespace has.

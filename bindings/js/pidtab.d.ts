@@ -186,6 +186,10 @@ export interface Ask extends Queries {
   namespaceOwn(caller: number, pid?: number, start?: number): number[];
   /** Reads the namespace with the id, where 0 is the root namespace. A RangeError where no namespace has it, or it is gone. */
   space(id: Long): SpaceStat;
+  /** The ids of the namespaces directly in the one with the id, from `start` on, in rising order. A RangeError where no namespace has it; NoMemory. */
+  spacesInside(id?: Long, start?: Long): bigint[];
+  /** The ids of the control groups directly in the one with the id, in the same way. */
+  controlsInside(id?: Long, start?: Long): bigint[];
 }
 
 /** A method for each call. */

@@ -11,7 +11,7 @@ LONGS = ("uint64_t", "uint64_t *", "const uint64_t *")
 def passed(function):
     """What the function takes, and what it passes on. Numbers of 64 bits are those of the module, an ordinal first; one that is given gives place to what is told."""
     taken, given, rest = [], [], list(function.arguments)
-    longs = sorted((it.name for it in rest if it.kind in LONGS), key=lambda name: name != "ordinal")
+    longs = sorted((it.name for it in rest if it.kind in LONGS and it.name != "ids"), key=lambda name: name != "ordinal")
     gives_place = any(it.name == "ordinal" and not it.kind.endswith("*") for it in rest)
     while rest:
         kind, name, _ = rest.pop(0)
@@ -20,14 +20,14 @@ def passed(function):
             given.append(f"&held.{name}")
         elif struct in PLACES:
             given.append(f"&at.{struct}")
-        elif kind in LONGS:
+        elif kind in LONGS and name != "ids":
             place = f"at.numbers[{0 if gives_place else longs.index(name)}]"
             given.append("at.numbers" if kind.startswith("const") else f"{'&' if kind.endswith('*') else ''}{place}")
         elif name in ("line", "answer"):
             size = rest.pop(0).name
             taken += [] if kind == "void *" and name == "line" else [f"uint32_t {size}"]
             given += [f"at.{name}", {"line": "LINE_ROOM" if kind == "void *" else size, "answer": f"{size} < ANSWER_ROOM ? {size} : ANSWER_ROOM"}[name]]
-        elif kind.endswith("void *") or name == "numbers":
+        elif kind.endswith("void *") or name in ("numbers", "ids"):
             size = rest.pop(0).name
             taken += [f"uint32_t {name}", f"uint32_t {size}"]
             given += [f"pointer({name})", size]

@@ -308,6 +308,45 @@ uint32_t proved_space(struct pidtab *table, uint64_t id, struct pidtab_space *sp
 	return table->is_open ? space_read(table->at, Z_pidtabZ_space, id, space) : PIDTAB_CLOSED;
 }
 
+/* A function of the module that writes ids into a room of its memory, and counts them behind the two numbers that it takes. */
+typedef uint32_t write_inside(instance *it, uint32_t tree, uint32_t ids, uint32_t room);
+
+/* One page: the numbers of 64 bits are an id, where the page begins, and the count. */
+static uint32_t inside_page(instance *it, write_inside *inside, uint32_t tree, uint64_t numbers[3], uint32_t address, uint32_t room)
+{
+	put(it, NUMBERS, numbers, 3 * sizeof *numbers);
+	return fetched(it, inside(it, tree, address, room), NUMBERS, numbers, 3 * sizeof *numbers);
+}
+
+/* The ids in a room of the caller: first they are counted. */
+static uint32_t told_inside(instance *it, write_inside *inside, uint32_t tree, uint64_t numbers[3], uint64_t *ids, size_t room, uint64_t *count)
+{
+	uint32_t status = inside_page(it, inside, tree, numbers, 0, 0), told, address;
+
+	if (status != PIDTAB_DONE)
+		return status;
+	told = numbers[2] < room ? (uint32_t)numbers[2] : (uint32_t)room;
+	if (told != 0) {
+		address = Z_pidtabZ_take(it, told * (uint32_t)sizeof *ids);
+		if (!address)
+			return PIDTAB_NO_MEMORY;
+		status = inside_page(it, inside, tree, numbers, address, told);
+		if (status == PIDTAB_DONE)
+			memcpy(ids, it->w2c_memory.data + address, told * sizeof *ids);
+		Z_pidtabZ_give(it, address);
+	}
+	if (status == PIDTAB_DONE)
+		*count = numbers[2];
+	return status;
+}
+
+uint32_t proved_inside(struct pidtab *table, uint32_t tree, uint64_t id, uint64_t from, uint64_t *ids, size_t room, uint64_t *count)
+{
+	uint64_t numbers[3] = { id, from };
+
+	return table->is_open ? told_inside(table->at, Z_pidtabZ_inside, tree, numbers, ids, room, count) : PIDTAB_CLOSED;
+}
+
 uint32_t proved_would(struct pidtab *table, const struct pidtab_call *call, struct pidtab_reply *reply)
 {
 	return table->is_open ? replied(table->at, Z_pidtabZ_would, call, reply) : PIDTAB_CLOSED;
@@ -426,6 +465,13 @@ uint32_t proved_record_page(struct pidtab_record *record, uint32_t caller, uint3
 uint32_t proved_record_space(struct pidtab_record *record, uint64_t id, struct pidtab_space *space)
 {
 	return record->is_open ? space_read(record->at, Z_pidtabZ_record_space, id, space) : PIDTAB_CLOSED;
+}
+
+uint32_t proved_record_inside(struct pidtab_record *record, uint32_t tree, uint64_t id, uint64_t from, uint64_t *ids, size_t room, uint64_t *count)
+{
+	uint64_t numbers[3] = { id, from };
+
+	return record->is_open ? told_inside(record->at, Z_pidtabZ_record_inside, tree, numbers, ids, room, count) : PIDTAB_CLOSED;
 }
 
 uint32_t proved_record_would(struct pidtab_record *record, const struct pidtab_call *call, struct pidtab_reply *reply)

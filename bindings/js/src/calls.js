@@ -5,7 +5,7 @@
 
 import { checkLong, checkNumber, checkRange, checkSigned } from "./bounds.js";
 import { faultOf, readRefusal, Refusal, shorten } from "./faults.js";
-import { KIND, OPERATION, REPLY, STATUS, TASK, USES, WHICH, WHOM } from "./header.js";
+import { KIND, OPERATION, REPLY, STATUS, TASK, TREE, USES, WHICH, WHOM } from "./header.js";
 import { readListing } from "./listing.js";
 import { aChild, anEndedChild, anId, aNumber, aSpace, aTask, nothing, numbersAt, refusalAt, theNext, theNumbers } from "./replies.js";
 
@@ -153,6 +153,30 @@ export class Ask extends onOwner(Queries) {
     if (status !== STATUS.DONE) throw faultOf(status, `space ${asked}`);
     instance.refresh();
     return aSpace(instance, instance.at.space.word);
+  }
+
+  spacesInside(id = 0n, start = 0n) {
+    return this._inside("spacesInside", TREE.SPACES, "namespace", checkLong("id", id), checkLong("start", start));
+  }
+
+  controlsInside(id = 0n, start = 0n) {
+    return this._inside("controlsInside", TREE.CONTROLS, "control group", checkLong("id", id), checkLong("start", start));
+  }
+
+  /** All ids that are directly inside, as `_page` has all numbers. */
+  _inside(name, tree, what, id, start, room = SHORT_PAGE) {
+    const instance = this._open();
+    const asked = `${name} ${id}`;
+    const [count, ids] = instance.withRoom(8 * room, asked, (address) => {
+      instance.writeNumbers([id, start]);
+      const status = instance.inside(tree, address, room);
+      if (status === STATUS.OUT_OF_RANGE) throw new RangeError(`no ${what} has the id ${id}: it is gone, or there was none`);
+      if (status !== STATUS.DONE) throw faultOf(status, asked);
+      instance.refresh();
+      const told = Number(instance.numberAt(2));
+      return [told, Array.from(instance.longs.subarray(address / 8, address / 8 + Math.min(told, room)))];
+    });
+    return count > room ? this._inside(name, tree, what, id, start, count) : ids;
   }
 
   /** All whom the page lists, from one number on. Where the room is too short, it is taken anew for as many as there are: none comes meanwhile. */

@@ -108,6 +108,11 @@ uint32_t EXPORTED(space)(void)
 	return pidtab_space(&held.table, at.numbers[0], &at.space);
 }
 
+uint32_t EXPORTED(inside)(uint32_t tree, uint32_t ids, uint32_t room)
+{
+	return pidtab_inside(&held.table, tree, at.numbers[0], at.numbers[1], pointer(ids), room, &at.numbers[2]);
+}
+
 uint32_t EXPORTED(would)(void)
 {
 	return pidtab_would(&held.table, &at.call, &at.reply);
@@ -166,6 +171,11 @@ uint32_t EXPORTED(record_page)(uint32_t caller, uint32_t whom, uint32_t number, 
 uint32_t EXPORTED(record_space)(void)
 {
 	return pidtab_record_space(&held.record, at.numbers[0], &at.space);
+}
+
+uint32_t EXPORTED(record_inside)(uint32_t tree, uint32_t ids, uint32_t room)
+{
+	return pidtab_record_inside(&held.record, tree, at.numbers[0], at.numbers[1], pointer(ids), room, &at.numbers[2]);
 }
 
 uint32_t EXPORTED(record_would)(void)

@@ -18,6 +18,7 @@ from pidtab.raw import (
     CALL_FIELDS,
     CHILDREN,
     CLOSED,
+    CONTROLS,
     DIFFERS,
     DONE,
     GROUP_MEMBERS,
@@ -28,6 +29,7 @@ from pidtab.raw import (
     OUT_OF_RANGE,
     REFUSED,
     SESSION_MEMBERS,
+    SPACES,
     SPENT,
     Answer,
     PidtabCall,
@@ -51,6 +53,9 @@ LISTED = {
     NAMESPACE_MEMBERS: ("namespace_members", "pid"),
     NAMESPACE_OWN: ("namespace_own", "pid"),
 }
+
+# What is directly inside: the method that asks for it, and what has the id.
+INSIDE = {SPACES: ("spaces_inside", "namespace"), CONTROLS: ("controls_inside", "control group")}
 
 GREATEST_PID = 2**32 - 1
 GREATEST_ID = 2**64 - 1
@@ -182,6 +187,23 @@ def read_page(whom: int, asked: Sequence[SupportsIndex], read: Callable[..., int
         there = reply.first + reply.first // 8
 
 
+def read_inside(tree: int, id: SupportsIndex, start: SupportsIndex, read: Callable[..., int]) -> tuple[int, ...]:
+    """All ids that are directly inside, by a function that writes a page of them into a room, and answers a status."""
+    (method, what), count, there = INSIDE[tree], ctypes.c_uint64(), SHORT_PAGE
+    number, first = check_range("id", id, 0, GREATEST_ID), check_range("start", start, 0, GREATEST_ID)
+    while True:
+        room = (ctypes.c_uint64 * there)()
+        status = read(tree, number, first, room, there, count)
+        if status == OUT_OF_RANGE:
+            raise LookupError(f"no {what} has the id {number}: it is gone, or there was none")
+        if status != DONE:
+            raise fault_of(status, f"{method} {number}")
+        if count.value <= there:
+            return tuple(room[: count.value])
+        # Until the next try, other threads may make more.
+        there = count.value + count.value // 8
+
+
 def read_space(id: SupportsIndex, read: Callable[[int, PidtabSpace], int]) -> SpaceStat:
     """What is read of a namespace by a function that takes its id, and answers a status."""
     number, space = check_range("id", id, 0, GREATEST_ID), PidtabSpace()
@@ -207,6 +229,8 @@ class Asked(Protocol):
     def _page(self, *taken: object) -> int: ...
 
     def _space(self, id: int, space: PidtabSpace) -> int: ...
+
+    def _inside(self, *taken: object) -> int: ...
 
 
 class OfTable:
@@ -277,6 +301,21 @@ class Ask(OfTable, Queries):
         """The namespace with the id, where 0 is the root namespace, in one read; LookupError where there is none, or it is gone."""
         self._table._check_owner()
         return read_space(id, self._table._space)
+
+    def spaces_inside(self, id: int = 0, start: int = 0) -> tuple[int, ...]:
+        """The ids of the namespaces directly in the one with the id, from `start` on, in rising order; LookupError where there is no such.
+
+        It costs what is read of each of them, and takes memory for a list: where there is none, it is a MemoryError.
+        """
+        return self._inside(SPACES, id, start)
+
+    def controls_inside(self, id: int = 0, start: int = 0) -> tuple[int, ...]:
+        """The ids of the control groups directly in the one with the id, as `spaces_inside` has those of a namespace."""
+        return self._inside(CONTROLS, id, start)
+
+    def _inside(self, tree: int, id: int, start: int) -> tuple[int, ...]:
+        self._table._check_owner()
+        return read_inside(tree, id, start, self._table._inside)
 
     def _page(self, whom: int, *asked: int) -> tuple[int, ...]:
         self._table._check_owner()

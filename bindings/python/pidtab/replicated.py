@@ -48,6 +48,10 @@ class ReplicaAsk(Ask):
         self._wait()
         return super().space(id)
 
+    def _inside(self, tree: int, id: int, start: int) -> tuple[int, ...]:
+        self._wait()
+        return super()._inside(tree, id, start)
+
     def _page(self, whom: int, *asked: int) -> tuple[int, ...]:
         self._wait()
         return super()._page(whom, *asked)
@@ -208,6 +212,10 @@ class Replicated(AskableCalls):
     def _space(self, id: int, space: PidtabSpace) -> int:
         super()._check_owner()
         return self._replica.read(lambda table: as_table(table)._space(id, space))
+
+    def _inside(self, *taken: object) -> int:
+        super()._check_owner()
+        return self._replica.read(lambda table: as_table(table)._inside(*taken))
 
     def _list_text(self) -> str:
         super()._check_owner()

@@ -154,6 +154,9 @@ class Seat(NumberCalls):
     def _space(self, id: int, space: PidtabSpace) -> int:
         return self.shared._space(id, space)
 
+    def _inside(self, *taken: object) -> int:
+        return self.shared._inside(*taken)
+
     def _would(self, call: bytes, reply: PidtabReply) -> int:
         return self.shared._would(call, reply)
 
@@ -669,6 +672,9 @@ class Shared(Labelled, Owner):
 
     def _space(self, id: int, space: PidtabSpace) -> int:
         return self._status("pidtab_shared_space", id, space)
+
+    def _inside(self, *taken: object) -> int:
+        return self._status("pidtab_shared_inside", *taken)
 
     def _would(self, call: bytes, reply: PidtabReply) -> int:
         return self._status("pidtab_shared_would", call, reply)

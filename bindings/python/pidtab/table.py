@@ -93,6 +93,9 @@ class Table(NumberCalls):
     def _space(self, id: int, space: PidtabSpace) -> int:
         return self._later("pidtab_space", id, space)
 
+    def _inside(self, *taken: object) -> int:
+        return self._later("pidtab_inside", *taken)
+
     def _would(self, call: bytes, reply: PidtabReply) -> int:
         return self._later("pidtab_would", call, reply)
 

@@ -336,6 +336,15 @@ extern "C" {
         reply: *mut Reply,
     ) -> u32;
     fn pidtab_space(table: *const Held, id: u64, space: *mut Space) -> u32;
+    fn pidtab_inside(
+        table: *const Held,
+        tree: u32,
+        id: u64,
+        from: u64,
+        ids: *mut u64,
+        room: usize,
+        count: *mut u64,
+    ) -> u32;
     fn pidtab_would(table: *const Held, call: *const Call, reply: *mut Reply) -> u32;
     fn pidtab_fork_at(
         table: *mut Held,
@@ -403,6 +412,15 @@ extern "C" {
         reply: *mut Reply,
     ) -> u32;
     fn pidtab_record_space(record: *const Held, id: u64, space: *mut Space) -> u32;
+    fn pidtab_record_inside(
+        record: *const Held,
+        tree: u32,
+        id: u64,
+        from: u64,
+        ids: *mut u64,
+        room: usize,
+        count: *mut u64,
+    ) -> u32;
     fn pidtab_record_would(record: *const Held, call: *const Call, reply: *mut Reply) -> u32;
     fn pidtab_record_fork_at(
         record: *mut Held,
@@ -627,6 +645,28 @@ impl Table {
         unsafe { pidtab_space(&*self.held, id, space) }
     }
 
+    pub(crate) fn inside(
+        &self,
+        tree: u32,
+        id: u64,
+        from: u64,
+        ids: &mut [u64],
+        count: &mut u64,
+    ) -> u32 {
+        // SAFETY: it is open and lent to queries alone; each pointer is that of a reference or of a slice with that length.
+        unsafe {
+            pidtab_inside(
+                &*self.held,
+                tree,
+                id,
+                from,
+                ids.as_mut_ptr(),
+                ids.len(),
+                count,
+            )
+        }
+    }
+
     pub(crate) fn would(&self, call: &Call, reply: &mut Reply) -> u32 {
         // SAFETY: it is open and lent to queries alone; each pointer is that of a reference or of a slice with that length.
         unsafe { pidtab_would(&*self.held, call, reply) }
@@ -787,6 +827,28 @@ impl Record {
     pub(crate) fn space(&self, id: u64, space: &mut Space) -> u32 {
         // SAFETY: it is open and lent to queries alone; each pointer is that of a reference or of a slice with that length.
         unsafe { pidtab_record_space(&*self.held, id, space) }
+    }
+
+    pub(crate) fn inside(
+        &self,
+        tree: u32,
+        id: u64,
+        from: u64,
+        ids: &mut [u64],
+        count: &mut u64,
+    ) -> u32 {
+        // SAFETY: it is open and lent to queries alone; each pointer is that of a reference or of a slice with that length.
+        unsafe {
+            pidtab_record_inside(
+                &*self.held,
+                tree,
+                id,
+                from,
+                ids.as_mut_ptr(),
+                ids.len(),
+                count,
+            )
+        }
     }
 
     pub(crate) fn would(&self, call: &Call, reply: &mut Reply) -> u32 {

@@ -5,7 +5,7 @@
 use crate::calls::sealed::Sealed;
 use crate::labels::Labels;
 use crate::{
-    page, raw, texts, Call, Calls, Child, Error, LineError, Listing, ReplayError, Reply,
+    page, raw, space, texts, Call, Calls, Child, Error, LineError, Listing, ReplayError, Reply,
     SavedError, SpaceStat, Stat, Table, TextError,
 };
 use std::ops::{Deref, DerefMut};
@@ -420,6 +420,22 @@ impl Shared {
         self.look().space(id)
     }
 
+    /// As [`Record::spaces_inside`].
+    ///
+    /// # Errors
+    /// `NoMemory`, `Busy`.
+    pub fn spaces_inside(&self, id: u64, from: u64) -> Result<Option<Vec<u64>>, Error> {
+        self.look_first().spaces_inside(id, from)
+    }
+
+    /// As [`Record::controls_inside`].
+    ///
+    /// # Errors
+    /// `NoMemory`, `Busy`.
+    pub fn controls_inside(&self, id: u64, from: u64) -> Result<Option<Vec<u64>>, Error> {
+        self.look_first().controls_inside(id, from)
+    }
+
     /// As [`Record::counts`].
     ///
     /// # Errors
@@ -778,6 +794,22 @@ impl Record {
     pub fn space(&self, id: u64) -> Result<Option<SpaceStat>, Error> {
         let mut space = raw::Space::BLANK;
         SpaceStat::of(self.raw.space(id, &mut space), space)
+    }
+
+    /// The ids of the namespaces directly in the one with the id, as [`Table::spaces_inside`] has them. It is no call, and is not recorded.
+    ///
+    /// # Errors
+    /// `NoMemory`, `Busy`.
+    pub fn spaces_inside(&self, id: u64, from: u64) -> Result<Option<Vec<u64>>, Error> {
+        space::inside(|ids, count| self.raw.inside(raw::SPACES, id, from, ids, count))
+    }
+
+    /// The ids of the control groups directly in the one with the id, as [`Table::controls_inside`] has them. It is no call, and is not recorded.
+    ///
+    /// # Errors
+    /// `NoMemory`, `Busy`.
+    pub fn controls_inside(&self, id: u64, from: u64) -> Result<Option<Vec<u64>>, Error> {
+        space::inside(|ids, count| self.raw.inside(raw::CONTROLS, id, from, ids, count))
     }
 
     /// The ordinal of the first kept entry, and how many calls were recorded, the cut ones too.

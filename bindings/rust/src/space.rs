@@ -33,6 +33,32 @@ impl SpaceStat {
     }
 }
 
+/// The room for a first try, in ids.
+const SHORT: usize = 64;
+
+/// All ids of a function of the library that writes as many as there is room for, and counts all; none where it has no such id. Between two tries nothing
+/// changes.
+pub(crate) fn inside(
+    mut page: impl FnMut(&mut [u64], &mut u64) -> u32,
+) -> Result<Option<Vec<u64>>, Error> {
+    let (mut ids, mut count, mut there) = (Vec::new(), 0, SHORT);
+    loop {
+        ids.try_reserve_exact(there - ids.len())
+            .map_err(|_| Error::NoMemory)?;
+        ids.resize(there, 0);
+        let status = page(&mut ids, &mut count);
+        if status == raw::OUT_OF_RANGE {
+            return Ok(None);
+        }
+        Error::unless_done(status)?;
+        there = count as usize;
+        if there <= ids.len() {
+            ids.truncate(there);
+            return Ok(Some(ids));
+        }
+    }
+}
+
 impl Table {
     /// Reads the namespace with the id, where 0 is the root namespace; none where no namespace has it, or it is gone. It is no call, as [`Table::ask`]
     /// makes none. It takes no memory, and costs two searches and a few reads.
@@ -62,6 +88,38 @@ impl Table {
     pub fn space(&self, id: u64) -> Result<Option<SpaceStat>, Error> {
         let mut space = raw::Space::BLANK;
         SpaceStat::of(self.raw.space(id, &mut space), space)
+    }
+
+    /// The ids of the namespaces directly in the one with the id, from `from` on, in rising order; none where no namespace has it, or it is gone.
+    ///
+    /// It is no call, as [`Table::ask`] makes none. It costs what is read of each of them, and takes memory for a list.
+    ///
+    /// ```
+    /// use pidtab::{Calls, Table};
+    ///
+    /// let mut table = Table::open(32768)?;
+    /// table.fork(1, true)?;
+    /// table.fork(2, true)?;
+    /// table.mk(0)?;
+    /// assert_eq!(table.spaces_inside(0, 0)?, Some(vec![1]));
+    /// assert_eq!(table.spaces_inside(1, 0)?, Some(vec![2]));
+    /// assert_eq!(table.spaces_inside(3, 0)?, None);
+    /// assert_eq!(table.controls_inside(0, 0)?, Some(vec![3]));
+    /// # Ok::<(), pidtab::Error>(())
+    /// ```
+    ///
+    /// # Errors
+    /// `NoMemory`, `Busy`.
+    pub fn spaces_inside(&self, id: u64, from: u64) -> Result<Option<Vec<u64>>, Error> {
+        inside(|ids, count| self.raw.inside(raw::SPACES, id, from, ids, count))
+    }
+
+    /// The ids of the control groups directly in the one with the id, as [`Table::spaces_inside`] has those of a namespace.
+    ///
+    /// # Errors
+    /// `NoMemory`, `Busy`.
+    pub fn controls_inside(&self, id: u64, from: u64) -> Result<Option<Vec<u64>>, Error> {
+        inside(|ids, count| self.raw.inside(raw::CONTROLS, id, from, ids, count))
     }
 }
 
