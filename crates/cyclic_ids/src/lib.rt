@@ -190,6 +190,7 @@ impl CyclicIds {
 
     /// The number that is given next, by the rule above; none where all from the restart on are in use.
     /// It changes nothing.
+    #[inline(always)]
     pub fn plan(&self) -> Option<Pid>
         ensures draw { result ≡ planned self.now }
         ensures above { IfSome result (λ n. 1 ≤ n) }
