@@ -8,6 +8,7 @@ use member_lists::MemberLists;
 use pid_types::keys::IdentKey;
 
 /// The group is in the session from now on, whichever it was in.
+#[inline(always)]
 pub(crate) fn put_session(sessions: &mut MemberLists, group: IdentKey, session: IdentKey)
     requires group { group < length sessions.old }
     requires session { session < length sessions.old }
@@ -21,6 +22,7 @@ pub(crate) fn put_session(sessions: &mut MemberLists, group: IdentKey, session: 
 }
 
 /// The group goes from its session, if nobody is left in it.
+#[inline(always)]
 pub(crate) fn forget_if_empty(groups: &MemberLists, sessions: &mut MemberLists, group: IdentKey)
     requires group { group < length groups.now }
     requires room { length groups.now ≤ length sessions.old }

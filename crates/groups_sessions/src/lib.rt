@@ -91,6 +91,7 @@ impl Members {
 
     /// A task that is in no group enters one, as `fork(2)` has it enter its parent's. Whoever is in the
     /// group must be in the session.
+    #[inline(always)]
     pub fn enter(&mut self, task: TaskKey, group: IdentKey, session: IdentKey)
         requires task { task < length self.old }
         requires group { group < length self.old }

@@ -230,6 +230,7 @@ impl TaskTree {
 
     /// The live task ends, and waits for its parent with the rank. It costs a logarithm of the parent's children
     /// that have ended, taken over many calls.
+    #[inline(always)]
     pub fn finish(&mut self, key: TaskKey, task: Task, end: Ended, rank: Pid)
         requires there { task_at self.old key ≡ Some task }
         requires live { lives task ≡ true }
@@ -260,6 +261,7 @@ impl TaskTree {
     }
 
     /// The task is gone. Its children, if it has any, keep its key as their parent's.
+    #[inline(always)]
     pub fn remove(&mut self, key: TaskKey)
         requires { IsSome (task_at self.old key) }
         ensures tasks { self.new.tasks ≡ slice_set self.old.tasks key None }
