@@ -39,7 +39,10 @@ use fall::fall_all;
 use id_slab::Iter;
 use idents::{Ident, Idents};
 use levels::LevelNumbers;
-use names::{count_at, has_use, home_of, in_use, mark_numbers, number_at, write_numbers_inwards};
+use names::{
+    count_at, has_use, has_use_at, home_of, in_use_at, mark_numbers, number_at,
+    write_numbers_inwards,
+};
 pub use ns_tree::InnerSpaces;
 use ns_tree::SpaceTree;
 use pid_types::call::Kind;
@@ -284,6 +287,10 @@ impl Numbers {
         ensures { result ≡ number_of self.now ident space }
     {
         let own = home_of(&self.idents, ident)?;
+        // Most identifiers are asked for in their own namespace.
+        if own == space {
+            return number_at(&self.idents, ident, 0);
+        }
         if !self.tree.is_within(own, space) {
             return None;
         }
@@ -575,7 +582,7 @@ impl Numbers {
         ensures order { self.new.order ≡ self.old.order }
         ensures pid_max { self.new.pid_max ≡ self.old.pid_max }
     {
-        let had = has_use(&self.idents, ident, kind);
+        let had = has_use_at(&self.idents, ident, kind);
         self.idents.more_use(ident, kind);
         if had {
             return;
@@ -598,10 +605,10 @@ impl Numbers {
         ensures pid_max { self.new.pid_max ≡ self.old.pid_max }
     {
         self.idents.less_use(ident, kind);
-        if has_use(&self.idents, ident, kind) {
+        if has_use_at(&self.idents, ident, kind) {
             return;
         }
-        if in_use(&self.idents, ident) {
+        if in_use_at(&self.idents, ident) {
             mark_numbers(&self.tree, &mut self.ids, &self.idents, ident, kind, false);
             return;
         }

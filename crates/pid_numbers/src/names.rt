@@ -82,14 +82,23 @@ pub(crate) fn has_use(idents: &Idents, ident: IdentKey, kind: Kind) -> bool
     }
 }
 
-/// Whether the identifier has a use.
-pub(crate) fn in_use(idents: &Idents, ident: IdentKey) -> bool
+/// Whether an identifier that is there has a use of the kind. It costs one read, and no test whether it is there.
+#[inline(always)]
+pub(crate) fn has_use_at(idents: &Idents, ident: IdentKey, kind: Kind) -> bool
+    requires { IsSome (name_at idents.now ident) }
+    ensures { result ≡ is_used_as kind (name_at idents.now ident) }
+{
+    count(idents.at(ident), kind) != 0
+}
+
+/// Whether an identifier that is there has a use.
+#[inline(always)]
+pub(crate) fn in_use_at(idents: &Idents, ident: IdentKey) -> bool
+    requires { IsSome (name_at idents.now ident) }
     ensures { (u : Identifier) → name_at idents.now ident ≡ Some u → result ≡ is_used u }
 {
-    match idents.get(ident) {
-        Some(x) => !(x.tasks == 0 && x.groups == 0 && x.sessions == 0),
-        None => false,
-    }
+    let x = idents.at(ident);
+    !(x.tasks == 0 && x.groups == 0 && x.sessions == 0)
 }
 
 /// Gives the numbers of an identifier the mark of a kind, or takes it away.

@@ -219,7 +219,7 @@ pub(crate) fn release_at(ids: &mut Vec<CyclicIds>, key: SpaceKey, n: Pid)
 }
 
 /// Makes the numbers along a path free.
-#[inline(always)]
+#[inline(never)]
 pub(crate) fn release_path(ids: &mut Vec<CyclicIds>, path: &[SpaceKey], numbers: &[Pid])
     requires there { AreIn ids.old.items path.now }
     requires distinct { IsDistinct path.now }

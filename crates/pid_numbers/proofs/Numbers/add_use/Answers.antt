@@ -18,10 +18,13 @@ recounted c = let v = found c in record { identifier = v.0; count = uses c.args.
 used : (c : After-more_use) → is_used_as c.args.kind (name_at c.more_use.new.self c.args.ident) ≡ true
 used c = let v = found c in ap (is_used_as c.args.kind) (c.more_use.ensures.here v.0 v.1) ∙ views.more_used c.args.kind v.0
 
+pub has_use_at-had-requires : goal.has_use_at-had-requires
+has_use_at-had-requires c = subst IsSome (views.identifier_is c.self.inside c.self.view_is c.args.ident) c.requires.there
+
 pub invariant_of-self : goal.invariant_of-self
 invariant_of-self c =
     let m = (goal.at.invariant_of-self c).After-more_use in
-    uses.counted c.self.invariant (recounted m) (used m ∙ sym (sym c.has_use-had.ensures ∙ c.if-had.true))
+    uses.counted c.self.invariant (recounted m) (used m ∙ sym (sym c.has_use_at-had.ensures ∙ c.if-had.true))
 
 pub returns-then-had-clause-others : goal.returns-then-had-clause-others
 returns-then-had-clause-others c j m =

@@ -22,10 +22,13 @@ recounted c =
 pub less_use-requires : goal.less_use-requires
 less_use-requires c = ap (is_used_as c.args.kind) (sym (views.identifier_is c.self.inside c.self.view_is c.args.ident)) ∙ c.requires
 
+pub has_use_at-requires : goal.has_use_at-requires
+has_use_at-requires c = let r = recounted (goal.at.has_use_at-requires c).After-less_use in subst IsSome (sym r.now) refl
+
 pub invariant_of-self : goal.invariant_of-self
 invariant_of-self c =
     uses.counted c.self.invariant (recounted (goal.at.invariant_of-self c).After-less_use)
-    (sym c.has_use.ensures ∙ c.if-has_use.true
+    (sym c.has_use_at.ensures ∙ c.if-has_use_at.true
     ∙ sym (ap (is_used_as c.args.kind) (sym (views.identifier_is c.self.inside c.self.view_is c.args.ident)) ∙ c.requires))
 
 pub mark_numbers-requires : goal.mark_numbers-requires
@@ -37,10 +40,13 @@ mark_numbers-requires c =
       full = uses.full c.self.invariant (recounted (goal.at.mark_numbers-requires c).After-less_use);
     }
 
-pub invariant_of-self-then-in_use : goal.invariant_of-self-then-in_use
-invariant_of-self-then-in_use c =
-    uses.marked c.self.invariant (recounted (goal.at.invariant_of-self-then-in_use c).After-less_use) false c.mark_numbers.new.ids.items (sym c.has_use.ensures ∙ c.if-has_use.false) (λ u is. sym (c.in_use.ensures u is) ∙ c.if-in_use.true)
+pub invariant_of-self-then-in_use_at : goal.invariant_of-self-then-in_use_at
+invariant_of-self-then-in_use_at c =
+    uses.marked c.self.invariant (recounted (goal.at.invariant_of-self-then-in_use_at c).After-less_use) false c.mark_numbers.new.ids.items (sym c.has_use_at.ensures ∙ c.if-has_use_at.false) (λ u is. sym (c.in_use_at.ensures u is) ∙ c.if-in_use_at.true)
     c.mark_numbers.ensures.count c.mark_numbers.ensures.bound c.mark_numbers.ensures.entries
+
+pub in_use_at-requires : goal.in_use_at-requires
+in_use_at-requires c = let r = recounted (goal.at.in_use_at-requires c).After-less_use in subst IsSome (sym r.now) refl
 
 pub remove-gone-requires : goal.remove-gone-requires
 remove-gone-requires c = let r = recounted (goal.at.remove-gone-requires c).After-less_use in subst IsSome (sym r.now) refl
@@ -97,8 +103,8 @@ same_order pid_max tree ids idents l b is =
 left_as : (o : Option Identifier) (u : Identifier) (on : Bool) → o ≡ Some u → is_used u ≡ on → (if on then o else None) ≡ left_of u
 left_as o u on now used = grind arith
 
-pub returns-then-has_use : goal.returns-then-has_use
-returns-then-has_use c =
+pub returns-then-has_use_at : goal.returns-then-has_use_at
+returns-then-has_use_at c =
     let whole = (invariant_of-self c).whole in
     let max = c.self.inside.pid_max in
     let tree = c.self.inside.tree in
@@ -106,7 +112,7 @@ returns-then-has_use c =
     record {
       here = λ u is.
           let now = c.less_use.ensures.here u (sym (views.identifier_is c.self.inside c.self.view_is c.args.ident) ∙ is) in
-          let still = views.used_some c.args.kind (less c.args.kind u) (ap (is_used_as c.args.kind) (sym now) ∙ sym c.has_use.ensures ∙ c.if-has_use.true) in
+          let still = views.used_some c.args.kind (less c.args.kind u) (ap (is_used_as c.args.kind) (sym now) ∙ sym c.has_use_at.ensures ∙ c.if-has_use_at.true) in
           views.name_is max tree ids c.less_use.new.self c.args.ident ∙ left_as _ (less c.args.kind u) true now still;
       others = λ j m. views.name_is max tree ids c.less_use.new.self j ∙ c.less_use.ensures.others j m
           ∙ sym (views.identifier_is c.self.inside c.self.view_is j);
@@ -117,9 +123,9 @@ returns-then-has_use c =
       pid_max = search rules;
     }
 
-pub returns-then-in_use : goal.returns-then-in_use
-returns-then-in_use c =
-    let whole = (invariant_of-self-then-in_use c).whole in
+pub returns-then-in_use_at : goal.returns-then-in_use_at
+returns-then-in_use_at c =
+    let whole = (invariant_of-self-then-in_use_at c).whole in
     let max = c.self.inside.pid_max in
     let tree = c.self.inside.tree in
     let ids = c.mark_numbers.new.ids.items in
@@ -127,7 +133,7 @@ returns-then-in_use c =
       here = λ u is.
           let now = c.less_use.ensures.here u (sym (views.identifier_is c.self.inside c.self.view_is c.args.ident) ∙ is) in
           views.name_is max tree ids c.less_use.new.self c.args.ident
-          ∙ left_as _ (less c.args.kind u) true now (sym (c.in_use.ensures (less c.args.kind u) now) ∙ c.if-in_use.true);
+          ∙ left_as _ (less c.args.kind u) true now (sym (c.in_use_at.ensures (less c.args.kind u) now) ∙ c.if-in_use_at.true);
       others = λ j m. views.name_is max tree ids c.less_use.new.self j ∙ c.less_use.ensures.others j m
           ∙ sym (views.identifier_is c.self.inside c.self.view_is j);
       namespaces = λ s.
@@ -148,7 +154,7 @@ returns c =
       here = λ u is.
           let now = c.less_use.ensures.here u (sym (views.identifier_is c.self.inside c.self.view_is c.args.ident) ∙ is) in
           views.name_is max tree ids idents c.args.ident ∙ ap (option_map identifier_of) c.remove-gone.ensures.updates.changed
-          ∙ left_as _ (less c.args.kind u) false now (sym (c.in_use.ensures (less c.args.kind u) now) ∙ c.if-in_use.false);
+          ∙ left_as _ (less c.args.kind u) false now (sym (c.in_use_at.ensures (less c.args.kind u) now) ∙ c.if-in_use_at.false);
       others = λ j m.
           views.name_is max tree ids idents j ∙ ap (option_map identifier_of) (c.remove-gone.ensures.updates.others j m) ∙ c.less_use.ensures.others j m
           ∙ sym (views.identifier_is c.self.inside c.self.view_is j);
