@@ -2,6 +2,7 @@
 
 ghost use Rattle.std.specs.Prelude.{◌≡◌, Some, None, true};
 ghost use Rattle.slab.specs.Slab.{get, ContainsKey, Updates};
+ghost use Rattle.pids_charge.specs.declared.node.Node.{Node};
 
 use pid_types::keys::ControlKey;
 use slab::Slab;
@@ -66,6 +67,21 @@ pub(crate) fn set_node(nodes: &mut Slab<Node>, key: ControlKey, node: Node)
 {
     match nodes.get_mut(key as usize) {
         Some(place) => *place = node,
+        None => unreachable!(),
+    }
+}
+
+/// Writes how many tasks are directly in the node at a key, and nothing else of it.
+pub(crate) fn set_tasks(nodes: &mut Slab<Node>, key: ControlKey, live: u64, zombies: u64)
+    requires { ContainsKey nodes.old key }
+    ensures { (n : Node) → get nodes.old key ≡ Some n
+        → Updates nodes.old nodes.new key (Some (record n { live = live; zombies = zombies })) }
+{
+    match nodes.get_mut(key as usize) {
+        Some(place) => {
+            place.live = live;
+            place.zombies = zombies;
+        }
         None => unreachable!(),
     }
 }

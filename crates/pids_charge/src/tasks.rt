@@ -7,7 +7,7 @@ ghost use Rattle.pids_charge.specs.Nodes.{Tree, tree_of, all_in, live_in, zombie
 ghost use Rattle.pids_charge.specs.Kept.{IsCounted, ChangesTasks, DropsEmpty, total_at, AreLinked};
 
 use crate::counter::Counter;
-use crate::node::{Node, node_at, set_node};
+use crate::node::{Node, node_at, set_tasks};
 use crate::walk::{lower, raise};
 use pid_types::keys::ControlKey;
 use slab::Slab;
@@ -26,7 +26,7 @@ pub(crate) fn put_live(nodes: &mut Slab<Node>, counters: &mut Vec<Counter>, home
 {
     let node = node_at(nodes, home);
     let live = node.live + 1;
-    set_node(nodes, home, Node { live, ..node });
+    set_tasks(nodes, home, live, node.zombies);
     raise(nodes, counters, home);
 }
 
@@ -43,7 +43,7 @@ pub(crate) fn take_live(nodes: &mut Slab<Node>, counters: &mut Vec<Counter>, hom
 {
     let node = node_at(nodes, home);
     let live = node.live - 1;
-    set_node(nodes, home, Node { live, ..node });
+    set_tasks(nodes, home, live, node.zombies);
     lower(nodes, counters, home);
 }
 
@@ -60,7 +60,7 @@ pub(crate) fn take_zombie(nodes: &mut Slab<Node>, counters: &mut Vec<Counter>, h
 {
     let node = node_at(nodes, home);
     let zombies = node.zombies - 1;
-    set_node(nodes, home, Node { zombies, ..node });
+    set_tasks(nodes, home, node.live, zombies);
     lower(nodes, counters, home);
 }
 
@@ -79,15 +79,7 @@ pub(crate) fn end_live(nodes: &mut Slab<Node>, counters: &Vec<Counter>, home: Co
     let node = node_at(nodes, home);
     let live = node.live - 1;
     let zombies = node.zombies + 1;
-    set_node(
-        nodes,
-        home,
-        Node {
-            live,
-            zombies,
-            ..node
-        },
-    );
+    set_tasks(nodes, home, live, zombies);
 }
 
 /// Drops what does not stand and has no tasks left, from a node up.
