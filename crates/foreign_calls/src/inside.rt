@@ -29,8 +29,8 @@ pub fn read_inside(tree: u32, id: u64, from: u64) -> Option<Inside>
     Some(Inside { tree, id, from })
 }
 
-/// Writes the ids of what is directly inside over the front of the room, and tells how many there are. The result is the
-/// status.
+/// Writes the ids of what is directly inside over the front of the room, and tells how many there are. The result is
+/// the status.
 pub fn tell_inside(table: &PidTable, inside: &Inside, ids: &mut [u64], count: &mut u64) -> u32
     ensures done { result ≡ DONE
         → TellsList (ids_inside table.now inside.now) inside.now.from ids.old ids.new (Some count.new) }

@@ -154,7 +154,7 @@ module _ (s : Store) (l : IsLawful s) (asked : Asked) where
     once = was.once;
     each = λ m. (
       (λ on. let h = (was.each m).0 on in let p = h.1 in let lt = p.passed in
-        (h.0, record { key = p.key; task = p.task; meant = p.meant; own = p.own; inside = p.inside; passed = omega (arith, lt, le); has = p.has })),
+          (h.0, record { key = p.key; task = p.task; meant = p.meant; own = p.own; inside = p.inside; passed = omega (arith, lt, le); has = p.has })),
       (λ h. (was.each m).1 (h.0, before m h.1)),
     );
   }

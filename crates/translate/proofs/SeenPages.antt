@@ -170,10 +170,10 @@ module _ (state : State) (sound : IsCoherent state) (root : ℕ) (caller : Row) 
       go (Some task) is =
           let h = self-there n task is in
           let one : Some (length (numbers_from state.spaces task.name s)) ≡ Some 1 =
-              sym (ap (option_map (λ (g : Glimpse). length g.numbers)) (self_seen n ∙ ap (option_map (glimpse_of state s)) is)) ∙ alone_there in
+          sym (ap (option_map (λ (g : Glimpse). length g.numbers)) (self_seen n ∙ ap (option_map (glimpse_of state s)) is)) ∙ alone_there in
           let count : length (numbers_from state.spaces task.name s) ≡ 1 = ap (λ o. unwrap_or o 0) one in
           let own_space = eqb-true task.name.space s
-              (sym (alone state sound s task h.0 (number-within state.spaces task.name s h.1.0 h.1.1).0) ∙ eq-eqb (length (numbers_from state.spaces task.name s)) 1 count) in
+          (sym (alone state sound s task h.0 (number-within state.spaces task.name s h.1.0 h.1.1).0) ∙ eq-eqb (length (numbers_from state.spaces task.name s)) 1 count) in
           members_listed state sound s reach from listed
           (subst (λ t. AreListed (numbers_in state reach t s) from listed) own_space
           (subst (λ ns. AreListed ns from listed) (ap (λ o. option_map_or (λ (row : Row). numbers_in state reach row.name.space s) o []) is) l))

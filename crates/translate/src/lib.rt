@@ -14,8 +14,8 @@ ghost use Rattle.task_table.specs.View.{state_of};
 ghost use Rattle.task_table.specs.Whole.{IsWhole};
 ghost use Rattle.translate.specs.Seen.{IsSeenReply};
 
-pub mod members;
 pub mod inside;
+pub mod members;
 pub mod page;
 mod queries;
 pub mod shown;
