@@ -15,8 +15,8 @@ use foreign_numbers::status::{CLOSED, NO_MEMORY, OUT_OF_RANGE};
 /// order, as many as there is room for, and what is behind them stays. The count is how many there are in all.
 ///
 /// `CLOSED` where there is no open table; then `OUT_OF_RANGE` for another tree, or where it has no such id;
-/// `NO_MEMORY`. It costs a search, a few reads for each of them, and the sorting of their ids, for which it takes memory while it
-/// lasts.
+/// `NO_MEMORY`. It costs a search, a few reads for each of them, and the sorting of their ids, for which it takes
+/// memory while it lasts.
 #[unsafe(no_mangle)]
 pub extern "C" fn pidtab_inside(
     table: &mut Pidtab,
