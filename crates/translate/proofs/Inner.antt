@@ -192,8 +192,8 @@ in-order numbers from xs ys g p sorted = record {
 }
 
 pub told-some : (numbers : Option (List ℕ)) (from : ℕ) (xs ys old new : List ℕ) (count : Option ℕ) → (all : List ℕ) × (numbers ≡ Some all) × AreFrom all from xs
-    → IsPermutation xs ys → IsSorted nat_cmp ys → count ≡ Some (length ys) → new ≡ with_front ys old → TellsList numbers from old new count
-told-some numbers from xs ys old new count found p sorted many put = record {
+    → IsPermutation xs ys → IsSorted nat_cmp ys → new ≡ with_front ys old → count ≡ Some (length ys) → TellsList numbers from old new count
+told-some numbers from xs ys old new count found p sorted put many = record {
   none = λ e. absurd (let z : None ≡ Some found.0 = sym e ∙ found.1 in cc);
   listed = λ all e. (
       let z : Some found.0 ≡ Some all = sym found.1 ∙ e in
