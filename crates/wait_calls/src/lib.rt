@@ -29,6 +29,7 @@ use task_tree::Task;
 pub use would::would_wait;
 
 /// By which key the wait selects; none where it names a number that nobody has in the caller's namespace.
+#[inline(always)]
 fn selected(store: &Tasks, caller: TaskKey, space: SpaceKey, which: Which) -> Option<Selected>
     requires { IsSome (task_at store.now.tree caller) }
     ensures { MatchOption result (IsUnknown store.now space which)
@@ -44,6 +45,7 @@ fn selected(store: &Tasks, caller: TaskKey, space: SpaceKey, which: Which) -> Op
 }
 
 /// Whom the caller's wait reaps.
+#[inline(always)]
 fn choose_child(store: &Tasks, caller: &Found, which: Which) -> Choice
     requires parents { HasParents store.now }
     requires caller { task_at store.now.tree caller.now.key ≡ Some caller.now.task }

@@ -68,6 +68,7 @@ pub(crate) fn counted(choice: Choice, child: TaskKey, rank: Option<Pid>) -> Choi
 }
 
 /// The choice among all children.
+#[inline(always)]
 fn choose_any(store: &Tasks, caller: TaskKey) -> Choice
     requires { IsSome (task_at store.now.tree caller) }
     ensures { IsChoice store.now caller Selected.Any result }
@@ -98,6 +99,7 @@ fn choose_task(store: &Tasks, caller: TaskKey, key: TaskKey) -> Choice
 
 /// Whom the caller's wait reaps: of the selected children that have ended, the one with the least rank. A key
 /// of no task and one of no group select nobody.
+#[inline(always)]
 pub fn choose(store: &Tasks, caller: TaskKey, which: Selected) -> Choice
     requires { IsSome (task_at store.now.tree caller) }
     ensures { IsChoice store.now caller which result }
