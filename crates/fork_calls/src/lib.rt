@@ -278,6 +278,7 @@ fn standing(store: &Tasks, space: SpaceKey) -> Result<SpaceKey, Refusal>
 }
 
 /// The namespace for the caller's children, or why it can have none there or in a new one below it.
+#[inline(always)]
 fn namespace_for(store: &Tasks, found: &Found, new_space: bool) -> Result<SpaceKey, Refusal>
     requires found { IsFound store.now found.now }
     ensures ok { IfOk result (λ space. (space_refusal (state_of store.now)
