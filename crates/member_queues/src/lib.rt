@@ -427,6 +427,7 @@ fn add(forest: &mut Forest, owner: u32, key: u32)
 }
 
 /// Makes a key one's member: the first of all, or one more.
+#[inline(always)]
 fn enter(forest: &mut Forest, key: u32, owner: u32, rank: u32)
     requires heap { IsHeap forest.old.roots.items forest.old.nodes.items nil }
     requires key { key < length forest.old.nodes.items }
@@ -550,6 +551,7 @@ impl MemberQueues {
     /// Where it ranks above the one that came before it and that one ends a run, it goes behind that one: so members
     /// that come in the order of their ranks cost a few reads and writes each. In any other order a call costs a
     /// logarithm of the members, taken over many calls.
+    #[inline(always)]
     pub fn insert(&mut self, key: u32, owner: u32, rank: u32)
         requires key { key < length self.old }
         requires owner { owner < length self.old }
@@ -585,6 +587,7 @@ impl MemberQueues {
 
     /// Takes a key from its owner. It costs a few reads and writes, and where the key begins a run a read for each run
     /// that begins below the rest of it.
+    #[inline(always)]
     pub fn remove(&mut self, key: u32)
         requires key { key < length self.old }
         requires owned { IsSome (ranked self.old key) }

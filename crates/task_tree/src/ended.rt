@@ -85,6 +85,7 @@ impl EndedChildren {
     }
 
     /// Makes a key that has no parent an ended child of this one, with a rank that no other of them has.
+    #[inline(always)]
     pub(crate) fn insert(&mut self, key: TaskKey, parent: TaskKey, rank: Pid)
         requires key { key < length self.old }
         requires parent { parent < length self.old }
@@ -120,6 +121,7 @@ impl EndedChildren {
     }
 
     /// Takes a key from its parent.
+    #[inline(always)]
     pub(crate) fn remove(&mut self, key: TaskKey)
         requires key { key < length self.old }
         requires there { IsSome (ranked self.old key) }

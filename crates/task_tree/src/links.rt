@@ -38,6 +38,7 @@ pub(crate) fn room_for_ranks(ended: &mut EndedChildren, keys: usize) -> Result<(
 }
 
 /// The key enters its parent's ended children, if it has a parent.
+#[inline(always)]
 pub(crate) fn enter_ended(
     ended: &mut EndedChildren,
     children: &MemberLists,
@@ -59,6 +60,7 @@ pub(crate) fn enter_ended(
 }
 
 /// The key leaves the ended children that it is among.
+#[inline(always)]
 pub(crate) fn forget_ended(ended: &mut EndedChildren, key: TaskKey)
     requires { key < length ended.old }
     ensures here { ranked ended.new key ≡ None }
@@ -71,6 +73,7 @@ pub(crate) fn forget_ended(ended: &mut EndedChildren, key: TaskKey)
 }
 
 /// The key leaves its parent, if it has one.
+#[inline(always)]
 pub(crate) fn leave_parent(children: &mut MemberLists, key: TaskKey)
     requires { key < length children.old }
     ensures here { owner_of children.new key ≡ None }
@@ -98,6 +101,7 @@ fn hand_ended(ended: &mut EndedChildren, from: TaskKey, to: TaskKey)
 }
 
 /// All children of the one become the other's.
+#[inline(never)]
 pub(crate) fn hand_all(
     children: &mut MemberLists,
     ended: &mut EndedChildren,
