@@ -193,6 +193,7 @@ fn put_refusal(reply: &mut ReplyNumbers, refusal: Refusal)
 
 /// Writes the reply as numbers where they go: a reply that is told and then copied would cost twice.
 #[tactic(auto, unfolding(crate::specs::Numbers::numbers_of))]
+#[inline(always)]
 pub fn put_reply(told: &Reply, reply: &mut ReplyNumbers)
     ensures { reply.new ≡ numbers_of told.now }
 {
