@@ -21,6 +21,7 @@ fn is_subreaper(store: &Tasks, key: TaskKey) -> bool
 
 /// The nearest ancestor of a task of the namespace that is a subreaper there. It costs a step for each
 /// ancestor up to that one, or else up to the first in another namespace, above which none is in this one.
+#[inline(never)]
 fn climb_to_subreaper(store: &Tasks, space: SpaceKey, key: TaskKey) -> Option<TaskKey>
     requires good { HasGoodTasks store.now }
     requires there { IsSome (task_at store.now.tree key) }

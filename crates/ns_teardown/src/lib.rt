@@ -2,7 +2,7 @@
 //! init has ended (`pid_namespaces(7)`).
 #![tactic(auto)]
 
-ghost use Rattle.std.specs.Prelude.{◌≡◌, ◌≢◌, ◌==◌, Some, true};
+ghost use Rattle.std.specs.Prelude.{◌≡◌, ◌≢◌, ◌==◌, Some, true, false};
 ghost use Rattle.std.specs.Option.{option_eq};
 ghost use Rattle.pid_types.specs.Outcome.{sweep};
 ghost use Rattle.pid_types.specs.Exit.{exit as exit_of, fall as fall_of, rows_after_exit};
@@ -27,6 +27,15 @@ fn is_first(store: &Tasks, space: SpaceKey, key: TaskKey) -> bool
     ensures { result ≡ option_eq ◌==◌ (number_of store.now.numbering key space) (Some 1) }
 {
     store.numbers().number_in(key, space) == Some(1)
+}
+
+/// Whether a task that is not the root init is the init of its own namespace. Nothing is looked at where that is the
+/// root, as most are.
+fn is_inner_init(store: &Tasks, space: SpaceKey, key: TaskKey) -> bool
+    requires { option_eq ◌==◌ (number_of store.now.numbering key 0) (Some 1) ≡ false }
+    ensures { result ≡ option_eq ◌==◌ (number_of store.now.numbering key space) (Some 1) }
+{
+    space != 0 && is_first(store, space, key)
 }
 
 /// A live task that is no init ends, and its children have a new parent.
@@ -93,7 +102,7 @@ pub fn exit(store: &mut Tasks, caller: Pid, status: u8) -> ShortReply
     if is_first(store, 0, found.key) {
         return ShortReply::Refused(Refusal::RootInit);
     }
-    if is_first(store, found.space, found.key) {
+    if is_inner_init(store, found.space, found.key) {
         end_init(store, &found, status);
     } else {
         end_task(store, &found, status);

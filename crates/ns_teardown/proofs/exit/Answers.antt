@@ -14,38 +14,41 @@ returns-then-is_first c =
     let is = exit-refused (state_of old) c.args.caller c.args.status (row_of old found.key found.task) c.in-Some.ensures.row top in
     record { state = sym (ap (λ (o : Outcome). o.state) is); reply = sym (ap (λ (o : Outcome). o.reply) is); parents = c.requires.parents }
 
+pub is_inner_init-requires : goal.is_inner_init-requires
+is_inner_init-requires c = sym c.is_first.ensures ∙ c.if-is_first.false
+
 pub end_init-requires-clause-top : goal.end_init-requires-clause-top
 end_init-requires-clause-top c u at =
     let b = c.args.store.now.numbering in
     let key = c.in-Some.found.key in
     let space = c.in-Some.ensures.own u at in
-    let first = is-one (number_of b key c.in-Some.found.space) (sym c.is_first-2.ensures ∙ c.if-is_first-2.true) in
+    let first = is-one (number_of b key c.in-Some.found.space) (sym c.is_inner_init.ensures ∙ c.if-is_inner_init.true) in
     (ap (number_of b key) (sym space) ∙ first, λ root. is-not-one (number_of b key 0) (sym c.is_first.ensures ∙ c.if-is_first.false) (ap (number_of b key) (sym root ∙ sym space) ∙ first))
 
 pub end_task-requires-clause-inner : goal.end_task-requires-clause-inner
 end_task-requires-clause-inner c u at same =
     let b = c.args.store.now.numbering in
     let key = c.in-Some.found.key in
-    is-not-one (number_of b key c.in-Some.found.space) (sym c.is_first-2.ensures ∙ c.if-is_first-2.false) (ap (number_of b key) (c.in-Some.ensures.own u at) ∙ same)
+    is-not-one (number_of b key c.in-Some.found.space) (sym c.is_inner_init.ensures ∙ c.if-is_inner_init.false) (ap (number_of b key) (c.in-Some.ensures.own u at) ∙ same)
 
-pub returns-then-is_first-2 : goal.returns-then-is_first-2
-returns-then-is_first-2 c =
+pub returns-then-is_inner_init : goal.returns-then-is_inner_init
+returns-then-is_inner_init c =
     let old = c.args.store.now in
     let found = c.in-Some.found in
     let row = row_of old found.key found.task in
     let there = c.in-Some.ensures.there.0 in
     let top = sym (first-in-root old c.laws.ensures found.key found.task there) ∙ sym c.is_first.ensures ∙ c.if-is_first.false in
-    let own = first-in-own old c.laws.ensures found.key found.task there c.in-Some.found.space c.in-Some.ensures.id ∙ sym c.is_first-2.ensures in
-    let is = exit-falls (state_of old) c.args.caller c.args.status row c.in-Some.ensures.row top (own ∙ c.if-is_first-2.true) in
+    let own = first-in-own old c.laws.ensures found.key found.task there c.in-Some.found.space c.in-Some.ensures.id ∙ sym c.is_inner_init.ensures in
+    let is = exit-falls (state_of old) c.args.caller c.args.status row c.in-Some.ensures.row top (own ∙ c.if-is_inner_init.true) in
     record { state = c.end_init.ensures.state ∙ sym (ap (λ (o : Outcome). o.state) is); reply = sym (ap (λ (o : Outcome). o.reply) is); parents = c.end_init.ensures.parents }
 
-pub returns-else-is_first-2 : goal.returns-else-is_first-2
-returns-else-is_first-2 c =
+pub returns-else-is_inner_init : goal.returns-else-is_inner_init
+returns-else-is_inner_init c =
     let old = c.args.store.now in
     let found = c.in-Some.found in
     let row = row_of old found.key found.task in
     let there = c.in-Some.ensures.there.0 in
     let top = sym (first-in-root old c.laws.ensures found.key found.task there) ∙ sym c.is_first.ensures ∙ c.if-is_first.false in
-    let own = first-in-own old c.laws.ensures found.key found.task there c.in-Some.found.space c.in-Some.ensures.id ∙ sym c.is_first-2.ensures in
-    let is = exit-ends (state_of old) c.args.caller c.args.status row c.in-Some.ensures.row top (own ∙ c.if-is_first-2.false) in
+    let own = first-in-own old c.laws.ensures found.key found.task there c.in-Some.found.space c.in-Some.ensures.id ∙ sym c.is_inner_init.ensures in
+    let is = exit-ends (state_of old) c.args.caller c.args.status row c.in-Some.ensures.row top (own ∙ c.if-is_inner_init.false) in
     record { state = c.end_task.ensures.state ∙ sym (ap (λ (o : Outcome). o.state) is); reply = sym (ap (λ (o : Outcome). o.reply) is); parents = c.end_task.ensures.parents }
