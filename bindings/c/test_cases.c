@@ -369,6 +369,22 @@ static void read_space(uint64_t id)
 	sprintf(told, "space %" PRIu64 " parent %s level %" PRIu32 " init %s%s", it.id, parent, it.level, init, it.fallen ? " fallen" : "");
 }
 
+/* What is directly inside. A page that is cut short has the first of the ids. */
+static void read_inside(const uint64_t *numbers)
+{
+	uint64_t found[64] = { 0 }, others[64] = { 0 }, count = 0, other = 0;
+	uint32_t tree = (uint32_t)numbers[0], status = pidtab_shared_inside(&shared, tree, numbers[1], numbers[2], found, 64, &count);
+
+	for (int i = 0; i < 3 && has_tables; i++)
+		CHECK(pidtab_inside(&tables[i], tree, numbers[1], numbers[2], others, 64, &other) == status && other == count && memcmp(found, others, sizeof found) == 0);
+	if (!done(status))
+		return;
+	CHECK(count <= 64 && pidtab_shared_inside(&shared, tree, numbers[1], numbers[2], others, 1, &other) == PIDTAB_DONE && other == count && others[0] == found[0]);
+	strcpy(told, count == 0 ? "none" : "");
+	for (uint64_t i = 0; i < count; i++)
+		sprintf(told + strlen(told), "%s%" PRIu64, i == 0 ? "" : " ", found[i]);
+}
+
 static struct pidtab_entry entries[ENTRIES];
 
 /* What a step of a history tells. */
@@ -509,6 +525,8 @@ static bool make(const char *step, const char *wanted)
 		read_task((uint32_t)numbers[0], (uint32_t)numbers[1]);
 	else if (strcmp(word, "page") == 0)
 		read_page(numbers);
+	else if (strcmp(word, "inside") == 0)
+		read_inside(numbers);
 	else if (strcmp(word, "space") == 0)
 		read_space(numbers[0]);
 	else if (strcmp(word, "list") == 0 || strcmp(word, "dump") == 0 || strcmp(word, "opening") == 0)

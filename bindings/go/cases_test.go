@@ -240,7 +240,7 @@ var queryWords = []string{"getpid", "nspid", "getppid", "count", "getpgid", "get
 
 // The end of names.
 
-func joined(numbers []uint32, between string) string {
+func joined(numbers interface{}, between string) string {
 	return strings.ReplaceAll(strings.Trim(fmt.Sprint(numbers), "[]"), " ", between)
 }
 
@@ -337,6 +337,26 @@ func (it *caseWorld) space(id uint64) string {
 		fallen = " fallen"
 	}
 	return fmt.Sprintf("space %d parent %s level %d init %s%s", found.ID, or(found.Parent, "-"), found.Level, root, fallen)
+}
+
+// inside is what is directly inside.
+func (it *caseWorld) inside(numbers []uint64) string {
+	ask := func(of nest) ([]uint64, error) {
+		return [...]func(id, from uint64) ([]uint64, error){of.SpacesInside, of.ControlsInside}[numbers[0]](numbers[1], numbers[2])
+	}
+	found, err := ask(it.shared)
+	for _, table := range it.tables {
+		it.same(of(ask(table)), told{found, err})
+	}
+	switch {
+	case errors.Is(err, ErrOutOfRange):
+		return "OUT_OF_RANGE"
+	case err != nil:
+		return status(err)
+	case len(found) == 0:
+		return "none"
+	}
+	return joined(found, " ")
 }
 
 // read is what a step of a history tells.
@@ -467,6 +487,8 @@ func (it *caseWorld) step(step, text string) (found string, err error) {
 		return it.stat(uint32(numbers[0]), uint32(numbers[1])), nil
 	case "page":
 		return it.page(numbers), nil
+	case "inside":
+		return it.inside(numbers), nil
 	case "space":
 		return it.space(numbers[0]), nil
 	case "list", "dump", "opening":

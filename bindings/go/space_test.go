@@ -55,6 +55,59 @@ func makeBoth(t *testing.T, table *Table, seat *Seat, lines ...string) {
 	play(t, seat, lines...)
 }
 
+// nest is what a Table and a Shared answer what is directly inside by.
+type nest interface {
+	SpacesInside(id, from uint64) ([]uint64, error)
+	ControlsInside(id, from uint64) ([]uint64, error)
+}
+
+func TestWhatIsDirectlyInside(t *testing.T) {
+	table, shared, seat := openSpaces(t)
+	makeBoth(t, table, seat, "mk 0", "mk 6", "mk 6")
+	for _, it := range []nest{table, shared} {
+		for _, row := range []struct {
+			ask      func(id, from uint64) ([]uint64, error)
+			id, from uint64
+			wanted   []uint64
+		}{
+			{it.SpacesInside, 0, 0, []uint64{1, 3}}, {it.SpacesInside, 0, 2, []uint64{3}}, {it.SpacesInside, 1, 0, []uint64{2}}, {it.SpacesInside, 3, 0, []uint64{}},
+			{it.ControlsInside, 0, 0, []uint64{6}}, {it.ControlsInside, 6, 0, []uint64{7, 8}}, {it.ControlsInside, 6, 8, []uint64{8}}, {it.ControlsInside, 7, 0, []uint64{}},
+			{it.ControlsInside, 6, 1<<64 - 1, []uint64{}},
+		} {
+			if found, err := row.ask(row.id, row.from); err != nil || !reflect.DeepEqual(found, row.wanted) {
+				t.Error(row.id, row.from, found, row.wanted, err)
+			}
+		}
+		if found, err := it.SpacesInside(6, 0); found != nil || !errors.Is(err, ErrOutOfRange) || err.Error() != "pidtab: no namespace has the id 6: it is gone, or there was none" {
+			t.Error(found, err)
+		}
+		if found, err := it.ControlsInside(1, 0); found != nil || !errors.Is(err, ErrOutOfRange) || err.Error() != "pidtab: no control group has the id 1: it is gone, or there was none" {
+			t.Error(found, err)
+		}
+	}
+	if counts, err := shared.Counts(); err != nil || counts.Recorded != 8 {
+		t.Error(counts, err)
+	}
+	table.Close()
+	shared.Close()
+	for _, it := range []nest{table, shared} {
+		if _, err := it.SpacesInside(0, 0); !errors.Is(err, ErrClosed) {
+			t.Error(err)
+		}
+	}
+}
+
+func TestMoreInsideThanThereIsRoomForAtFirst(t *testing.T) {
+	table, wanted := open(t, 32768), []uint64{}
+	for id := uint64(1); id < 3*shortPage; id++ {
+		play(t, table, "mk 0")
+		wanted = append(wanted, id)
+		if found, err := table.ControlsInside(0, 0); err != nil || !reflect.DeepEqual(found, wanted) {
+			t.Fatal(found, err)
+		}
+	}
+}
+
 func TestNamespaces(t *testing.T) {
 	table, shared, seat := openSpaces(t)
 	both := []spaceReader{table, shared}

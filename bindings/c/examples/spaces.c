@@ -1,26 +1,49 @@
-/* Tells the namespaces that a task is in, from its own outwards. Built by `cc spaces.c -Iout out/libpidtab.a`. */
+/* Tells the namespaces of a table from the root inwards, each with its own tasks. Built by `cc spaces.c -Iout out/libpidtab.a`. */
 #include "pidtab.h"
 
 #include <inttypes.h>
 #include <stdio.h>
 
-/* The task may be a zombie. */
-static uint32_t tell_spaces(const struct pidtab *table, uint32_t task)
-{
-	struct pidtab_space space = { 0 };
-	struct pidtab_task read;
-	uint32_t status = pidtab_stat(table, 1, task, &read);
-	uint64_t id = read.space;
+#define ROOM 2
 
-	if (status != PIDTAB_DONE || read.error != 0)
-		return status;
+/* The tasks that are in the namespace of the init, and in none inside it, by their root numbers. */
+static uint32_t tell_tasks(const struct pidtab *table, uint32_t init)
+{
+	uint32_t tasks[ROOM], from = 0, status;
+	struct pidtab_reply reply;
+
 	do {
-		status = pidtab_space(table, id, &space);
-		if (status != PIDTAB_DONE)
-			return status;
-		printf("namespace %" PRIu64 ": level %u, init %u%s\n", space.id, space.level, space.init, space.fallen ? ", fallen" : "");
-		id = space.parent;
-	} while (space.level > 0);
+		status = pidtab_page(table, 1, PIDTAB_NAMESPACE_OWN, init, from, tasks, ROOM, &reply);
+		for (size_t i = 0; status == PIDTAB_DONE && i < ROOM && i < reply.first; i++) {
+			printf(" %u", tasks[i]);
+			from = tasks[i] + 1;
+		}
+	} while (status == PIDTAB_DONE && reply.first > ROOM);
+	return status;
+}
+
+/* The namespace, and then each directly inside it. */
+static uint32_t tell_space(const struct pidtab *table, uint64_t id)
+{
+	uint64_t inner[ROOM], from = 0, count = 0;
+	struct pidtab_space space = { 0 };
+	uint32_t status = pidtab_space(table, id, &space);
+
+	if (status != PIDTAB_DONE)
+		return status;
+	printf("%*snamespace %" PRIu64 "%s:", (int)(2 * space.level), "", id, space.fallen ? ", fallen" : "");
+	/* Where the init was reaped, nobody is left but zombies whose parents are outside. */
+	if (space.init != 0)
+		status = tell_tasks(table, space.init);
+	printf("\n");
+	do {
+		if (status == PIDTAB_DONE)
+			status = pidtab_inside(table, PIDTAB_SPACES, id, from, inner, ROOM, &count);
+		for (size_t i = 0; status == PIDTAB_DONE && i < ROOM && i < count; i++) {
+			from = inner[i] + 1;
+			status = tell_space(table, inner[i]);
+		}
+	} while (status == PIDTAB_DONE && count > ROOM);
 	return status;
 }
 
@@ -30,11 +53,13 @@ int main(void)
 	uint32_t status = pidtab_open(&table, 32768);
 
 	if (status == PIDTAB_DONE) {
-		/* 2 is the init of a namespace, and 3 that of one within it, which ends. */
+		/* 2 is the init of a namespace, in which is its child 3, and 4 that of one within it. 5 is the init of another one, which ends. */
 		pidtab_fork(&table, 1, true, NULL);
-		pidtab_fork(&table, 2, true, NULL);
-		pidtab_exit(&table, 3, 0);
-		status = tell_spaces(&table, 3);
+		pidtab_fork(&table, 2, false, NULL);
+		pidtab_fork(&table, 3, true, NULL);
+		pidtab_fork(&table, 1, true, NULL);
+		pidtab_exit(&table, 5, 0);
+		status = tell_space(&table, 0);
 	}
 	if (status != PIDTAB_DONE)
 		fprintf(stderr, "%s\n", pidtab_text(status));
@@ -44,7 +69,8 @@ int main(void)
 
 /* It prints
  *
- *     namespace 2: level 2, init 3, fallen
- *     namespace 1: level 1, init 2
- *     namespace 0: level 0, init 1
+ *     namespace 0: 1
+ *       namespace 1: 2 3
+ *         namespace 3: 4
+ *       namespace 4, fallen: 5
  */

@@ -114,6 +114,27 @@ tested("a process group, and all that come from its members", (table) => {
   assert.deepEqual([2, 3, 4, 5, 6].map((task) => table.ask.stat(1, task).live), [false, false, false, false, true]);
 });
 
+tested("what is directly inside namespaces and control groups", (table) => {
+  table.fork(1, { newSpace: true });
+  table.fork(2, { newSpace: true });
+  table.fork(1, { newSpace: true });
+  table.mk();
+  table.mk(4n);
+  const { ask } = table;
+  assert.deepEqual([ask.spacesInside(), ask.spacesInside(1n), ask.spacesInside(0n, 2n), ask.spacesInside(3)], [[1n, 3n], [2n], [3n], []]);
+  assert.deepEqual([ask.controlsInside(), ask.controlsInside(4n), ask.controlsInside(5n), ask.controlsInside(0n, 5n)], [[4n], [5n], [], []]);
+  assert.throws(() => ask.spacesInside(4n), { name: "RangeError", message: "no namespace has the id 4: it is gone, or there was none" });
+  assert.throws(() => ask.controlsInside(1n), { name: "RangeError", message: "no control group has the id 1: it is gone, or there was none" });
+  for (const id of ["1", null, {}]) assert.throws(() => ask.spacesInside(id), TypeError);
+  assert.throws(() => ask.controlsInside(0n, -1n), RangeError);
+  assert.equal(table.mk(), 6n);
+});
+
+tested("more control groups inside than there is room for at first", (table) => {
+  const made = Array.from({ length: 200 }, () => table.mk());
+  assert.deepEqual([table.ask.controlsInside(), table.ask.controlsInside(0n, 150n)], [made, made.slice(149)]);
+});
+
 /** The namespaces that a task is in, from its own outwards. */
 function spacesOf({ ask }, task) {
   const spaces = [];

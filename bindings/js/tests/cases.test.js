@@ -149,6 +149,13 @@ class World {
     return found;
   }
 
+  inside(tree, ...numbers) {
+    const name = ["spacesInside", "controlsInside"][tree];
+    const [found, ...others] = [this.record, ...this.tables].map(({ ask }) => told(() => ask[name](...numbers).join(" ") || "none"));
+    for (const other of others) assert.equal(other, found);
+    return found;
+  }
+
   space(id) {
     const [space, ...others] = [this.record, ...this.tables].map(({ ask }) => told(() => saySpace(ask.space(id))));
     for (const other of others) assert.equal(other, space);
@@ -198,6 +205,7 @@ class World {
     if (["counts", "worker", "entry", "read", "checkpoint", "checkpoint_at"].includes(word)) return this.read(word, numbers);
     if (word === "stat") return this.stat(...numbers);
     if (word === "page") return this.page(...numbers);
+    if (word === "inside") return this.inside(...numbers);
     if (word === "space") return this.space(...numbers);
     if (word === "json") return this.call(words.join(" ")) && toJson(this.told);
     if (word === "parse") return lineOfFault(text);

@@ -1,34 +1,42 @@
-"""Tells the namespaces that a task is in, from its own outwards."""
-
-from collections.abc import Iterator
+"""Tells the namespaces of a table from the root inwards, each with its own tasks, and its control groups."""
 
 import pidtab
 
 
-def spaces_of(table: pidtab.Table, task: int) -> Iterator[pidtab.SpaceStat]:
-    """The task may be a zombie."""
-    id: int | None = table.ask.stat(1, task).space
-    while id is not None:
-        space = table.ask.space(id)
-        yield space
-        id = space.parent
+def tell_space(table: pidtab.Table, id: int) -> None:
+    """The namespace, and then each directly inside it."""
+    space = table.ask.space(id)
+    # Where the init was reaped, nobody is left but zombies whose parents are outside.
+    tasks = table.ask.namespace_own(1, space.init) if space.init else ()
+    print("  " * space.level + f"namespace {id}{', fallen' if space.fallen else ''}:", *tasks)
+    for inner in table.ask.spaces_inside(id):
+        tell_space(table, inner)
+
+
+def tell_control(table: pidtab.Table, id: int, depth: int = 0) -> None:
+    """The control group with the count of its tasks, and then each directly inside it."""
+    print("  " * depth + f"control group {id}: {table.ask.count(id)}")
+    for inner in table.ask.controls_inside(id):
+        tell_control(table, inner, depth + 1)
 
 
 with pidtab.Table() as table:
-    # 2 is the init of a namespace, and 3 that of one within it, which ends.
+    # 2 is the init of a namespace, in which is its child 3, and 4 that of one within it. 5 is the init of another one, which ends.
     table.fork(1, new=True)
-    table.fork(2, new=True)
-    table.exit(3)
-    for space in spaces_of(table, 3):
-        print(f"namespace {space.id}: level {space.level}, init {space.init}{', fallen' if space.fallen else ''}")
-    try:
-        table.ask.space(9)
-    except LookupError as fault:
-        print(fault)
+    table.fork(2)
+    table.fork(3, new=True)
+    table.fork(1, new=True)
+    table.exit(5)
+    tell_space(table, 0)
+    table.move(4, table.mk(table.mk()))
+    tell_control(table, 0)
 
 # It prints
 #
-#     namespace 2: level 2, init 3, fallen
-#     namespace 1: level 1, init 2
-#     namespace 0: level 0, init 1
-#     no namespace has the id 9: it is gone, or there was none
+#     namespace 0: 1
+#       namespace 1: 2 3
+#         namespace 3: 4
+#       namespace 4, fallen: 5
+#     control group 0: 5
+#       control group 6: 1
+#         control group 7: 1

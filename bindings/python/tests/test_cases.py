@@ -199,6 +199,18 @@ class World:
         (space,) = told
         return space
 
+    def inside(self, tree: int, id: int, start: int) -> str:
+        """What is directly inside."""
+        assert self.shared is not None
+        told = set()
+        for queries in [self.shared.ask, *[it.ask for it in self.tables if isinstance(it, Table)]]:
+            try:
+                told.add(" ".join(map(str, (queries.spaces_inside, queries.controls_inside)[tree](id, start))) or "none")
+            except LookupError:
+                told.add("OUT_OF_RANGE")
+        (inside,) = told
+        return inside
+
     def read(self, word: str, numbers: list[int]) -> str:
         """What a step of a history tells."""
         assert self.shared is not None
@@ -249,6 +261,8 @@ class World:
             return self.stat(*numbers)
         elif word == "page":
             return self.page(*numbers)
+        elif word == "inside":
+            return self.inside(*numbers)
         elif word == "space":
             return self.space(*numbers)
         elif word in ("list", "dump"):

@@ -1,4 +1,4 @@
-"""Reads of namespaces. bindings/c/test_space.c compares more of them."""
+"""Reads of namespaces, and what is directly inside one. bindings/c/test_space.c compares more of them."""
 
 import json
 import random
@@ -9,8 +9,8 @@ import pidtab.native
 import pidtab.shared
 import pidtab.table
 from pidtab import Ask, LibraryFault, MemoryLog, Refusal, Replicated, Seat, Shared, SpaceStat, Table, TableClosed
-from pidtab.native import read_space
-from pidtab.raw import CLOSED, DONE, NO_MEMORY, OUT_OF_RANGE, PidtabSpace
+from pidtab.native import SHORT_PAGE, read_inside, read_space
+from pidtab.raw import CLOSED, DONE, NO_MEMORY, OUT_OF_RANGE, SPACES, PidtabSpace
 from tests.test_changes import validator
 from tests.test_ends import OTHERS, in_child
 from tests.test_interrupts import CallInterrupter
@@ -74,10 +74,35 @@ class Spaces(OnEachTable):
                 with self.assertRaises(TypeError):
                     ask.space(none)  # type: ignore[arg-type]
 
+    def test_inside(self) -> None:
+        for table in (self.table, self.seat):
+            self.assertEqual([table.mk(), table.mk(7), table.mk(7)], [7, 8, 9])
+        for ask in self.ways():
+            self.assertEqual([ask.spaces_inside(), ask.spaces_inside(0, 2), ask.spaces_inside(1), ask.spaces_inside(2)], [(1, 3), (3,), (2,), ()])
+            self.assertEqual([ask.controls_inside(), ask.controls_inside(7), ask.controls_inside(7, 9), ask.controls_inside(9)], [(7,), (8, 9), (9,), ()])
+            self.assertEqual(ask.controls_inside(0, 2**64 - 1), ())
+            with self.assertRaisesRegex(LookupError, "^no namespace has the id 7: it is gone, or there was none$"):
+                ask.spaces_inside(7)
+            with self.assertRaisesRegex(LookupError, "^no control group has the id 1: it is gone, or there was none$"):
+                ask.controls_inside(1)
+
+    def test_numbers_of_what_is_inside(self) -> None:
+        for ask in self.ways():
+            for inside in (ask.spaces_inside, ask.controls_inside):
+                for place, what in enumerate(("id", "start")):
+                    for value in (-1, 2**64):
+                        with self.assertRaisesRegex(ValueError, f"^{what} is 0 to 18446744073709551615, not {value}$"):
+                            inside(*[0][:place], value)
+                    for none in ("1", 1.0, None):
+                        with self.assertRaises(TypeError):
+                            inside(*[0][:place], none)  # type: ignore[arg-type]
+
     def test_they_are_no_calls(self) -> None:
         before = self.shared.counts()
         for ask in self.ways():
             ask.space(1)
+            ask.spaces_inside()
+            ask.controls_inside()
         self.assertEqual((self.table.mk(), self.shared.counts(), self.seat.ordinal), (7, before, 5))
 
     def test_closed(self) -> None:
@@ -85,8 +110,9 @@ class Spaces(OnEachTable):
         self.table.close()
         self.shared.close()
         for ask in ways:
-            with self.assertRaises(TableClosed):
-                ask.space(0)
+            for read in (ask.space, ask.spaces_inside, ask.controls_inside):
+                with self.assertRaises(TableClosed):
+                    read(0)
 
     def test_in_a_child(self) -> None:
         for ask in self.ways():
@@ -113,6 +139,17 @@ class Spaces(OnEachTable):
 class Others(unittest.TestCase):
     """Beside the list, on many hosts, and for threads."""
 
+    def test_more_inside_than_a_page(self) -> None:
+        need_library()
+        for count in (SHORT_PAGE - 1, SHORT_PAGE, SHORT_PAGE + 1, 4 * SHORT_PAGE):
+            with Table() as table:
+                made = tuple(table.mk() for _ in range(count))
+                self.assertEqual(table.ask.controls_inside(), made)
+
+    def test_inside_without_memory(self) -> None:
+        with self.assertRaises(MemoryError):
+            read_inside(SPACES, 1, 2, lambda *taken: NO_MEMORY)
+
     def test_as_the_list_of_the_table_says(self) -> None:
         need_library()
         chance = random.Random(SEED)
@@ -137,6 +174,7 @@ class Others(unittest.TestCase):
         for it in listing.spaces:
             levels[it.id] = levels[it.parent] + 1
             self.assertEqual(table.ask.space(it.id), SpaceStat(it.id, it.parent, levels[it.id], inits.get(it.id), it.fallen))
+            self.assertEqual(table.ask.spaces_inside(it.id), tuple(inner.id for inner in listing.spaces if inner.parent == it.id))
 
     def test_one_table_on_many_hosts(self) -> None:
         need_library()

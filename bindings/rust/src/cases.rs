@@ -180,6 +180,22 @@ impl World {
         }
     }
 
+    /// What is directly inside.
+    fn inside(&mut self, numbers: &[u64]) -> String {
+        let (of_shared, of_table) = if numbers[0] == 0 {
+            (Shared::spaces_inside as fn(&_, _, _) -> _, Table::spaces_inside as fn(&_, _, _) -> _)
+        } else {
+            (Shared::controls_inside as fn(&_, _, _) -> _, Table::controls_inside as fn(&_, _, _) -> _)
+        };
+        let told = of_shared(self.shared, numbers[1], numbers[2]);
+        assert!(self.tables.iter().all(|it| of_table(it, numbers[1], numbers[2]) == told));
+        match told.expect("a read").as_deref() {
+            None => "OUT_OF_RANGE".to_owned(),
+            Some([]) => "none".to_owned(),
+            Some(ids) => ids.iter().map(u64::to_string).collect::<Vec<_>>().join(" "),
+        }
+    }
+
     /// What a step of a history tells.
     fn read(&mut self, words: &[&str]) -> String {
         let numbers: Vec<u64> = words[1..]
@@ -469,6 +485,7 @@ fn make_open(
         }
         "stat" => return world.stat(numbers[0] as u32, numbers[1] as u32),
         "page" => return world.page(numbers),
+        "inside" => return world.inside(numbers),
         "space" => return world.space(numbers[0]),
         "list" | "dump" | "opening" => assert_eq!(world.text(word), text),
         "reload" => world.reload(),
