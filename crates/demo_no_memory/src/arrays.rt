@@ -2,8 +2,7 @@
 //!
 //! A call that finds no memory is made again on the spot, once what can be read of the array was compared.
 
-use crate::tell::{MOST_TRIES, tell};
-use anyhow::{Result, bail, ensure};
+use anyhow::{Result, ensure};
 use arrayvec::ArrayVec;
 use index_array::{IndexArray, IndexFault};
 use std::alloc::Global;
@@ -16,22 +15,6 @@ const LEAF: u32 = 64;
 
 /// Where an array is filled: each needs a level more than the one before it, and the last one needs none.
 const PLACES: [u32; 5] = [3, 130, 5_000, 300_000, 16_000_000];
-
-/// Fills an array until there is memory for all of it, and tells a sum over what is in it.
-pub fn play<R: Print + AllocGlobal>(rt: &R, heading: &[u8]) -> Result<()> {
-    for _ in 0..MOST_TRIES {
-        tell(rt, &[heading])?;
-        match fill(rt.alloc())? {
-            Some(sum) => {
-                tell(rt, &[b"= "])?;
-                println!(rt; "{sum}")?;
-                return Ok(());
-            }
-            None => tell(rt, &[b"- no memory\n"])?,
-        }
-    }
-    bail!("no memory after {MOST_TRIES} tries")
-}
 
 /// A sum that tells in which order the numbers stand.
 fn sum_of(seen: &Picture) -> u64 {
@@ -87,7 +70,7 @@ fn store(array: &mut IndexArray, i: u32) -> Result<bool> {
 }
 
 /// At each place room for an index, and a value in the next leaf. It answers a sum; none where there was no memory.
-fn fill(alloc: Global) -> Result<Option<u64>> {
+pub fn fill(alloc: Global) -> Result<Option<u64>> {
     let mut array = IndexArray::new(alloc);
     for i in PLACES {
         if !prepare(&mut array, i)? || !store(&mut array, i.saturating_add(LEAF))? {

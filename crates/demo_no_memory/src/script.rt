@@ -2,87 +2,76 @@
 
 ghost use Rattle.std.specs.Prelude.{◌≡◌};
 
-use crate::arrays::play as play_array;
-use crate::seated::{Seated, open};
-use crate::step::{Step, parse_step};
-use crate::tell::MOST_TRIES;
+use crate::seated::Seated;
+use crate::step::parse_step;
+use crate::tell::{MOST_TRIES, tell};
 use anyhow::{Result, bail};
+use locked_table::Record;
 use pid_types::config::Config;
-use std::alloc::Global;
 use std::marker::Brand;
 use std::sync::ledger::{Blank, Ledger};
 
-/// A step, and the line that tells of it.
-#[derive(Drop)]
-struct Told {
-    heading: String,
-    step: Step,
+/// Plays the lines of a script, in a text of their own.
+pub fn play_script<R: Print + AllocGlobal>(rt: &R, config: &Config, lines: &str) -> Result<()> {
+    let lines = lines.to_string(rt.alloc())?;
+    play_all(rt, config, &lines)
 }
 
-/// Opens a table, as often as that takes, and plays the steps of the lines on it.
-pub fn play_script<R: Print + AllocGlobal>(rt: &R, config: &Config, lines: &str) -> Result<()> {
-    let steps = parse_steps(rt.alloc(), lines)?;
+/// Opens a table, as often as that takes, and plays the lines on it.
+fn play_all<R: Print + AllocGlobal>(rt: &R, config: &Config, lines: &String) -> Result<()> {
     for _ in 0..MOST_TRIES {
-        if play_once(rt, config, steps.as_slice())? {
+        if play_once(rt, config, lines)? {
             return Ok(());
         }
     }
     bail!("no table after {MOST_TRIES} tries")
 }
 
-/// The steps of the lines.
-fn parse_steps(alloc: Global, lines: &str) -> Result<Vec<Told>> {
-    let mut steps = Vec::new(alloc);
-    for line in lines.lines() {
-        steps.push(parse_told(alloc, line)?)?;
-    }
-    Ok(steps)
+/// Opens a table and plays the lines on it. It answers false where there was no memory for a table.
+fn play_once<R: Print + AllocGlobal>(rt: &R, config: &Config, lines: &String) -> Result<bool> {
+    play_on_new::<Brand, R>(rt, Blank::new(1), config, lines)
 }
 
-/// The step of a line.
-fn parse_told(alloc: Global, line: &str) -> Result<Told> {
-    let (sign, words) = match line.strip_prefix("! ") {
-        Some(words) => ("! ", words),
-        None => ("? ", line),
-    };
-    Ok(Told {
-        heading: format!(in alloc; "{sign}{words}\n")?,
-        step: parse_step(words)?,
-    })
-}
-
-/// Opens a table and plays the steps on it. It answers false where there was no memory for a table.
-fn play_once<R: Print + AllocGlobal>(rt: &R, config: &Config, steps: &[Told]) -> Result<bool> {
-    play_steps::<Brand, R>(rt, Blank::new(1), config, steps)
-}
-
-fn play_steps<L: Ledger, R: Print + AllocGlobal>(
+fn play_on_new<L: Ledger, R: Print + AllocGlobal>(
     rt: &R,
     blank: Blank,
     config: &Config,
-    steps: &[Told],
+    lines: &String,
 ) -> Result<bool>
     requires name { blank.name ≡ L.name }
     requires parts { (blank.parts ≡ L.parts) × (L.parts ≡ 1) }
 {
-    let Some(mut seated) = open::<L, R>(rt, blank, config)? else {
-        return Ok(false);
-    };
-    for told in steps {
-        play_step(rt, &mut seated, told)?;
+    tell(rt, &[b"? new\n"])?;
+    match Record::<L, 1>::new(rt.alloc(), blank, config) {
+        Ok((record, seats)) => play_lines(rt, Seated { record, seats }, lines.as_str()),
+        Err(_) => {
+            tell(rt, &[b"- no memory\n"])?;
+            Ok(false)
+        }
+    }
+}
+
+/// Plays the lines on a table that is open.
+fn play_lines<L: Ledger, R: Print + AllocGlobal>(
+    rt: &R,
+    mut seated: Seated<L>,
+    lines: &str,
+) -> Result<bool> {
+    tell(rt, &[b"= ok\n"])?;
+    for line in lines.lines() {
+        play_line(rt, &mut seated, line)?;
     }
     Ok(true)
 }
 
-/// Plays one step, on the table or on an array.
-fn play_step<L: Ledger, R: Print + AllocGlobal>(
+/// Plays the step of a line.
+fn play_line<L: Ledger, R: Print + AllocGlobal>(
     rt: &R,
     seated: &mut Seated<L>,
-    told: &Told,
+    line: &str,
 ) -> Result<()> {
-    let heading = told.heading.as_bytes();
-    match &told.step {
-        Step::Seated(step) => seated.play(rt, heading, step),
-        Step::Array => play_array(rt, heading),
+    match line.strip_prefix("! ") {
+        Some(words) => seated.play(rt, b"! ", words, parse_step(words)?),
+        None => seated.play(rt, b"? ", line, parse_step(line)?),
     }
 }
