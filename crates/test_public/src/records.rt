@@ -5,14 +5,39 @@ ghost use Rattle.locked_table.specs.SeatState.{AreSeats};
 use locked_table::{Receipt, Record, Seat, Shared};
 use pid_types::call::Call;
 use pid_types::config::{Config, ConfigFault};
-use pid_types::plain::Plain;
-use pid_types::reply::{CallFault, Reply};
-use std::alloc::Global;
+use pid_types::plain::{ControlRow, Plain};
+use pid_types::reply::{CallFault, Reply, ShortReply};
+use std::alloc::{AllocError, Global};
 use std::marker::Brand;
 use std::process::Abort;
 use std::sync::Wait;
 use std::sync::ledger::{Blank, Ledger};
-use std::test::Fail;
+
+/// A step on a record by its seats, or what they show.
+pub(crate) enum Step {
+    /// A worker's call, and the ordinal and the reply of its receipt. The record lends the reply.
+    Act(u64, usize, Call, ShortReply),
+    /// Cuts what was recorded away.
+    Cut,
+    /// Makes room for so many calls.
+    Reserve(usize),
+    /// Worker 0 finds no stamp for a call.
+    Spent,
+    /// How many calls each seat has made.
+    Calls(&'static [u64]),
+    /// The first call that is kept, how many were recorded, and how many of them worker 0 made, and worker 1.
+    Recorded([u64; 4]),
+    /// The next stamp, the bound of numbers, and whether the record was resumed.
+    Begun(Option<u64>, u32, bool),
+    /// How many tasks and control groups there are, and how many tasks the control groups 0, 2 and 7 have.
+    Tasks([usize; 2], [Option<u64>; 3]),
+    /// Whether the entries 2 and 3 are kept, and whether a reply is lent.
+    Keeps([bool; 2], bool),
+    /// The kept history begins in a state with so many tasks, and control groups with these counts.
+    Opening(usize, &'static [u64]),
+    /// The present state is such a one.
+    Present(usize, &'static [u64]),
+}
 
 pub(crate) const FORK: Call = Call::Fork {
     caller: 1,
@@ -21,8 +46,21 @@ pub(crate) const FORK: Call = Call::Fork {
 
 pub(crate) const MAKE: Call = Call::MakeControl { parent: 0 };
 
+/// What is told of a worker that the record does not have.
+pub(crate) const NONE: u64 = u64::MAX;
+
+// Replies to a fork in the root namespace.
+
+pub(crate) const FORKED_2: ShortReply = ShortReply::Forked { child: 2, root: 2 };
+
+pub(crate) const FORKED_3: ShortReply = ShortReply::Forked { child: 3, root: 3 };
+
+pub(crate) const FORKED_4: ShortReply = ShortReply::Forked { child: 4, root: 4 };
+
 /// The receipt of a call that is answered so.
-pub(crate) fn want(ordinal: u64, worker: usize, call: Call, reply: Reply) -> Receipt {
+pub(crate) fn want(ordinal: u64, worker: usize, call: Call, told: ShortReply) -> Receipt {
+    let mut reply = Reply::Done;
+    told.tell(&mut reply);
     Receipt {
         ordinal,
         worker,
@@ -31,110 +69,62 @@ pub(crate) fn want(ordinal: u64, worker: usize, call: Call, reply: Reply) -> Rec
     }
 }
 
-/// The receipt of a fork in the root namespace.
-fn want_child(ordinal: u64, worker: usize, child: u32) -> Receipt {
-    want(ordinal, worker, FORK, Reply::Forked { child, root: child })
-}
-
-/// Makes a call, and compares the receipt, and the reply that is lent.
-fn act<L: Ledger, const N: usize>(
-    rt: &impl Abort,
-    record: &mut Record<L, N>,
-    seat: &mut Seat<L, N>,
-    want: &Receipt,
-) {
-    let receipt = record.act(seat, want.call).expect(rt, "no receipt");
-    assert!(rt; receipt == *want);
-    assert!(rt; lends(record, Some(&want.reply)));
-}
-
-/// Whether the record lends the reply, or none.
-fn lends<L: Ledger, const N: usize>(record: &Record<L, N>, reply: Option<&Reply>) -> bool {
-    record.last_reply() == reply
-}
-
-/// Makes each call by its worker's seat, and compares the receipts.
-pub(crate) fn act_all<L: Ledger, const N: usize>(
-    rt: &impl Abort,
+/// Whether the worker's call has the receipt, whose reply is lent.
+fn acts<L: Ledger, const N: usize>(
     record: &mut Record<L, N>,
     seats: &mut [Seat<L, N>],
-    wanted: &[Receipt],
-) {
-    for want in wanted {
-        let seat = seats.get_mut(want.worker).expect(rt, "a seat");
-        act(rt, record, seat, want);
-    }
-}
-
-/// Makes a call at the shared table, and compares the receipt.
-fn call<L: Ledger, R: Wait + Abort, const N: usize>(
-    rt: &R,
-    shared: &Shared<L, N>,
-    seat: &mut Seat<L, N>,
     want: &Receipt,
-) {
-    let receipt = shared.call(rt, seat, want.call).expect(rt, "no receipt");
-    assert!(rt; receipt == *want);
+) -> bool {
+    let Some(seat) = seats.get_mut(want.worker) else {
+        return false;
+    };
+    let Ok(receipt) = record.act(seat, want.call) else {
+        return false;
+    };
+    receipt == *want && record.last_reply() == Some(&want.reply)
 }
 
-/// Makes each call by its worker's seat, at the shared table, and compares the receipts.
-pub(crate) fn call_all<L: Ledger, R: Wait + Abort, const N: usize>(
-    rt: &R,
-    shared: &Shared<L, N>,
+/// Whether no stamp is left for a call of worker 0.
+fn is_spent<L: Ledger, const N: usize>(
+    record: &mut Record<L, N>,
     seats: &mut [Seat<L, N>],
-    wanted: &[Receipt],
-) {
-    for want in wanted {
-        let seat = seats.get_mut(want.worker).expect(rt, "a seat");
-        call(rt, shared, seat, want);
-    }
+) -> bool {
+    let Some(seat) = seats.get_mut(0) else {
+        return false;
+    };
+    record.act(seat, Call::GetPid { caller: 1 }).err() == Some(CallFault::Spent)
 }
 
-/// Whether worker w's seat is at place w.
-pub(crate) fn are_in_order<L: Ledger, const N: usize>(seats: &[Seat<L, N>]) -> bool
-    ensures { result ≡ true → AreSeats N seats.now }
-{
-    for (worker, seat) in seats.iter().enumerate() {
-        if seat.worker() != worker {
+/// Whether each seat has made as many calls.
+fn have_made<L: Ledger, const N: usize>(seats: &[Seat<L, N>], counts: &[u64]) -> bool {
+    if seats.len() != counts.len() {
+        return false;
+    }
+    for worker in 0..seats.len() {
+        if seats[worker].calls() != counts[worker] {
             return false;
         }
     }
-    seats.len() == N
+    true
 }
 
-/// What is called before a checkpoint.
-fn before_checkpoint() -> [Receipt; 3] {
+/// How many calls of the worker were recorded.
+fn recorded_by<L: Ledger, const N: usize>(record: &Record<L, N>, worker: usize) -> u64 {
+    if worker < N {
+        record.recorded(worker)
+    } else {
+        NONE
+    }
+}
+
+/// What [`Step::Recorded`] says.
+fn recorded<L: Ledger, const N: usize>(record: &Record<L, N>) -> [u64; 4] {
     [
-        want_child(0, 0, 2),
-        want(1, 0, MAKE, Reply::Control(2)),
-        want(2, 0, Call::GetPid { caller: 2 }, Reply::Number(2)),
+        record.first_kept(),
+        record.total(),
+        recorded_by(record, 0),
+        recorded_by(record, 1),
     ]
-}
-
-/// What is called after it: stamps and ordinals have gone on.
-fn after_checkpoint() -> [Receipt; 2] {
-    [
-        want(3, 0, Call::Count { id: 0 }, Reply::Counted(2)),
-        want(4, 0, MAKE, Reply::Control(5)),
-    ]
-}
-
-/// The first call that is kept, how many were recorded, and how many of them worker 0 made. The callers know nothing
-/// more of them.
-pub(crate) fn counts_of<L: Ledger, const N: usize>(record: &Record<L, N>) -> [u64; 3]
-    requires { 0 < N }
-{
-    [record.first_kept(), record.total(), record.recorded(0)]
-}
-
-/// How many calls worker 1 made.
-pub(crate) fn recorded_of_second<L: Ledger>(record: &Record<L, 2>) -> u64 {
-    record.recorded(1)
-}
-
-/// How many tasks and control groups there are.
-pub(crate) fn sizes_of<L: Ledger, const N: usize>(record: &Record<L, N>) -> (usize, usize) {
-    (record.tasks(), record.controls())
 }
 
 /// How many tasks the control groups 0, 2 and 7 have.
@@ -147,253 +137,324 @@ fn has_entries<L: Ledger, const N: usize>(record: &Record<L, N>) -> [bool; 2] {
     [record.entry(2).is_some(), record.entry(3).is_some()]
 }
 
-/// What a record has when three calls were cut away and so many were recorded.
-fn assert_cut<L: Ledger>(rt: &impl Abort, record: &Record<L, 1>, total: u64) {
-    assert!(rt; counts_of(record) == [3, total, total]);
-    assert!(rt; tasks_of(record) == [Some(2), Some(0), None]);
-    assert!(rt; has_entries(record) == [false, total > 3]);
+/// Whether the control groups have these counts.
+fn have_counts(controls: &[ControlRow], counts: &[u64]) -> bool {
+    if controls.len() != counts.len() {
+        return false;
+    }
+    for place in 0..counts.len() {
+        if controls[place].count != counts[place] {
+            return false;
+        }
+    }
+    true
 }
 
-/// Cuts what was recorded away.
-pub(crate) fn cut<L: Ledger, const N: usize>(rt: &impl Abort, record: &mut Record<L, N>) {
-    record.checkpoint().expect(rt, "no memory");
+/// Whether the state has so many tasks, and control groups with these counts.
+pub(crate) fn is_state(state: Result<Plain, AllocError>, tasks: usize, counts: &[u64]) -> bool {
+    let Ok(state) = state else {
+        return false;
+    };
+    state.rows.len() == tasks && have_counts(state.controls.as_slice(), counts)
 }
 
-/// The kept history begins in a state with so many tasks, and control groups with these counts.
-fn assert_opening<L: Ledger>(rt: &impl Abort, record: &Record<L, 1>, tasks: usize, counts: &[u64]) {
-    let opening = record.opening().expect(rt, "no memory");
-    assert_state(rt, &opening, tasks, counts);
-}
-
-/// The state has so many tasks, and control groups with these counts.
-fn assert_state(rt: &impl Abort, state: &Plain, tasks: usize, counts: &[u64]) {
-    assert!(rt; (state.rows.len(), state.controls.len()) == (tasks, counts.len()));
-    for (control, count) in state.controls.iter().zip(counts) {
-        assert!(rt; control.count == *count);
+/// Whether the record shows what the step says.
+fn is_shown<L: Ledger, const N: usize>(record: &Record<L, N>, step: &Step) -> bool {
+    match step {
+        Step::Recorded(told) => recorded(record) == *told,
+        Step::Begun(stamp, bound, resumed) => {
+            record.next_stamp() == *stamp
+                && record.config().pid_max() == *bound
+                && record.is_resumed() == *resumed
+        }
+        Step::Tasks(sizes, told) => {
+            [record.tasks(), record.controls()] == *sizes && tasks_of(record) == *told
+        }
+        Step::Keeps(entries, lends) => {
+            has_entries(record) == *entries && record.last_reply().is_some() == *lends
+        }
+        Step::Opening(tasks, counts) => is_state(record.opening(), *tasks, counts),
+        Step::Present(tasks, counts) => is_state(record.snapshot(), *tasks, counts),
+        _ => false,
     }
 }
 
-/// Makes the calls before a checkpoint, the checkpoint, and the calls after it.
-fn act_around_checkpoint<L: Ledger>(
+/// Whether the record answers what the step says.
+fn is_answered<L: Ledger, const N: usize>(
+    record: &mut Record<L, N>,
+    seats: &mut [Seat<L, N>],
+    step: &Step,
+) -> bool {
+    match step {
+        Step::Act(ordinal, worker, call, told) => {
+            acts(record, seats, &want(*ordinal, *worker, *call, *told))
+        }
+        Step::Cut => record.checkpoint().is_ok(),
+        Step::Reserve(count) => record.reserve_calls(*count).is_ok(),
+        Step::Spent => is_spent(record, seats),
+        Step::Calls(counts) => have_made(seats, counts),
+        look => is_shown(record, look),
+    }
+}
+
+/// Makes the steps on the record, and compares what it answers.
+pub(crate) fn play<L: Ledger, const N: usize>(
     rt: &impl Abort,
-    record: &mut Record<L, 1>,
-    seats: &mut [Seat<L, 1>],
+    record: &mut Record<L, N>,
+    seats: &mut [Seat<L, N>],
+    steps: &[Step],
 ) {
-    assert!(rt; lends(record, None));
-    act_all(rt, record, seats, &before_checkpoint());
-    assert_opening(rt, record, 1, &[1]);
-    cut(rt, record);
-    assert!(rt; lends(record, None));
-    assert_cut(rt, record, 3);
-    assert_opening(rt, record, 2, &[2, 0]);
-    act_all(rt, record, seats, &after_checkpoint());
-    assert_cut(rt, record, 5);
-    assert_opening(rt, record, 2, &[2, 0]);
+    for step in steps {
+        assert!(rt; is_answered(record, seats, step));
+    }
 }
 
-/// Cuts what was recorded away, under the lock.
-fn cut_shared<L: Ledger, R: Wait + Abort>(rt: &R, shared: &Shared<L, 1>) {
-    shared.lock(rt).checkpoint().expect(rt, "no memory");
+/// Whether the worker's call at the shared table has the receipt.
+fn calls<L: Ledger, R: Wait, const N: usize>(
+    rt: &R,
+    shared: &Shared<L, N>,
+    seats: &mut [Seat<L, N>],
+    want: &Receipt,
+) -> bool {
+    let Some(seat) = seats.get_mut(want.worker) else {
+        return false;
+    };
+    let Ok(receipt) = shared.call(rt, seat, want.call) else {
+        return false;
+    };
+    receipt == *want
 }
 
-fn checkpoint_under_lock<L: Ledger, R: Wait + Abort>(
+/// Whether the shared table answers what the step says. What is no call is asked under the lock.
+fn is_shared<L: Ledger, R: Wait, const N: usize>(
+    rt: &R,
+    shared: &Shared<L, N>,
+    seats: &mut [Seat<L, N>],
+    step: &Step,
+) -> bool {
+    match step {
+        Step::Act(ordinal, worker, call, told) => {
+            calls(rt, shared, seats, &want(*ordinal, *worker, *call, *told))
+        }
+        other => is_answered(&mut shared.lock(rt), seats, other),
+    }
+}
+
+/// Makes the steps on the shared table, and compares what it answers.
+fn play_shared<L: Ledger, R: Wait + Abort, const N: usize>(
+    rt: &R,
+    shared: &Shared<L, N>,
+    seats: &mut [Seat<L, N>],
+    steps: &[Step],
+) {
+    for step in steps {
+        assert!(rt; is_shared(rt, shared, seats, step));
+    }
+}
+
+/// Whether worker w's seat is at place w.
+fn are_in_order<L: Ledger, const N: usize>(seats: &[Seat<L, N>]) -> bool
+    ensures { result ≡ true → AreSeats N seats.now }
+{
+    for (worker, seat) in seats.iter().enumerate() {
+        if seat.worker() != worker {
+            return false;
+        }
+    }
+    seats.len() == N
+}
+
+/// Makes the steps on the shared table and closes it. What the record shows then comes last.
+pub(crate) fn share<L: Ledger, R: Wait + Abort, const N: usize>(
+    rt: &R,
+    shared: Shared<L, N>,
+    mut seats: Vec<Seat<L, N>>,
+    steps: &[Step],
+    last: &[Step],
+)
+    requires { (L.parts ≡ N) × (0 < N) }
+{
+    play_shared(rt, &shared, &mut seats, steps);
+    assert!(rt; are_in_order(seats.as_slice()));
+    show(rt, &shared.close(seats), last);
+}
+
+/// Compares what the record shows.
+fn show<L: Ledger, const N: usize>(rt: &impl Abort, record: &Record<L, N>, steps: &[Step]) {
+    for step in steps {
+        assert!(rt; is_shown(record, step));
+    }
+}
+
+/// Makes the steps on a new table that one worker has.
+fn share_by_one<L: Ledger, R: Wait + Abort>(
     rt: &R,
     alloc: Global,
     blank: Blank,
-) -> Result<(), Fail>
+    steps: &[Step],
+    last: &[Step],
+)
     requires name { blank.name ≡ L.name }
     requires parts { (blank.parts ≡ L.parts) × (L.parts ≡ 1) }
 {
-    let config = Config::default_values();
-    let (shared, mut seats) = Shared::<L, 1>::open(alloc, blank, &config)?;
-    call_all(rt, &shared, &mut seats, &before_checkpoint());
-    cut_shared(rt, &shared);
-    call_all(rt, &shared, &mut seats, &after_checkpoint());
-    assert!(rt; are_in_order(seats.as_slice()));
-    assert_cut(rt, &shared.close(seats), 5);
-    Ok(())
+    let opened = Shared::<L, 1>::open(alloc, blank, &Config::default_values());
+    let (shared, seats) = opened.expect(rt, "no memory");
+    share(rt, shared, seats, steps, last);
 }
 
-#[test]
-fn checkpoints_under_the_lock(rt: HostRuntime) -> Result<(), Fail> {
-    checkpoint_under_lock::<Brand, HostRuntime>(&rt, rt.alloc(), Blank::new(1))
-}
-
-/// What is at the shared table after four calls, two by each seat.
-fn assert_shared<L: Ledger, R: Wait + Abort>(rt: &R, shared: &Shared<L, 2>) {
-    let plain = shared.lock(rt).snapshot().expect(rt, "no memory");
-    assert_state(rt, &plain, 3, &[3]);
-    assert!(rt; shared.lock(rt).first_kept() == 0);
-}
-
-/// What the record has after them.
-fn assert_four<L: Ledger>(rt: &impl Abort, record: &Record<L, 2>) {
-    assert!(rt; counts_of(record) == [0, 4, 2]);
-    assert!(rt; recorded_of_second(record) == 2);
-    assert!(rt; sizes_of(record) == (3, 1));
-}
-
-/// Each seat has made two calls.
-fn assert_calls<L: Ledger>(rt: &impl Abort, seats: &[Seat<L, 2>]) {
-    for seat in seats {
-        assert!(rt; seat.calls() == 2);
-    }
-}
-
-/// Makes two calls by each seat.
-fn call_by_both<L: Ledger, R: Wait + Abort>(
+/// Makes the steps on a new table that two workers share.
+fn share_by_two<L: Ledger, R: Wait + Abort>(
     rt: &R,
-    shared: &Shared<L, 2>,
-    seats: &mut [Seat<L, 2>],
-) {
-    let wanted = [
-        want_child(0, 1, 2),
-        want_child(1, 0, 3),
-        want(2, 1, Call::GetPpid { caller: 2 }, Reply::Number(1)),
-        want(3, 0, Call::GetPpid { caller: 3 }, Reply::Number(1)),
-    ];
-    call_all(rt, shared, seats, &wanted);
-    assert_shared(rt, shared);
-    assert_calls(rt, seats);
-}
-
-fn two_seats<L: Ledger, R: Wait + Abort>(rt: &R, alloc: Global, blank: Blank) -> Result<(), Fail>
+    alloc: Global,
+    blank: Blank,
+    steps: &[Step],
+    last: &[Step],
+)
     requires name { blank.name ≡ L.name }
     requires parts { (blank.parts ≡ L.parts) × (L.parts ≡ 2) }
 {
-    let config = Config::default_values();
-    let (shared, mut seats) = Shared::<L, 2>::open(alloc, blank, &config)?;
-    call_by_both(rt, &shared, &mut seats);
-    assert!(rt; are_in_order(seats.as_slice()));
-    assert_four(rt, &shared.close(seats));
-    Ok(())
+    let opened = Shared::<L, 2>::open(alloc, blank, &Config::default_values());
+    let (shared, seats) = opened.expect(rt, "no memory");
+    share(rt, shared, seats, steps, last);
 }
+
+/// Calls around a checkpoint: stamps and ordinals go on behind it.
+static CUT_UNDER_THE_LOCK: [Step; 6] = [
+    Step::Act(0, 0, FORK, FORKED_2),
+    Step::Act(1, 0, MAKE, ShortReply::Control(2)),
+    Step::Act(2, 0, Call::GetPid { caller: 2 }, ShortReply::Number(2)),
+    Step::Cut,
+    Step::Act(3, 0, Call::Count { id: 0 }, ShortReply::Counted(2)),
+    Step::Act(4, 0, MAKE, ShortReply::Control(5)),
+];
+
+static BEHIND_THE_CUT: [Step; 3] = [
+    Step::Recorded([3, 5, 5, NONE]),
+    Step::Tasks([2, 3], [Some(2), Some(0), None]),
+    Step::Keeps([false, true], true),
+];
 
 #[test]
-fn two_share_a_table(rt: HostRuntime) -> Result<(), Fail> {
-    two_seats::<Brand, HostRuntime>(&rt, rt.alloc(), Blank::new(2))
+fn checkpoints_under_the_lock(rt: HostRuntime) {
+    let blank = Blank::new(1);
+    let last = &BEHIND_THE_CUT;
+    share_by_one::<Brand, HostRuntime>(&rt, rt.alloc(), blank, &CUT_UNDER_THE_LOCK, last);
 }
 
-/// Makes room for two calls.
-fn reserve<L: Ledger>(rt: &impl Abort, record: &mut Record<L, 1>) {
-    record.reserve_calls(2).expect(rt, "no memory");
-}
+/// Two calls by each of two seats.
+static BY_BOTH: [Step; 7] = [
+    Step::Act(0, 1, FORK, FORKED_2),
+    Step::Act(1, 0, FORK, FORKED_3),
+    Step::Act(2, 1, Call::GetPpid { caller: 2 }, ShortReply::Number(1)),
+    Step::Act(3, 0, Call::GetPpid { caller: 3 }, ShortReply::Number(1)),
+    Step::Present(3, &[3]),
+    Step::Recorded([0, 4, 2, 2]),
+    Step::Calls(&[2, 2]),
+];
 
-/// Makes the first call and room for two more, and then the other two.
-fn act_in_room<L: Ledger>(
-    rt: &impl Abort,
-    record: &mut Record<L, 1>,
-    seats: &mut [Seat<L, 1>],
-    others: &[Receipt; 2],
-) {
-    act_all(rt, record, seats, &[want_child(0, 0, 2)]);
-    reserve(rt, record);
-    act_all(rt, record, seats, others);
-    assert!(rt; counts_of(record) == [0, 3, 3]);
-}
+static OF_BOTH: [Step; 2] = [
+    Step::Recorded([0, 4, 2, 2]),
+    Step::Tasks([3, 1], [Some(3), None, None]),
+];
 
-/// A task that leads a session ends.
-fn an_end() -> [Receipt; 2] {
-    let exit = Call::Exit {
-        caller: 2,
-        status: 0,
-    };
-    [
-        want(1, 0, Call::SetSid { caller: 2 }, Reply::Number(2)),
-        want(2, 0, exit, Reply::Done),
-    ]
-}
-
-/// A fork, and a call of the child.
-fn a_fork() -> [Receipt; 2] {
-    [
-        want_child(1, 0, 3),
-        want(2, 0, Call::GetPid { caller: 3 }, Reply::Number(3)),
-    ]
+#[test]
+fn two_share_a_table(rt: HostRuntime) {
+    let blank = Blank::new(2);
+    share_by_two::<Brand, HostRuntime>(&rt, rt.alloc(), blank, &BY_BOTH, &OF_BOTH);
 }
 
 /// The last stamp that there is.
 const LAST_STAMP: u64 = 18_446_744_073_709_551_614;
 
-/// The next stamp, of which the callers know nothing more.
-fn next_stamp_of<L: Ledger>(record: &Record<L, 1>) -> Option<u64> {
-    record.next_stamp()
-}
+/// With which stamp each record begins, and the steps on it.
+static PLAYS: [(u64, &[Step]); 4] = [
+    // Calls around a checkpoint.
+    (
+        1,
+        &[
+            Step::Keeps([false, false], false),
+            Step::Act(0, 0, FORK, FORKED_2),
+            Step::Act(1, 0, MAKE, ShortReply::Control(2)),
+            Step::Act(2, 0, Call::GetPid { caller: 2 }, ShortReply::Number(2)),
+            Step::Opening(1, &[1]),
+            Step::Cut,
+            Step::Keeps([false, false], false),
+            Step::Recorded([3, 3, 3, NONE]),
+            Step::Tasks([2, 2], [Some(2), Some(0), None]),
+            Step::Opening(2, &[2, 0]),
+            Step::Act(3, 0, Call::Count { id: 0 }, ShortReply::Counted(2)),
+            Step::Act(4, 0, MAKE, ShortReply::Control(5)),
+            Step::Recorded([3, 5, 5, NONE]),
+            Step::Tasks([2, 3], [Some(2), Some(0), None]),
+            Step::Keeps([false, true], true),
+            Step::Opening(2, &[2, 0]),
+        ],
+    ),
+    // Calls in reserved room, of which one ends a task that leads a session.
+    (
+        1,
+        &[
+            Step::Act(0, 0, FORK, FORKED_2),
+            Step::Reserve(2),
+            Step::Act(1, 0, Call::SetSid { caller: 2 }, ShortReply::Number(2)),
+            Step::Act(
+                2,
+                0,
+                Call::Exit {
+                    caller: 2,
+                    status: 0,
+                },
+                ShortReply::Done,
+            ),
+            Step::Recorded([0, 3, 3, NONE]),
+        ],
+    ),
+    // Calls in reserved room, of which one forks.
+    (
+        1,
+        &[
+            Step::Act(0, 0, FORK, FORKED_2),
+            Step::Reserve(2),
+            Step::Act(1, 0, FORK, FORKED_3),
+            Step::Act(2, 0, Call::GetPid { caller: 3 }, ShortReply::Number(3)),
+            Step::Recorded([0, 3, 3, NONE]),
+        ],
+    ),
+    // A call at the last stamp, and one more.
+    (
+        LAST_STAMP,
+        &[
+            Step::Begun(Some(LAST_STAMP), 32_768, false),
+            Step::Act(0, 0, FORK, FORKED_2),
+            Step::Begun(None, 32_768, false),
+            Step::Spent,
+            Step::Recorded([0, 1, 1, NONE]),
+        ],
+    ),
+];
 
-/// The fault of a call, where it has one.
-fn fault_of<L: Ledger>(record: &mut Record<L, 1>, seat: &mut Seat<L, 1>) -> Option<CallFault> {
-    record.act(seat, Call::GetPid { caller: 1 }).err()
-}
-
-/// Spends the last stamp, and makes one call more.
-fn spend<L: Ledger>(rt: &impl Abort, record: &mut Record<L, 1>, seats: &mut [Seat<L, 1>]) {
-    assert!(rt; next_stamp_of(record) == Some(LAST_STAMP));
-    act_all(rt, record, seats, &[want_child(0, 0, 2)]);
-    assert!(rt; next_stamp_of(record).is_none());
-    let seat = seats.get_mut(0).expect(rt, "a seat");
-    assert!(rt; fault_of(record, seat) == Some(CallFault::Spent));
-    assert!(rt; counts_of(record) == [0, 1, 1]);
-}
-
-/// What is played on a record of one worker.
-#[derive(Clone, Copy)]
-enum Play {
-    /// Calls around a checkpoint.
-    Cut,
-    /// Calls in reserved room, of which one ends a task.
-    EndInRoom,
-    /// Calls in reserved room, of which one forks.
-    ForkInRoom,
-    /// A call at the last stamp, and one more.
-    Spend,
-}
-
-/// Plays on the record.
-fn play_on<L: Ledger>(
-    rt: &impl Abort,
-    record: &mut Record<L, 1>,
-    seats: &mut [Seat<L, 1>],
-    what: Play,
-) {
-    match what {
-        Play::Cut => act_around_checkpoint(rt, record, seats),
-        Play::EndInRoom => act_in_room(rt, record, seats, &an_end()),
-        Play::ForkInRoom => act_in_room(rt, record, seats, &a_fork()),
-        Play::Spend => spend(rt, record, seats),
-    }
-}
-
-/// Plays on a new record.
+/// Makes the steps on a new record of one worker.
 fn play_on_new<L: Ledger>(
     rt: &impl Abort,
     alloc: Global,
     blank: Blank,
     first_stamp: u64,
-    what: Play,
-) -> Result<(), Fail>
+    steps: &[Step],
+)
     requires name { blank.name ≡ L.name }
     requires parts { (blank.parts ≡ L.parts) × (L.parts ≡ 1) }
 {
-    let config = Config::new(32768, first_stamp)?;
-    let (mut record, mut seats) = Record::<L, 1>::new(alloc, blank, &config)?;
-    play_on(rt, &mut record, &mut seats, what);
-    Ok(())
+    let config = Config::new(32768, first_stamp).expect(rt, "bad settings");
+    let begun = Record::<L, 1>::new(alloc, blank, &config);
+    let (mut record, mut seats) = begun.expect(rt, "no memory");
+    play(rt, &mut record, &mut seats, steps);
 }
 
-/// With which stamp each record begins.
-static PLAYS: [(u64, Play); 4] = [
-    (1, Play::Cut),
-    (1, Play::EndInRoom),
-    (1, Play::ForkInRoom),
-    (LAST_STAMP, Play::Spend),
-];
-
 #[test]
-fn keeps_a_history(rt: HostRuntime) -> Result<(), Fail> {
-    for (first_stamp, what) in &PLAYS {
-        play_on_new::<Brand>(&rt, rt.alloc(), Blank::new(1), *first_stamp, *what)?;
+fn keeps_a_history(rt: HostRuntime) {
+    for (first_stamp, steps) in &PLAYS {
+        play_on_new::<Brand>(&rt, rt.alloc(), Blank::new(1), *first_stamp, steps);
     }
-    Ok(())
 }
 
 static SETTINGS: [(u32, u64, Option<ConfigFault>); 5] = [

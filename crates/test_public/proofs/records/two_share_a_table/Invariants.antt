@@ -1,4 +1,4 @@
 use Rattle.test_public.proofs.records.two_share_a_table.Given as goal
 
-abbrev pub ghosts-two_seats : goal.ghosts-two_seats
-ghosts-two_seats g a = record { name = a.blank.name; parts = a.blank.parts }
+abbrev pub ghosts-share_by_two : goal.ghosts-share_by_two
+ghosts-share_by_two g a = record { name = a.blank.name; parts = a.blank.parts }
