@@ -1,11 +1,11 @@
 //! Jobs at one table: two that take turns, and sixteen at once.
 ghost use Rattle.std.specs.Prelude.{◌≡◌, ◌<◌, ℕ};
 
+use crate::records::is_state;
 use locked_table::Record;
 use pid_types::call::Call;
 use pid_types::config::Config;
 use pid_types::entry::Receipt;
-use pid_types::plain::Plain;
 use pid_types::reply::{CallFault, Refusal, Reply};
 use pid_workers::{Desk, Finished, Gate, OpenGate, Work, audit, run_workers, work};
 use std::alloc::{AllocError, Global};
@@ -24,271 +24,189 @@ const FORK: Call = Call::Fork {
     new_space: false,
 };
 
-/// What a run leaves, for any ledger.
+/// Holds calls until others have come or were answered.
 #[derive(Drop)]
-struct Ran {
-    works: Vec<Work>,
+struct Turns {
+    /// How many workers are to be there before any makes its first call.
+    meet: u64,
+    /// The worker that goes first.
+    leader: usize,
+    /// How many of its calls are to be answered before the first calls of the others.
+    lead: u64,
+    /// How many calls of the others are to be answered before its second one.
+    follow: u64,
+    here: AtomicU64,
+    led: AtomicU64,
+    followed: AtomicU64,
+    gave_up: AtomicBool,
+}
+
+impl Turns {
+    fn new(meet: u64, leader: usize, lead: u64, follow: u64) -> Turns {
+        Turns {
+            meet,
+            leader,
+            lead,
+            follow,
+            here: AtomicU64::new(0),
+            led: AtomicU64::new(0),
+            followed: AtomicU64::new(0),
+            gave_up: AtomicBool::new(false),
+        }
+    }
+
+    /// Waits until there are so many, for 5,000 milliseconds at most.
+    fn wait_for(&self, clock: &impl Clock, count: &AtomicU64, least: u64) {
+        for _ in 0..5000 {
+            if count.load(Ordering::SeqCst) >= least {
+                return;
+            }
+            thread::sleep(clock, Duration::from_millis(1));
+        }
+        self.gave_up.store(true, Ordering::SeqCst);
+    }
+}
+
+impl Gate for Turns {
+    fn before<R: Wait + Clock>(&self, rt: &R, worker: usize, k: u64) {
+        if k == 1 {
+            self.here.fetch_add(1, Ordering::SeqCst);
+            self.wait_for(rt, &self.here, self.meet);
+        }
+        if k == 1 && worker != self.leader {
+            self.wait_for(rt, &self.led, self.lead);
+        }
+        if k == 2 && worker == self.leader {
+            self.wait_for(rt, &self.followed, self.follow);
+        }
+    }
+
+    fn after<R: Wait + Clock>(&self, _rt: &R, worker: usize, _k: u64) {
+        if worker == self.leader {
+            self.led.fetch_add(1, Ordering::SeqCst);
+        } else {
+            self.followed.fetch_add(1, Ordering::SeqCst);
+        }
+    }
+}
+
+/// What a run leaves.
+struct Left {
     /// How many calls of each worker were recorded.
-    recorded: Vec<u64>,
+    recorded: &'static [u64],
     total: u64,
-    plain: Plain,
-    /// Whether the receipts are those of the history.
-    audited: bool,
+    /// How many forks were made.
+    forks: usize,
+    /// Why the others were refused, and how many.
+    refusal: Refusal,
+    refused: usize,
+    /// How many tasks there are, and in each control group.
+    tasks: usize,
+    counts: &'static [u64],
 }
 
 /// Runs a job for each of two workers.
-fn run_two<L: Ledger + Send + Sync, G: Gate + Sync, R: Threads + Wait + Clock + Abort + Sync>(
+fn run_two<L: Ledger + Send + Sync, R: Threads + Wait + Clock + Abort + Sync>(
     rt: &R,
     alloc: Global,
     blank: Blank,
     config: &Config,
     jobs: &[Vec<Call>],
-    gate: &G,
-) -> Ran
+    turns: &Turns,
+    left: &Left,
+) -> Vec<Work>
     requires name { blank.name ≡ L.name }
     requires parts { blank.parts ≡ L.parts }
     requires two { blank.parts ≡ 2 }
 {
     assert!(rt; jobs.len() == 2);
-    let finished = run_workers::<L, G, R, 2>(rt, alloc, blank, config, jobs, gate);
-    look_at(rt, alloc, finished.expect(rt, "no run"))
+    let finished = run_workers::<L, Turns, R, 2>(rt, alloc, blank, config, jobs, turns);
+    look_at(rt, alloc, finished.expect(rt, "no run"), turns, left)
 }
 
 /// Runs a job for each of sixteen workers.
-fn run_sixteen<L: Ledger + Send + Sync, G: Gate + Sync, R: Threads + Wait + Clock + Abort + Sync>(
+fn run_sixteen<L: Ledger + Send + Sync, R: Threads + Wait + Clock + Abort + Sync>(
     rt: &R,
     alloc: Global,
     blank: Blank,
     config: &Config,
     jobs: &[Vec<Call>],
-    gate: &G,
-) -> Ran
+    turns: &Turns,
+    left: &Left,
+)
     requires name { blank.name ≡ L.name }
     requires parts { blank.parts ≡ L.parts }
     requires sixteen { blank.parts ≡ 16 }
 {
     assert!(rt; jobs.len() == 16);
-    let finished = run_workers::<L, G, R, 16>(rt, alloc, blank, config, jobs, gate);
-    look_at(rt, alloc, finished.expect(rt, "no run"))
+    let finished = run_workers::<L, Turns, R, 16>(rt, alloc, blank, config, jobs, turns);
+    let _works = look_at(rt, alloc, finished.expect(rt, "no run"), turns, left);
 }
 
-/// What the finished run leaves.
+/// The finished run leaves what is said, and no wait gave up.
 fn look_at<L: Ledger, const N: usize>(
     rt: &impl Abort,
     alloc: Global,
     finished: Finished<L, N>,
-) -> Ran {
+    turns: &Turns,
+    left: &Left,
+) -> Vec<Work> {
     let Finished { kept, works } = finished;
-    Ran {
-        audited: is_audited(rt, &kept, works.as_slice()),
-        works,
-        recorded: recorded_of_each(rt, alloc, &kept),
-        total: total_of(&kept),
-        plain: snapshot_of(rt, &kept),
-    }
+    assert!(rt; !turns.gave_up.load(Ordering::SeqCst), "a wait gave up");
+    expect_left(rt, alloc, &kept, works.as_slice(), left);
+    works
 }
 
-/// Whether the audit finds no fault.
-fn is_audited<L: Ledger, const N: usize>(
-    rt: &impl Abort,
-    kept: &Record<L, N>,
-    works: &[Work],
-) -> bool {
-    assert!(rt; works.len() == N);
-    audit(kept, works).is_ok()
-}
-
-fn recorded_of_each<L: Ledger, const N: usize>(
+/// The record, its table and the works are what is said.
+fn expect_left<L: Ledger, const N: usize>(
     rt: &impl Abort,
     alloc: Global,
     kept: &Record<L, N>,
-) -> Vec<u64> {
-    let mut recorded = Vec::new(alloc);
-    for worker in 0..N {
-        let count = recorded_of(kept, worker);
-        recorded.push(count).expect(rt, "no memory");
+    works: &[Work],
+    left: &Left,
+) {
+    assert!(rt; is_audited(kept, works));
+    assert!(rt; is_left(kept, left));
+    assert!(rt; have_forked(rt, alloc, works, left));
+}
+
+/// Whether the audit finds no fault.
+fn is_audited<L: Ledger, const N: usize>(kept: &Record<L, N>, works: &[Work]) -> bool {
+    works.len() == N && audit(kept, works).is_ok()
+}
+
+/// Whether the record and its table are what is said.
+fn is_left<L: Ledger, const N: usize>(kept: &Record<L, N>, left: &Left) -> bool {
+    if left.recorded.len() != N {
+        return false;
     }
-    recorded
-}
-
-/// How many calls of the worker were recorded. The callers know nothing more of it.
-fn recorded_of<L: Ledger, const N: usize>(kept: &Record<L, N>, worker: usize) -> u64
-    requires { worker < N }
-{
-    kept.recorded(worker)
-}
-
-/// The total, of which the callers know nothing more.
-fn total_of<L: Ledger, const N: usize>(kept: &Record<L, N>) -> u64 {
-    kept.total()
-}
-
-/// The plain table, of which the callers know nothing more.
-fn snapshot_of<L: Ledger, const N: usize>(rt: &impl Abort, kept: &Record<L, N>) -> Plain {
-    kept.snapshot().expect(rt, "no memory")
-}
-
-/// Waits until the flag is up, for 5,000 milliseconds at most, and says whether it gave up.
-fn gives_up(clock: &impl Clock, flag: &AtomicBool) -> bool {
-    for _ in 0..5000 {
-        if flag.load(Ordering::SeqCst) {
+    for worker in 0..N {
+        if kept.recorded(worker) != left.recorded[worker] {
             return false;
         }
-        thread::sleep(clock, Duration::from_millis(1));
     }
-    true
+    kept.total() == left.total && is_state(kept.snapshot(), left.tasks, left.counts)
 }
 
-/// Holds both first calls until both are there, and then lets worker 1 go first.
-#[derive(Drop)]
-struct TurnGate {
-    here: [AtomicBool; 2],
-    done: [AtomicBool; 2],
-    gave_up: AtomicBool,
-}
-
-impl TurnGate {
-    fn new() -> TurnGate {
-        TurnGate {
-            here: [AtomicBool::new(false), AtomicBool::new(false)],
-            done: [AtomicBool::new(false), AtomicBool::new(false)],
-            gave_up: AtomicBool::new(false),
-        }
+/// Whether as many forks were made as is said, with the numbers from 2 on, and the others refused.
+fn have_forked(rt: &impl Abort, alloc: Global, works: &[Work], left: &Left) -> bool {
+    let mut roots = Vec::new(alloc);
+    let mut refused = 0usize;
+    let refusal = Reply::Refused(left.refusal);
+    for work in works {
+        refused = refused.saturating_add(add_roots(rt, &mut roots, work, &refusal));
     }
-
-    fn wait_for(&self, clock: &impl Clock, flag: &AtomicBool) {
-        if gives_up(clock, flag) {
-            self.gave_up.store(true, Ordering::SeqCst);
-        }
-    }
+    roots.sort().expect(rt, "no memory");
+    refused == left.refused && roots.len() == left.forks && are_from_2(roots.as_slice())
 }
 
-impl Gate for TurnGate {
-    fn before<R: Wait + Clock>(&self, rt: &R, worker: usize, k: u64) {
-        let other = 1 - worker % 2;
-        if k == 1 {
-            self.here[worker % 2].store(true, Ordering::SeqCst);
-            self.wait_for(rt, &self.here[other]);
-        }
-        if worker == 0 && k == 1 || worker == 1 && k == 2 {
-            self.wait_for(rt, &self.done[other]);
-        }
-    }
-
-    fn after<R: Wait + Clock>(&self, _rt: &R, worker: usize, k: u64) {
-        if k == 1 {
-            self.done[worker % 2].store(true, Ordering::SeqCst);
-        }
-    }
-}
-
-/// A fork of each, and then a look at the parent of the other's child.
-fn crossed_jobs(rt: &impl Abort, alloc: Global) -> [Vec<Call>; 2] {
-    let first = vec![in alloc; FORK, Call::GetPpid { caller: 3 }];
-    let second = vec![in alloc; FORK, Call::GetPpid { caller: 2 }];
-    [
-        first.expect(rt, "no memory"),
-        second.expect(rt, "no memory"),
-    ]
-}
-
-fn assert_forked(rt: &impl Abort, work: &Work, ordinal: u64, child: u32) {
-    assert!(rt; work.refused == 0);
-    assert!(rt; work.receipts.len() == 2);
-    assert!(rt; work.receipts[0].ordinal == ordinal);
-    assert_reply(rt, &work.receipts[0], Reply::Forked { child, root: child });
-    assert_reply(rt, &work.receipts[1], Reply::Number(1));
-}
-
-fn assert_reply(rt: &impl Abort, receipt: &Receipt, reply: Reply) {
-    assert!(rt; receipt.reply == reply);
-}
-
-#[test]
-fn two_run_at_once(rt: HostRuntime) {
-    let jobs = crossed_jobs(&rt, rt.alloc());
-    let gate = TurnGate::new();
-    let config = Config::default_values();
-    let ran = run_two::<Brand, _, _>(&rt, rt.alloc(), Blank::new(2), &config, &jobs, &gate);
-    assert_met(&rt, &gate.gave_up);
-    assert_took_turns(&rt, &ran);
-}
-
-/// Asserts that no wait gave up.
-fn assert_met(rt: &impl Abort, gave_up: &AtomicBool) {
-    assert!(rt; !gave_up.load(Ordering::SeqCst), "a wait gave up");
-}
-
-/// Asserts that worker 1 went first.
-fn assert_took_turns(rt: &impl Abort, ran: &Ran) {
-    assert!(rt; ran.works.len() == 2);
-    assert_forked(rt, &ran.works[1], 0, 2);
-    assert_forked(rt, &ran.works[0], 1, 3);
-    assert_recorded(rt, ran, &[2, 2]);
-    assert!(rt; ran.total == 4);
-    assert!(rt; ran.audited);
-}
-
-/// Asserts how many calls of each worker were recorded.
-fn assert_recorded(rt: &impl Abort, ran: &Ran, counts: &[u64]) {
-    assert!(rt; ran.recorded.as_slice() == counts);
-}
-
-/// Holds each first call until as many are there as there are workers.
-#[derive(Drop)]
-struct MeetingGate {
-    here: AtomicU64,
-    gave_up: AtomicBool,
-}
-
-impl Gate for MeetingGate {
-    fn before<R: Wait + Clock>(&self, rt: &R, _worker: usize, k: u64) {
-        if k != 1 {
-            return;
-        }
-        self.here.fetch_add(1, Ordering::SeqCst);
-        for _ in 0..5000 {
-            if self.here.load(Ordering::SeqCst) == 16 {
-                return;
-            }
-            thread::sleep(rt, Duration::from_millis(1));
-        }
-        self.gave_up.store(true, Ordering::SeqCst);
-    }
-
-    fn after<R: Wait + Clock>(&self, _rt: &R, _worker: usize, _k: u64) {}
-}
-
-/// Adds the root number of each fork among the receipts.
-fn add_roots(rt: &impl Abort, roots: &mut Vec<u32>, receipts: &[Receipt]) {
-    for receipt in receipts {
+/// Adds the root number of each fork among the receipts. It answers how many have the reply.
+fn add_roots(rt: &impl Abort, roots: &mut Vec<u32>, work: &Work, reply: &Reply) -> usize {
+    let mut count = 0usize;
+    for receipt in work.receipts.as_slice() {
         if let Reply::Forked { root, .. } = receipt.reply {
             roots.push(root).expect(rt, "no memory");
         }
-    }
-}
-
-/// The root numbers of all forks, in rising order.
-fn forked(rt: &impl Abort, alloc: Global, works: &[Work]) -> Vec<u32> {
-    let mut roots = Vec::new(alloc);
-    for work in works {
-        add_roots(rt, &mut roots, work.receipts.as_slice());
-    }
-    roots.sort().expect(rt, "no memory");
-    roots
-}
-
-/// Asserts that the numbers rise one by one from 2 on.
-fn assert_all_from_2(rt: &impl Abort, roots: &[u32]) {
-    for (place, root) in roots.iter().enumerate() {
-        assert!(rt; *root as usize == place + 2);
-    }
-}
-
-/// How many of these receipts have the reply.
-fn count_here(receipts: &[Receipt], reply: &Reply) -> usize {
-    let mut count = 0usize;
-    for receipt in receipts {
         if receipt.reply == *reply {
             count = count.saturating_add(1);
         }
@@ -296,116 +214,133 @@ fn count_here(receipts: &[Receipt], reply: &Reply) -> usize {
     count
 }
 
-/// Asserts that so many receipts have the reply.
-fn assert_replies(rt: &impl Abort, works: &[Work], reply: &Reply, count: usize) {
-    let mut found = 0usize;
-    for work in works {
-        found = found.saturating_add(count_here(work.receipts.as_slice(), reply));
+/// Whether the numbers rise one by one from 2 on.
+fn are_from_2(roots: &[u32]) -> bool {
+    for (place, root) in roots.iter().enumerate() {
+        if *root as usize != place + 2 {
+            return false;
+        }
     }
-    assert!(rt; found == count);
+    true
 }
 
-/// Adds a job of so many forks.
-fn add_forks(rt: &impl Abort, alloc: Global, jobs: &mut Vec<Vec<Call>>, count: usize) {
-    let job = vec![in alloc; FORK; count].expect(rt, "no memory");
+/// Adds a job of these calls.
+fn add_job(rt: &impl Abort, alloc: Global, jobs: &mut Vec<Vec<Call>>, calls: &[Call]) {
+    let mut job = Vec::new(alloc);
+    job.extend_from_slice(calls).expect(rt, "no memory");
     jobs.push(job).expect(rt, "no memory");
 }
 
-/// Twenty forks of each of sixteen workers.
-fn jobs_of_forks(rt: &impl Abort, alloc: Global) -> Vec<Vec<Call>> {
-    let mut jobs = Vec::new(alloc);
-    for _ in 0..16u32 {
-        add_forks(rt, alloc, &mut jobs, 20);
+/// A job of the first calls, and so many of the others.
+fn jobs_of(
+    rt: &(impl AllocGlobal + Abort),
+    first: &[Call],
+    count: u32,
+    others: &[Call],
+) -> Vec<Vec<Call>> {
+    let mut jobs = Vec::new(rt.alloc());
+    add_job(rt, rt.alloc(), &mut jobs, first);
+    for _ in 0..count {
+        add_job(rt, rt.alloc(), &mut jobs, others);
     }
     jobs
 }
 
+/// A fork of each, and then a look at the parent of its child.
+static CROSSED: [[Call; 2]; 2] = [
+    [FORK, Call::GetPpid { caller: 3 }],
+    [FORK, Call::GetPpid { caller: 2 }],
+];
+
+/// Worker 1 goes first.
+static TURNS: Left = Left {
+    recorded: &[2, 2],
+    total: 4,
+    forks: 2,
+    refusal: Refusal::NoCaller,
+    refused: 0,
+    tasks: 3,
+    counts: &[3],
+};
+
+#[test]
+fn two_run_at_once(rt: HostRuntime) {
+    let jobs = jobs_of(&rt, &CROSSED[0], 1, &CROSSED[1]);
+    let config = Config::default_values();
+    let blank = Blank::new(2);
+    let turns = Turns::new(2, 1, 1, 1);
+    let works = run_two::<Brand, _>(&rt, rt.alloc(), blank, &config, &jobs, &turns, &TURNS);
+    assert_took_turns(&rt, works.as_slice());
+}
+
+/// Asserts that worker 1 went first.
+fn assert_took_turns(rt: &impl Abort, works: &[Work]) {
+    assert!(rt; works.len() == 2);
+    assert!(rt; has_forked(&works[1], 0, 2));
+    assert!(rt; has_forked(&works[0], 1, 3));
+}
+
+/// Whether the worker made a fork, which has the ordinal, and then saw the parent of the child.
+fn has_forked(work: &Work, ordinal: u64, child: u32) -> bool {
+    work.refused == 0
+        && work.receipts.len() == 2
+        && work.receipts[0].ordinal == ordinal
+        && work.receipts[0].reply == Reply::Forked { child, root: child }
+        && work.receipts[1].reply == Reply::Number(1)
+}
+
+/// Each of the 299 numbers was given once, and the other forks were refused.
+static NUMBERS: Left = Left {
+    recorded: &[20; 16],
+    total: 320,
+    forks: 299,
+    refusal: Refusal::NoNumber(0),
+    refused: 21,
+    tasks: 300,
+    counts: &[300],
+};
+
+/// Twenty forks of each of sixteen workers, which begin together.
 #[test]
 fn sixteen_share_the_numbers(rt: HostRuntime) -> Result<(), Fail> {
     let config = Config::new(301, 1)?;
-    let jobs = jobs_of_forks(&rt, rt.alloc());
-    let gate = MeetingGate {
-        here: AtomicU64::new(0),
-        gave_up: AtomicBool::new(false),
-    };
-    let ran = run_sixteen::<Brand, _, _>(&rt, rt.alloc(), Blank::new(16), &config, &jobs, &gate);
-    assert_met(&rt, &gate.gave_up);
-    assert_numbers_are_given(&rt, rt.alloc(), &ran);
+    let jobs = jobs_of(&rt, &[FORK; 20], 15, &[FORK; 20]);
+    let blank = Blank::new(16);
+    let turns = Turns::new(16, 0, 0, 0);
+    run_sixteen::<Brand, _>(&rt, rt.alloc(), blank, &config, &jobs, &turns, &NUMBERS);
     Ok(())
 }
 
-/// Asserts that each of the 299 numbers was given once, and that the other forks were refused.
-fn assert_numbers_are_given(rt: &impl Abort, alloc: Global, ran: &Ran) {
-    assert!(rt; ran.total == 320);
-    assert_recorded(rt, ran, &[20; 16]);
-    let roots = forked(rt, alloc, ran.works.as_slice());
-    assert!(rt; roots.len() == 299);
-    assert_all_from_2(rt, roots.as_slice());
-    let full = Reply::Refused(Refusal::NoNumber(0));
-    assert_replies(rt, ran.works.as_slice(), &full, 21);
-    assert!(rt; ran.plain.rows.len() == 300);
-}
-
-/// Holds the first call of each worker but the first until that one's third call is answered.
-#[derive(Drop)]
-struct LimitGate {
-    limited: AtomicBool,
-    gave_up: AtomicBool,
-}
-
-impl Gate for LimitGate {
-    fn before<R: Wait + Clock>(&self, rt: &R, worker: usize, k: u64) {
-        if worker != 0 && k == 1 && gives_up(rt, &self.limited) {
-            self.gave_up.store(true, Ordering::SeqCst);
-        }
-    }
-
-    fn after<R: Wait + Clock>(&self, _rt: &R, worker: usize, k: u64) {
-        if worker == 0 && k == 3 {
-            self.limited.store(true, Ordering::SeqCst);
-        }
-    }
-}
-
-/// A control group with a limit of nine, the root init in it, and a fork of each of sixteen workers.
-fn jobs_below_a_limit(rt: &impl Abort, alloc: Global) -> Vec<Vec<Call>> {
-    let limit = Call::SetLimit {
+/// A control group with a limit of nine, the root init in it, and a fork.
+static BELOW_A_LIMIT: [Call; 4] = [
+    Call::MakeControl { parent: 0 },
+    Call::SetLimit {
         id: 1,
         limit: Some(9),
-    };
-    let into = Call::Move { task: 1, id: 1 };
-    let make = Call::MakeControl { parent: 0 };
-    let first = vec![in alloc; make, limit, into, FORK];
-    let mut jobs = Vec::new(alloc);
-    jobs.push(first.expect(rt, "no memory"))
-        .expect(rt, "no memory");
-    for _ in 0..15u32 {
-        add_forks(rt, alloc, &mut jobs, 1);
-    }
-    jobs
-}
+    },
+    Call::Move { task: 1, id: 1 },
+    FORK,
+];
 
+/// Eight forks were made, and the other eight refused.
+static LIMIT: Left = Left {
+    recorded: &[4, 1, 1, 1, 1, 1, 1, 1, 1, 1, 1, 1, 1, 1, 1, 1],
+    total: 19,
+    forks: 8,
+    refusal: Refusal::PidsLimit(1),
+    refused: 8,
+    tasks: 9,
+    counts: &[9, 9],
+};
+
+/// The first worker sets the limit before the others begin. Each of sixteen forks once.
 #[test]
 fn sixteen_share_a_limit(rt: HostRuntime) {
-    let jobs = jobs_below_a_limit(&rt, rt.alloc());
-    let gate = LimitGate {
-        limited: AtomicBool::new(false),
-        gave_up: AtomicBool::new(false),
-    };
+    let jobs = jobs_of(&rt, &BELOW_A_LIMIT, 15, &[FORK]);
     let config = Config::default_values();
-    let ran = run_sixteen::<Brand, _, _>(&rt, rt.alloc(), Blank::new(16), &config, &jobs, &gate);
-    assert_met(&rt, &gate.gave_up);
-    assert_limit_is_reached(&rt, rt.alloc(), &ran);
-}
-
-/// Asserts that eight forks were made, and the other eight refused.
-fn assert_limit_is_reached(rt: &impl Abort, alloc: Global, ran: &Ran) {
-    assert!(rt; ran.total == 19);
-    assert!(rt; forked(rt, alloc, ran.works.as_slice()).len() == 8);
-    let limited = Reply::Refused(Refusal::PidsLimit(1));
-    assert_replies(rt, ran.works.as_slice(), &limited, 8);
-    assert!(rt; ran.plain.controls.len() == 2);
-    assert!(rt; ran.plain.controls[1].count == 9);
+    let blank = Blank::new(16);
+    let turns = Turns::new(0, 0, 3, 0);
+    run_sixteen::<Brand, _>(&rt, rt.alloc(), blank, &config, &jobs, &turns, &LIMIT);
 }
 
 /// A desk that answers each call by its place, and the second one with want of memory. It keeps what
@@ -464,16 +399,17 @@ fn keeps_answers_in_order(rt: HostRuntime) -> Result<(), Fail> {
     };
     let calls = [FORK, Call::SetSid { caller: 2 }, Call::Exec { caller: 2 }];
     let done = work_at(&rt, rt.alloc(), &mut desk, &calls)?;
-    assert_in_order(&rt, &desk, &done);
+    assert!(rt; are_in_order(&desk, &done));
     Ok(())
 }
 
-/// Asserts that the first and the third call were answered, in this order.
-fn assert_in_order(rt: &impl Abort, desk: &CountingDesk, done: &Work) {
-    assert!(rt; desk.calls == 3);
-    assert!(rt; done.refused == 1);
-    assert!(rt; done.receipts.as_slice() == desk.answers.as_slice());
-    assert!(rt; done.receipts.len() == 2);
-    assert!(rt; done.receipts[0].call == FORK);
-    assert!(rt; done.receipts[1].call == Call::Exec { caller: 2 });
+/// Whether the first and the third call were answered, in this order.
+fn are_in_order(desk: &CountingDesk, done: &Work) -> bool {
+    let receipts = done.receipts.as_slice();
+    desk.calls == 3
+        && done.refused == 1
+        && receipts == desk.answers.as_slice()
+        && receipts.len() == 2
+        && receipts[0].call == FORK
+        && receipts[1].call == Call::Exec { caller: 2 }
 }
