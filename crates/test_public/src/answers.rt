@@ -36,10 +36,6 @@ fn writes_the_longest_answers(rt: HostRuntime) {
     );
 }
 
-fn expect_numbers(rt: &impl Abort, refusal: Refusal, numbers: (u8, u32)) {
-    assert!(rt; (refusal.number(), refusal.errno()) == numbers);
-}
-
 static NUMBERS: [(Refusal, u8, u32); 19] = [
     (Refusal::NoCaller, 1, 3),
     (Refusal::NoTask, 2, 3),
@@ -66,6 +62,6 @@ static NUMBERS: [(Refusal, u8, u32); 19] = [
 #[test]
 fn numbers_each_refusal(rt: HostRuntime) {
     for (refusal, number, errno) in &NUMBERS {
-        expect_numbers(&rt, *refusal, (*number, *errno));
+        assert!(rt; refusal.number() == *number && refusal.errno() == *errno);
     }
 }

@@ -4,8 +4,27 @@
 use pid_types::config::Config;
 use pid_types::device::{FromReader, ToWriter};
 use pid_workers::{RunScriptFault, Tally, run};
+use std::alloc::Global;
 use std::process::Abort;
 use std::test::Fail;
+
+/// What comes of a script in at most so many reads.
+fn run_script(
+    alloc: Global,
+    script: &[u8],
+    config: &Config,
+    reads: u32,
+    written: &mut Vec<u8>,
+) -> Result<Tally, RunScriptFault> {
+    let mut reader = FromReader::new(script);
+    run(
+        alloc,
+        &mut reader,
+        &mut ToWriter::new(written),
+        config,
+        reads,
+    )
+}
 
 /// Runs a script in at most so many reads, and asserts what comes of it and what was written.
 fn expect_run(
@@ -17,14 +36,7 @@ fn expect_run(
     text: &[u8],
 ) {
     let mut written = Vec::new(rt.alloc());
-    let outcome = run(
-        rt.alloc(),
-        &mut FromReader::new(script),
-        &mut ToWriter::new(&mut written),
-        config,
-        reads,
-    );
-    assert!(rt; outcome == told);
+    assert!(rt; run_script(rt.alloc(), script, config, reads, &mut written) == told);
     assert!(rt; written.as_slice() == text);
 }
 

@@ -68,16 +68,26 @@ fn is_answered(ids: &mut CyclicIds, step: &Step) -> bool {
     }
 }
 
+/// Whether the numbers from 1 to the one given are drawn, and the calls then answer what the steps say.
+fn are_answered(ids: &mut CyclicIds, drawn: u32, steps: &[Step]) -> bool {
+    for n in 0..drawn {
+        if draw(ids) != n.checked_add(1) {
+            return false;
+        }
+    }
+    for step in steps {
+        if !is_answered(ids, step) {
+            return false;
+        }
+    }
+    true
+}
+
 /// Draws the numbers from 1 to the one given, makes the calls then, and compares what they answer.
 fn play(rt: &(impl AllocGlobal + Abort), pid_max: u32, drawn: u32, steps: &[Step]) {
     assert!(rt; pid_max >= 301 && pid_max <= 4_194_304);
     let mut ids = CyclicIds::new(rt.alloc(), pid_max);
-    for n in 0..drawn {
-        assert!(rt; draw(&mut ids) == n.checked_add(1));
-    }
-    for step in steps {
-        assert!(rt; is_answered(&mut ids, step));
-    }
+    assert!(rt; are_answered(&mut ids, drawn, steps));
 }
 
 /// The bound of numbers, how many are drawn first, and the calls then.

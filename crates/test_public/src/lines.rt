@@ -5,11 +5,15 @@ use pid_script::line::{Line, parse_line};
 use pid_types::call::{Call, Kind, Which};
 use std::process::Abort;
 
+/// Whether the line says the call, and is that call's line.
+fn is_line_of(line: &[u8], call: &Call) -> bool {
+    parse_line(line) == Line::Call(*call) && line_text(call).as_slice() == line
+}
+
 /// Each line says its call, and is that call's line.
 fn expect_calls(rt: &impl Abort, lines: &[(&[u8], Call)]) {
     for (line, call) in lines {
-        assert!(rt; parse_line(line) == Line::Call(*call));
-        assert!(rt; line_text(call).as_slice() == *line);
+        assert!(rt; is_line_of(line, call));
     }
 }
 

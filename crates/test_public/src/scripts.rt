@@ -22,11 +22,6 @@ pub fn left_by(rt: &(impl AllocGlobal + Abort), config: &Config, script: &str) -
     table
 }
 
-/// What the script leaves of a table with the usual settings is saved and loaded, and is as it was.
-fn keeps(rt: &(impl AllocGlobal + Abort), script: &str) {
-    let _loaded = left_by(rt, &Config::default_values(), script).reloaded(rt);
-}
-
 /// Children that go into namespaces which have gone, one inside the other.
 const ONE_INSIDE_THE_OTHER: &str = "fork 1 new
 fork 1
@@ -87,9 +82,10 @@ static RARE: [&str; 5] = [
     A_FALLEN_NAMESPACE,
 ];
 
+/// What each script leaves of a table with the usual settings is saved and loaded, and is as it was.
 #[test]
 fn loads_rare_tables(rt: HostRuntime) {
     for script in &RARE {
-        keeps(&rt, script);
+        let _loaded = left_by(&rt, &Config::default_values(), script).reloaded(&rt);
     }
 }

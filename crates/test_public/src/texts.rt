@@ -1,6 +1,5 @@
 //! What texts read like.
 
-use crate::running::Running;
 use crate::scripts::left_by;
 use arrayvec::ArrayVec;
 use pid_script::list::list_text;
@@ -11,11 +10,20 @@ use table_text::laws::what_is_written_is_read;
 use table_text::read::{Saved, read_text};
 use table_text::rows::Rows;
 
+/// The text of the table that the script leaves.
+fn text_left_by(rt: &(impl AllocGlobal + Abort), script: &str) -> Vec<u8> {
+    left_by(rt, &Config::default_values(), script).text(rt)
+}
+
+/// Whether the text is read.
+fn is_text(rt: &impl AllocGlobal, text: &[u8]) -> bool {
+    read_text(rt.alloc(), text).is_ok()
+}
+
 /// The script leaves a table with the text, which is read.
-fn expect_text(rt: &(impl AllocGlobal + Abort), script: &str, text: &str) {
-    let left = left_by(rt, &Config::default_values(), script);
-    assert!(rt; left.text(rt).as_slice() == text.as_bytes());
-    assert!(rt; read_text(rt.alloc(), text.as_bytes()).is_ok());
+fn expect_text(rt: &(impl AllocGlobal + Abort), script: &str, text: &[u8]) {
+    assert!(rt; text_left_by(rt, script).as_slice() == text);
+    assert!(rt; is_text(rt, text));
 }
 
 /// A name to be written over.
@@ -56,14 +64,22 @@ fn are_rows(read: &Rows, shown: &[Row]) -> bool {
     true
 }
 
+/// Whether this is the control group that is shown.
+fn is_control(read: &Control, shown: &ControlRow) -> bool {
+    read.id == shown.id && read.parent == shown.parent && read.limit == shown.limit
+}
+
 /// Whether these are the control groups that are shown.
 fn are_controls(read: &[Control], shown: &[ControlRow]) -> bool {
-    for (a, b) in read.iter().zip(shown) {
-        if a.id != b.id || a.parent != b.parent || a.limit != b.limit {
+    if read.len() != shown.len() {
+        return false;
+    }
+    for index in 0..shown.len() {
+        if !is_control(&read[index], &shown[index]) {
             return false;
         }
     }
-    read.len() == shown.len()
+    true
 }
 
 /// The state that each table begins in.
@@ -178,7 +194,7 @@ static CASES: [(&str, &str); 6] = [
 #[test]
 fn writes_each_part(rt: HostRuntime) {
     for (script, text) in &CASES {
-        expect_text(&rt, script, text);
+        expect_text(&rt, script, text.as_bytes());
     }
 }
 
@@ -211,18 +227,17 @@ exit 4 0
 wait 2 pid 3
 ";
 
-fn list_of(rt: &(impl AllocGlobal + Abort), left: &Running) -> Vec<u8> {
-    list_text(rt.alloc(), &left.look(rt)).expect(rt, "no memory")
+/// The list of the table that the script leaves.
+fn list_left_by(rt: &(impl AllocGlobal + Abort), script: &str) -> Vec<u8> {
+    let shown = left_by(rt, &Config::default_values(), script).look(rt);
+    list_text(rt.alloc(), &shown).expect(rt, "no memory")
 }
 
 /// Two tables with one list.
 #[test]
 fn tells_tables_with_one_list_apart(rt: HostRuntime) {
-    let usual = Config::default_values();
-    let one = left_by(&rt, &usual, FIRST);
-    let other = left_by(&rt, &usual, SECOND);
-    assert!(rt; list_of(&rt, &one).as_slice() == list_of(&rt, &other).as_slice());
-    assert!(rt; one.text(&rt).as_slice() != other.text(&rt).as_slice());
+    assert!(rt; list_left_by(&rt, FIRST).as_slice() == list_left_by(&rt, SECOND).as_slice());
+    assert!(rt; text_left_by(&rt, FIRST).as_slice() != text_left_by(&rt, SECOND).as_slice());
 }
 
 const LAW_ENDS: &str = "fork 1
@@ -246,21 +261,25 @@ setsid 2
 exit 2 255
 ";
 
-/// What was read is what the table shows.
-fn expect_shown(rt: &impl Abort, read: &Saved, shown: &Plain) {
-    assert!(rt; read.pid_max == shown.pid_max);
-    assert!(rt; are_rows(&read.rows, &shown.rows));
-    assert!(rt; read.spaces == shown.spaces);
-    assert!(rt; are_controls(&read.controls, &shown.controls));
+/// Whether what was read is what the table shows.
+fn is_shown(read: &Saved, shown: &Plain, stamp: u64) -> bool {
+    read.stamp == stamp
+        && read.pid_max == shown.pid_max
+        && are_rows(&read.rows, &shown.rows)
+        && read.spaces == shown.spaces
+        && are_controls(&read.controls, &shown.controls)
+}
+
+/// What a table shows is written with the stamp of its next call and read back as it is.
+fn expect_read(rt: &(impl AllocGlobal + Abort), shown: &Plain, stamp: u64) {
+    let read = what_is_written_is_read(rt.alloc(), shown, stamp).expect(rt, "a fault");
+    assert!(rt; is_shown(&read, shown, stamp));
 }
 
 /// What the script leaves is written and read back as it is.
 fn expect_read_as_written(rt: &(impl AllocGlobal + Abort), config: &Config, script: &str) {
     let left = left_by(rt, config, script);
-    let shown = left.look(rt);
-    let read = what_is_written_is_read(rt.alloc(), &shown, left.stamp()).expect(rt, "a fault");
-    assert!(rt; read.stamp == left.stamp());
-    expect_shown(rt, &read, &shown);
+    expect_read(rt, &left.look(rt), left.stamp());
 }
 
 /// Tables with each part of the form: what the law of the crate answers is what they show.

@@ -14,11 +14,11 @@ fn grow(rt: &impl Abort, tree: &mut TaskTree, count: usize) -> usize
     tree.keys()
 }
 
-/// The key has neither a task nor a place nor a child.
-fn expect_free(rt: &impl Abort, tree: &TaskTree, key: u32) {
-    assert!(rt; (key as usize) < tree.keys());
-    assert!(rt; tree.task(key).is_none());
-    assert!(rt; [tree.parent(key), tree.rank(key), tree.first_child(key)] == [None; 3]);
+/// Whether there is the key, and it has neither a task nor a place nor a child.
+fn is_free(tree: &TaskTree, key: u32) -> bool {
+    (key as usize) < tree.keys()
+        && tree.task(key).is_none()
+        && [tree.parent(key), tree.rank(key), tree.first_child(key)] == [None; 3]
 }
 
 /// Each key has no task at first.
@@ -28,5 +28,5 @@ fn grows(rt: HostRuntime) {
     assert!(rt; tree.keys() == 0);
     assert!(rt; grow(&rt, &mut tree, 3) == 3);
     assert!(rt; grow(&rt, &mut tree, 4) == 7);
-    expect_free(&rt, &tree, 6);
+    assert!(rt; is_free(&tree, 6));
 }
