@@ -5,7 +5,7 @@ import re
 PATH = "bindings/rust/src/shared.rs"
 
 # What waits for its turn as a call does; all other functions go before the calls.
-AS_CALLS = ("ask", "stat", "children", "group_members", "session_members", "space", "would")
+AS_CALLS = ("ask", "stat", "children", "group_members", "session_members", "namespace_members", "namespace_own", "space", "spaces_inside", "controls_inside", "would")
 
 
 def methods_of(text):

@@ -183,12 +183,21 @@ impl World {
     /// What is directly inside.
     fn inside(&mut self, numbers: &[u64]) -> String {
         let (of_shared, of_table) = if numbers[0] == 0 {
-            (Shared::spaces_inside as fn(&_, _, _) -> _, Table::spaces_inside as fn(&_, _, _) -> _)
+            (
+                Shared::spaces_inside as fn(&_, _, _) -> _,
+                Table::spaces_inside as fn(&_, _, _) -> _,
+            )
         } else {
-            (Shared::controls_inside as fn(&_, _, _) -> _, Table::controls_inside as fn(&_, _, _) -> _)
+            (
+                Shared::controls_inside as fn(&_, _, _) -> _,
+                Table::controls_inside as fn(&_, _, _) -> _,
+            )
         };
         let told = of_shared(self.shared, numbers[1], numbers[2]);
-        assert!(self.tables.iter().all(|it| of_table(it, numbers[1], numbers[2]) == told));
+        assert!(self
+            .tables
+            .iter()
+            .all(|it| of_table(it, numbers[1], numbers[2]) == told));
         match told.expect("a read").as_deref() {
             None => "OUT_OF_RANGE".to_owned(),
             Some([]) => "none".to_owned(),

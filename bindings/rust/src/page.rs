@@ -87,7 +87,12 @@ impl Table {
     ///
     /// # Errors
     /// `Refused` as `NoCaller`; `NoMemory`, `Busy`.
-    pub fn namespace_members(&self, caller: u32, number: u32, from: u32) -> Result<Vec<u32>, Error> {
+    pub fn namespace_members(
+        &self,
+        caller: u32,
+        number: u32,
+        from: u32,
+    ) -> Result<Vec<u32>, Error> {
         self.page(raw::NAMESPACE_MEMBERS, caller, number, from)
     }
 

@@ -400,8 +400,8 @@ impl Shared {
     ///
     /// # Errors
     /// `Refused` as `NoCaller`; `NoMemory`, `Busy`.
-    pub fn namespace_members(&self, caller: u32, number: u32, from: u32) -> Result<Vec<u32>, Error> {
-        self.look_first().namespace_members(caller, number, from)
+    pub fn namespace_members(&self, caller: u32, pid: u32, from: u32) -> Result<Vec<u32>, Error> {
+        self.look().namespace_members(caller, pid, from)
     }
 
     /// As [`Record::namespace_own`].
@@ -409,7 +409,7 @@ impl Shared {
     /// # Errors
     /// `Refused` as `NoCaller`; `NoMemory`, `Busy`.
     pub fn namespace_own(&self, caller: u32, number: u32, from: u32) -> Result<Vec<u32>, Error> {
-        self.look_first().namespace_own(caller, number, from)
+        self.look().namespace_own(caller, number, from)
     }
 
     /// As [`Record::space`].
@@ -425,7 +425,7 @@ impl Shared {
     /// # Errors
     /// `NoMemory`, `Busy`.
     pub fn spaces_inside(&self, id: u64, from: u64) -> Result<Option<Vec<u64>>, Error> {
-        self.look_first().spaces_inside(id, from)
+        self.look().spaces_inside(id, from)
     }
 
     /// As [`Record::controls_inside`].
@@ -433,7 +433,7 @@ impl Shared {
     /// # Errors
     /// `NoMemory`, `Busy`.
     pub fn controls_inside(&self, id: u64, from: u64) -> Result<Option<Vec<u64>>, Error> {
-        self.look_first().controls_inside(id, from)
+        self.look().controls_inside(id, from)
     }
 
     /// As [`Record::counts`].
@@ -761,8 +761,8 @@ impl Record {
     ///
     /// # Errors
     /// `Refused` as `NoCaller`; `NoMemory`, `Busy`.
-    pub fn namespace_members(&self, caller: u32, number: u32, from: u32) -> Result<Vec<u32>, Error> {
-        self.page(raw::NAMESPACE_MEMBERS, caller, number, from)
+    pub fn namespace_members(&self, caller: u32, pid: u32, from: u32) -> Result<Vec<u32>, Error> {
+        self.page(raw::NAMESPACE_MEMBERS, caller, pid, from)
     }
 
     /// Of them those that are in no namespace inside it, as [`Table::namespace_own`] has them. It is not recorded.
