@@ -1,5 +1,5 @@
 //! What is directly inside a namespace or a control group, by ids.
-ghost use Rattle.std.specs.Prelude.{◌≡◌, ◌≢◌, ◌↔◌, [], ◌∷◌, Some, None};
+ghost use Rattle.std.specs.Prelude.{◌≡◌, ◌≢◌, ◌↔◌, [], ◌∷◌, Some, None, is_some};
 ghost use Rattle.translate.specs.Inside.{ids_inside};
 ghost use Rattle.translate.specs.Listed.{TellsList};
 ghost use Rattle.foreign_calls.specs.Held.{IsDoneOr};
@@ -29,6 +29,16 @@ pub fn read_inside(tree: u32, id: u64, from: u64) -> Option<Inside>
     Some(Inside { tree, id, from })
 }
 
+/// Whether the tree has the id.
+fn is_there(table: &PidTable, inside: &Inside) -> bool
+    ensures { result ≡ is_some (ids_inside table.now inside.now) }
+{
+    match inside.tree {
+        Tree::Spaces => table.space(inside.id).is_some(),
+        Tree::Controls => table.count(inside.id).is_some(),
+    }
+}
+
 /// Writes the ids of what is directly inside over the front of the room, and tells how many there are. The result is
 /// the status.
 pub fn tell_inside(table: &PidTable, inside: &Inside, ids: &mut [u64], count: &mut u64) -> u32
@@ -39,12 +49,15 @@ pub fn tell_inside(table: &PidTable, inside: &Inside, ids: &mut [u64], count: &m
     ensures out_of_range { (result ≡ OUT_OF_RANGE) ↔ (ids_inside table.now inside.now ≡ None) }
     ensures statuses { IsDoneOr result (OUT_OF_RANGE ∷ NO_MEMORY ∷ []) }
 {
+    if !is_there(table, inside) {
+        return OUT_OF_RANGE;
+    }
     match table.inside(inside, ids) {
         Ok(Some(found)) => {
             *count = found;
             DONE
         }
-        Ok(None) => OUT_OF_RANGE,
+        Ok(None) => unreachable!(),
         Err(_) => NO_MEMORY,
     }
 }
