@@ -149,11 +149,15 @@ class Many(unittest.TestCase):
                 roots = [it.root for it in table.list().tasks]
 
     def check(self, table: Table) -> None:
-        """The root init sees each task by the numbers that the list has."""
-        tasks = table.list().tasks
-        for number in {1, *(it.root for it in tasks), *(it.group for it in tasks), *(it.session for it in tasks)}:
+        """The root init sees each task by the numbers that the list has, and the namespaces around it."""
+        tasks, around = table.list().tasks, {None: []}
+        for space in table.list().spaces:
+            around[space.id] = [space.id, *around[space.parent]]
+        homes = {it.root: it.space for it in tasks}
+        for number in {1, *homes, *(it.group for it in tasks), *(it.session for it in tasks)}:
             told = [ask(1, number) for ask in lists_of(table.ask)]
             wanted = [[it.root for it in tasks if kind(it) == number] for kind in (lambda it: it.parent, lambda it: it.group, lambda it: it.session)]
+            wanted += [[it.root for it in tasks if homes.get(number) in around[it.space]], [it.root for it in tasks if homes.get(number) == it.space]]
             self.assertEqual(told, [tuple(it) for it in wanted])
 
     def test_one_table_on_many_hosts(self) -> None:

@@ -193,7 +193,7 @@ impl World {
                 Table::controls_inside as fn(&_, _, _) -> _,
             )
         };
-        let told = of_shared(self.shared, numbers[1], numbers[2]);
+        let told: Result<Option<Vec<u64>>, Error> = of_shared(self.shared, numbers[1], numbers[2]);
         assert!(self
             .tables
             .iter()
