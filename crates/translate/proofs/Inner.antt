@@ -1,10 +1,9 @@
 -- What is directly inside, by keys and in the model.
-use Rattle.std.proofs.Common.{◌≡◌, ℕ, zero, suc, ◌+◌, ◌≤◌, ◌==◌, Bool, true, false, nat_le, List, [], ◌∷◌, map, filter, filter_map, slice_get, Option, Some, None, IsSome, cond, option_map, option_and_then, length, refl, sym, ap, subst, ◌∙◌, arith}
+use Rattle.std.proofs.Common.{◌≡◌, ℕ, ◌≤◌, ◌==◌, Bool, true, nat_le, List, [], ◌∷◌, map, filter, filter_map, slice_get, Option, Some, None, IsSome, option_map, option_and_then, length, refl, sym, ap, subst, ◌∙◌, arith}
 use Rattle.std.specs.Option.{option_eq}
 use Rattle.std.specs.List.{AllByRecursion}
 use Rattle.std.specs.List.Sorted.{IsPermutation, IsSorted}
 use Rattle.std.specs.Ordering.{nat_cmp}
-use Rattle.std.proofs.lemmas.Bool.{eq-eqb, eqb-true}
 use Rattle.std.proofs.lemmas.List.Sorted.{IsNonDecreasingBy-from_sort}
 use Rattle.member_lists.specs.Owners.{times}
 use Rattle.pid_types.proofs.General.{some_number, number_tested}
@@ -25,56 +24,7 @@ use Rattle.task_table.proofs.Places.{each-in}
 use Rattle.translate.specs.Inside.{AreFrom}
 use Rattle.translate.specs.Listed.{TellsList}
 use Rattle.translate.specs.Pages.{with_front, AreListed}
-use Rattle.translate.proofs.Rising.{zero-of, times-cons, times-later, IsIn-times, times-IsIn, times-permuted, IsIn-permuted, IsIn-unpermuted, rising-once}
-
--- ---- numbers that come once
-
--- where each that comes does so once, none comes twice
-once-each : (P : ℕ → Type 0) (ns : List ℕ) → ((n : ℕ) → P n → times n ns ≡ 1) → AllByRecursion P ns → (n : ℕ) → times n ns ≤ 1
-once-each P ns once all n = go (times n ns) refl
-  where
-    go : (c : ℕ) → times n ns ≡ c → times n ns ≤ 1
-    go zero e = omega (arith, e)
-    go (suc c) e = let one = once n (each-in P ns all n (times-IsIn n ns (omega (arith, e)))) in omega (arith, one)
-
--- one that is new comes before others
-once-more : (m n : ℕ) (ns : List ℕ) → (IsIn n ns → ⊥) → times m ns ≤ 1 → times m (n ∷ ns) ≤ 1
-once-more m n ns new few = go (n == m) refl (times-cons m n ns)
-  where
-    go : (b : Bool) → (n == m) ≡ b → times m (n ∷ ns) ≡ cond {A = ℕ} b 1 0 + times m ns → times m (n ∷ ns) ≤ 1
-    go false is e = omega (arith, e, few)
-    go true is e =
-        let none = zero-of (times m ns) (λ some. new (subst (λ j. IsIn j ns) (sym (eqb-true n m is)) (times-IsIn m ns some))) in
-        omega (arith, e, none)
-
--- what is looked up for keys, each of which comes once
-module _ (f : ℕ → Option ℕ) (apart : (j k m : ℕ) → f j ≡ Some m → f k ≡ Some m → j ≡ k) where
-  once-found : (keys : List ℕ) → ((k : ℕ) → times k keys ≤ 1) → (m : ℕ) → times m (filter_map f keys) ≤ 1
-  once-found [] once m = omega arith
-  once-found (k ∷ keys) once m = go (f k) refl (once-found keys (λ j. let le = times-later j k keys in let one = once j in omega (arith, le, one)) m)
-    where
-      fresh : (n : ℕ) → f k ≡ Some n → IsIn n (filter_map f keys) → ⊥
-      fresh n is on =
-          let g = IsIn-from_filter_map f n keys on in
-          let same : k ≡ g.0 = apart k g.0 n is g.2 in
-          let some = IsIn-times k keys (subst (λ j. IsIn j keys) (sym same) g.1) in
-          let e = times-cons k k keys in
-          let one : cond {A = ℕ} (k == k) 1 0 ≡ 1 = ap (λ b. cond {A = ℕ} b 1 0) (eq-eqb k k refl) in
-          let few = once k in
-          omega (arith, some, e, one, few)
-
-      go : (o : Option ℕ) → f k ≡ o → times m (filter_map f keys) ≤ 1 → times m (filter_map f (k ∷ keys)) ≤ 1
-      go None is rest = rw is rest
-      go (Some n) is rest = rw is (once-more m n (filter_map f keys) (fresh n is) rest)
-
--- what a test lets through comes no more often
-times-filter : (p : ℕ → Bool) (m : ℕ) (ns : List ℕ) → times m (filter p ns) ≤ times m ns
-times-filter p m [] = omega arith
-times-filter p m (n ∷ ns) = go (p n) (times-filter p m ns)
-  where
-    go : (b : Bool) → times m (filter p ns) ≤ times m ns → times m (cond b (n ∷ filter p ns) (filter p ns)) ≤ times m (n ∷ ns)
-    go true le = let e = times-cons m n (filter p ns) in let f = times-cons m n ns in omega (arith, le, e, f)
-    go false le = let f = times-later m n ns in omega (arith, le, f)
+use Rattle.translate.proofs.Rising.{once-each, once-found, times-filter, times-IsIn, times-permuted, IsIn-permuted, IsIn-unpermuted, rising-once}
 
 le-from : (a b : ℕ) → nat_le a b ≡ true → a ≤ b
 le-from a b e = grind (arith, e)

@@ -1,10 +1,9 @@
 -- Who belongs to what has a number, in the model and by keys.
-use Rattle.std.proofs.Common.{◌≡◌, ◌≢◌, ℕ, zero, suc, ◌+◌, ◌<◌, ◌≤◌, ◌==◌, Bool, true, false, nat_le, List, [], ◌∷◌, length, filter, filter_map, Option, Some, None, is_some, cond, option_map, refl, sym, ap, subst, ◌∙◌, arith}
+use Rattle.std.proofs.Common.{◌≡◌, ◌≢◌, ℕ, zero, suc, ◌<◌, ◌≤◌, ◌==◌, true, false, nat_le, List, [], ◌∷◌, length, filter, filter_map, Option, Some, None, is_some, option_map, refl, sym, ap, subst, ◌∙◌, arith}
 use Rattle.std.specs.Option.{option_map_or, option_eq}
 use Rattle.std.specs.List.{AllByRecursion}
 use Rattle.std.specs.List.Sorted.{IsPermutation, IsSorted}
 use Rattle.std.specs.Ordering.{nat_cmp}
-use Rattle.std.proofs.lemmas.Bool.{eq-eqb, eqb-true}
 use Rattle.std.proofs.lemmas.List.Sorted.{IsNonDecreasingBy-from_sort}
 use Rattle.pid_types.proofs.General.{held, some_number, number_tested}
 use Rattle.pid_types.specs.declared.call.Kind.{Kind}
@@ -29,7 +28,7 @@ use Rattle.std.proofs.Math.ListN.{get_or-map}
 use Rattle.task_table.proofs.LookUps.{named, group-named, session-named, in-rows, rows-in}
 use Rattle.translate.specs.Pages.{belongs_to, is_meant, belongs, numbers_belonging, AreListed}
 use Rattle.translate.specs.Gathered.{owner_in, numbers_from, IsOwned, AreGathered, IsMeantAlone}
-use Rattle.translate.proofs.Rising.{zero-of, times-cons, times-later, IsIn-times, times-IsIn, times-permuted, IsIn-permuted, IsIn-unpermuted, rising-once}
+use Rattle.translate.proofs.Rising.{once-found, times-filter, times-IsIn, times-permuted, IsIn-permuted, IsIn-unpermuted, rising-once}
 
 -- the group of a task, as the lists of groups have it
 pub group-told : (s : Store) (k : ℕ) → owner_of (groups_of s.members) k ≡ group_of s.members k
@@ -162,36 +161,11 @@ module _ (s : Store) (l : IsLawful s) where
     numbers-of keys m k le on has =
         IsIn-filter (nat_le from) m (filter_map (λ k. number_of s.numbering k sp) keys) (IsIn-filter_map (λ k. number_of s.numbering k sp) k m keys on has) (grind (arith, le))
 
-    once-more : (m x : ℕ) (xs : List ℕ) → (IsIn x xs → ⊥) → times m xs ≤ 1 → times m (x ∷ xs) ≤ 1
-    once-more m x xs new few = go (x == m) refl (times-cons m x xs)
-      where
-        go : (b : Bool) → (x == m) ≡ b → times m (x ∷ xs) ≡ cond {A = ℕ} b 1 0 + times m xs → times m (x ∷ xs) ≤ 1
-        go false is e = omega (arith, e, few)
-        go true is e =
-            let none = zero-of (times m xs) (λ some. new (subst (λ j. IsIn j xs) (sym (eqb-true x m is)) (times-IsIn m xs some))) in
-            omega (arith, e, none)
-
     numbers-once : (keys : List ℕ) → ((k : ℕ) → times k keys ≤ 1) → (m : ℕ) → times m (numbers_from s.numbering sp from keys) ≤ 1
-    numbers-once [] once m = omega arith
-    numbers-once (k ∷ keys) once m = go (numbers-once keys (λ j. let le = times-later j k keys in let one = once j in omega (arith, le, one)) m) (number_of s.numbering k sp) refl
-      where
-        fresh : (x : ℕ) → number_of s.numbering k sp ≡ Some x → IsIn x (numbers_from s.numbering sp from keys) → ⊥
-        fresh x has on =
-            let f = numbers-in keys x on in
-            let same : k ≡ (f.1).0 = l.numbering.distinct k (f.1).0 sp x has (f.1).2 in
-            let some = IsIn-times k keys (subst (λ j. IsIn j keys) (sym same) (f.1).1) in
-            let e = times-cons k k keys in
-            let one : cond {A = ℕ} (k == k) 1 0 ≡ 1 = ap (λ b. cond {A = ℕ} b 1 0) (eq-eqb k k refl) in
-            let few = once k in
-            omega (arith, some, e, one, few)
-
-        go : times m (numbers_from s.numbering sp from keys) ≤ 1 → (o : Option ℕ) → number_of s.numbering k sp ≡ o → times m (numbers_from s.numbering sp from (k ∷ keys)) ≤ 1
-        go rest None is = rw is rest
-        go rest (Some x) is = test (nat_le from x) refl
-          where
-            test : (b : Bool) → nat_le from x ≡ b → times m (numbers_from s.numbering sp from (k ∷ keys)) ≤ 1
-            test false out = rw (is, out) rest
-            test true out = rw (is, out) (once-more m x (numbers_from s.numbering sp from keys) (fresh x is) rest)
+    numbers-once keys once m =
+        let found = once-found (λ k. number_of s.numbering k sp) (λ j k n. l.numbering.distinct j k sp n) keys once m in
+        let le = times-filter (nat_le from) m (filter_map (λ k. number_of s.numbering k sp) keys) in
+        omega (arith, found, le)
 
     -- the keys of those who belong to one owner, each once
     pub gathered : (kind : Kind) (o : ℕ) (keys : List ℕ) → ((k : ℕ) → owner_in s kind k ≡ Some o → times k keys ≡ 1)

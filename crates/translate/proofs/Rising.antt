@@ -1,5 +1,6 @@
 -- How often a number stands in a list, and lists that rise.
-use Rattle.std.proofs.Common.{◌≡◌, ◌≢◌, inl, inr, ℕ, zero, suc, ◌+◌, ◌<◌, ◌≤◌, ◌==◌, Bool, true, false, List, [], ◌∷◌, cond, refl, sym, subst, ◌∙◌, arith}
+use Rattle.std.proofs.Common.{◌≡◌, ◌≢◌, inl, inr, ℕ, zero, suc, ◌+◌, ◌<◌, ◌≤◌, ◌==◌, Bool, true, false, List, [], ◌∷◌, filter, filter_map, Option, Some, None, cond, refl, sym, ap, subst, ◌∙◌, arith}
+use Rattle.std.specs.List.{AllByRecursion}
 use Rattle.std.specs.List.Sorted.{IsNonDecreasing, IsPermutation}
 use Rattle.std.proofs.lemmas.Bool.{eq-eqb, eqb-true}
 use Rattle.std.proofs.lemmas.List.Sums.{sum_by-cons}
@@ -7,7 +8,8 @@ use Rattle.std.proofs.lemmas.List.Sorted.{sum_by-IsPermutation}
 use Rattle.member_lists.specs.Owners.{times}
 use Rattle.pid_types.specs.Membership.{IsIn}
 use Rattle.pid_types.specs.Sound.{IsRising}
-use Rattle.task_table.proofs.Places.{place-of}
+use Rattle.model_laws.proofs.Lists.{IsIn-from_filter_map}
+use Rattle.task_table.proofs.Places.{each-in, place-of}
 
 -- what is not above 0 is 0
 pub zero-of : (c : ℕ) → (0 < c → ⊥) → c ≡ 0
@@ -37,6 +39,53 @@ times-IsIn m (x ∷ xs) some = go (times-IsIn m xs) (x == m) refl (times-cons m 
     go : (0 < times m xs → IsIn m xs) → (b : Bool) → (x == m) ≡ b → times m (x ∷ xs) ≡ cond {A = ℕ} b 1 0 + times m xs → IsIn m (x ∷ xs)
     go again true is e = inl (sym (eqb-true x m is))
     go again false is e = inr (again (omega (arith, some, e)))
+
+-- where each that comes does so once, none comes twice
+pub once-each : (P : ℕ → Type 0) (ns : List ℕ) → ((n : ℕ) → P n → times n ns ≡ 1) → AllByRecursion P ns → (n : ℕ) → times n ns ≤ 1
+once-each P ns once all n = go (times n ns) refl
+  where
+    go : (c : ℕ) → times n ns ≡ c → times n ns ≤ 1
+    go zero e = omega (arith, e)
+    go (suc c) e = let one = once n (each-in P ns all n (times-IsIn n ns (omega (arith, e)))) in omega (arith, one)
+
+-- one that is new comes before others
+once-more : (m n : ℕ) (ns : List ℕ) → (IsIn n ns → ⊥) → times m ns ≤ 1 → times m (n ∷ ns) ≤ 1
+once-more m n ns new few = go (n == m) refl (times-cons m n ns)
+  where
+    go : (b : Bool) → (n == m) ≡ b → times m (n ∷ ns) ≡ cond {A = ℕ} b 1 0 + times m ns → times m (n ∷ ns) ≤ 1
+    go false is e = omega (arith, e, few)
+    go true is e =
+        let none = zero-of (times m ns) (λ some. new (subst (λ j. IsIn j ns) (sym (eqb-true n m is)) (times-IsIn m ns some))) in
+        omega (arith, e, none)
+
+-- what is looked up for keys, each of which comes once
+module _ (f : ℕ → Option ℕ) (apart : (j k m : ℕ) → f j ≡ Some m → f k ≡ Some m → j ≡ k) where
+  pub once-found : (keys : List ℕ) → ((k : ℕ) → times k keys ≤ 1) → (m : ℕ) → times m (filter_map f keys) ≤ 1
+  once-found [] once m = omega arith
+  once-found (k ∷ keys) once m = go (f k) refl (once-found keys (λ j. let le = times-later j k keys in let one = once j in omega (arith, le, one)) m)
+    where
+      fresh : (n : ℕ) → f k ≡ Some n → IsIn n (filter_map f keys) → ⊥
+      fresh n is on =
+          let g = IsIn-from_filter_map f n keys on in
+          let same : k ≡ g.0 = apart k g.0 n is g.2 in
+          let some = IsIn-times k keys (subst (λ j. IsIn j keys) (sym same) g.1) in
+          let e = times-cons k k keys in
+          let one : cond {A = ℕ} (k == k) 1 0 ≡ 1 = ap (λ b. cond {A = ℕ} b 1 0) (eq-eqb k k refl) in
+          let few = once k in
+          omega (arith, some, e, one, few)
+
+      go : (o : Option ℕ) → f k ≡ o → times m (filter_map f keys) ≤ 1 → times m (filter_map f (k ∷ keys)) ≤ 1
+      go None is rest = rw is rest
+      go (Some n) is rest = rw is (once-more m n (filter_map f keys) (fresh n is) rest)
+
+-- what a test lets through comes no more often
+pub times-filter : (p : ℕ → Bool) (m : ℕ) (ns : List ℕ) → times m (filter p ns) ≤ times m ns
+times-filter p m [] = omega arith
+times-filter p m (n ∷ ns) = go (p n) (times-filter p m ns)
+  where
+    go : (b : Bool) → times m (filter p ns) ≤ times m ns → times m (cond b (n ∷ filter p ns) (filter p ns)) ≤ times m (n ∷ ns)
+    go true le = let e = times-cons m n (filter p ns) in let f = times-cons m n ns in omega (arith, le, e, f)
+    go false le = let f = times-later m n ns in omega (arith, le, f)
 
 -- an order changes nothing of it
 pub times-permuted : (m : ℕ) (xs ys : List ℕ) → IsPermutation xs ys → times m ys ≡ times m xs
