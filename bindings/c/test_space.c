@@ -542,11 +542,17 @@ static struct pidtab_shared shared;
 /* The first fork makes the namespace 1 with the init 2, and so on. What was read once is there for good. */
 static void *reads_spaces(void *unused)
 {
+	uint64_t ids[FORKS], count;
+
 	for (uint64_t id = 1; id <= FORKS;) {
 		struct pidtab_space told = blank(), wanted = { id, 0, 1, (uint32_t)id + 1, 0 };
 		uint32_t status = pidtab_shared_space(&shared, id, &told);
 
 		CHECK(unused == NULL && (status == PIDTAB_OUT_OF_RANGE || (status == PIDTAB_DONE && is_same(&told, &wanted))));
+		/* Those that are in the root namespace are 1, 2 and so on, never fewer than were read. */
+		CHECK(pidtab_shared_inside(&shared, PIDTAB_SPACES, 0, 0, ids, FORKS, &count) == PIDTAB_DONE && count + 1 >= id && count <= FORKS);
+		for (uint64_t i = 0; i < count; i++)
+			CHECK(ids[i] == i + 1);
 		id += status == PIDTAB_DONE;
 	}
 	return NULL;

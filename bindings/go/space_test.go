@@ -201,3 +201,39 @@ func TestNamespacesBesideAWriter(t *testing.T) {
 	}
 	all.Wait()
 }
+
+func TestWhatIsInsideBesideAWriter(t *testing.T) {
+	const forks, readers = 300, 3
+	shared := openShared(t, Settings{PidMax: 32768, Workers: 1})
+	seat, err := shared.Seat()
+	if err != nil {
+		t.Fatal(err)
+	}
+	var all sync.WaitGroup
+	for range [readers]int{} {
+		all.Add(1)
+		go func() {
+			defer all.Done()
+			for before := 0; before < forks; {
+				found, err := shared.SpacesInside(0, 0)
+				if err != nil || len(found) < before {
+					t.Error(found, err)
+					return
+				}
+				for place, id := range found {
+					if id != uint64(place)+1 {
+						t.Error(found)
+						return
+					}
+				}
+				before = len(found)
+			}
+		}()
+	}
+	for range [forks]int{} {
+		if _, err := seat.Fork(1, NewNamespace); err != nil {
+			t.Fatal(err)
+		}
+	}
+	all.Wait()
+}

@@ -116,8 +116,9 @@ class Spaces(OnEachTable):
 
     def test_in_a_child(self) -> None:
         for ask in self.ways():
-            self.assertEqual(in_child(lambda: ask.space(0)), f"closed: {OTHERS}")
-            self.assertEqual(ask.space(0), ROOT)
+            for read in (ask.space, ask.spaces_inside, ask.controls_inside):
+                self.assertEqual(in_child(lambda: read(0)), f"closed: {OTHERS}")
+            self.assertEqual([ask.space(0), ask.spaces_inside(0), ask.controls_inside(0)], [ROOT, (1, 3), ()])
 
     def test_interrupts(self) -> None:
         for ask in self.ways():
@@ -126,6 +127,14 @@ class Spaces(OnEachTable):
                 places += 1
                 self.assertEqual(ask.space(3), SpaceStat(3, 0, 1, 4, True))
             self.assertGreater(places, 0)
+
+    def test_interrupts_of_what_is_inside(self) -> None:
+        for ask in self.ways():
+            places = 0
+            while CallInterrupter(places + 1, FILES).run(lambda: ask.spaces_inside()):
+                places += 1
+                self.assertEqual(ask.spaces_inside(), (1, 3))
+            self.assertGreater(places, 4)
 
     def test_values(self) -> None:
         space = self.table.ask.space(3)
@@ -183,6 +192,7 @@ class Others(unittest.TestCase):
             root = one.fork(1, new=True).root
             id = one.ask.stat(1, root).space
             self.assertEqual([one.ask.space(id), two.ask(now=True).space(id)], [SpaceStat(id, 0, 1, 2, False)] * 2)
+            self.assertEqual([one.ask.spaces_inside(), two.ask(now=True).spaces_inside(), two.ask(now=True).controls_inside()], [(id,), (id,), ()])
 
     def test_threads_beside_a_writer(self) -> None:
         need_shared()
@@ -196,7 +206,8 @@ class Others(unittest.TestCase):
                         told = shared.ask.space(id)
                     except LookupError:
                         continue
-                    if told != SpaceStat(id, 0, 1, id + 1, False):
+                    inside = shared.ask.spaces_inside()
+                    if told != SpaceStat(id, 0, 1, id + 1, False) or inside != tuple(range(1, len(inside) + 1)) or len(inside) < id:
                         faults.append(told)
                         return
                     id += 1

@@ -174,6 +174,81 @@ mod tests {
         assert_eq!(table.mk(0), Ok(10));
     }
 
+    /// The namespaces 1 and 3 are in the root, and 2 in 1. The control group 5 is in 4.
+    #[test]
+    fn each_tree() {
+        let mut table = Table::open(32768).expect("a table");
+        assert_eq!(table.spaces_inside(0, 0), Ok(Some(vec![])));
+        table.fork(1, true).expect("a child");
+        table.fork(2, true).expect("a child");
+        table.fork(1, true).expect("a child");
+        assert_eq!([table.mk(0), table.mk(4)], [Ok(4), Ok(5)]);
+        for (id, from, wanted) in [(0, 0, &[1, 3][..]), (0, 2, &[3]), (1, 0, &[2]), (3, 0, &[])] {
+            assert_eq!(table.spaces_inside(id, from), Ok(Some(wanted.to_vec())));
+        }
+        for (id, from, wanted) in [
+            (0, 0, &[4][..]),
+            (4, 0, &[5]),
+            (4, u64::MAX, &[]),
+            (5, 0, &[]),
+        ] {
+            assert_eq!(table.controls_inside(id, from), Ok(Some(wanted.to_vec())));
+        }
+        assert_eq!(table.spaces_inside(4, 0), Ok(None));
+        assert_eq!(table.controls_inside(1, 0), Ok(None));
+        // No read was a call.
+        assert_eq!(table.mk(0), Ok(6));
+    }
+
+    #[test]
+    fn more_than_there_is_room_for_at_first() {
+        let mut table = Table::open(32768).expect("a table");
+        for count in 0..3 * SHORT as u64 {
+            let made: Vec<_> = (1..=count).collect();
+            assert_eq!(table.controls_inside(0, 0), Ok(Some(made)));
+            table.mk(0).expect("a control group");
+        }
+    }
+
+    #[test]
+    fn statuses_of_what_is_inside() {
+        let mut room = 0;
+        let told = inside(|ids, _| {
+            room = ids.len();
+            raw::NO_MEMORY
+        });
+        assert_eq!((told, room), (Err(Error::NoMemory), SHORT));
+        assert_eq!(inside(|_, _| raw::BUSY), Err(Error::Busy));
+        assert_eq!(inside(|_, _| raw::OUT_OF_RANGE), Ok(None));
+    }
+
+    /// Threads read beside a writer: the namespaces in the root are 1, 2 and so on, never fewer than before.
+    #[test]
+    fn beside_a_writer() {
+        const FORKS: usize = 300;
+        let shared = crate::Shared::open(32768, 1).expect("a table");
+        std::thread::scope(|scope| {
+            for _ in 0..3 {
+                scope.spawn(|| {
+                    let mut before = 0;
+                    while before < FORKS {
+                        let ids = shared
+                            .spaces_inside(0, 0)
+                            .expect("a read")
+                            .expect("the root");
+                        assert!(ids.len() >= before);
+                        assert!((1..).zip(&ids).all(|(wanted, id)| wanted == *id));
+                        before = ids.len();
+                    }
+                });
+            }
+            let mut seat = shared.seat().expect("a seat");
+            for _ in 0..FORKS {
+                seat.fork(1, true).expect("a child");
+            }
+        });
+    }
+
     #[test]
     fn statuses() {
         let space = raw::Space::BLANK;
