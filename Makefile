@@ -293,6 +293,7 @@ READERS_TEST = test_readers shared guard guard_record
 CALLS_TEST = test_calls shared guard guard_record
 PAGE_TEST = test_page shared guard guard_record
 SPACE_TEST = test_space shared guard guard_record
+EFFECTS_TEST = test_effects shared guard guard_record
 WOULD_TEST = test_would shared guard guard_record
 SHARED_TEST = test_shared shared guard guard_record heap
 FOLLOW_TEST = test_follow shared guard guard_record heap
@@ -325,6 +326,7 @@ bindings-c:
 			$(CC) $$sanitizer -o $(OUT)/test_calls $(CALLS_TEST:%=bindings/c/%.c) $(OUT)/calls_heap.o $(OUT)/proved.a && $(RUN) $(OUT)/test_calls && \
 			$(CC) $$sanitizer -o $(OUT)/test_page $(PAGE_TEST:%=bindings/c/%.c) $(OUT)/calls_heap.o $(OUT)/proved.a && $(RUN) $(OUT)/test_page && \
 			$(CC) $$sanitizer -o $(OUT)/test_space $(SPACE_TEST:%=bindings/c/%.c) $(OUT)/calls_heap.o $(OUT)/proved.a && $(RUN) $(OUT)/test_space && \
+			$(CC) $$sanitizer -o $(OUT)/test_effects $(EFFECTS_TEST:%=bindings/c/%.c) $(OUT)/calls_heap.o $(OUT)/proved.a && $(RUN) $(OUT)/test_effects && \
 			$(CC) $$sanitizer -o $(OUT)/test_would $(WOULD_TEST:%=bindings/c/%.c) $(OUT)/calls_heap.o $(OUT)/proved.a && $(RUN) $(OUT)/test_would && \
 			$(CC) $$sanitizer -o $(OUT)/test_shared $(SHARED_TEST:%=bindings/c/%.c) $(OUT)/proved.a && $(RUN) $(OUT)/test_shared && \
 			$(CC) $$sanitizer -o $(OUT)/test_follow $(FOLLOW_TEST:%=bindings/c/%.c) $(OUT)/proved.a && $(RUN) $(OUT)/test_follow && \

@@ -22,7 +22,7 @@ KINDS = {
     "errno or -": r"E[A-Z]+|-",
     "place": r"1|K|-",
     "part": r"form|table|none",
-    "kind": r"reply|which|use|whom|tree",
+    "kind": r"reply|which|use|whom|tree|what",
     "word or -": r"[a-z][a-z0-9-]*|-",
     "type": r"number|long|size",
     "header": r"interface|saved|packages",

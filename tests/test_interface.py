@@ -50,6 +50,7 @@ DIFFERENCES = [
     ("crates/foreign_numbers/src/numbers.rt", "(reply, kinds::REFUSED, first, 0)", "(reply, kinds::END, first, 0)", "the kind Refused END is not in interface/"),
     ("crates/foreign_numbers/src/kinds.rt", "pub const KILLED: u64 = 256;", "pub const KILLED: u64 = 257;", "the bound KILLED 257 is not in interface/"),
     ("crates/pid_types/src/reply.rt", "pub enum Reply {\n", "pub enum Reply {\n    /// Nothing.\n    Nothing,\n", "the order of replies is Nothing, Forked,"),
+    ("crates/call_effects/src/effect.rt", "    Gone { number: Pid },", "    Left { number: Pid },", "the order of effects is Ended, Adopted, Left,"),
     ("crates/pid_types/src/plain.rt", "pub const LEVELS: usize = 33;", "pub const LEVELS: usize = 34;", "the bound LEVELS 34 is not in interface/"),
     ("crates/pid_types/src/config.rt", "pub const LEAST_PID_MAX: u32 = 301;", "pub const LEAST_PID_MAX: u32 = 300;", "the bound LEAST_PID_MAX 300 is not in"),
     ("crates/pid_script/src/answer.rt", "pub const LONGEST_ANSWER: usize = 362;", "pub const LONGEST_ANSWER: usize = 363;", "the bound LONGEST_ANSWER 363"),

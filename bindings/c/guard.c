@@ -17,6 +17,7 @@ uint32_t proved_space(struct pidtab *table, uint64_t id, struct pidtab_space *sp
 uint32_t proved_inside(struct pidtab *table, uint32_t tree, uint64_t id, uint64_t from, uint64_t *ids, size_t room, uint64_t *count);
 uint32_t proved_would(struct pidtab *table, const struct pidtab_call *call, struct pidtab_reply *reply);
 uint32_t proved_fork_at(struct pidtab *table, uint32_t caller, uint32_t new_space, uint32_t child, uint32_t root, struct pidtab_reply *reply);
+uint32_t proved_call_told(struct pidtab *table, const struct pidtab_call *call, struct pidtab_reply *reply, struct pidtab_effect *effects, size_t room, uint64_t *count);
 
 /* The mark is ALONE in a call, and else the number of queries. One more than the most waits until one ends. */
 #define ALONE UINT8_MAX
@@ -196,4 +197,13 @@ uint32_t pidtab_fork_at(struct pidtab *table, uint32_t caller, uint32_t new_spac
 	if (!enter(table, &held))
 		return PIDTAB_BUSY;
 	return leave(table, &held, proved_fork_at(&held, caller, new_space, child, root, reply));
+}
+
+uint32_t pidtab_call_told(struct pidtab *table, const struct pidtab_call *call, struct pidtab_reply *reply, struct pidtab_effect *effects, size_t room, uint64_t *count)
+{
+	struct pidtab held;
+
+	if (!enter(table, &held))
+		return PIDTAB_BUSY;
+	return leave(table, &held, proved_call_told(&held, call, reply, effects, room, count));
 }

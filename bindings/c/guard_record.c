@@ -14,6 +14,7 @@ uint32_t proved_record_space(struct pidtab_record *record, uint64_t id, struct p
 uint32_t proved_record_inside(struct pidtab_record *record, uint32_t tree, uint64_t id, uint64_t from, uint64_t *ids, size_t room, uint64_t *count);
 uint32_t proved_record_would(struct pidtab_record *record, const struct pidtab_call *call, struct pidtab_reply *reply);
 uint32_t proved_record_fork_at(struct pidtab_record *record, uint32_t worker, uint32_t caller, uint32_t new_space, uint32_t child, uint32_t root, struct pidtab_reply *reply, uint64_t *ordinal);
+uint32_t proved_record_call_told(struct pidtab_record *record, uint32_t worker, const struct pidtab_call *call, struct pidtab_reply *reply, uint64_t *ordinal, struct pidtab_effect *effects, size_t room, uint64_t *count);
 uint32_t proved_record_counts(struct pidtab_record *record, uint64_t *first_kept, uint64_t *recorded);
 uint32_t proved_record_worker(struct pidtab_record *record, uint32_t worker, uint64_t *calls);
 uint32_t proved_record_entry(struct pidtab_record *record, uint64_t ordinal, uint64_t *worker, struct pidtab_call *call, struct pidtab_reply *reply);
@@ -196,6 +197,15 @@ uint32_t pidtab_record_fork_at(struct pidtab_record *record, uint32_t worker, ui
 	if (!enter(record, &held))
 		return PIDTAB_BUSY;
 	return leave(record, &held, proved_record_fork_at(&held, worker, caller, new_space, child, root, reply, ordinal));
+}
+
+uint32_t pidtab_record_call_told(struct pidtab_record *record, uint32_t worker, const struct pidtab_call *call, struct pidtab_reply *reply, uint64_t *ordinal, struct pidtab_effect *effects, size_t room, uint64_t *count)
+{
+	struct pidtab_record held;
+
+	if (!enter(record, &held))
+		return PIDTAB_BUSY;
+	return leave(record, &held, proved_record_call_told(&held, worker, call, reply, ordinal, effects, room, count));
 }
 
 uint32_t pidtab_record_counts(const struct pidtab_record *record, uint64_t *first_kept, uint64_t *recorded)

@@ -74,7 +74,7 @@ static inline const char *pidtab_text(uint32_t status)
 	case PIDTAB_OUT_OF_RANGE:
 		return "pid_max, or what a call takes, is out of range";
 	case PIDTAB_NO_ROOM:
-		return "there is not enough room for the text";
+		return "there is not enough room";
 	case PIDTAB_EMPTY_LINE:
 		return "an empty line has no answer";
 	case PIDTAB_BAD_LINE:
@@ -216,6 +216,12 @@ enum pidtab_whom {
 enum pidtab_tree {
 	PIDTAB_SPACES = 0,  /* the namespaces that are directly in the one with the id */
 	PIDTAB_CONTROLS = 1 /* the control groups that are directly in the one with the id */
+};
+
+enum pidtab_what {
+	PIDTAB_TASK_ENDED = 0,   /* the task ended: value is its status, 0 to 255, or PIDTAB_KILLED where its namespace fell */
+	PIDTAB_TASK_ADOPTED = 1, /* the task has another parent: value is the root number of that */
+	PIDTAB_TASK_GONE = 2     /* the task is there no more, as it was reaped or went with its namespace: value is 0 */
 };
 /* The end of choices. */
 
@@ -365,6 +371,27 @@ uint32_t pidtab_would(const struct pidtab *table, const struct pidtab_call *call
  * as it was told, or not at all. DONE; CLOSED; OUT_OF_RANGE for a new_space that is neither 0 nor 1; SPENT; DIFFERS where the fork would get another
  * reply, a refusal too, which reply then is; NO_MEMORY. */
 uint32_t pidtab_fork_at(struct pidtab *table, uint32_t caller, uint32_t new_space, uint32_t child, uint32_t root, struct pidtab_reply *reply);
+
+/* What a call did to a task. */
+struct pidtab_effect {
+	uint32_t what;   /* an enum pidtab_what */
+	uint32_t number; /* the root number of the task */
+	uint64_t value;  /* as what says */
+};
+
+/* Makes a call as pidtab_call does, and tells what it did to tasks besides: who ended, who has another parent, and who is there no more. So the exit
+ * of a namespace's init tells whom the kernel would kill, and each other exit who takes its children. Of a call that does nothing of this count is 0.
+ *
+ * effects has them by root numbers in rising order, and what is behind them stays. Of a task that ended and is gone it has both, in this order. count
+ * is how many there are.
+ *
+ * No effect is lost: the call is made only where there is room for two on each task that it may touch. These are the caller of an exit and its
+ * children, or all in the namespace whose init it is, and one task for a wait, a setpgid and a setsid. Where room is less it is NO_ROOM, and count is
+ * the room that the call takes; a room of 0 so asks for it. Behind another call it may take more.
+ *
+ * DONE, CLOSED, OUT_OF_RANGE, SPENT, NO_ROOM, and NO_MEMORY for FORK, MK, EXIT, WAIT, SETPGID and SETSID alone: the list takes memory, and has it before
+ * the call is made. Of each status but DONE, reply and effects are as they were, and count is so too but for NO_ROOM. */
+uint32_t pidtab_call_told(struct pidtab *table, const struct pidtab_call *call, struct pidtab_reply *reply, struct pidtab_effect *effects, size_t room, uint64_t *count);
 
 /* Writes the call as a line of the script language, without a newline and a zero byte: pidtab_line makes the same call of it. It needs
  * no table. DONE; OUT_OF_RANGE where the numbers say no call; NO_ROOM where the line is longer than the room, and then too size is its
@@ -616,6 +643,10 @@ uint32_t pidtab_record_would(const struct pidtab_record *record, const struct pi
 
 /* Makes a fork as pidtab_fork_at does, for the worker, and records it. DONE, CLOSED, OUT_OF_RANGE, SPENT, DIFFERS, NO_MEMORY. */
 uint32_t pidtab_record_fork_at(struct pidtab_record *record, uint32_t worker, uint32_t caller, uint32_t new_space, uint32_t child, uint32_t root, struct pidtab_reply *reply, uint64_t *ordinal);
+
+/* Makes a call and tells its effects as pidtab_call_told does, for the worker, and records it. DONE, CLOSED, OUT_OF_RANGE, SPENT, NO_ROOM, and NO_MEMORY
+ * for any call. */
+uint32_t pidtab_record_call_told(struct pidtab_record *record, uint32_t worker, const struct pidtab_call *call, struct pidtab_reply *reply, uint64_t *ordinal, struct pidtab_effect *effects, size_t room, uint64_t *count);
 
 /* The ordinal of the first kept entry, and how many calls were recorded, the cut ones too. DONE, CLOSED. */
 uint32_t pidtab_record_counts(const struct pidtab_record *record, uint64_t *first_kept, uint64_t *recorded);

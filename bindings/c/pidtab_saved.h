@@ -151,10 +151,10 @@ uint32_t pidtab_saved_serve(struct pidtab_saved *saved, struct pidtab_shared *sh
  * with its errno where it is DEVICE: whether the call is saved is not known. ENDED. Before the first turn it waits. */
 uint32_t pidtab_saved_wait(struct pidtab_shared *shared, uint64_t ordinal);
 
-/* From now on at most so many calls are recorded and not saved; 0, as at first, is any number. A call of pidtab_shared_call or
- * pidtab_shared_line that would be one more waits for the saver, as pidtab_saved_wait does; so do those of pidtab_shared_calls that would be
- * too many, and more than the bound until all are saved. Where the saver's last turn failed, or it has ended, none is made, and the answer
- * is that status. */
+/* From now on at most so many calls are recorded and not saved; 0, as at first, is any number. A call of pidtab_shared_call,
+ * pidtab_shared_line, pidtab_shared_fork_at or pidtab_shared_call_told that would be one more waits for the saver, as pidtab_saved_wait does.
+ * So do those of pidtab_shared_calls that would be too many, and more than the bound until all are saved. Where the saver's last turn failed,
+ * or it has ended, none is made, and the answer is that status. */
 void pidtab_saved_bound(struct pidtab_shared *shared, uint64_t most);
 
 /* Ends the saver, for good: pidtab_saved_serve saves what was recorded, and answers. What waits, or comes to wait, for a call that is not

@@ -65,8 +65,8 @@ uint32_t pidtab_shared_seat(struct pidtab_shared *shared, uint32_t *worker);
 struct pidtab_record *pidtab_shared_lock(struct pidtab_shared *shared);
 void pidtab_shared_unlock(struct pidtab_shared *shared);
 
-/* What the functions of pidtab.h with these names do. Where pidtab_saved_bound of pidtab_saved.h has set a bound, a call, a line and a fork_at wait
- * for the saver, and may answer its status. */
+/* What the functions of pidtab.h with these names do. Where pidtab_saved_bound of pidtab_saved.h has set a bound, a call, a line, a fork_at and a
+ * call_told wait for the saver, and may answer its status. */
 uint32_t pidtab_shared_call(struct pidtab_shared *shared, uint32_t worker, const struct pidtab_call *call, struct pidtab_reply *reply, uint64_t *ordinal);
 /* pidtab_record_calls under one lock, so no call of another thread comes between. A bound has it wait until there is room for all of the calls, or
  * all that was recorded is saved. Entries are cut behind the last call. */
@@ -79,6 +79,7 @@ uint32_t pidtab_shared_space(struct pidtab_shared *shared, uint64_t id, struct p
 uint32_t pidtab_shared_inside(struct pidtab_shared *shared, uint32_t tree, uint64_t id, uint64_t from, uint64_t *ids, size_t room, uint64_t *count);
 uint32_t pidtab_shared_would(struct pidtab_shared *shared, const struct pidtab_call *call, struct pidtab_reply *reply);
 uint32_t pidtab_shared_fork_at(struct pidtab_shared *shared, uint32_t worker, uint32_t caller, uint32_t new_space, uint32_t child, uint32_t root, struct pidtab_reply *reply, uint64_t *ordinal);
+uint32_t pidtab_shared_call_told(struct pidtab_shared *shared, uint32_t worker, const struct pidtab_call *call, struct pidtab_reply *reply, uint64_t *ordinal, struct pidtab_effect *effects, size_t room, uint64_t *count);
 uint32_t pidtab_shared_counts(struct pidtab_shared *shared, uint64_t *first_kept, uint64_t *recorded);
 uint32_t pidtab_shared_worker(struct pidtab_shared *shared, uint32_t worker, uint64_t *calls);
 uint32_t pidtab_shared_entry(struct pidtab_shared *shared, uint64_t ordinal, uint64_t *worker, struct pidtab_call *call, struct pidtab_reply *reply);

@@ -361,6 +361,15 @@ uint32_t pidtab_shared_fork_at(struct pidtab_shared *shared, uint32_t worker, ui
 	return end_call(shared, pidtab_record_fork_at(&shared->record, worker, caller, new_space, child, root, reply, ordinal));
 }
 
+uint32_t pidtab_shared_call_told(struct pidtab_shared *shared, uint32_t worker, const struct pidtab_call *call, struct pidtab_reply *reply, uint64_t *ordinal, struct pidtab_effect *effects, size_t room, uint64_t *count)
+{
+	uint32_t status = begin_call(shared);
+
+	if (status != PIDTAB_DONE)
+		return status;
+	return end_call(shared, pidtab_record_call_told(&shared->record, worker, call, reply, ordinal, effects, room, count));
+}
+
 /* Written by tools/interface: forwards. */
 
 uint32_t pidtab_shared_ask(struct pidtab_shared *shared, const struct pidtab_call *call, struct pidtab_reply *reply)

@@ -7,6 +7,7 @@
 #include <inttypes.h>
 
 #define ENTRIES 4096
+#define EFFECTS 256
 #define TEXT (1 << 20)
 
 struct named {
@@ -290,6 +291,58 @@ static void make_call(const char *line)
 		make_again(&call, &reply, asked);
 }
 
+/* The call of a line, as a record of its own has it. */
+static struct pidtab_call call_of(const char *line)
+{
+	struct pidtab_record scratch = PIDTAB_RECORD_INIT;
+	char answer[PIDTAB_LONGEST_ANSWER];
+	struct pidtab_call call;
+	struct pidtab_reply reply;
+	uint64_t ordinal, by;
+	size_t size;
+
+	CHECK(pidtab_record_open(&scratch, 301, 1, 1) == PIDTAB_DONE);
+	CHECK(pidtab_record_line(&scratch, 0, line, strlen(line), answer, sizeof answer, &size, &ordinal) == PIDTAB_DONE);
+	CHECK(pidtab_record_entry(&scratch, ordinal, &by, &call, &reply) == PIDTAB_DONE && pidtab_record_close(&scratch) == PIDTAB_DONE);
+	return call;
+}
+
+static struct pidtab_effect effects[EFFECTS], others[EFFECTS];
+
+static void say_effect(char *to, const struct pidtab_effect *it)
+{
+	static const char *const words[] = { [PIDTAB_TASK_ENDED] = "ended", [PIDTAB_TASK_ADOPTED] = "adopted", [PIDTAB_TASK_GONE] = "gone" };
+
+	to += sprintf(to, ", %s %" PRIu32, words[it->what], it->number);
+	if (it->what == PIDTAB_TASK_GONE)
+		CHECK(it->value == 0);
+	else if (it->what == PIDTAB_TASK_ADOPTED)
+		sprintf(to, " %" PRIu64, it->value);
+	else
+		say_end(strcpy(to, " ") + 1, it->value);
+}
+
+/* Makes the call, and tells its answer and what it did to tasks. Of the tables one makes it by its line. */
+static void make_told(const char *line)
+{
+	struct pidtab_call call = call_of(line), recorded;
+	struct pidtab_reply reply, other;
+	uint64_t ordinal, by, count, again;
+	char answer[PIDTAB_LONGEST_ANSWER + 1];
+
+	if (!done(pidtab_shared_call_told(&shared, worker, &call, &reply, &ordinal, effects, EFFECTS, &count)))
+		return;
+	CHECK(ordinal == calls++ && pidtab_shared_entry(&shared, ordinal, &by, &recorded, &other) == PIDTAB_DONE && by == worker && same_reply(&reply, &other));
+	say(told, &reply);
+	for (int i = 1; i < 3 && has_tables; i++) {
+		CHECK(pidtab_call_told(&tables[i], &call, &other, others, EFFECTS, &again) == PIDTAB_DONE && same_reply(&reply, &other));
+		CHECK(again == count && memcmp(effects, others, (size_t)count * sizeof *effects) == 0);
+	}
+	CHECK(!has_tables || (ask(&tables[0], line, answer) == PIDTAB_DONE && strcmp(answer, told) == 0));
+	for (uint64_t i = 0; i < count; i++)
+		say_effect(told + strlen(told), &effects[i]);
+}
+
 /* The line for each number, which stands in the place of #. None is refused. */
 static void make_each(uint64_t from, uint64_t to, const char *form)
 {
@@ -521,6 +574,8 @@ static bool make(const char *step, const char *wanted)
 		worker = (uint32_t)numbers[0];
 	else if (strcmp(word, "each") == 0)
 		make_each(numbers[0], numbers[1], strchr(strchr(strchr(step, ' ') + 1, ' ') + 1, ' ') + 1);
+	else if (strcmp(word, "told") == 0)
+		make_told(step + strlen("told "));
 	else if (strcmp(word, "stat") == 0)
 		read_task((uint32_t)numbers[0], (uint32_t)numbers[1]);
 	else if (strcmp(word, "page") == 0)

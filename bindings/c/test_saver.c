@@ -158,27 +158,48 @@ static void no_turn_too_far(void)
 	end();
 }
 
-/* One call more than the bound, and by a line. */
+/* As many calls as the bound. */
+static void reaches_the_bound(void)
+{
+	uint64_t ordinal;
+
+	for (uint64_t i = 0; i < BOUND; i++)
+		CHECK(asks(0, &ordinal) == PIDTAB_DONE && ordinal == i);
+}
+
+/* One more, by a line. */
 static void *makes_one_too_many(void *unused)
 {
 	char answer[PIDTAB_LONGEST_ANSWER];
 	uint64_t ordinal;
 	size_t size;
 
-	for (uint64_t i = 0; i < BOUND; i++)
-		CHECK(asks(0, &ordinal) == PIDTAB_DONE && ordinal == i);
+	reaches_the_bound();
 	CHECK(pidtab_shared_line(&shared, 0, "getpid 1", 8, answer, sizeof answer, &size, &ordinal) == PIDTAB_DONE && ordinal == BOUND);
 	return unused;
 }
 
+/* One more, which tells its effects. */
+static void *tells_one_too_many(void *unused)
+{
+	const struct pidtab_call call = { .operation = PIDTAB_GETPID, .caller = 1 };
+	struct pidtab_effect effects[1];
+	struct pidtab_reply reply;
+	uint64_t ordinal, count;
+
+	reaches_the_bound();
+	CHECK(pidtab_shared_call_told(&shared, 0, &call, &reply, &ordinal, effects, 0, &count) == PIDTAB_DONE && ordinal == BOUND && count == 0);
+	return unused;
+}
+
 /* A call that waits is let go by an append, and by another bound. */
-static void let_go(bool by_append)
+static void let_go(void *(*makes)(void *), bool by_append)
 {
 	pthread_t thread;
 
 	begin();
 	pidtab_saved_bound(&shared, BOUND);
-	CHECK(pthread_create(&thread, NULL, makes_one_too_many, NULL) == 0);
+	CHECK(pthread_create(&thread, NULL, makes, NULL) == 0);
 	while (count_recorded() < BOUND)
 		sched_yield();
 	if (by_append)
@@ -340,8 +361,10 @@ int main(void)
 	all_is_saved_and_cut();
 	never_too_far();
 	no_turn_too_far();
-	let_go(true);
-	let_go(false);
+	let_go(makes_one_too_many, true);
+	let_go(makes_one_too_many, false);
+	let_go(tells_one_too_many, true);
+	let_go(tells_one_too_many, false);
 	fails_and_goes_on();
 	not_on_the_disk();
 	ended();

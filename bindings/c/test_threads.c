@@ -49,6 +49,19 @@ static void *forks_on(void *unused)
 	return unused;
 }
 
+/* A child of the root init ends: that its effects are told takes memory. */
+static const struct pidtab_call exit_2 = { .operation = PIDTAB_EXIT, .caller = 2 };
+
+static void *tells_an_end(void *unused)
+{
+	struct pidtab_effect effects[2];
+	struct pidtab_reply reply;
+	uint64_t count;
+
+	CHECK(pidtab_call_told(&table, &exit_2, &reply, effects, 2, &count) == PIDTAB_DONE && count == 1 && effects[0].number == 2);
+	return unused;
+}
+
 static void *lists(void *unused)
 {
 	static char text[1 << 20];
@@ -88,12 +101,15 @@ static void each_call_is_busy(void)
 	struct pidtab_call call = { PIDTAB_GETPID, 1, 0, 0, 0, 0, 0 };
 	struct pidtab_reply reply = { .kind = 77 };
 	struct pidtab_fault fault = { 77, 77 };
+	struct pidtab_effect effect = { .number = 77 };
+	uint64_t count = 77;
 
 	CHECK(pidtab_open(&table, 32768) == PIDTAB_BUSY && pidtab_open(&table, 0) == PIDTAB_BUSY);
 	CHECK(pidtab_line(&table, "getpid 1", 8, room, sizeof room, &size) == PIDTAB_BUSY);
 	CHECK(pidtab_load(&table, room, sizeof room, &fault) == PIDTAB_BUSY && fault.kind == 0 && fault.line == 0);
 	CHECK(size == 7 && strcmp(room, "kept") == 0);
 	CHECK(pidtab_call(&table, &call, &reply) == PIDTAB_BUSY && reply.kind == 77);
+	CHECK(pidtab_call_told(&table, &call, &reply, &effect, 1, &count) == PIDTAB_BUSY && reply.kind == 77 && effect.number == 77 && count == 77);
 	CHECK(pidtab_fork(&table, 1, false, NULL) == -PIDTAB_BUSY);
 	CHECK(pidtab_close(&table) == PIDTAB_BUSY);
 }
@@ -138,6 +154,16 @@ static void *calls(void *unused)
 
 	while (hold)
 		CHECK(pidtab_record_call(&record, 0, &fork_1, &reply, &ordinal) == PIDTAB_DONE && reply.kind == PIDTAB_FORKED);
+	return unused;
+}
+
+static void *tells_a_recorded_end(void *unused)
+{
+	struct pidtab_effect effects[2];
+	struct pidtab_reply reply;
+	uint64_t ordinal, count;
+
+	CHECK(pidtab_record_call_told(&record, 1, &exit_2, &reply, &ordinal, effects, 2, &count) == PIDTAB_DONE && count == 1 && effects[0].number == 2);
 	return unused;
 }
 
@@ -235,11 +261,14 @@ static void each_call_of_a_record_is_busy(void)
 	struct pidtab_call call = { .operation = PIDTAB_GETPID, .caller = 1 };
 	struct pidtab_reply reply = { .kind = 77 };
 	struct pidtab_fault fault = { 77, 77 };
+	struct pidtab_effect effect = { .number = 77 };
+	uint64_t count = 77;
 
 	CHECK(pidtab_record_open(&record, 32768, 1, 2) == PIDTAB_BUSY && pidtab_record_open(&record, 0, 0, 0) == PIDTAB_BUSY);
 	CHECK(pidtab_record_call(&record, 0, &call, &reply, &one) == PIDTAB_BUSY);
 	CHECK(pidtab_record_call_keeping(&record, 0, &call, 1, &reply, &one) == PIDTAB_BUSY && pidtab_record_keep(&record, 0) == PIDTAB_BUSY);
 	CHECK(pidtab_record_line(&record, 0, "getpid 1", 8, room, sizeof room, &size, &one) == PIDTAB_BUSY);
+	CHECK(pidtab_record_call_told(&record, 0, &call, &reply, &one, &effect, 1, &count) == PIDTAB_BUSY && effect.number == 77 && count == 77);
 	CHECK(pidtab_record_replay(&record, &saved, 1, &size) == PIDTAB_BUSY);
 	CHECK(pidtab_record_checkpoint(&record) == PIDTAB_BUSY && pidtab_record_checkpoint_at(&record, 0) == PIDTAB_BUSY);
 	CHECK(pidtab_record_load(&record, room, sizeof room, &one, 1, &fault) == PIDTAB_BUSY && fault.kind == 0 && fault.line == 0);
@@ -293,6 +322,7 @@ static void in_the_middle_of_each(void)
 	CHECK(pidtab_getpid(&table, 1) == 1 && pidtab_open(&table, 32768) == PIDTAB_BUSY);
 	while_another(asks_lines, each_function_is_busy);
 	while_another(forks_on, each_function_is_busy);
+	while_another(tells_an_end, each_function_is_busy);
 	while_another(lists, each_call_is_busy);
 	int64_t tasks = pidtab_count(&table, 0);
 	CHECK(tasks > 1 && pidtab_fork(&table, 1, false, NULL) > 1 && pidtab_count(&table, 0) == tasks + 1);
@@ -319,7 +349,7 @@ static void save_a_call(void)
 static void in_the_middle_of_each_of_a_record(void)
 {
 	void *(*const queries[])(void *) = { lists_record, lists_opening, dumps_record };
-	void *(*const others[])(void *) = { calls, writes_lines, replays, cuts, cuts_at, closes_record, loads_record, closes_record };
+	void *(*const others[])(void *) = { calls, tells_a_recorded_end, writes_lines, replays, cuts, cuts_at, closes_record, loads_record, closes_record };
 
 	while_another(opens_record, each_function_of_a_record_is_busy);
 	save_a_call();

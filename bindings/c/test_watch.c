@@ -126,15 +126,16 @@ static void each_is_woken(void)
 	pidtab_shared_close(&shared);
 }
 
-/* Calls that are made under the lock wake too, and a call by a line. */
+/* Calls that are made under the lock wake too, a call by a line, and one that tells its effects. */
 static void calls_of_each_kind(void)
 {
 	const struct pidtab_call call = { .operation = PIDTAB_GETPID, .caller = 1 };
 	char answer[PIDTAB_LONGEST_ANSWER];
 	struct pidtab_record *record;
+	struct pidtab_effect effects[1];
 	struct pidtab_reply reply;
 	struct waiter waiter;
-	uint64_t ordinal;
+	uint64_t ordinal, count;
 	size_t size;
 
 	begin();
@@ -149,6 +150,10 @@ static void calls_of_each_kind(void)
 	let_sleep();
 	CHECK(pidtab_shared_line(&shared, 0, "getpid 1", 8, answer, sizeof answer, &size, &ordinal) == PIDTAB_DONE);
 	told(&waiter, PIDTAB_DONE, 4);
+	start(&waiter, 4);
+	let_sleep();
+	CHECK(pidtab_shared_call_told(&shared, 0, &call, &reply, &ordinal, effects, 0, &count) == PIDTAB_DONE);
+	told(&waiter, PIDTAB_DONE, 5);
 	pidtab_shared_close(&shared);
 }
 

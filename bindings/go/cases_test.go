@@ -130,7 +130,8 @@ func (it *caseWorld) call(line string) string {
 	if len(it.tables) > 0 {
 		it.same(of(it.tables[1].Ask(entry.Call)), asked)
 		it.same(of(it.tables[1].Would(entry.Call)), told{entry.Reply, nil})
-		it.same(of(it.tables[1].Call(entry.Call)), told{entry.Reply, nil})
+		reply, _, err := it.tables[1].Told(entry.Call)
+		it.same(of(reply, err), told{entry.Reply, nil})
 		found := byItsMethod(it.tables[2].calls, entry.Call)
 		it.same(found.err, entry.Reply.Err())
 		if found.err == nil {
@@ -138,6 +139,45 @@ func (it *caseWorld) call(line string) string {
 		}
 	}
 	return answer
+}
+
+// callOn is the call on a line, by the entry of another table.
+func (it *caseWorld) callOn(line string) Call {
+	shared := openShared(it.T, Settings{PidMax: 32768, Workers: 1})
+	_, err := seatOf(it.T, shared).Line(line)
+	it.check(err)
+	entry, err := shared.Entry(0)
+	it.check(err)
+	return entry.Call
+}
+
+// callTold is the answer to the line, and behind it what the call does to tasks, which are the same of each table.
+func (it *caseWorld) callTold(line string) string {
+	seat, call := it.seats[it.at], it.callOn(line)
+	reply, effects, err := seat.Told(call)
+	it.check(err)
+	ordinal, _ := seat.Ordinal()
+	it.same(of(it.shared.Entry(ordinal)), told{Entry{ordinal, uint32(it.at), call, reply}, nil})
+	for _, table := range it.tables {
+		other, others, err := table.Told(call)
+		it.same([]any{other, others, err}, []any{reply, effects, nil})
+	}
+	said := sayReply(reply)
+	for _, effect := range effects {
+		said += ", " + sayEffect(effect)
+	}
+	return said
+}
+
+// sayEffect is what has become of a task.
+func sayEffect(effect Effect) string {
+	switch effect.Kind {
+	case EffectEnded:
+		return fmt.Sprintf("ended %d %s", effect.Number, sayEnd(effect.Status, effect.Killed))
+	case EffectAdopted:
+		return fmt.Sprintf("adopted %d %d", effect.Number, effect.Parent)
+	}
+	return fmt.Sprintf("gone %d", effect.Number)
 }
 
 // Written by tools/interface: calls.
@@ -483,6 +523,8 @@ func (it *caseWorld) step(step, text string) (found string, err error) {
 	case "json":
 		it.call(strings.Join(words[1:], " "))
 		return asJSON(it.T, it.told), nil
+	case "told":
+		return it.callTold(strings.Join(words[1:], " ")), nil
 	case "stat":
 		return it.stat(uint32(numbers[0]), uint32(numbers[1])), nil
 	case "page":

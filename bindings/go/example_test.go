@@ -243,3 +243,41 @@ func ExampleTable_ForkAt() {
 	// true <nil>
 	// false <nil>
 }
+
+// What an exit does to other tasks, and then that of a namespace's init.
+func ExampleTable_Told() {
+	table, err := pidtab.Open(32768)
+	if err != nil {
+		log.Fatal(err)
+	}
+	defer table.Close()
+	// 2 is the init of a namespace, in which are its child 3 and the child 4 of that.
+	table.Fork(1, pidtab.NewNamespace)
+	table.Fork(2, pidtab.NoNewNamespace)
+	table.Fork(3, pidtab.NoNewNamespace)
+	for _, task := range []uint32{3, 2} {
+		_, effects, err := table.Told(pidtab.Call{Operation: pidtab.OpExit, Caller: task, Number: 7})
+		fmt.Println("exit", task, err)
+		for _, effect := range effects {
+			switch {
+			case effect.Kind == pidtab.EffectAdopted:
+				fmt.Println(effect.Number, "is a child of", effect.Parent, "now")
+			case effect.Kind == pidtab.EffectGone:
+				fmt.Println(effect.Number, "is gone")
+			case effect.Killed:
+				fmt.Println(effect.Number, "is killed")
+			default:
+				fmt.Println(effect.Number, "ends with", effect.Status)
+			}
+		}
+	}
+	// Output:
+	// exit 3 <nil>
+	// 3 ends with 7
+	// 4 is a child of 2 now
+	// exit 2 <nil>
+	// 2 ends with 7
+	// 3 is gone
+	// 4 is killed
+	// 4 is gone
+}

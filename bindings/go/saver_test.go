@@ -150,6 +150,7 @@ func TestASaverThatFails(t *testing.T) {
 	}
 	want(t, "too far", of(seat.Getpid(1)), uint32(0), ErrUnsaved)
 	want(t, "too far", of(seat.Line("getpid 1")), "", ErrUnsaved)
+	isNotMade(t, seat, exitOf(2, 0), ErrUnsaved)
 	want(t, "counts", of(shared.Counts()), Counts{0, 1}, nil)
 	// A sync that fails: the call is given to the disk, and counts as not saved.
 	err := shared.Serve(to, saved, 0, func() error { return syscall.EIO })

@@ -529,6 +529,25 @@ func (seat *Seat) ForkAt(caller uint32, newSpace bool, child Child) (bool, error
 	return isMade(own.after(status, ordinal))
 }
 
+// Told makes the call, and tells what it did to tasks beside its reply, as Told of a Table does. It is recorded as any call. ErrOutOfRange.
+func (seat *Seat) Told(call Call) (Reply, []Effect, error) {
+	own, numbers, reply := seat.place(), call.numbers(), new(C.struct_pidtab_reply)
+	own.held.lock.LockForCall()
+	defer own.held.lock.Unlock()
+	var ordinal C.uint64_t
+	var effects []Effect
+	status := own.held.waitForSaver(1)
+	if status == C.PIDTAB_DONE {
+		effects, status = tellEffects(func(effects *C.struct_pidtab_effect, room C.size_t, count *C.uint64_t) C.uint32_t {
+			return C.pidtab_record_call_told(own.held.raw, C.uint32_t(own.worker), &numbers, reply, &ordinal, effects, room, count)
+		})
+	}
+	if status == C.PIDTAB_DONE {
+		own.held.labels.replied(reply)
+	}
+	return toldOf(reply, effects, own.after(status, ordinal))
+}
+
 // Line makes the call on a line of the script language, without its newline. What the table refuses is an answer, as `ESRCH no-caller`.
 // ErrEmptyLine, ErrBadLine, and what a call may answer.
 func (seat *Seat) Line(line string) (string, error) {

@@ -95,6 +95,25 @@ func (table *Table) ForkAt(caller uint32, newSpace bool, child Child) (bool, err
 	return isMade(status)
 }
 
+// Told makes the call, and tells what it did to tasks beside its reply, which may be a refusal: who ended, who has another parent, and who is gone, by
+// root numbers in rising order. Of a task that ended and is gone there are both, in this order. So the exit of a namespace's init tells whom the kernel
+// would kill, and each other exit who takes the children.
+//
+// It costs what the call costs, and some searches for each task that it may touch. ErrOutOfRange, ErrClosed, ErrSpent, ErrBusy, and ErrNoMemory for a fork,
+// a mk, an exit, a wait, a setpgid and a setsid: then the call was not made.
+func (table *Table) Told(call Call) (Reply, []Effect, error) {
+	held, numbers, reply := table.held(), call.numbers(), new(C.struct_pidtab_reply)
+	held.lock.Lock()
+	defer held.lock.Unlock()
+	effects, status := tellEffects(func(effects *C.struct_pidtab_effect, room C.size_t, count *C.uint64_t) C.uint32_t {
+		return C.pidtab_call_told(&held.raw, &numbers, reply, effects, room, count)
+	})
+	if status == C.PIDTAB_DONE {
+		held.labels.replied(reply)
+	}
+	return toldOf(reply, effects, status)
+}
+
 // isMade is whether a fork was made with the numbers that were wanted.
 func isMade(status C.uint32_t) (bool, error) {
 	if status == C.PIDTAB_DIFFERS {

@@ -72,7 +72,7 @@ func TestEachThatWaitsIsWoken(t *testing.T) {
 	if isOver(last) {
 		t.Error("woken too early")
 	}
-	ask(t, seat)
+	isTold(t, seat, exitOf(1, 0))
 	want(t, "the last", <-last, uint64(3), nil)
 }
 

@@ -222,6 +222,20 @@ export interface EachCall extends Queries {
   // The end of calls.
 }
 
+/** What a call did to a task, by root numbers: it lives no more, it has another parent, or it is there no more, as it was reaped or went with its namespace. */
+export type Effect =
+  | { what: "ended"; number: number; status: number | null; killed: boolean }
+  | { what: "adopted"; number: number; parent: number }
+  | { what: "gone"; number: number };
+
+/** The answer of a call, and what it did to tasks in the rising order of their numbers. Of a task that ended and is gone there are both, in this order. */
+export interface Told<Answer> {
+  answer: Answer;
+  effects: Effect[];
+}
+
+type ToldCalls = { [Name in keyof EachCall]: (...taken: Parameters<EachCall[Name]>) => Told<ReturnType<EachCall[Name]>> };
+
 /** The calls on a table. It begins with one task, the root init, number 1. */
 export interface Calls extends EachCall {
   /** Numbers are below it. */
@@ -230,6 +244,9 @@ export interface Calls extends EachCall {
   readonly ask: Ask;
   /** What each call would answer: the numbers of a fork, and whom a wait would reap. It throws what the call would throw, and nothing changes. */
   readonly would: EachCall;
+  /** Calls that tell what they did to tasks: who ended, who has another parent, and who is gone. Each is made, and throws what the call throws. They take
+   * memory for that: where there is none, it is a NoMemory, and no call was made. */
+  readonly told: ToldCalls;
   /** The answer to a raw line. A refusal is thrown, a line of another language is a BadLine, and an empty one a RangeError. */
   line(text: string): string;
   /** The answers to many raw lines: refusals, "bad line", "no memory" and "spent" are answers here. */

@@ -14,13 +14,14 @@ LAWS = "crates/model_laws/specs/Refusals.antt"
 LINE = "crates/pid_script/src/line.rt"
 NUMBERS = "crates/foreign_numbers/src/numbers.rt"
 SAVED_NUMBERS = "crates/saved_form/src/numbers.rt"
+EFFECT = "crates/call_effects/src/effect.rt"
 FAULT_WORDS = "crates/table_load/src/fault.rt"
 FORM_WORDS = "crates/table_text/src/fault.rt"
 OF_CALLS = (REPLY, CALL, LAWS, LINE, SAVED_NUMBERS)
 OF_FAULTS = (FAULT_WORDS, FORM_WORDS)
 OF_BOUNDS = [f"crates/{path}.rt" for path in ("foreign_numbers/src/kinds", "foreign_calls/src/record", "pid_script/src/answer", "pid_script/src/call", "pid_types/src/config", "pid_types/src/plain",
                                               "pidtab_c/src/lib", "saved_form/src/block", "saved_form/src/layout")]  # fmt: skip
-PATHS = (*OF_CALLS, NUMBERS, *OF_FAULTS, *OF_BOUNDS)
+PATHS = (*OF_CALLS, NUMBERS, EFFECT, *OF_FAULTS, *OF_BOUNDS)
 
 
 def variants(source, begin):
@@ -84,8 +85,8 @@ def compare_faults(tables, top):
 
 
 def compare_kinds(tables, top):
-    """All that the crates have of the kinds of a reply."""
-    numbers, reply, saved = Source(top, NUMBERS), Source(top, REPLY), Source(top, SAVED_NUMBERS)
+    """All that the crates have of the kinds of a reply, and the kinds of an effect."""
+    numbers, reply, saved, effect = [Source(top, path) for path in (NUMBERS, REPLY, SAVED_NUMBERS, EFFECT)]
     replies = of(tables, "reply")
     told = numbers.found(r"Reply::(\w+)[^=]*?=> (?:\{\s*)?put_values\(reply, kinds::(\w+)") + numbers.found(r"^fn put_(levels|refusal)\((?:.|\n)*?put_values\(reply, kinds::(\w+)")
     models = {"levels": "Levels", "refusal": "Refused"}
@@ -95,7 +96,9 @@ def compare_kinds(tables, top):
     reply.same_order("the order of replies", line, names, [it.model for it in replies])
     saved.same_matches("the kind", r"^/// \| (\d+) \| `([A-Z]\w+)` \|", [(str(it.number), it.model) for it in replies])
     saved.same_matches("the kind", r"^pub const LEVELS_KIND: u32 = (\d+);", [(str(it.number),) for it in replies if it.name == "LEVELS"])
-    return numbers.faults + reply.faults + saved.faults
+    names, line = variants(effect, "\npub enum Effect {\n")
+    effect.same_order("the order of effects", line, names, [it.model for it in of(tables, "what")])
+    return numbers.faults + reply.faults + saved.faults + effect.faults
 
 
 def compare_bounds(tables, top):

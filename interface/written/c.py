@@ -89,10 +89,11 @@ def bounds_of(tables, owner):
 
 
 def choices(tables):
-    """What the choice of a wait and of a next says, and what pages list."""
+    """What the choice of a wait and of a next says, what pages list, and what an effect is."""
     lines = []
-    for name in ("which", "use", "whom", "tree"):
-        lines += ["", *enum(f"pidtab_{name}", [(f"PIDTAB_{it.name}", it.number, it.tells) for it in tables["kinds"] if it.of == name])]
+    for name in ("which", "use", "whom", "tree", "what"):
+        rows = [(f"PIDTAB_{it.name}", it.number, it.tells.format(killed="PIDTAB_KILLED")) for it in tables["kinds"] if it.of == name]
+        lines += ["", *enum(f"pidtab_{name}", rows)]
     return lines[1:]
 
 
@@ -112,7 +113,7 @@ def operations(tables):
 # What waits for its turn as a call does; all other functions go before the calls.
 AS_CALLS = ("ask", "stat", "page", "space", "inside", "would")
 # What is more than the function of a record behind the lock.
-BY_HAND = ("open", "load", "close", "call", "calls", "line", "fork_at")
+BY_HAND = ("open", "load", "close", "call", "calls", "line", "fork_at", "call_told")
 
 
 def forwards(tables):

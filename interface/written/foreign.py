@@ -3,7 +3,7 @@
 RAW = "bindings/rust/src/raw.rs"
 
 # What each package takes as a value: the structs, and of the functions on saved histories those that work in memory.
-STRUCTS = ("call", "fault", "reply", "task", "space", "entry", "saved_head")
+STRUCTS = ("call", "fault", "reply", "task", "space", "effect", "entry", "saved_head")
 IN_MEMORY = ("saved_put_head", "saved_put", "saved_take_head", "saved_take", "saved_next")
 
 # What closes is called where the owner is dropped, and what keeps so many entries by none.

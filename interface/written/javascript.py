@@ -48,9 +48,11 @@ def named(name, rows):
 
 def kinds(tables):
     """What a choice says, and the kinds of a reply."""
-    which, use, whom, tree, reply = [[it for it in tables["kinds"] if it.of == name] for name in ("which", "use", "whom", "tree", "reply")]
+    which, use, whom, tree, what, reply = [[it for it in tables["kinds"] if it.of == name] for name in ("which", "use", "whom", "tree", "what", "reply")]
     uses = f"export const USES = [{strings([it.word for it in use])}];"
-    return ["/** Of a wait: whom it means. */", named("WHICH", which), "", "/** Of a next, in the order of their numbers. */", uses, "", "/** Of a page: whom it lists. */", named("WHOM", whom), "", "/** Of a page of ids: in which tree it goes down. */", named("TREE", tree), "", named("KIND", reply)]
+    pages = ["/** Of a page: whom it lists. */", named("WHOM", whom), "", "/** Of a page of ids: in which tree it goes down. */", named("TREE", tree)]
+    effects = ["/** Of an effect: what became of the task. */", named("WHAT", what)]
+    return ["/** Of a wait: whom it means. */", named("WHICH", which), "", "/** Of a next, in the order of their numbers. */", uses, "", *pages, "", *effects, "", named("KIND", reply)]
 
 
 def bounds(tables):

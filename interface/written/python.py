@@ -42,7 +42,7 @@ def faults(tables):
 def kinds(tables):
     """What a choice says, and the kinds of a reply."""
     lines = []
-    for name in ("which", "use", "whom", "tree", "reply"):
+    for name in ("which", "use", "whom", "tree", "what", "reply"):
         names = [it.name for it in tables["kinds"] if it.of == name]
         lines += ["", f"{', '.join(names)} = range({len(names)})"]
     return lines[1:]

@@ -4,6 +4,7 @@ from arguments import FIELDS, arguments_of, queries, refused, said, tells
 from names import capitals, strings
 
 CALLS = "bindings/python/pidtab/calls.py"
+NATIVE = "bindings/python/pidtab/native.py"
 
 # Names of the package for arguments, and what each kind is: its type, what is put into the field, and what it is where it is left out.
 NAMES = {"id": "control", "number": "pid", "pgid": "group", "from": "start", "limit": "most", "new_space": "new"}
@@ -66,4 +67,9 @@ def words(tables):
     return [f"QUERIES = frozenset({{{strings(queries(tables))}}})", f"TELLS_NOTHING = frozenset({{{strings(nothing)}}})"]
 
 
-PARTS = {("bindings/python/pidtab/forms.py", "words"): words, (CALLS, "queries"): lambda tables: methods(tables, "yes"), (CALLS, "calls"): lambda tables: methods(tables, "no")}
+def told_calls(tables):
+    """The methods that tell what the calls did to tasks."""
+    return [f"    {row.call} = telling(EachCall.{row.call})" for row in tables["calls"]]
+
+
+PARTS = {(NATIVE, "told calls"): told_calls, ("bindings/python/pidtab/forms.py", "words"): words, (CALLS, "queries"): lambda tables: methods(tables, "yes"), (CALLS, "calls"): lambda tables: methods(tables, "no")}

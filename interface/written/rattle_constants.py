@@ -23,8 +23,11 @@ def operations(tables):
 
 
 def choices(tables):
-    """What a wait selects, what a next looks for, and what pages list."""
-    return constants([(it.name, it.number, sentence(it.tells)) for name in ("which", "use", "whom", "tree") for it in of(tables, name)])
+    """What a wait selects, what a next looks for, what pages list, and what an effect is."""
+    listed = [(it.name, it.number, sentence(it.tells)) for name in ("which", "use", "whom", "tree") for it in of(tables, name)]
+    # The crates have a name of each enum. In C all names are in one, where ENDED is a status.
+    effects = [(it.model.upper(), it.number, sentence(it.tells.format(killed="[`crate::kinds::KILLED`]"))) for it in of(tables, "what")]
+    return constants(listed + effects)
 
 
 def kinds(tables):

@@ -9,7 +9,7 @@ SCRIPT = "bindings/js/src/header.js"
 CTYPES = {"uint8_t": "c_uint8", "uint32_t": "c_uint32", "uint64_t": "c_uint64", "int32_t": "c_int32", "size_t": "c_size_t", "bool": "c_bool", "int": "c_int", "void *": "c_void_p"}
 POINTERS = {
     "const struct pidtab_call *": "CALL_BYTES", "const void *": "ctypes.c_char_p", "void *": "BYTES", "size_t *": "SIZE", "uint32_t *": "NUMBER_32",
-    "uint64_t *": "NUMBER_64", "const uint64_t *": "NUMBER_64", "struct pidtab *": "TABLE", "const struct pidtab *": "TABLE", "struct pidtab_entry *": "ENTRIES", "uint32_t": "U32",
+    "uint64_t *": "NUMBER_64", "const uint64_t *": "NUMBER_64", "struct pidtab *": "TABLE", "const struct pidtab *": "TABLE", "struct pidtab_entry *": "ENTRIES", "struct pidtab_effect *": "EFFECTS", "uint32_t": "U32",
     "const struct timespec *": "ctypes.c_void_p", "uint64_t": "U64", "size_t": "SIZE_T", "void": "None", "bool": "ctypes.c_bool", "int": "ctypes.c_int",
 }  # fmt: skip
 
@@ -74,7 +74,7 @@ def python_functions(tables):
 def places(tables):
     """Where the fields of each struct stand, in words of 32 bits. One of 64 bits has two, and stands at an even one."""
     lines = ["// The fields by their places, in words of 32 bits. One of 64 bits, as an id, has two words."]
-    for name in ("call", "reply", "task", "space", "fault"):
+    for name in ("call", "reply", "task", "space", "effect", "fault"):
         told, place = [], 0
         for it in tables["headers"].structs[f"pidtab_{name}"]:
             place += place % 2 if it.kind == "uint64_t" else 0

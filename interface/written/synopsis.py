@@ -116,7 +116,7 @@ def part(function, argument):
 def parts_of(tables):
     """All parts, by their page and their name."""
     parts = {("man/pidtab.3", "prototypes"): prototypes}
-    parts |= {("man/pidtab.3", f"struct {name}"): part(struct, f"pidtab_{name}") for name in ("call", "reply", "task", "space")}
+    parts |= {("man/pidtab.3", f"struct {name}"): part(struct, f"pidtab_{name}") for name in ("call", "reply", "task", "space", "effect")}
     parts |= {("man/pidtab_saved.3", "struct saved_head"): part(struct, "pidtab_saved_head")}
     parts |= {(path, "statuses"): part(errors, path) for path in OWNERS}
     for path in PAGES:

@@ -27,7 +27,7 @@ def passed(function):
             size = rest.pop(0).name
             taken += [] if kind == "void *" and name == "line" else [f"uint32_t {size}"]
             given += [f"at.{name}", {"line": "LINE_ROOM" if kind == "void *" else size, "answer": f"{size} < ANSWER_ROOM ? {size} : ANSWER_ROOM"}[name]]
-        elif kind.endswith("void *") or name in ("numbers", "ids"):
+        elif kind.endswith("void *") or name in ("numbers", "ids", "effects"):
             size = rest.pop(0).name
             taken += [f"uint32_t {name}", f"uint32_t {size}"]
             given += [f"pointer({name})", size]

@@ -367,6 +367,55 @@ uint32_t proved_fork_at(struct pidtab *table, uint32_t caller, uint32_t new_spac
 	return table->is_open ? foretold(it, Z_pidtabZ_fork_at(it, caller, new_space, child, root), reply) : PIDTAB_CLOSED;
 }
 
+/* What a call tells beside its reply: the ordinal of one that a worker made, and how many effects it had, or takes room for. */
+struct told {
+	uint64_t ordinal, count;
+};
+
+/* The call that the instance was given, of a worker or of none. */
+static uint32_t make_told(instance *it, const uint32_t *worker, uint32_t address, uint32_t room, struct told *told)
+{
+	uint32_t status = worker ? Z_pidtabZ_record_call_told(it, *worker, address, room) : Z_pidtabZ_call_told(it, address, room);
+
+	if (status != PIDTAB_DONE && status != PIDTAB_NO_ROOM)
+		return status;
+	if (worker)
+		get(it, NUMBERS, told, sizeof *told);
+	else
+		get(it, NUMBERS, &told->count, sizeof told->count);
+	return status;
+}
+
+/* The effects in a room of the caller: first it is asked how many they may be. A call that has none is made by that. */
+static uint32_t told_effects(instance *it, const uint32_t *worker, const struct pidtab_call *call, struct pidtab_reply *reply, struct pidtab_effect *effects, size_t room, struct told *told)
+{
+	uint32_t status, address, most;
+
+	put(it, CALL, call, sizeof *call);
+	status = make_told(it, worker, 0, 0, told);
+	if (status == PIDTAB_NO_ROOM && told->count <= room) {
+		most = (uint32_t)told->count;
+		address = Z_pidtabZ_take(it, most * (uint32_t)sizeof *effects);
+		if (!address)
+			return PIDTAB_NO_MEMORY;
+		status = make_told(it, worker, address, most, told);
+		if (status == PIDTAB_DONE)
+			memcpy(effects, it->w2c_memory.data + address, (size_t)told->count * sizeof *effects);
+		Z_pidtabZ_give(it, address);
+	}
+	return fetched(it, status, REPLY, reply, sizeof *reply);
+}
+
+uint32_t proved_call_told(struct pidtab *table, const struct pidtab_call *call, struct pidtab_reply *reply, struct pidtab_effect *effects, size_t room, uint64_t *count)
+{
+	struct told told = { 0, 0 };
+	uint32_t status = table->is_open ? told_effects(table->at, NULL, call, reply, effects, room, &told) : PIDTAB_CLOSED;
+
+	if (status == PIDTAB_DONE || status == PIDTAB_NO_ROOM)
+		*count = told.count;
+	return status;
+}
+
 uint32_t proved_record_open(struct pidtab_record *record, uint32_t pid_max, uint64_t first_stamp, uint32_t workers)
 {
 	instance *it;
@@ -486,6 +535,18 @@ uint32_t proved_record_fork_at(struct pidtab_record *record, uint32_t worker, ui
 	if (!record->is_open)
 		return PIDTAB_CLOSED;
 	return fetched(it, foretold(it, Z_pidtabZ_record_fork_at(it, worker, caller, new_space, child, root), reply), NUMBERS, ordinal, sizeof *ordinal);
+}
+
+uint32_t proved_record_call_told(struct pidtab_record *record, uint32_t worker, const struct pidtab_call *call, struct pidtab_reply *reply, uint64_t *ordinal, struct pidtab_effect *effects, size_t room, uint64_t *count)
+{
+	struct told told = { 0, 0 };
+	uint32_t status = record->is_open ? told_effects(record->at, &worker, call, reply, effects, room, &told) : PIDTAB_CLOSED;
+
+	if (status == PIDTAB_DONE || status == PIDTAB_NO_ROOM)
+		*count = told.count;
+	if (status == PIDTAB_DONE)
+		*ordinal = told.ordinal;
+	return status;
 }
 
 uint32_t proved_record_counts(struct pidtab_record *record, uint64_t *first_kept, uint64_t *recorded)

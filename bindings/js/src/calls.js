@@ -1,19 +1,22 @@
 // The calls: a method for each, raw lines, and the list. pidtab.d.ts says what each takes, answers and throws.
 //
-// What has these methods says by `_open` which instance it is, by `_call`, `_line` and `_forkAt` how a call is made there, and by `_forked`
-// what a new task is told to.
+// What has these methods says by `_open` which instance it is, by `_call`, `_line`, `_forkAt` and `_callTold` how a call is made there, and by
+// `_forked` what a new task is told to.
 
 import { checkLong, checkNumber, checkRange, checkSigned } from "./bounds.js";
 import { faultOf, readRefusal, Refusal, shorten } from "./faults.js";
 import { KIND, OPERATION, REPLY, STATUS, TASK, TREE, USES, WHICH, WHOM } from "./header.js";
 import { readListing } from "./listing.js";
-import { aChild, anEndedChild, anId, aNumber, aSpace, aTask, nothing, numbersAt, refusalAt, theNext, theNumbers } from "./replies.js";
+import { aChild, anEndedChild, anId, aNumber, aSpace, aTask, EFFECT_BYTES, effectsAt, nothing, numbersAt, refusalAt, theNext, theNumbers } from "./replies.js";
 
 /** What the program answers to a line that no call was made of, by the status of the library. */
 const NOT_MADE = { [STATUS.BAD_LINE]: "bad line", [STATUS.NO_MEMORY]: "no memory", [STATUS.SPENT]: "spent" };
 
 /** The room for a first try of a page, in numbers. */
 const SHORT_PAGE = 64;
+
+/** The same of effects. */
+const SHORT_ROOM = 64;
 
 /** The text, if it is a line that has an answer. */
 function checkLine(text) {
@@ -42,7 +45,11 @@ function choiceOf(use) {
 export class Queries {
   /** Makes the call that was written: what it is answered, in its form. */
   _made(instance, form) {
-    const status = this._call(instance);
+    return this._replied(instance, form, this._call(instance));
+  }
+
+  /** What a call is answered that was made, if the status says so. */
+  _replied(instance, form, status) {
     if (status !== STATUS.DONE) throw faultOf(status, instance.callLine());
     instance.refresh();
     const at = instance.at.reply.word;
@@ -264,6 +271,29 @@ export class Would extends onOwner(EachCall) {
   }
 
   /** No task is new. */
+  _forked() {}
+}
+
+/** The calls, each of which is made, and tells what it did to tasks beside its answer. */
+export class Telling extends onOwner(EachCall) {
+  /** Where the room is too short, no call was made, and it is taken anew as the call takes it. */
+  _made(instance, form, room = SHORT_ROOM) {
+    const told = instance.withRoom(EFFECT_BYTES * room, instance.callLine(), (address) => {
+      const [status, count] = this._owner._callTold(instance, address, room);
+      if (status === STATUS.NO_ROOM) return count;
+      const answer = this._replied(instance, form, status);
+      return { answer, effects: effectsAt(instance.words, address / 4, count) };
+    });
+    return typeof told === "number" ? this._made(instance, form, told) : told;
+  }
+
+  fork(caller, options) {
+    const told = super.fork(caller, options);
+    this._owner._forked(told.answer.root);
+    return told;
+  }
+
+  /** The owner is told of a new task by `fork`. */
   _forked() {}
 }
 

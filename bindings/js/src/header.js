@@ -39,6 +39,9 @@ export const WHOM = { CHILDREN: 0, GROUP_MEMBERS: 1, SESSION_MEMBERS: 2, NAMESPA
 /** Of a page of ids: in which tree it goes down. */
 export const TREE = { SPACES: 0, CONTROLS: 1 };
 
+/** Of an effect: what became of the task. */
+export const WHAT = { TASK_ENDED: 0, TASK_ADOPTED: 1, TASK_GONE: 2 };
+
 export const KIND = { FORKED: 0, OK: 1, NUMBER: 2, LEVELS: 3, REAPED: 4, NONE_YET: 5, COUNTED: 6, CONTROL: 7, END: 8, REFUSED: 9 };
 // The end of kinds.
 
@@ -72,5 +75,6 @@ export const CALL = { operation: 0, caller: 1, id: 2, number: 4, choice: 5, pid:
 export const REPLY = { kind: 0, error: 1, refusal: 2, count: 3, first: 4, second: 6, levels: 8 };
 export const TASK = { error: 0, refusal: 1, count: 2, parent: 3, group: 4, session: 5, ended: 6, status: 7, executed: 8, subreaper: 9, space: 10, control: 12, root: 14, levels: 15 };
 export const SPACE = { id: 0, parent: 2, level: 4, init: 5, fallen: 6 };
+export const EFFECT = { what: 0, number: 1, value: 2 };
 export const FAULT = { line: 0, kind: 2 };
 // The end of places.

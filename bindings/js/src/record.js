@@ -1,7 +1,7 @@
 // A table with its history.
 
 import { checkLong, checkRange } from "./bounds.js";
-import { Ask, Calls, Would } from "./calls.js";
+import { Ask, Calls, Telling, Would } from "./calls.js";
 import { Differs, faultOf, SeatsTaken, TableClosed } from "./faults.js";
 import { DEFAULT_PID_MAX, MOST_WORKERS, STATUS } from "./header.js";
 import { ANSWER_ROOM, Instance, opened } from "./instance.js";
@@ -22,6 +22,7 @@ class Seat extends Calls {
     this.ordinal = null;
     this.ask = new Ask(this);
     this.would = new Would(this);
+    this.told = new Telling(this);
   }
 
   _open() {
@@ -41,6 +42,11 @@ class Seat extends Calls {
 
   _forkAt(instance, numbers) {
     return this._recorded(instance, instance.exports.record_fork_at(this.worker, ...numbers));
+  }
+
+  _callTold(instance, address, room) {
+    const status = this._recorded(instance, instance.exports.record_call_told(this.worker, address, room));
+    return [status, Number(instance.numberAt(1))];
   }
 
   _forked(root) {

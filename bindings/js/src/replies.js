@@ -1,6 +1,6 @@
-// What replies, tasks and namespaces tell, as values: words of the memory from a place on. What has 64 bits is a BigInt, and all else a number.
+// What replies, tasks, namespaces and effects tell, as values: words of the memory from a place on. What has 64 bits is a BigInt, and all else a number.
 
-import { ERRNOS, KILLED, KIND, REPLY, SPACE, TASK } from "./header.js";
+import { EFFECT, ERRNOS, KILLED, KIND, REPLY, SPACE, TASK, WHAT } from "./header.js";
 import { wordOf } from "./faults.js";
 
 const long = (longs, at, field) => longs[(at + field) / 2];
@@ -67,6 +67,26 @@ export function aSpace({ words, longs }, at) {
     init: words[at + SPACE.init] || null,
     fallen: words[at + SPACE.fallen] === 1,
   };
+}
+
+/** Effects stand one behind another, and the value at the end of each has 64 bits. */
+const EFFECT_WORDS = EFFECT.value + 2;
+export const EFFECT_BYTES = 4 * EFFECT_WORDS;
+
+/** What has become of a task, by the kind of the effect. */
+const EFFECTS = {
+  [WHAT.TASK_ENDED]: (number, status) => ({ what: "ended", number, ...ending(status) }),
+  [WHAT.TASK_ADOPTED]: (number, parent) => ({ what: "adopted", number, parent }),
+  [WHAT.TASK_GONE]: (number) => ({ what: "gone", number }),
+};
+
+/** So many effects from a place on. */
+export function effectsAt(words, at, count) {
+  const effects = [];
+  for (let place = at; place < at + EFFECT_WORDS * count; place += EFFECT_WORDS) {
+    effects.push(EFFECTS[words[place + EFFECT.what]](words[place + EFFECT.number], words[place + EFFECT.value]));
+  }
+  return effects;
 }
 
 const reaped = ({ child, status }) => `reaped ${child} ${status === null ? "killed" : `exit ${status}`}`;

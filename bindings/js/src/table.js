@@ -1,7 +1,7 @@
 // A table without a history.
 
 import { checkRange } from "./bounds.js";
-import { Ask, Calls, Would } from "./calls.js";
+import { Ask, Calls, Telling, Would } from "./calls.js";
 import { BadText, faultOf } from "./faults.js";
 import { DEFAULT_PID_MAX, FAULT, GREATEST_PID_MAX, LEAST_PID_MAX, STATUS } from "./header.js";
 import { ANSWER_ROOM, Instance, opened } from "./instance.js";
@@ -52,6 +52,7 @@ export class Table extends Calls {
     this.pidMax = pidMax;
     this.ask = new Ask(this);
     this.would = new Would(this);
+    this.told = new Telling(this);
   }
 
   _open() {
@@ -64,6 +65,10 @@ export class Table extends Calls {
 
   _forkAt(instance, numbers) {
     return instance.exports.fork_at(...numbers);
+  }
+
+  _callTold(instance, address, room) {
+    return [instance.exports.call_told(address, room), Number(instance.numberAt(0))];
   }
 
   _line(instance, length) {

@@ -48,6 +48,34 @@ tested("what a call would answer", (table) => {
   assert.deepEqual([would.line, would.list, table.dump()], [undefined, undefined, before]);
 });
 
+const ended = (number, status) => ({ what: "ended", number, status, killed: status === null });
+const adopted = (number, parent) => ({ what: "adopted", number, parent });
+const gone = (number) => ({ what: "gone", number });
+
+// 2 is the init of a namespace, in which are its child 3 and the children 4 and 5 of that. 5 is the init of one within.
+tested("what calls do to tasks", (table) => {
+  table.answers(["fork 1 new", "fork 2", "fork 3", "fork 3 new"]);
+  const { told } = table;
+  assert.deepEqual(told.exit(4, 255), { answer: undefined, effects: [ended(4, 255)] });
+  assert.deepEqual(told.exit(3), { answer: undefined, effects: [ended(3, 0), adopted(4, 2), adopted(5, 2)] });
+  assert.deepEqual(told.exit(2, 9).effects, [ended(2, 9), gone(3), gone(4), ended(5, null), gone(5)]);
+  assert.deepEqual(told.wait(1, { pid: 2 }), { answer: { child: 2, status: 9, killed: false }, effects: [gone(2)] });
+  assert.throws(() => told.exit(1), { code: "EBUSY", word: "root-init", message: "exit 1 0: EBUSY root-init" });
+  assert.throws(() => told.wait(1), { code: "ECHILD" });
+  assert.deepEqual(told.fork(1, { newSpace: true }), { answer: { child: 6, root: 6 }, effects: [] });
+  assert.deepEqual(told.fork(6), { answer: { child: 2, root: 7 }, effects: [] });
+  assert.deepEqual([told.setpgid(6), told.setsid(7), told.mk(), told.next(1, "task", 2)].map(({ answer }) => answer), [undefined, 2, 15n, 6]);
+  assert.deepEqual([told.line, told.list, table.mk()], [undefined, undefined, 17n]);
+});
+
+tested("more effects than there is room for at first", (table) => {
+  for (const count of [30, 31, 32, 320]) {
+    const parent = table.fork(1).root;
+    const children = Array.from({ length: count }, () => table.fork(parent).root);
+    assert.deepEqual(table.told.exit(parent, 7).effects, [ended(parent, 7), ...children.map((child) => adopted(child, 1))]);
+  }
+});
+
 tested("a fork with given numbers", (table) => {
   table.fork(1, { newSpace: true });
   const before = table.dump();

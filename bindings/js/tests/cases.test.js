@@ -1,4 +1,5 @@
-// The cases of interface/cases, whose README says what each step is: by lines and by methods, on tables and on one with a history.
+// The cases of interface/cases, whose README says what each step is: by lines, by methods and by calls that tell what they did, on tables and on one with
+// a history.
 
 import assert from "node:assert/strict";
 import { readdirSync, readFileSync } from "node:fs";
@@ -33,6 +34,9 @@ function told(call) {
 
 const sayEnd = ({ killed, status }) => (killed ? "killed" : `exit ${status}`);
 
+/** What has become of a task. */
+const sayEffect = (it) => [it.what, it.number, ...{ ended: [sayEnd(it)], adopted: [it.parent], gone: [] }[it.what]].join(" ");
+
 const saySpace = ({ id, parent, level, init, fallen }) => `space ${id} parent ${parent ?? "-"} level ${level} init ${init ?? "-"}${fallen ? " fallen" : ""}`;
 
 /** What the method of the line tells, or the refusal. */
@@ -57,6 +61,12 @@ function byItsMethod(table, line) {
     if (fault instanceof Refusal) return fault;
     throw fault;
   }
+}
+
+/** The answer that the line has, and behind it what its call does to tasks. */
+function sayTold({ told }, line) {
+  const it = byItsMethod(told, line);
+  return it instanceof Refusal ? sayFault(it) : [say(it.answer, line.split(" ")[0]), ...it.effects.map(sayEffect)].join(", ");
 }
 
 /** What a method tells as the answer to its line. */
@@ -87,7 +97,7 @@ class World {
 
   open([pidMax, workers, firstStamp]) {
     const isAlone = workers === 1n && firstStamp === 1n;
-    const tables = () => (isAlone ? [0, 1].map(() => new Table({ pidMax: Number(pidMax) })) : []);
+    const tables = () => (isAlone ? [0, 1, 2].map(() => new Table({ pidMax: Number(pidMax) })) : []);
     const record = told(() => new Record({ pidMax: Number(pidMax), workers: Number(workers), firstStamp }));
     if (typeof record === "string") {
       if (isAlone) assert.equal(told(tables), record);
@@ -100,7 +110,7 @@ class World {
 
   load(text, counts) {
     const isAlone = counts.length === 1 && counts[0] === 0n;
-    const tables = () => (isAlone ? [Table.load(text), Table.load(text)] : []);
+    const tables = () => (isAlone ? [0, 1, 2].map(() => Table.load(text)) : []);
     const record = told(() => Record.load(text, { recorded: counts }));
     if (typeof record === "string") {
       if (isAlone) assert.equal(told(tables), record);
@@ -122,7 +132,7 @@ class World {
 
   /** The answer, which is the same by each way. */
   call(line) {
-    const [seat, [byLine, byMethod]] = [this.seats[this.at], this.tables];
+    const [seat, [byLine, byMethod, telling]] = [this.seats[this.at], this.tables];
     const answer = told(() => seat.line(line));
     if (byLine) assert.equal(told(() => byLine.line(line)), answer);
     if (/^[A-Z_]+$/.test(answer)) return answer;
@@ -132,7 +142,17 @@ class World {
     for (const queries of asked) QUERIES.includes(name) ? assert.equal(say(byItsMethod(queries, line), name), answer) : assert.equal(queries[name], undefined);
     if (byMethod) assert.equal(say(byItsMethod(byMethod.would, line), name), answer, line);
     if (byMethod) assert.equal(say((this.told = byItsMethod(byMethod, line)), name), answer, line);
+    if (telling) assert.equal(sayTold(telling, line).split(", ")[0], answer, line);
     return answer;
+  }
+
+  /** The answer, and what the call does to tasks, which are the same of each table. */
+  callTold(line) {
+    const seat = this.seats[this.at];
+    const [found, ...others] = [seat, ...this.tables].map((it) => sayTold(it, line));
+    for (const other of others) assert.equal(other, found);
+    assert.deepEqual(this.record.entry(seat.ordinal), { ordinal: seat.ordinal, worker: this.at, line, answer: found.split(", ")[0] });
+    return found;
   }
 
   stat(caller, pid) {
@@ -203,6 +223,7 @@ class World {
     if (word === "open") return this.open(numbers);
     if (word === "load") return this.load(text, numbers);
     if (["counts", "worker", "entry", "read", "checkpoint", "checkpoint_at"].includes(word)) return this.read(word, numbers);
+    if (word === "told") return this.callTold(words.join(" "));
     if (word === "stat") return this.stat(...numbers);
     if (word === "page") return this.page(...numbers);
     if (word === "inside") return this.inside(...numbers);

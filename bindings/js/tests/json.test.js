@@ -76,7 +76,7 @@ function checkForks(table, calls, forks) {
 test("a label goes when the number is another task's", { skip }, () => {
   const table = new pidtab.Table({ pidMax: 301 });
   goUp(table);
-  checkForks(table, table, [() => table.fork(1), () => table.line("fork 1"), () => table.answers(["fork 1"])]);
+  checkForks(table, table, [() => table.fork(1), () => table.line("fork 1"), () => table.answers(["fork 1"]), () => table.told.fork(1)]);
 });
 
 test("a label of a record goes by any of its seats", { skip }, () => {
@@ -84,7 +84,7 @@ test("a label of a record goes by any of its seats", { skip }, () => {
   const [first, second] = [record.seat(), record.seat()];
   goUp(first);
   const last = record.entry(record.counts().recorded - 1n);
-  checkForks(record, first, [() => second.fork(1), () => second.line("fork 1"), () => record.replay([last])]);
+  checkForks(record, first, [() => second.fork(1), () => second.line("fork 1"), () => second.told.fork(1), () => record.replay([last])]);
 });
 
 test("what is no label, and who is nobody", { skip }, () => {

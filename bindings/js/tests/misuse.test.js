@@ -19,6 +19,8 @@ test("numbers of another kind, and out of range", { skip }, () => {
   for (const call of foretold) assert.throws(call, TypeError);
   for (const child of [{ child: -1, root: 2 }, { child: 2, root: 2 ** 32 }, { child: 2.5, root: 2 }]) assert.throws(() => table.forkAt(1, child), RangeError);
   assert.throws(() => would.exit(1, 256), RangeError);
+  for (const given of [["1"], [], [null], [1, "2"]]) assert.throws(() => table.told.exit(...given), TypeError);
+  for (const given of [[-1], [2 ** 32], [1, 256], [1, 0.5]]) assert.throws(() => table.told.exit(...given), RangeError);
   const { ask } = table;
   const pages = PAGES.map((name) => (...given) => ask[name](...given));
   for (const page of pages) {
@@ -53,10 +55,10 @@ test("a bound that is out of range", { skip }, () => {
 
 test("a table that was closed", { skip }, () => {
   const table = new Table();
-  const { ask, would } = table;
+  const { ask, told, would } = table;
   table.close();
   table.close();
-  const foretold = [() => would.fork(1), () => would.mk(), () => table.forkAt(1, { child: 2, root: 2 })];
+  const foretold = [() => would.fork(1), () => would.mk(), () => told.fork(1), () => told.exit(2), () => told.setpgid(1), () => table.forkAt(1, { child: 2, root: 2 })];
   const pages = PAGES.map((name) => () => ask[name](1));
   for (const call of [...foretold, () => table.fork(1), () => table.line("fork 1"), () => table.list(), () => table.dump(), () => ask.getpid(1), () => ask.stat(1), () => ask.space(0), () => ask.spacesInside(), () => ask.controlsInside(), () => table.mk(), ...pages]) {
     assert.throws(call, { name: "TableClosed", code: "EBADF", message: "the table was closed" });
@@ -98,9 +100,11 @@ test("a table without memory is as it was, and goes on", { skip }, () => {
   assert.equal(table.ask.count(), made);
   assert.throws(() => table.list(), { name: "NoMemory", code: "ENOMEM", message: "list: no memory" });
   assert.deepEqual(table.answers(["fork 1", "getpid 1"]), ["no memory", "1"]);
+  assert.throws(() => table.told.exit(2), { name: "NoMemory", code: "ENOMEM", message: "exit 2 0: no memory" });
   blocks.forEach((at) => exports.give(at));
   assert.equal(table.fork(1).child, made + 1);
   assert.equal(table.list().tasks.length, made + 1);
+  assert.deepEqual(table.told.exit(2).effects, [{ what: "ended", number: 2, status: 0, killed: false }]);
 });
 
 test("a table in a worker", { skip }, async () => {

@@ -58,6 +58,24 @@ test("namespaces, of a record and of a seat, are not recorded", { skip }, () => 
   assert.equal(record.counts().recorded, 3n);
 });
 
+test("calls that tell what they did are recorded", { skip }, () => {
+  const { record, seats } = recorded();
+  const [first, second] = seats;
+  assert.deepEqual(first.told.exit(2, 7).effects.map(({ what, number }) => [what, number]), [["ended", 2], ["ended", 3], ["gone", 3]]);
+  assert.deepEqual(second.told.wait(1).effects, [{ what: "gone", number: 2 }]);
+  assert.throws(() => second.told.exit(3), { code: "ESRCH" });
+  assert.deepEqual([first.ordinal, second.ordinal, record.told], [3n, 5n, undefined]);
+  assert.deepEqual([...record.entries(3)].map(({ worker, line, answer }) => [worker, line, answer]), [
+    [0, "exit 2 7", "ok"],
+    [1, "wait 1 any", "reaped 2 exit 7"],
+    [1, "exit 3 0", "ESRCH no-caller"],
+  ]);
+  assert.throws(() => first.told.exit("2"), TypeError);
+  first.close();
+  assert.throws(() => first.told.fork(1), { name: "TableClosed", message: "the seat was closed" });
+  assert.equal(record.counts().recorded, 6n);
+});
+
 test("the entries are made again on another table", { skip }, () => {
   const { record } = recorded();
   const again = new Record({ workers: 2 });

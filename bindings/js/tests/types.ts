@@ -1,6 +1,6 @@
 // What a user of the types writes, and what the compiler has to refuse. Nothing here is run.
 
-import { BadText, Entry, Forked, Lines, Listing, Queries, Reaped, Record, Refusal, SpaceStat, Stat, Table, toJson } from "../pidtab.js";
+import { BadText, Effect, Entry, Forked, Lines, Listing, Queries, Reaped, Record, Refusal, SpaceStat, Stat, Table, Told, toJson } from "../pidtab.js";
 
 const table = new Table({ pidMax: 400 });
 const child: Forked = table.fork(1, { newSpace: true });
@@ -17,6 +17,14 @@ table.label(child.root, "nginx");
 table.label(child.root, null);
 const label: string | undefined = listing.tasks[0].label;
 const json: string[] = [toJson(listing), toJson(stat), toJson(space), toJson(child), toJson(reaped), toJson(group), toJson(numbers), toJson(table.rm(group))];
+
+const { answer, effects }: Told<Forked> = table.told.fork(1, { newSpace: true });
+const waited: Reaped | null = table.told.wait(answer.root, { own: true }).answer;
+function say(effect: Effect): string {
+  if (effect.what === "ended") return effect.killed ? "killed" : `exit ${effect.status}`;
+  return effect.what === "adopted" ? `a child of ${effect.parent}` : "gone";
+}
+const said: string[] = effects.map(say);
 
 const line: string = new Lines().fork(1, { newSpace: true });
 
@@ -42,7 +50,7 @@ try {
   if (fault instanceof BadText) console.log(fault.line, fault.why);
 }
 
-console.log(line, reaped?.status, numbers, listing, stat, ordinal, label, json);
+console.log(line, said, waited?.status, record.seat().told.exit(2).effects, reaped?.status, numbers, listing, stat, ordinal, label, json);
 
 // @ts-expect-error: a number of a process is no text
 table.getpid("1");
@@ -54,6 +62,12 @@ table.ask.fork(1);
 const status: number = table.wait(1)!.status;
 // @ts-expect-error: a record has no calls, its seats have
 record.fork(1);
+// @ts-expect-error: what is told takes what the call takes
+table.told.exit("2");
+// @ts-expect-error: it is no line
+table.told.line("exit 2 0");
+// @ts-expect-error: not each effect has a parent
+const parent: number = effects[0].parent;
 // @ts-expect-error: a name is a text
 table.label(1, 5);
 // @ts-expect-error: a table tells no functions

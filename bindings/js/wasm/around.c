@@ -123,6 +123,11 @@ uint32_t EXPORTED(fork_at)(uint32_t caller, uint32_t new_space, uint32_t child, 
 	return pidtab_fork_at(&held.table, caller, new_space, child, root, &at.reply);
 }
 
+uint32_t EXPORTED(call_told)(uint32_t effects, uint32_t room)
+{
+	return pidtab_call_told(&held.table, &at.call, &at.reply, pointer(effects), room, &at.numbers[0]);
+}
+
 uint32_t EXPORTED(call_line)(void)
 {
 	return pidtab_call_line(&at.call, at.line, LINE_ROOM, &at.size);
@@ -186,6 +191,11 @@ uint32_t EXPORTED(record_would)(void)
 uint32_t EXPORTED(record_fork_at)(uint32_t worker, uint32_t caller, uint32_t new_space, uint32_t child, uint32_t root)
 {
 	return pidtab_record_fork_at(&held.record, worker, caller, new_space, child, root, &at.reply, &at.numbers[0]);
+}
+
+uint32_t EXPORTED(record_call_told)(uint32_t worker, uint32_t effects, uint32_t room)
+{
+	return pidtab_record_call_told(&held.record, worker, &at.call, &at.reply, &at.numbers[0], pointer(effects), room, &at.numbers[1]);
 }
 
 uint32_t EXPORTED(record_counts)(void)

@@ -10,6 +10,7 @@ from pidtab.accounts import Accounts
 from pidtab.answers import Forked, Reaped, SpaceStat, Stat
 from pidtab.bounds import DEFAULT_PID_MAX, GREATEST_PID_MAX, LEAST_PID_MAX
 from pidtab.calls import Calls, Kind, Queries
+from pidtab.effects import Adopted, Effect, Ended, Gone, Told
 from pidtab.etcd_log import EtcdLog
 from pidtab.faults import (
     BadHistory,
@@ -36,7 +37,7 @@ from pidtab.library import find_library
 from pidtab.listing import BadList, Changes, Control, Listing, Space, Task, read_list, write_list
 from pidtab.log import Following, Log, Progress
 from pidtab.memory_log import MemoryLog
-from pidtab.native import Ask, Askable, AskableCalls, Would
+from pidtab.native import Ask, Askable, AskableCalls, ToldCalls, Would
 from pidtab.process import Process
 from pidtab.program import find_program
 from pidtab.replicated import ReplicaAsk, Replicated
@@ -51,6 +52,7 @@ __all__ = [
     "GREATEST_PID_MAX",
     "LEAST_PID_MAX",
     "Accounts",
+    "Adopted",
     "Ask",
     "Askable",
     "AskableCalls",
@@ -62,10 +64,13 @@ __all__ = [
     "Control",
     "Counts",
     "Diverged",
+    "Effect",
+    "Ended",
     "Entry",
     "EtcdLog",
     "Following",
     "Forked",
+    "Gone",
     "Kind",
     "LibraryFault",
     "LibraryMissing",
@@ -99,6 +104,8 @@ __all__ = [
     "Table",
     "TableClosed",
     "Task",
+    "Told",
+    "ToldCalls",
     "Unsaved",
     "WaitingEnded",
     "Would",

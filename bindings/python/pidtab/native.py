@@ -4,11 +4,14 @@ import ctypes
 import struct
 from abc import abstractmethod
 from collections.abc import Callable, Sequence
-from typing import TYPE_CHECKING, NoReturn, Protocol, SupportsIndex, TypeVar
+from functools import partial, wraps
+from inspect import signature
+from typing import TYPE_CHECKING, Concatenate, NoReturn, ParamSpec, Protocol, SupportsIndex, TypeVar
 
 from pidtab.answers import Forked, Form, SpaceStat, Stat, tell_space, tell_stat
 from pidtab.bounds import check_range
 from pidtab.calls import Call, Calls, EachCall, Queries
+from pidtab.effects import Effect, Told, add_effects
 from pidtab.faults import LibraryFault, TableClosed, bad_text, read_fault, refusal_of, say_why
 from pidtab.forms import QUERIES
 from pidtab.labels import Labelled
@@ -67,6 +70,7 @@ ROOT_INIT = 1
 ANSWERS = {BAD_LINE: "bad line", OUT_OF_RANGE: "bad line", NO_MEMORY: "no memory", SPENT: "spent"}
 
 T = TypeVar("T")
+P = ParamSpec("P")
 
 
 def answer_of(status: int) -> str:
@@ -255,6 +259,65 @@ class Would(OfTable, EachCall):
         return make_call(call, form, self._table._would)
 
 
+class Teller(EachCall):
+    """Makes a call on a table, and keeps what it did to tasks."""
+
+    def __init__(self, table: "NumberCalls") -> None:
+        self._table = table
+        self.effects: list[Effect] = []
+
+    def _make(self, call: Call, form: Form[T]) -> T:
+        return self._table._make_told(call, form, self.effects)
+
+
+def telling(method: Callable[Concatenate[EachCall, P], T]) -> Callable[Concatenate["ToldCalls", P], Told[T]]:
+    """The method of a call, which tells what the call did to tasks too."""
+
+    @wraps(method)
+    def tell(calls: "ToldCalls", /, *taken: P.args, **named: P.kwargs) -> Told[T]:
+        teller = Teller(calls._table)
+        return Told(method(teller, *taken, **named), teller.effects)
+
+    # As `help` shows it.
+    tell.__signature__ = signature(method).replace(return_annotation=Told)  # type: ignore[attr-defined]
+    return tell
+
+
+class ToldCalls(OfTable):
+    """Calls that tell what they did to tasks, as the `told` of a table or of a seat: each is made, and answers a `Told`. It raises what the call raises.
+
+    `told.exit(2)` has who was killed with a namespace, or who takes the children. It costs what the call costs, and some searches for each task that the
+    call may touch. An exit, a wait, a setpgid and a setsid take memory for a list: where there is none, it is a MemoryError, and the call was not made.
+
+    Where an interrupt took away what a call of a seat has told, the same call on `shared.at(ordinal)` tells it. As long as somebody has this, the table is
+    not dropped.
+    """
+
+    _table: "NumberCalls"
+
+    # Written by tools/interface: told calls.
+    fork = telling(EachCall.fork)
+    getpid = telling(EachCall.getpid)
+    nspid = telling(EachCall.nspid)
+    exec = telling(EachCall.exec)
+    exit = telling(EachCall.exit)
+    wait = telling(EachCall.wait)
+    getppid = telling(EachCall.getppid)
+    setpgid = telling(EachCall.setpgid)
+    setsid = telling(EachCall.setsid)
+    mk = telling(EachCall.mk)
+    rm = telling(EachCall.rm)
+    limit = telling(EachCall.limit)
+    move = telling(EachCall.move)
+    count = telling(EachCall.count)
+    getpgid = telling(EachCall.getpgid)
+    getsid = telling(EachCall.getsid)
+    next = telling(EachCall.next)
+    join = telling(EachCall.join)
+    subreaper = telling(EachCall.subreaper)
+    # The end of told calls.
+
+
 class Ask(OfTable, Queries):
     """Queries that are no calls, as the `ask` of a table: they are neither counted nor recorded, and shift no later id.
 
@@ -364,10 +427,19 @@ class NumberCalls(Labelled, AskableCalls):
     def _fork_at(self, caller: int, new: bool, child: int, root: int, reply: PidtabReply) -> int:
         """The status of the function that makes a fork with these numbers."""
 
+    @abstractmethod
+    def _call_told(self, call: bytes, reply: PidtabReply, *room: object) -> int:
+        """The status of the function that makes a call, and writes into a room what it did to tasks."""
+
     @property
     def would(self) -> Would:
         """What each call would answer: `table.would.fork(1)` has the numbers that `table.fork(1)` would give now."""
         return Would(self)
+
+    @property
+    def told(self) -> ToldCalls:
+        """Calls that tell what they did to tasks: `table.told.exit(2)` is made as `table.exit(2)`, and tells who ended, who has another parent, who is gone."""
+        return ToldCalls(self)
 
     def fork_at(self, caller: int, child: Forked, new: bool = False) -> bool:
         """fork(2), if the child gets exactly these numbers, as `would.fork` has told them. Else nothing changes, and it is False.
@@ -390,6 +462,14 @@ class NumberCalls(Labelled, AskableCalls):
         if self._left:
             self._check_owner()
         told = make_call(call, form, self._call)
+        if self._labels.by_root and isinstance(told, Forked):
+            self._forked(told.root)
+        return told
+
+    def _make_told(self, call: Call, form: Form[T], effects: list[Effect]) -> T:
+        """Makes a call, and adds what it did to tasks."""
+        self._check_owner()
+        told = make_call(call, form, lambda packed, reply: add_effects(effects, partial(self._call_told, packed, reply)))
         if self._labels.by_root and isinstance(told, Forked):
             self._forked(told.root)
         return told

@@ -53,6 +53,8 @@ CHILDREN, GROUP_MEMBERS, SESSION_MEMBERS, NAMESPACE_MEMBERS, NAMESPACE_OWN = ran
 
 SPACES, CONTROLS = range(2)
 
+TASK_ENDED, TASK_ADOPTED, TASK_GONE = range(3)
+
 FORKED, OK, NUMBER, LEVELS, REAPED, NONE_YET, COUNTED, CONTROL, END, REFUSED = range(10)
 # The end of kinds.
 
@@ -183,6 +185,20 @@ class PidtabSpace(ctypes.Structure):
     ]
 
 
+class PidtabEffect(ctypes.Structure):
+    """`struct pidtab_effect`."""
+
+    what: int
+    number: int
+    value: int
+
+    _fields_ = [
+        ("what", ctypes.c_uint32),
+        ("number", ctypes.c_uint32),
+        ("value", ctypes.c_uint64),
+    ]
+
+
 class PidtabEntry(ctypes.Structure):
     """`struct pidtab_entry`."""
 
@@ -261,6 +277,7 @@ CALL_BYTES = ctypes.c_char_p
 REPLY = ctypes.POINTER(PidtabReply)
 TASK = ctypes.POINTER(PidtabTask)
 SPACE = ctypes.POINTER(PidtabSpace)
+EFFECTS = ctypes.POINTER(PidtabEffect)
 FAULT = ctypes.POINTER(PidtabFault)
 ENTRIES = ctypes.POINTER(PidtabEntry)
 BYTES = ctypes.POINTER(ctypes.c_char)
@@ -295,6 +312,7 @@ LATER_FUNCTIONS: dict[str, Function] = {
     "pidtab_inside": (U32, [TABLE, U32, U64, U64, NUMBER_64, SIZE_T, NUMBER_64]),
     "pidtab_would": (U32, [TABLE, CALL_BYTES, REPLY]),
     "pidtab_fork_at": (U32, [TABLE, U32, U32, U32, U32, REPLY]),
+    "pidtab_call_told": (U32, [TABLE, CALL_BYTES, REPLY, EFFECTS, SIZE_T, NUMBER_64]),
     "pidtab_reply_line": (U32, [REPLY, BYTES, SIZE_T, SIZE]),
 }
 
@@ -312,6 +330,7 @@ SHARED_FUNCTIONS: dict[str, Function] = {
     "pidtab_shared_inside": (U32, [SHARED, U32, U64, U64, NUMBER_64, SIZE_T, NUMBER_64]),
     "pidtab_shared_would": (U32, [SHARED, CALL_BYTES, REPLY]),
     "pidtab_shared_fork_at": (U32, [SHARED, U32, U32, U32, U32, U32, REPLY, NUMBER_64]),
+    "pidtab_shared_call_told": (U32, [SHARED, U32, CALL_BYTES, REPLY, NUMBER_64, EFFECTS, SIZE_T, NUMBER_64]),
     "pidtab_shared_counts": (U32, [SHARED, NUMBER_64, NUMBER_64]),
     "pidtab_shared_worker": (U32, [SHARED, U32, NUMBER_64]),
     "pidtab_shared_entry": (U32, [SHARED, U64, NUMBER_64, CALL, REPLY]),

@@ -163,6 +163,9 @@ class Seat(NumberCalls):
     def _fork_at(self, caller: int, new: bool, child: int, root: int, reply: PidtabReply) -> int:
         return self.shared._bounded("pidtab_shared_fork_at", self.worker, caller, new, child, root, reply, self._ordinal)
 
+    def _call_told(self, call: bytes, reply: PidtabReply, *room: object) -> int:
+        return self.shared._bounded("pidtab_shared_call_told", self.worker, call, reply, self._ordinal, *room)
+
     def _call(self, call: bytes, reply: PidtabReply) -> int:
         return self.shared._bounded("pidtab_shared_call", self.worker, call, reply, self._ordinal)
 

@@ -102,6 +102,9 @@ class Table(NumberCalls):
     def _fork_at(self, caller: int, new: bool, child: int, root: int, reply: PidtabReply) -> int:
         return self._later("pidtab_fork_at", caller, new, child, root, reply)
 
+    def _call_told(self, call: bytes, reply: PidtabReply, *room: object) -> int:
+        return self._later("pidtab_call_told", call, reply, *room)
+
     def _later(self, name: str, *arguments: object) -> int:
         """What a function answers that an earlier library may lack."""
         return call_later(self._functions, self.library, name, self._table, *arguments)

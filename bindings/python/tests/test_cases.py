@@ -6,7 +6,8 @@ import unittest
 from collections.abc import Iterator
 from typing import Any
 
-from pidtab import BadList, BadText, Calls, NotKept, Process, ProgramMissing, Queries, Refusal, SeatsTaken, Shared, SpaceStat, Stat, Table, find_program, read_list
+from pidtab import BadList, BadText, Calls, Effect, Ended, Gone, NotKept, Process, ProgramMissing, Queries, Refusal, Seat, SeatsTaken, Shared, SpaceStat, Stat
+from pidtab import Table, find_program, read_list
 from pidtab.calls import Call
 from pidtab.forms import QUERIES, say_answer
 from pidtab.history import Entry
@@ -55,7 +56,22 @@ def say_space(space: SpaceStat) -> str:
     return f"space {space.id} parent {parent} level {space.level} init {init}{' fallen' * space.fallen}"
 
 
-def value_of(table: Calls, line: str) -> Any:
+def say_effect(effect: Effect) -> str:
+    """What became of a task."""
+    if isinstance(effect, Ended):
+        return f"ended {effect.number} killed" if effect.killed else f"ended {effect.number} exit {effect.status}"
+    return f"gone {effect.number}" if isinstance(effect, Gone) else f"adopted {effect.number} {effect.parent}"
+
+
+def say_told(table: Table | Seat, line: str) -> list[str]:
+    """The answer to a good line, and what the call did to tasks."""
+    told = value_of(table.told, line)
+    if isinstance(told, Refusal):
+        return [say_fault(told)]
+    return [say_answer(line.split(" ")[0], told.answer), *map(say_effect, told.effects)]
+
+
+def value_of(table: Any, line: str) -> Any:
     """What the method of a good line tells, or the refusal."""
     try:
         return make_call(table, line)
@@ -64,7 +80,7 @@ def value_of(table: Calls, line: str) -> Any:
 
 
 class World:
-    """What a case has open."""
+    """What a case has open: tables by lines, by methods and by calls that tell what they did, programs by lines, and one for threads."""
 
     def __init__(self, test: unittest.TestCase) -> None:
         self.test = test
@@ -100,12 +116,12 @@ class World:
             self.test.assertEqual((again.counts(), again.list_text()), (shared.counts(), shared.list_text()))
 
     def open(self, pid_max: int, workers: int, first_stamp: int, keep: int) -> None:
-        """Opens what the settings say: tables by lines and by methods, and a program."""
+        """Opens what the settings say."""
         is_alone = (workers, first_stamp, keep) == (1, 1, 0)
         if is_alone and not 301 <= pid_max <= 4194304:
             self.test.assertRaises(ValueError, Table, pid_max)
         self.begin(Shared(workers, pid_max=pid_max, first_stamp=first_stamp, keep=keep))
-        self.tables = [Table(pid_max), Table(pid_max)] if is_alone else []
+        self.tables = [Table(pid_max) for _ in range(3)] if is_alone else []
         self.is_whole = first_stamp == 1
         try:
             find_program()
@@ -123,7 +139,7 @@ class World:
                     Shared.from_dump(text, recorded=counts)
                 raise
         self.begin(Shared.from_dump(text, recorded=counts, keep=keep))
-        self.tables = [Table.from_dump(text), Table.from_dump(text)] if counts == [0] and not keep else []
+        self.tables = [Table.from_dump(text) for _ in range(3)] if counts == [0] and not keep else []
 
     def reload(self) -> None:
         """Goes on with what is made of the texts."""
@@ -139,7 +155,7 @@ class World:
         """The answer, which is the same by each way."""
         assert self.shared is not None
         seat, answers = self.seats[self.at], set()
-        for table in [seat, *self.tables[:1], *self.tables[2:]]:
+        for table in [seat, *self.tables[:1], *self.tables[3:]]:
             try:
                 answers.add(table.line(line))
             except (ValueError, Refusal, OverflowError) as fault:
@@ -160,7 +176,19 @@ class World:
             self.told = value_of(self.tables[1], line)
             said = say_fault(self.told) if isinstance(self.told, Refusal) else say_answer(line.split(" ")[0], self.told)
             self.test.assertEqual((line, said), (line, answer))
+            self.test.assertEqual((line, say_told(self.tables[2], line)[0]), (line, answer))  # type: ignore[arg-type]
         return answer
+
+    def call_told(self, line: str) -> str:
+        """The answer and the effects, which are the same by each table that tells them."""
+        seat = self.seats[self.at]
+        said, *others = [say_told(it, line) for it in [seat, *self.tables] if isinstance(it, (Seat, Table))]
+        others += [[it.answers([line])[0], *said[1:]] for it in self.tables if isinstance(it, Process)]
+        for other in others:
+            self.test.assertEqual(other, said)
+        assert self.shared is not None and seat.ordinal is not None
+        self.test.assertEqual(self.shared.entry(seat.ordinal), Entry(seat.ordinal, self.at, line, said[0]))
+        return ", ".join(said)
 
     def stat(self, caller: int, pid: int) -> str:
         """A task that is read at once."""
@@ -257,6 +285,8 @@ class World:
         elif word == "json":
             self.call(" ".join(words))
             return json.dumps(self.told.to_object() if hasattr(self.told, "to_object") else self.told, separators=(",", ":"))
+        elif word == "told":
+            return self.call_told(" ".join(words))
         elif word == "stat":
             return self.stat(*numbers)
         elif word == "page":

@@ -106,7 +106,9 @@ class Savers(Files):
         for fault in (caught.exception, waiter.told(), Later(lambda: shared.wait_saved(0)).told()):
             assert isinstance(fault, OSError)
             self.assertEqual((fault.errno, fault.filename), (errno.EFBIG, str(self.path)))
-        calls: list[Callable[[], object]] = [lambda: seat.getpid(1), lambda: seat.line("getpid 1"), lambda: seat.answers(["getpid 1"])]
+        calls: list[Callable[[], object]] = [
+            lambda: seat.getpid(1), lambda: seat.line("getpid 1"), lambda: seat.answers(["getpid 1"]), lambda: seat.told.getpid(1),
+        ]  # fmt: skip
         for call in calls:
             with self.assertRaisesRegex(Unsaved, "^too many calls are not saved, and the saver has ended or failed$") as refused:
                 call()

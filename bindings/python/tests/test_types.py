@@ -34,6 +34,20 @@ def use(table: pidtab.Table, shared: pidtab.Shared, seat: pidtab.Seat, many: pid
     return asked + child(table) + child(seat) + child(many)
 
 
+def fall(table: pidtab.Table, seat: pidtab.Seat) -> int:
+    answer, effects = table.told.exit(2, 9)
+    for effect in [*effects, *seat.told.wait(1, own=True).effects]:
+        match effect:
+            case pidtab.Ended(number, status):
+                answer = None if status is None else number + status
+            case pidtab.Adopted():
+                return effect.parent
+            case gone:
+                return gone.number
+    reaped: pidtab.Told[pidtab.Reaped | None] = seat.told.wait(1)
+    return table.told.fork(1).answer.root + (reaped.answer.child if reaped.answer else 0)
+
+
 def misuse(process: pidtab.Process, shared: pidtab.Shared, calls: pidtab.Calls, table: pidtab.AskableCalls) -> None:
     parent(process, 1)  # wrong
     child(process)  # wrong
@@ -41,6 +55,16 @@ def misuse(process: pidtab.Process, shared: pidtab.Shared, calls: pidtab.Calls, 
     calls.ask  # wrong
     table.ask.fork(1)  # wrong
     table.fork("1")  # wrong
+
+
+def misuse_told(table: pidtab.Table, shared: pidtab.Shared, process: pidtab.Process) -> None:
+    table.told.exit("2")  # wrong
+    table.told.exit(2, own=True)  # wrong
+    table.told.wait(1).answer.child  # wrong
+    table.told.line("exit 2 0")  # wrong
+    table.told.exit(2).effects.number  # wrong
+    shared.told.exit(2)  # wrong
+    process.told.exit(2)  # wrong
 """
 
 

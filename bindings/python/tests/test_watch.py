@@ -110,10 +110,10 @@ class Waits(Tables):
         time.sleep(SHORT)
         self.seat.getpid(1)
         self.assertEqual([it.told() for it in waiters], [1] * 8)
-        self.seat.getpid(1)
+        self.seat.told.getpid(1)
         time.sleep(SHORT)
         self.assertEqual(last._told, [])
-        self.other.getpid(1)
+        self.other.told.getpid(1)
         self.assertEqual(last.told(), 3)
         wait_until(lambda: not self.awaited)
 

@@ -120,7 +120,8 @@ impl World {
         if let [_, by_value, by_method] = &mut self.tables[..] {
             assert_eq!(by_value.ask(entry.call), asked, "{line}");
             assert_eq!(by_value.would(entry.call).as_ref(), Ok(&entry.reply));
-            assert_eq!(by_value.call(entry.call).as_ref(), Ok(&entry.reply));
+            let told = by_value.told(entry.call).map(|it| it.reply);
+            assert_eq!(told.as_ref(), Ok(&entry.reply));
             let told = by_its_method(by_method, entry.call).or_else(|fault| match fault {
                 Error::Refused { errno, refusal } => Ok(Reply::Refused { errno, refusal }),
                 other => Err(other),
@@ -129,6 +130,23 @@ impl World {
         }
         self.told = entry.reply;
         answer
+    }
+
+    /// The answer to the line, and what its call does to tasks, which are the same of each table.
+    fn call_told(&mut self, line: &str) -> String {
+        let (call, seat) = (call_on(line), &mut self.seats[self.at]);
+        let told = seat.told(call).expect("a call");
+        let ordinal = seat.ordinal().expect("an ordinal");
+        let entry = self.shared.entry(ordinal).expect("an entry");
+        assert_eq!(
+            (entry.worker as usize, entry.call, &entry.reply),
+            (self.at, call, &told.reply)
+        );
+        for table in &mut self.tables {
+            assert_eq!(table.told(call).as_ref(), Ok(&told), "{line}");
+        }
+        let effects = told.effects.iter().map(say_effect);
+        say(&told.reply) + &effects.collect::<String>()
     }
 
     fn stat(&mut self, caller: u32, number: u32) -> String {
@@ -367,6 +385,26 @@ fn say(reply: &Reply) -> String {
     }
 }
 
+/// What became of a task, behind a comma.
+fn say_effect(effect: &Effect) -> String {
+    match effect {
+        Effect::Ended { number, ended } => format!(", ended {number} {}", say_end(*ended)),
+        Effect::Adopted { number, parent } => format!(", adopted {number} {parent}"),
+        Effect::Gone { number } => format!(", gone {number}"),
+    }
+}
+
+/// The call on a line, by the entry of another table.
+fn call_on(line: &str) -> Call {
+    let shared = Shared::open(32768, 1).expect("a table");
+    shared
+        .seat()
+        .expect("a seat")
+        .line(line)
+        .expect("an answer");
+    shared.entry(0).expect("an entry").call
+}
+
 fn say_task(it: &Stat) -> String {
     let numbers = joined(it.numbers(), ",");
     let end = it.ended().map_or("live".to_owned(), say_end);
@@ -492,6 +530,7 @@ fn make_open(
             world.call(&words[1..].join(" "));
             return world.told.to_json();
         }
+        "told" => return world.call_told(&words[1..].join(" ")),
         "stat" => return world.stat(numbers[0] as u32, numbers[1] as u32),
         "page" => return world.page(numbers),
         "inside" => return world.inside(numbers),

@@ -26,6 +26,7 @@ mod blocks;
 mod calls;
 #[cfg(test)]
 mod cases;
+mod effects;
 mod fault;
 mod json;
 mod labels;
@@ -42,6 +43,7 @@ mod texts;
 
 pub use blocks::{Blocks, Head, Made, Replayed};
 pub use calls::{Call, Calls, Kind, Reply, Which};
+pub use effects::{Effect, Told};
 pub use fault::{Error, LineError, Refusal, ReplayError, TextError, TextFault};
 pub use listing::{BadList, Control, Listing, Space, Task};
 pub use saved::{Saved, SavedError, SavedFault};
@@ -134,6 +136,11 @@ pub struct Reaped {
 ///         Forked(_) | Done | Number(_) | Levels(_) | Reaped(_) | NoneYet | Counted(_) | Control(_) | End | Refused { .. } => {}
 ///     }
 /// }
+/// ```
+///
+/// ```compile_fail,E0004
+/// use pidtab::Effect::*;
+/// fn all(it: pidtab::Effect) { match it { Ended { .. } | Adopted { .. } | Gone { .. } => {} } }
 /// ```
 ///
 /// ```compile_fail,E0004
@@ -304,6 +311,42 @@ impl Table {
         Ok(true)
     }
 
+    /// Makes the call, and tells what it did to tasks besides: who ended, who has another parent, and who is gone. So the exit of a namespace's init
+    /// tells whom the kernel would kill, and each other exit who takes the children. A wait takes its child away. Other calls have no effects.
+    ///
+    /// ```
+    /// use pidtab::{Call, Calls, Effect, Ended, Table};
+    ///
+    /// // 2 is the init of a namespace, in which is its child 3.
+    /// let mut table = Table::open(32768)?;
+    /// table.fork(1, true)?;
+    /// table.fork(2, false)?;
+    /// let mut said = Vec::new();
+    /// for effect in table.told(Call::Exit { caller: 2, status: 7 })?.effects {
+    ///     said.push(match effect {
+    ///         Effect::Ended { number, ended: Ended::Exited(status) } => format!("{number} ends with {status}"),
+    ///         Effect::Ended { number, ended: Ended::Killed } => format!("{number} is killed"),
+    ///         Effect::Adopted { number, parent } => format!("{number} is a child of {parent} now"),
+    ///         Effect::Gone { number } => format!("{number} is gone"),
+    ///         other => format!("{other:?}"),
+    ///     });
+    /// }
+    /// assert_eq!(said, ["2 ends with 7", "3 is killed", "3 is gone"]);
+    /// # Ok::<(), pidtab::Error>(())
+    /// ```
+    ///
+    /// It costs what the call costs, and some searches for each task that it may touch. It takes memory for a list, and has it before the call is made.
+    ///
+    /// # Errors
+    /// `NoMemory`, `Spent`, `Busy`.
+    pub fn told(&mut self, call: Call) -> Result<Told, Error> {
+        let numbers = call.numbers();
+        let told =
+            effects::told(|reply, room, count| self.raw.call_told(&numbers, reply, room, count))?;
+        self.labels.replied(&told.reply);
+        Ok(told)
+    }
+
     /// Makes the call on a line of the script language, without its newline: a text or bytes. A refusal is an answer, as `ESRCH no-caller`.
     ///
     /// # Errors
@@ -363,6 +406,7 @@ mod tests {
         assert_eq!(table.stat(1, 0), Err(Error::Busy));
         assert_eq!(table.children(1, 0, 0), Err(Error::Busy));
         assert_eq!(table.space(0), Err(Error::Busy));
+        assert_eq!(table.told(Call::Getpid { caller: 1 }), Err(Error::Busy));
         assert_eq!(table.line("getpid 1"), Err(LineError::Busy));
         assert_eq!(table.list(), Err(Error::Busy));
         assert_eq!(table.dump(), Err(Error::Busy));

@@ -267,7 +267,7 @@ fn status_of(ended: Ended) -> u64 {
     }
 }
 
-fn ended_of(status: u64) -> Ended {
+pub(crate) fn ended_of(status: u64) -> Ended {
     match status {
         raw::KILLED => Ended::Killed,
         status => Ended::Exited(status as u8),

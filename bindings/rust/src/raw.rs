@@ -92,6 +92,9 @@ mod kinds {
     pub(crate) const NAMESPACE_OWN: u32 = 4;
     pub(crate) const SPACES: u32 = 0;
     pub(crate) const CONTROLS: u32 = 1;
+    pub(crate) const TASK_ENDED: u32 = 0;
+    pub(crate) const TASK_ADOPTED: u32 = 1;
+    pub(crate) const TASK_GONE: u32 = 2;
 }
 pub(crate) use kinds::*;
 // The end of kinds.
@@ -256,6 +259,23 @@ impl Space {
     };
 }
 
+/// `struct pidtab_effect`.
+#[repr(C)]
+#[derive(Clone, Copy, Debug, PartialEq)]
+pub(crate) struct Effect {
+    pub(crate) what: u32,
+    pub(crate) number: u32,
+    pub(crate) value: u64,
+}
+
+impl Effect {
+    pub(crate) const BLANK: Effect = Effect {
+        what: 0,
+        number: 0,
+        value: 0,
+    };
+}
+
 /// `struct pidtab_entry`.
 #[repr(C)]
 #[derive(Clone, Copy, Debug, PartialEq)]
@@ -303,6 +323,7 @@ const _: () = {
     assert!(size_of::<Held>() == 16 && size_of::<Call>() == 32);
     assert!(size_of::<Reply>() == 168 && size_of::<Task>() == 192);
     assert!(size_of::<Entry>() == 208 && size_of::<SavedHead>() == 16);
+    assert!(size_of::<Effect>() == 16);
 };
 
 // Written by tools/interface: functions.
@@ -353,6 +374,14 @@ extern "C" {
         child: u32,
         root: u32,
         reply: *mut Reply,
+    ) -> u32;
+    fn pidtab_call_told(
+        table: *mut Held,
+        call: *const Call,
+        reply: *mut Reply,
+        effects: *mut Effect,
+        room: usize,
+        count: *mut u64,
     ) -> u32;
     fn pidtab_call_line(call: *const Call, line: *mut c_void, room: usize, size: *mut usize)
         -> u32;
@@ -431,6 +460,16 @@ extern "C" {
         root: u32,
         reply: *mut Reply,
         ordinal: *mut u64,
+    ) -> u32;
+    fn pidtab_record_call_told(
+        record: *mut Held,
+        worker: u32,
+        call: *const Call,
+        reply: *mut Reply,
+        ordinal: *mut u64,
+        effects: *mut Effect,
+        room: usize,
+        count: *mut u64,
     ) -> u32;
     fn pidtab_record_counts(record: *const Held, first_kept: *mut u64, recorded: *mut u64) -> u32;
     fn pidtab_record_worker(record: *const Held, worker: u32, calls: *mut u64) -> u32;
@@ -683,6 +722,26 @@ impl Table {
         // SAFETY: it is open and lent to this call alone; each pointer is that of a reference or of a slice with that length.
         unsafe { pidtab_fork_at(&mut *self.held, caller, new_space, child, root, reply) }
     }
+
+    pub(crate) fn call_told(
+        &mut self,
+        call: &Call,
+        reply: &mut Reply,
+        effects: &mut [Effect],
+        count: &mut u64,
+    ) -> u32 {
+        // SAFETY: it is open and lent to this call alone; each pointer is that of a reference or of a slice with that length.
+        unsafe {
+            pidtab_call_told(
+                &mut *self.held,
+                call,
+                reply,
+                effects.as_mut_ptr(),
+                effects.len(),
+                count,
+            )
+        }
+    }
     // The end of methods of a table.
 
     /// As in a forked child, where the thread whose call was under way is not.
@@ -877,6 +936,30 @@ impl Record {
                 root,
                 reply,
                 ordinal,
+            )
+        }
+    }
+
+    pub(crate) fn call_told(
+        &mut self,
+        worker: u32,
+        call: &Call,
+        reply: &mut Reply,
+        ordinal: &mut u64,
+        effects: &mut [Effect],
+        count: &mut u64,
+    ) -> u32 {
+        // SAFETY: it is open and lent to this call alone; each pointer is that of a reference or of a slice with that length.
+        unsafe {
+            pidtab_record_call_told(
+                &mut *self.held,
+                worker,
+                call,
+                reply,
+                ordinal,
+                effects.as_mut_ptr(),
+                effects.len(),
+                count,
             )
         }
     }

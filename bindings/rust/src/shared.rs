@@ -5,8 +5,8 @@
 use crate::calls::sealed::Sealed;
 use crate::labels::Labels;
 use crate::{
-    page, raw, space, texts, Call, Calls, Child, Error, LineError, Listing, ReplayError, Reply,
-    SavedError, SpaceStat, Stat, Table, TextError,
+    effects, page, raw, space, texts, Call, Calls, Child, Error, LineError, Listing, ReplayError,
+    Reply, SavedError, SpaceStat, Stat, Table, TextError, Told,
 };
 use std::ops::{Deref, DerefMut};
 use std::sync::atomic::{AtomicBool, AtomicU32, AtomicU64, Ordering};
@@ -981,6 +981,18 @@ impl Record {
         Ok((reply, ordinal))
     }
 
+    /// Makes a call of the worker: what it tells, its effects too, and its ordinal.
+    fn told(&mut self, worker: u32, call: Call) -> Result<(Told, u64), Error> {
+        let (numbers, mut ordinal) = (call.numbers(), 0);
+        let told = effects::told(|reply, room, count| {
+            self.raw
+                .call_told(worker, &numbers, reply, &mut ordinal, room, count)
+        })?;
+        self.after_call();
+        self.labels.replied(&told.reply);
+        Ok((told, ordinal))
+    }
+
     /// Makes a fork of the worker if its child gets these numbers: its ordinal, or none where it would get another reply.
     fn fork_at(
         &mut self,
@@ -1209,6 +1221,15 @@ impl Seat<'_> {
         self.turn(locked).fork_at(caller, new_space, child)
     }
 
+    /// As [`Table::told`](crate::Table::told): makes the call, and tells what it did to tasks besides. It is recorded as any call.
+    ///
+    /// # Errors
+    /// `NoMemory`, `Spent`, `Busy`, `Unsaved`.
+    pub fn told(&mut self, call: Call) -> Result<Told, Error> {
+        let locked = self.shared.lock_in_bound(1)?;
+        self.turn(locked).told(call)
+    }
+
     /// The lock, for several calls in one go: none of another worker comes between them. All others wait while the guard lives.
     ///
     /// This thread calls no function of the `Shared` or of another seat meanwhile: it would wait for itself for ever, or panic. The guard has
@@ -1277,6 +1298,16 @@ impl Turn<'_> {
             *self.ordinal = made;
         }
         Ok(made.is_some())
+    }
+
+    /// As [`Seat::told`].
+    ///
+    /// # Errors
+    /// `NoMemory`, `Spent`, `Busy`.
+    pub fn told(&mut self, call: Call) -> Result<Told, Error> {
+        let (told, ordinal) = self.locked.told(self.worker, call)?;
+        *self.ordinal = Some(ordinal);
+        Ok(told)
     }
 
     /// As [`Seat::line`].
@@ -1400,6 +1431,7 @@ mod tests {
             Child { number: 2, root: 2 },
         );
         assert_eq!(shared.would(fork), Err(Error::Busy));
+        assert_eq!(seat.told(fork), Err(Error::Busy));
         assert_eq!(seat.fork_at(1, false, child), Err(Error::Busy));
         assert_eq!(shared.counts(), Err(Error::Busy));
         assert_eq!(shared.worker(0), Err(Error::Busy));

@@ -158,6 +158,8 @@ fn a_saver_that_fails() {
     assert!(is_full(&shared.wait_saved(0).expect_err("a fault").fault));
     assert_eq!(seat.getpid(1), Err(Error::Unsaved));
     assert_eq!(seat.line("getpid 1"), Err(LineError::Unsaved));
+    let told = seat.told(Call::Getpid { caller: 1 });
+    assert_eq!(told, Err(Error::Unsaved));
     assert_eq!(
         io::Error::from(Error::Unsaved).kind(),
         io::ErrorKind::BrokenPipe

@@ -65,7 +65,7 @@ fn each_is_woken() {
         seat.line("getpid 1").expect("an answer");
         let_sleep();
         assert_eq!(woken.load(Ordering::SeqCst), 3);
-        ask(&mut seat);
+        seat.told(Call::Getpid { caller: 1 }).expect("a reply");
         assert_eq!(last.join().expect("no panic"), Ok(3));
     });
 }
@@ -80,7 +80,8 @@ fn calls_under_the_lock() {
         let_sleep();
         let mut turn = seat.lock();
         turn.getpid(1).expect("a reply");
-        turn.getpid(1).expect("a reply");
+        turn.told(Call::Getpid { caller: 1 }).expect("a reply");
+        assert_eq!(turn.ordinal(), Some(1));
         drop(turn);
         assert_eq!(waiter.join().expect("no panic"), Ok(2));
         let waiter = scope.spawn(|| other.wait_changed(0, None));

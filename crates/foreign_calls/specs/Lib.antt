@@ -13,3 +13,4 @@ pub mod Spaces
 pub mod Inside
 pub mod Saved
 pub mod SavedBytes
+pub mod Effects

@@ -5,6 +5,7 @@
 #![tactic(auto)]
 
 pub mod ask;
+pub mod effects;
 pub mod history;
 pub mod inside;
 pub mod many_calls;

@@ -4,3 +4,4 @@ pub mod Tasks
 pub mod Spaces
 pub mod Replies
 pub mod Whom
+pub mod Effects

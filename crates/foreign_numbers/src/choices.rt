@@ -1,4 +1,4 @@
-//! The choices of a wait, of a next and of pages, by their names.
+//! The choices of a wait, of a next and of pages, and what an effect is, by their names.
 
 // Written by tools/interface: choices.
 /// Any child.
@@ -42,4 +42,13 @@ pub const SPACES: u32 = 0;
 
 /// The control groups that are directly in the one with the id.
 pub const CONTROLS: u32 = 1;
+
+/// The task ended: value is its status, 0 to 255, or [`crate::kinds::KILLED`] where its namespace fell.
+pub const ENDED: u32 = 0;
+
+/// The task has another parent: value is the root number of that.
+pub const ADOPTED: u32 = 1;
+
+/// The task is there no more, as it was reaped or went with its namespace: value is 0.
+pub const GONE: u32 = 2;
 // The end of choices.

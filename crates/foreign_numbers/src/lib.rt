@@ -6,6 +6,7 @@
 
 pub mod call_numbers;
 pub mod choices;
+pub mod effects;
 pub mod kinds;
 pub mod numbers;
 pub mod operations;

@@ -12,6 +12,7 @@ ghost use Rattle.pid_types.specs.Shown.{Shows};
 ghost use Rattle.pid_types.specs.Sound.{IsBelow};
 ghost use Rattle.pid_types.specs.Step.{step, may_grow};
 ghost use Rattle.translate.specs.Stat.{stat_at, glimpse_in, IsSeen};
+ghost use Rattle.call_effects.specs.Touched.{is_touching, Watches};
 ghost use Rattle.kept_table.specs.Calls.{begun, resumed, outcome, entry_of, after_call, counted, cut_at};
 ghost use Rattle.kept_table.specs.Calls.{IsWithoutFirst, to_cut, to_cut_once};
 ghost use Rattle.kept_table.specs.Chronicle.{Chronicle, total, next_stamp, recorded, recorded_by_all, kept_entry};
@@ -20,6 +21,7 @@ ghost use Rattle.kept_table.specs.Promise.{IsSubtreeCount, KeepsPromise};
 ghost use Rattle.model_laws.specs.Refusals.{is_query};
 ghost use Rattle.kept_table.specs.Whole.{one_of, is_fresh};
 
+use call_effects::Touched;
 use kept_past::History;
 use model_laws::laws::{forks_keep_limits, no_reuse, numbers_are_apart};
 use model_laws::meanings::count_is_of_subtree;
@@ -322,6 +324,22 @@ impl Kept {
         soundness_is_kept();
         self.table.would(stamp, call, reply);
         Ok(())
+    }
+
+    /// Those whom the call may touch as the next one: [`Touched::before`]. It is not recorded, and nothing that is held
+    /// changes. An error is `Spent`, where the stamps are used up, or want of memory.
+    pub fn touched(&self, call: Call) -> Result<Touched, CallFault>
+        ensures before { IfOk result (Watches self.now.present (outcome self.now call).state) }
+        ensures few { IfOk result (λ tasks. length tasks ≤ length self.now.present.rows) }
+        ensures touching { IfOk result (λ tasks. 0 < length tasks → IsTrue (is_touching call)) }
+        ensures spent { (result ≡ Err CallFault.Spent) ↔ (next_stamp self.now ≡ u64.MAX) }
+        ensures no_memory { result ≡ Err CallFault.NoMemory → IsTrue (is_touching call) }
+    {
+        let Some(stamp) = self.next_stamp() else {
+            return Err(CallFault::Spent);
+        };
+        soundness_is_kept();
+        Ok(Touched::before(&self.table, stamp, call)?)
     }
 
     /// Makes room for the entries of n more calls. Each recorded call uses up one of them. A new record holds the root

@@ -4,7 +4,8 @@
 //! state.
 #![tactic(auto)]
 
-ghost use Rattle.std.specs.Prelude.{◌≡◌, ◌+◌, ◌<◌, ◌≤◌, IfOk, IfSome, OnErr, OnOk, None, [], ◌∷◌, is_some, length, map};
+ghost use Rattle.std.specs.Prelude.{◌≡◌, ◌+◌, ◌<◌, ◌≤◌, IfOk, IfSome, OnErr, OnOk, None, [], ◌∷◌};
+ghost use Rattle.std.specs.Prelude.{is_some, length, map, option_map};
 ghost use Rattle.pid_types.specs.Controls.{control_at, count as count_of};
 ghost use Rattle.pid_types.specs.Settings.{HasGoodPidMax};
 ghost use Rattle.pid_types.specs.Short.{reply_of};
@@ -16,7 +17,8 @@ ghost use Rattle.task_table.specs.Whole.{IsWhole};
 ghost use Rattle.translate.specs.From.{rows_from};
 ghost use Rattle.translate.specs.Inside.{ids_inside};
 ghost use Rattle.translate.specs.Listed.{TellsList};
-ghost use Rattle.translate.specs.Pages.{TellsPage, TellsSeenPage};
+ghost use Rattle.translate.specs.Pages.{ListsPage, TellsPage, TellsSeenPage};
+ghost use Rattle.translate.specs.Relations.{relations_at};
 ghost use Rattle.translate.specs.Spaces.{space_stat_at};
 ghost use Rattle.translate.specs.Stat.{stat_at, glimpse_in, IsSeen};
 ghost use Rattle.pid_table.specs.Bare.{IsBare};
@@ -34,7 +36,8 @@ use task_table::Tasks;
 use task_table::view::laws;
 use task_tree::Task;
 use translate::inside::{Inside, read_inside};
-use translate::page::{Page, read_page};
+use translate::page::{Page, list_page, read_page};
+use translate::relations::{Relations, read_relations};
 use translate::shown;
 use translate::space::{SpaceStat, read_space};
 use translate::stat::{Stat, read_stat};
@@ -114,6 +117,11 @@ impl PidTable {
         let _ = &self.store;
     }
 
+    /// The memory that the table is in. It costs one read.
+    pub fn allocator(&self) -> Global {
+        self.store.numbers().allocator()
+    }
+
     /// The bound of all numbers, 301 to 4194304. It costs one read.
     pub fn pid_max(&self) -> u32
         ensures value { result ≡ self.now.pid_max }
@@ -172,6 +180,21 @@ impl PidTable {
         ensures err { OnErr result (room.new ≡ room.old) }
     {
         read_page(&self.store, page, room)
+    }
+
+    /// The numbers of a page, in rising order; none where there is no caller: [`list_page`]. The error is want of
+    /// memory.
+    pub fn list(&self, page: &Page) -> Result<Option<Vec<Pid>>, AllocError>
+        ensures { IfOk result (λ r. ListsPage self.now page.now (option_map (λ listed. listed.items) r)) }
+    {
+        list_page(&self.store, page)
+    }
+
+    /// To whom the task with the root number belongs, and where: [`read_relations`]. None where there is none.
+    pub fn relations(&self, number: Pid) -> Option<Relations>
+        ensures { result ≡ relations_at self.now.rows number }
+    {
+        read_relations(&self.store, number)
     }
 
     /// Writes the ids of what is directly inside a namespace or a control group over the front of the room, and answers

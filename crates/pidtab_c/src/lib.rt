@@ -29,6 +29,7 @@ ghost use Rattle.foreign_calls.specs.Rooms.{KeepsRoom, PutsText};
 ghost use Rattle.stamped_table.specs.Stamped.{IsInOrder};
 
 mod ask;
+mod effects;
 mod history;
 mod inside;
 mod many_calls;

@@ -4,7 +4,8 @@
 //! keeps the calls too.
 #![tactic(auto)]
 
-ghost use Rattle.std.specs.Prelude.{◌≡◌, ◌≢◌, ◌+◌, ◌↔◌, IfOk, OnOk, OnErr, Err, IsTrue};
+ghost use Rattle.std.specs.Prelude.{◌≡◌, ◌≢◌, ◌+◌, ◌<◌, ◌≤◌, ◌↔◌, IfOk, OnOk, OnErr, Err, IsTrue, length};
+ghost use Rattle.call_effects.specs.Touched.{is_touching, Watches};
 ghost use Rattle.model_laws.specs.Refusals.{is_query};
 ghost use Rattle.pid_types.specs.Sound.{IsSound, IsBelow};
 ghost use Rattle.pid_types.specs.State.{root_state};
@@ -12,6 +13,7 @@ ghost use Rattle.pid_types.specs.Step.{may_grow};
 ghost use Rattle.stamped_table.specs.Stamped.{IsInOrder, after_call, reply_to};
 ghost use Rattle.translate.specs.Stat.{stat_at};
 
+use call_effects::Touched;
 use model_laws::soundness::{root_state_is_sound, soundness_is_kept};
 use pid_table::PidTable;
 use pid_types::call::Call;
@@ -124,6 +126,22 @@ impl StampedTable {
         if self.stamp < u64::MAX {
             self.table.would(self.stamp, call, reply);
             Ok(())
+        } else {
+            Err(CallFault::Spent)
+        }
+    }
+
+    /// Those whom the call may touch as the next one: [`Touched::before`]. It uses no stamp, and changes nothing. An
+    /// error is `Spent`, where the stamps are used up, or want of memory.
+    pub fn touched(&self, call: Call) -> Result<Touched, CallFault>
+        ensures before { IfOk result (Watches self.now.state (after_call self.now call).state) }
+        ensures few { IfOk result (λ tasks. length tasks ≤ length self.now.state.rows) }
+        ensures touching { IfOk result (λ tasks. 0 < length tasks → IsTrue (is_touching call)) }
+        ensures spent { (result ≡ Err CallFault.Spent) ↔ (self.now.stamp ≡ u64.MAX) }
+        ensures no_memory { result ≡ Err CallFault.NoMemory → IsTrue (is_touching call) }
+    {
+        if self.stamp < u64::MAX {
+            Ok(Touched::before(&self.table, self.stamp, call)?)
         } else {
             Err(CallFault::Spent)
         }

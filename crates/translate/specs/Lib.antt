@@ -9,3 +9,4 @@ pub mod Listed
 pub mod Members
 pub mod Passed
 pub mod Inside
+pub mod Relations

@@ -51,6 +51,12 @@ pub record AreListed (numbers : List ℕ) (from : ℕ) (listed : List ℕ) : Typ
   pub rising : IsRising listed
   pub each : (m : ℕ) → IsIn m listed ↔ ((from ≤ m) × IsIn m numbers)
 
+-- the list is the page's for the caller; or nobody calls, and there is none
+pub record ListsPage (state : State) (page : Page) (told : Option (List ℕ)) : Type 0 where
+  pub nobody : live_row state.rows page.caller ≡ None → told ≡ None
+  pub listed : (caller : Row) → live_row state.rows page.caller ≡ Some caller → (listed : List ℕ)
+      × AreListed (numbers_asked state caller page.whom page.number) page.from listed × (told ≡ Some listed)
+
 -- the room, with as much of the list at its front as it takes
 abbrev pub with_front : {X : Type 0} → List X → List X → List X
 with_front listed room = take (length room) listed ++ drop (length listed) room

@@ -18,6 +18,7 @@ pub mod inside;
 pub mod members;
 pub mod page;
 mod queries;
+pub mod relations;
 pub mod shown;
 pub mod space;
 pub mod stat;

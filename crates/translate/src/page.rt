@@ -2,7 +2,7 @@
 //! numbers as a caller's namespace has them. So whom `kill(2)` of a process group or of -1 reaches, and what
 //! `pgrep -P`, `pgrep -s` and an `ls` of `/proc` list.
 
-ghost use Rattle.std.specs.Prelude.{◌≡◌, ◌<◌, ◌++◌, ℕ, length, Some, IfOk, OnOk, OnErr};
+ghost use Rattle.std.specs.Prelude.{◌≡◌, ◌<◌, ◌++◌, ℕ, length, Some, IfOk, OnOk, OnErr, option_map};
 ghost use Rattle.std.specs.List.{AllByRecursion};
 ghost use Rattle.pid_types.specs.declared.call.Kind.{Kind};
 ghost use Rattle.pid_types.specs.declared.call.Kind.TheVariants as kinds;
@@ -13,7 +13,7 @@ ghost use Rattle.task_table.specs.View.{name_at, row_of, state_of};
 ghost use Rattle.task_table.specs.Whole.{HasParents, IsWhole};
 ghost use Rattle.translate.specs.Gathered.{numbers_from, AddsGroups, AreGathered, IsMeantAlone};
 ghost use Rattle.translate.specs.Pages.{numbers_asked, numbers_belonging, with_front, AreListed};
-ghost use Rattle.translate.specs.Pages.{TellsPage, TellsSeenPage};
+ghost use Rattle.translate.specs.Pages.{ListsPage, TellsPage, TellsSeenPage};
 ghost use Rattle.translate.specs.declared.page.Whom.TheVariants as whoms;
 
 use crate::members::{Asked, Reach, list_members};
@@ -246,6 +246,18 @@ pub(crate) fn put_front<T: Copy>(listed: &[T], room: &mut [T])
 {
     let count = listed.len().min(room.len());
     room[..count].copy_from_slice(&listed[..count]);
+}
+
+/// The numbers of the page, in rising order; none where no live task has the caller's root number. The error is want of
+/// memory. It costs what [`read_page`] costs.
+pub fn list_page(store: &Tasks, page: &Page) -> Result<Option<Vec<Pid>>, AllocError>
+    requires { IsWhole store.now }
+    ensures { IfOk result (λ r. ListsPage (state_of store.now) page.now (option_map (λ listed. listed.items) r)) }
+{
+    let Some(caller) = find_live(store, page.caller) else {
+        return Ok(None);
+    };
+    Ok(Some(list_numbers(store, &caller, page)?))
 }
 
 /// Writes the numbers of the page over the front of the room, in rising order, as many as it takes, and answers how

@@ -2,7 +2,7 @@
 
 ghost use Rattle.std.specs.Prelude.{◌≡◌, ℕ, Some, IfOk, IsSome};
 ghost use Rattle.pid_types.specs.Names.{root_number};
-ghost use Rattle.pid_numbers.specs.Numbering.{id_at};
+ghost use Rattle.pid_numbers.specs.Numbering.{id_at, identifier_at};
 ghost use Rattle.task_tree.specs.Tree.{task_at};
 ghost use Rattle.task_table.specs.Found.{IsFound};
 ghost use Rattle.task_table.specs.View.{name_at, row_of, state_of};
@@ -11,7 +11,7 @@ ghost use Rattle.translate.specs.Stat.{stat_of, stat_at, glimpse_in, IsSeen};
 
 use crate::queries::{seen_group, seen_parent, seen_session, self_or_task};
 use arrayvec::ArrayVec;
-use pid_types::keys::{Pid, SpaceKey, TaskKey};
+use pid_types::keys::{IdentKey, Pid, SpaceKey, TaskKey};
 use pid_types::plain::{LEVELS, Life};
 use pid_types::reply::Refusal;
 use task_table::Tasks;
@@ -40,13 +40,22 @@ pub struct Stat {
     pub subreaper: bool,
 }
 
+/// The number of an identifier in the root namespace.
+pub(crate) fn root_of_name(store: &Tasks, key: IdentKey) -> Pid
+    requires { IsSome (identifier_at store.now.numbering key) }
+    ensures { result ≡ root_number (name_at store.now.numbering key) }
+{
+    laws(store);
+    store.numbers().number_in(key, 0).unwrap_or(0)
+}
+
 /// The number of a task in the root namespace.
 pub(crate) fn root_of(store: &Tasks, key: TaskKey) -> Pid
     requires { IsSome (task_at store.now.tree key) }
     ensures { result ≡ root_number (name_at store.now.numbering key) }
 {
     laws(store);
-    store.numbers().number_in(key, 0).unwrap_or(0)
+    root_of_name(store, key)
 }
 
 /// Reads a task as the namespace sees it.

@@ -1,0 +1,182 @@
+package pidtab
+
+import (
+	"errors"
+	"reflect"
+	"runtime"
+	"sort"
+	"sync"
+	"syscall"
+	"testing"
+)
+
+// teller is what a Table and a Seat make calls by that tell their effects.
+type teller interface {
+	Told(call Call) (Reply, []Effect, error)
+	Line(line string) (string, error)
+}
+
+func exitOf(caller, status uint32) Call {
+	return Call{Operation: OpExit, Caller: caller, Number: status}
+}
+
+func waitOf(caller, child uint32) Call {
+	return Call{Operation: OpWait, Caller: caller, Choice: 1, Number: child}
+}
+
+func ended(number uint32, status uint8) Effect {
+	return Effect{Kind: EffectEnded, Number: number, Status: status}
+}
+
+func killed(number uint32) Effect { return Effect{Kind: EffectEnded, Number: number, Killed: true} }
+
+func adopted(number, parent uint32) Effect {
+	return Effect{Kind: EffectAdopted, Number: number, Parent: parent}
+}
+
+func gone(number uint32) Effect { return Effect{Kind: EffectGone, Number: number} }
+
+// isTold is that a call has the effects, and no fault.
+func isTold(t *testing.T, it teller, call Call, wanted ...Effect) Reply {
+	t.Helper()
+	reply, effects, err := it.Told(call)
+	if err != nil || !reflect.DeepEqual(effects, append([]Effect{}, wanted...)) {
+		t.Error(call, effects, wanted, err)
+	}
+	return reply
+}
+
+// isNotMade is that nothing is told but the error.
+func isNotMade(t *testing.T, it teller, call Call, wanted error) {
+	t.Helper()
+	if reply, effects, err := it.Told(call); err != wanted || effects != nil || reply != (Reply{}) {
+		t.Error(reply, effects, err)
+	}
+}
+
+// 2 is the init of a namespace, in which are its child 3 and the children 4 and 5 of that. 5 is the init of one within.
+func TestWhatCallsDoToTasks(t *testing.T) {
+	table, shared := open(t, 32768), openShared(t, Settings{PidMax: 32768, Workers: 1})
+	seat := seatOf(t, shared)
+	for _, it := range []teller{table, seat} {
+		play(t, it, "fork 1 new", "fork 2", "fork 3", "fork 3 new")
+		isTold(t, it, exitOf(4, 255), ended(4, 255))
+		isTold(t, it, exitOf(3, 1), ended(3, 1), adopted(4, 2), adopted(5, 2))
+		isTold(t, it, exitOf(2, 9), ended(2, 9), gone(3), gone(4), killed(5), gone(5))
+		if reply := isTold(t, it, waitOf(1, 2), gone(2)); reply != (Reply{Kind: ReplyReaped, First: 2, Second: 9}) {
+			t.Error(reply)
+		}
+		if reply := isTold(t, it, exitOf(1, 0)); !errors.Is(reply.Err(), syscall.EBUSY) {
+			t.Error(reply)
+		}
+		if reply := isTold(t, it, forkOf(1)); childIn(reply) != (Child{6, 6}) {
+			t.Error(reply)
+		}
+		isNotMade(t, it, exitOf(6, 256), ErrOutOfRange)
+		isNotMade(t, it, Call{Operation: 99}, ErrOutOfRange)
+	}
+	if ordinal, made := seat.Ordinal(); ordinal != 9 || !made {
+		t.Error(ordinal, made)
+	}
+	want(t, "an entry", of(shared.Entry(8)), Entry{8, 0, exitOf(1, 0), refusedBy(t, table, exitOf(1, 0))}, nil)
+	table.Close()
+	shared.Close()
+	for _, it := range []teller{table, seat, new(Table), new(Seat)} {
+		isNotMade(t, it, exitOf(6, 0), ErrClosed)
+	}
+}
+
+// refusedBy is the reply to a call that is refused.
+func refusedBy(t *testing.T, table *Table, call Call) Reply {
+	t.Helper()
+	reply, err := table.Call(call)
+	if err != nil || reply.Err() == nil {
+		t.Error(reply, err)
+	}
+	return reply
+}
+
+func TestMoreEffectsThanThereIsRoomForAtFirst(t *testing.T) {
+	for _, count := range []int{shortRoom/2 - 2, shortRoom/2 - 1, shortRoom / 2, 5 * shortRoom} {
+		table, wanted := open(t, 32768), []Effect{ended(2, 7)}
+		play(t, table, "fork 1")
+		for i := 0; i < count; i++ {
+			play(t, table, "fork 2")
+			wanted = append(wanted, adopted(uint32(i)+3, 1))
+		}
+		isTold(t, table, exitOf(2, 7), wanted...)
+	}
+}
+
+// As in a forked child, where the thread whose call was under way is not.
+func TestACallThatTellsAndDoesNotEnd(t *testing.T) {
+	table := open(t, 32768)
+	table.own.raw.in_use = 255
+	isNotMade(t, table, exitOf(2, 0), ErrBusy)
+	table.own.raw.in_use = 0
+	isTold(t, table, forkOf(1))
+}
+
+func TestALabelGoesByAForkThatTells(t *testing.T) {
+	table, shared := open(t, 301), openShared(t, Settings{PidMax: 301, Workers: 1})
+	seat := seatOf(t, shared)
+	for _, it := range []struct {
+		teller
+		listed interface {
+			Label(task uint32, text string) error
+			Listing() (Listing, error)
+		}
+	}{{table, table}, {seat, shared}} {
+		for i := 2; i <= 300; i++ {
+			play(t, it, "fork 1")
+		}
+		want(t, "a label", only(it.listed.Label(300, "before")), nil, nil)
+		play(t, it, "exit 300 0", "wait 1 pid 300")
+		if reply := isTold(t, it, forkOf(1)); childIn(reply) != (Child{300, 300}) {
+			t.Error(reply)
+		}
+		if listing, err := it.listed.Listing(); err != nil || listing.Tasks[299].Label != "" {
+			t.Error(listing.Tasks[299], err)
+		}
+	}
+}
+
+// Goroutines fork children of a task that ends: each child that was made has another parent behind it.
+func TestNoEffectIsLostBesideForks(t *testing.T) {
+	const workers, enough = 3, 100
+	shared := openShared(t, Settings{PidMax: 5000, Workers: workers + 1})
+	seat := seatOf(t, shared)
+	play(t, seat, "fork 1")
+	var lock sync.Mutex
+	var all sync.WaitGroup
+	var children []int
+	for range [workers]int{} {
+		worker := seatOf(t, shared)
+		all.Add(1)
+		go func() {
+			defer all.Done()
+			for {
+				child, err := worker.Fork(2, NoNewNamespace)
+				if err != nil {
+					return
+				}
+				lock.Lock()
+				children = append(children, int(child.Root))
+				lock.Unlock()
+			}
+		}()
+	}
+	for counts, err := shared.Counts(); err == nil && counts.Recorded < enough; counts, err = shared.Counts() {
+		runtime.Gosched()
+	}
+	_, effects, err := seat.Told(exitOf(2, 3))
+	all.Wait()
+	sort.Ints(children)
+	wanted := []Effect{ended(2, 3)}
+	for _, child := range children {
+		wanted = append(wanted, adopted(uint32(child), 1))
+	}
+	if err != nil || !reflect.DeepEqual(effects, wanted) {
+		t.Error(effects, err)
+	}
+}

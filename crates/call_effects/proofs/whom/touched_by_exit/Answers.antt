@@ -1,0 +1,27 @@
+use Rattle.std.proofs.Common.{◌∙◌, [], ◌∷◌, ◌++◌, sym, ap, subst, false, true}
+use Rattle.std.proofs.lemmas.Result.{IfOk-weaker}
+use Rattle.std.specs.List.Sorted.{IsPermutation}
+use Rattle.pid_types.specs.declared.call.Call.TheVariants.{Exit}
+use Rattle.call_effects.specs.Touched.{Touches}
+unfoldable use Rattle.pid_types.specs.Step.{step}
+use Rattle.call_effects.proofs.Touching.{touches_refused, touches_members, touches_children}
+use Rattle.call_effects.proofs.whom.touched_by_exit.Goals as goal
+
+pub returns-then-not-would_be_done : goal.returns-then-not-would_be_done
+returns-then-not-would_be_done c =
+    subst (Touches c.args.table.now (step c.args.table.now c.args.stamp (Exit c.args.caller c.args.status)).state) (sym c.new.ensures.items)
+    (touches_refused c.args.table.now c.args.stamp c.laws.ensures c.requires c.args.caller c.args.status
+    (λ done. let w = c.would_be_done.ensures.1 done in let z = c.if-not-would_be_done.true in cc))
+
+pub returns-then-is_own_init : goal.returns-then-is_own_init
+returns-then-is_own_init c =
+    IfOk-weaker c.list_from_root.result _ _ (λ r lists.
+    touches_members c.args.table.now c.args.stamp c.laws.ensures c.requires c.args.caller c.args.status (c.would_be_done.ensures.0 c.if-not-would_be_done.false)
+    (λ row at. sym (c.is_own_init.ensures row at) ∙ c.if-is_own_init.true) r.items lists) c.list_from_root.ensures
+
+pub returns : goal.returns
+returns c =
+    let items = c.in_ok-extend_from_slice.ensures.items ∙ ap (λ ns. ns ++ c.deref.result.now) c.in_ok-numbers.ensures ∙ ap (λ ns. (c.args.caller ∷ []) ++ ns) c.deref.ensures.value in
+    touches_children c.args.table.now c.args.stamp c.laws.ensures c.requires c.args.caller c.args.status (c.would_be_done.ensures.0 c.if-not-would_be_done.false)
+    (λ row at. sym (c.is_own_init.ensures row at) ∙ c.if-is_own_init.false) c.in_ok-children.children.items c.sort.new.self.items c.in_ok-children.ensures
+    (subst (λ ns. IsPermutation ns c.sort.new.self.items) items c.sort.ensures.permutation) c.in_ok-sort.ensures.sorted

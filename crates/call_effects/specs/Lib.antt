@@ -1,0 +1,4 @@
+pub mod Effects
+pub mod Touched
+pub mod Changes
+pub mod Whom

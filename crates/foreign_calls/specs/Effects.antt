@@ -1,0 +1,53 @@
+-- What a call did to others, as numbers.
+use Rattle.std.specs.Prelude.{◌≡◌, ◌≢◌, ◌↔◌, ◌<◌, ◌≤◌, ◌+◌, ◌⊎◌, [], ◌∷◌, ℕ, IsTrue, List, length, map, Option, Some, None, IsSome}
+use Rattle.pid_types.specs.declared.call.Call.{Call}
+use Rattle.pid_types.specs.State.{State}
+use Rattle.pid_types.specs.Step.{may_grow}
+use Rattle.translate.specs.Pages.{with_front}
+use Rattle.kept_table.specs.Chronicle.{Chronicle, next_stamp}
+use Rattle.call_effects.specs.Effects.{AreEffects}
+use Rattle.call_effects.specs.Touched.{is_touching}
+use Rattle.call_effects.specs.declared.effect.Effect.{Effect}
+use Rattle.foreign_numbers.specs.Effects.{effect_numbers}
+use Rattle.foreign_numbers.specs.declared.effects.EffectNumbers.{EffectNumbers}
+use Rattle.foreign_numbers.specs.declared.status.TheConstants.{DONE, OUT_OF_RANGE, SPENT, NO_MEMORY, NO_ROOM}
+use Rattle.foreign_calls.specs.Held.{IsDoneOr, NeedsOpen}
+use Rattle.foreign_calls.specs.Made.{IsSpent}
+use Rattle.foreign_calls.specs.Records.{roomless, Has, IsRecorded}
+
+-- what the way from the one state to the other did to the tasks is at the front of the room, all of it, and how much it is is told
+pub record PutsEffects (old new : State) (before after : List EffectNumbers) (count : ℕ) : Type 0 where
+  pub effects : List Effect
+  pub are : AreEffects old new effects
+  pub put : after ≡ with_front (map effect_numbers effects) before
+  pub counted : count ≡ length effects
+  pub fits : length effects ≤ length before
+
+-- so it is where the call was made; else the room stays as it was, and the count too where that is not what is short
+pub record TellsEffects (old new : State) (before after : List EffectNumbers) (count_before count status : ℕ) : Type 0 where
+  pub done : status ≡ DONE → PutsEffects old new before after count
+  pub not_done : status ≢ DONE → after ≡ before
+  pub counted : status ≢ DONE → status ≢ NO_ROOM → count ≡ count_before
+
+-- the room may be too short for a call that may touch a task; the count says which would do: no more than twice the tasks that there are
+pub record WantsRoom (state : State) (call : Call) (room count : ℕ) : Type 0 where
+  pub short : room < count
+  pub most : count ≤ length state.rows + length state.rows
+  pub touching : IsTrue (is_touching call)
+
+-- the call makes something, or may touch a task, so that it may want memory
+abbrev pub MayWant : Call → Type 0
+MayWant call = IsTrue (may_grow call) ⊎ IsTrue (is_touching call)
+
+-- a worker's call is made, unless there is no such worker, no stamp, no memory for what it makes, its entry or its effects, or no room
+pub record IsToldStatus (c : Chronicle) (worker : ℕ) (call : Call) (status : ℕ) : Type 0 where
+  pub out_of_range : (status ≡ OUT_OF_RANGE) ↔ (length c.cut ≤ worker)
+  pub spent : (status ≡ SPENT) ↔ (worker < length c.cut) × IsSpent (next_stamp c)
+  pub no_memory : status ≡ NO_MEMORY → 0 < c.room → MayWant call
+  pub statuses : IsDoneOr status (OUT_OF_RANGE ∷ SPENT ∷ NO_MEMORY ∷ NO_ROOM ∷ [])
+
+-- the worker's call was made and recorded, or the status says why not, and nothing shows of it
+pub record RecordsTold (c : Chronicle) (worker : ℕ) (call : Call) (before ordinal status : ℕ) (d : Chronicle) : Type 0 where
+  pub done : status ≡ DONE → IsRecorded c worker call ordinal (Some d)
+  pub not_done : status ≢ DONE → (roomless d ≡ roomless c) × (ordinal ≡ before)
+  pub why : IsToldStatus c worker call status

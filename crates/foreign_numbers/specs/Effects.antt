@@ -1,0 +1,18 @@
+-- What a call did to others, as numbers.
+use Rattle.std.specs.Prelude.{ℕ}
+use Rattle.pid_types.specs.declared.plain.Ended.{Ended as End}
+use Rattle.pid_types.specs.declared.plain.Ended.TheVariants.{Exited, Killed}
+use Rattle.call_effects.specs.declared.effect.Effect.{Effect}
+use Rattle.call_effects.specs.declared.effect.Effect.TheVariants.{Ended, Adopted, Gone}
+use Rattle.foreign_numbers.specs.declared.effects.EffectNumbers.{EffectNumbers}
+
+-- how a task ended: its status, or a number above them all
+abbrev pub end_number : End → ℕ
+end_number (Exited status) = status
+end_number Killed = 256
+
+-- what became of a task
+abbrev pub effect_numbers : Effect → EffectNumbers
+effect_numbers (Ended n end) = record { what = 0; number = n; value = end_number end }
+effect_numbers (Adopted n parent) = record { what = 1; number = n; value = parent }
+effect_numbers (Gone n) = record { what = 2; number = n; value = 0 }
