@@ -23,30 +23,27 @@ enum {
 struct call;
 struct thread;
 
-/* ---- names.c: numbers of the kernel and names of the table ---- */
+/* ---- names.c: numbers of the kernel and root numbers ---- */
 
-/* A namespace of the table. */
-struct space {
-	uint64_t id;
-	uint32_t depth;
-	struct space *around;
-	struct name **by_number; /* what each number of this namespace names */
-	struct space *next;
+/* A namespace, and a number in it. */
+struct level {
+	uint64_t space;
+	uint32_t number;
 };
 
-/* A number of the kernel with the name in the table that goes with it. It stays when its process is gone, since a group or a session may
- * still use both. */
+/* A number of the kernel with the root number that goes with it. It stays when its process is gone, since a group or a session may still use
+ * both. */
 struct name {
 	pid_t real;
 	uint32_t root;
-	struct space *space; /* its own, of depth d: it has d + 1 numbers */
-	uint32_t levels[PIDTAB_LEVELS_MAX];
-	struct process *process; /* none once it has been reaped */
+	struct process *process; /* none once it has left the table */
+	struct level *kept;      /* the numbers that it had there, from the root namespace inwards; none before */
+	uint32_t count;
 };
 
 /* A process as the table has it and as the kernel has it, which differ for a moment at times. */
 struct process {
-	struct name *name; /* none where it is gone */
+	struct name *name;       /* none where it is gone */
 	pid_t real;
 	uint32_t root;
 	int threads;             /* real ones that the tracer knows */
@@ -78,8 +75,10 @@ void *need(void *memory);
 struct name *name_make(pid_t real, uint32_t root);
 void name_outside(pid_t real);
 struct name *name_of_real(pid_t real);
-struct name *name_of_root(uint32_t root);
-struct name *name_seen(const struct process *caller, uint32_t number);
+struct process *process_of_root(uint32_t root);
+struct process *process_seen(const struct process *caller, uint32_t number);
+void name_keep(struct name *name);
+uint32_t numbers_of(const struct name *name, const struct process *caller, uint32_t *numbers);
 uint32_t number_of(const struct name *name, const struct process *caller);
 struct process *process_new(struct name *name);
 void process_free(struct process *process);
@@ -153,8 +152,11 @@ void table_stop(void);
 int64_t table_do(uint32_t operation, uint32_t caller, uint32_t number, uint32_t choice);
 int64_t table_setpgid(uint32_t caller, int32_t pid, int32_t pgid);
 int64_t table_control(uint32_t operation, uint32_t caller, uint64_t id, uint32_t number, uint32_t choice);
+const struct pidtab_effect *table_exit(uint32_t caller, uint32_t status, uint64_t *count);
 struct pidtab_task table_stat(uint32_t caller, uint32_t number);
-bool table_uses(uint32_t root);
+uint64_t table_around(uint64_t space);
+uint32_t table_first(uint32_t caller, uint32_t whom, uint32_t number);
+const uint32_t *table_list(uint32_t caller, uint32_t whom, uint32_t number, uint64_t *count);
 
 /* ---- report.c ---- */
 

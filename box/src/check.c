@@ -42,9 +42,9 @@ static struct wanted wanted_of_wait4(int32_t pid, bool is_known)
 /* A child whose end sends another signal than SIGCHLD is no child to a plain wait. The table has no such children. */
 static bool is_unheard(const struct thread *thread, int32_t pid)
 {
-	const struct name *name = pid > 0 ? name_seen(thread->process, (uint32_t)pid) : NULL;
+	const struct process *child = pid > 0 ? process_seen(thread->process, (uint32_t)pid) : NULL;
 
-	return name && name->process && name->process->ends_unheard;
+	return child && child->ends_unheard;
 }
 
 static struct wanted wanted_by(const struct thread *thread)
@@ -77,48 +77,48 @@ static bool is_wanted(const struct wanted *wanted, const struct pidtab_task *tas
 	}
 }
 
-/* The zombie of the table that the wait would reap: the one with the least number, of those that died before. */
-static struct process *least(const struct process *parent, const struct wanted *wanted, uint64_t before)
+/* The zombie of the table that the wait would reap, or 0: the one with the least number, of those that died before. */
+static uint32_t least(const struct process *parent, const struct wanted *wanted, uint64_t before)
 {
 	uint32_t own_group = table_stat(parent->root, 0).group;
-	struct process *found = NULL;
+	uint64_t count;
+	const uint32_t *children = table_list(parent->root, PIDTAB_CHILDREN, 0, &count);
 
-	for (struct process *process = processes; process; process = process->next) {
-		struct pidtab_task task;
+	for (uint64_t i = 0; i < count; i++) {
+		const struct process *child = process_seen(parent, children[i]);
+		struct pidtab_task task = table_stat(parent->root, children[i]);
 
-		if (!process->ended || process->gone || process->died > before || table_stat(SUPERVISOR, process->root).parent != parent->root)
-			continue;
-		task = table_stat(parent->root, number_of(process->name, parent));
-		if (is_wanted(wanted, &task, own_group) && (!found || task.levels[0] < number_of(found->name, parent)))
-			found = process;
+		if (child && child->ended && child->died <= before && is_wanted(wanted, &task, own_group))
+			return children[i];
 	}
-	return found;
+	return 0;
 }
 
 /* The kernel is about to hand over the child. It chose when the child died, or when the call was made. */
 void compare_wait(const struct thread *thread, const struct process *child)
 {
-	const struct process *parent = thread->process, *other;
+	const struct process *parent = thread->process;
+	uint64_t chosen = child->died > thread->entered ? child->died : thread->entered;
 	struct wanted wanted = wanted_by(thread);
 
 	if (!wanted.is_known || wanted.which == PIDTAB_CHILD)
 		return;
-	other = least(parent, &wanted, child->died > thread->entered ? child->died : thread->entered);
-	compare("order of waits", number_of(child->name, parent), other ? number_of(other->name, parent) : 0);
+	compare("order of waits", number_of(child->name, parent), least(parent, &wanted, chosen));
 }
 
 /* The kernel found none: no child, or none that has ended. The table is asked, unless one has ended meanwhile. */
 void compare_no_child(const struct thread *thread, int64_t result)
 {
-	const struct process *parent = thread->process, *zombie;
+	const struct process *parent = thread->process;
 	struct wanted wanted = wanted_by(thread);
+	uint32_t zombie;
 
 	if (!wanted.is_known)
 		return;
 	zombie = least(parent, &wanted, events);
 	if (!zombie)
 		compare("wait for none", result, table_do(PIDTAB_WAIT, parent->root, wanted.number, wanted.which));
-	else if (result != 0 && !(kill(zombie->real, 0) && errno == ESRCH))
+	else if (result != 0 && !(kill(process_seen(parent, zombie)->real, 0) && errno == ESRCH))
 		/* Where it is gone, another thread's wait has reaped it, and the exit of that is about to be reported. */
 		compare("wait without children", result, 0);
 }

@@ -32,17 +32,18 @@ static const struct line lines[] = {
 	{ "NSsid:", GROUP, true }
 };
 
-/* The numbers in each namespace from the caller's inwards to that of the process, whose depth it is. */
-static void write_list(FILE *to, const struct process *caller, enum kind kind, pid_t real, uint32_t depth)
+/* The numbers in the namespaces of a process, from the caller's inwards, of which there are so many. */
+static void write_list(FILE *to, const struct process *caller, enum kind kind, pid_t real, uint32_t count)
 {
-	const struct name *name = name_of_real(real);
+	uint32_t numbers[PIDTAB_LEVELS_MAX] = { 0 };
 
+	numbers_of(name_of_real(real), caller, numbers);
 	fprintf(to, "\t%ld", to_number(caller, kind, real));
-	for (uint32_t i = caller->name->space->depth + 1; i <= depth; i++)
-		fprintf(to, "\t%u", name && i <= name->space->depth ? name->levels[i] : 0);
+	for (uint32_t i = 1; i < count; i++)
+		fprintf(to, "\t%u", numbers[i]);
 }
 
-static void write_status_line(FILE *to, const struct process *caller, const char *line, uint32_t depth)
+static void write_status_line(FILE *to, const struct process *caller, const char *line, uint32_t count)
 {
 	for (size_t i = 0; i < sizeof lines / sizeof lines[0]; i++) {
 		size_t length = strlen(lines[i].word);
@@ -51,7 +52,7 @@ static void write_status_line(FILE *to, const struct process *caller, const char
 			continue;
 		fputs(lines[i].word, to);
 		if (lines[i].is_list)
-			write_list(to, caller, lines[i].kind, (pid_t)strtol(line + length, NULL, 10), depth);
+			write_list(to, caller, lines[i].kind, (pid_t)strtol(line + length, NULL, 10), count);
 		else if (lines[i].kind)
 			fprintf(to, "\t%ld", to_number(caller, lines[i].kind, strtol(line + length, NULL, 10)));
 		else
@@ -62,19 +63,17 @@ static void write_status_line(FILE *to, const struct process *caller, const char
 	fputs(line, to);
 }
 
-/* The depth of the process that a status is of is that of its line Tgid, which comes before all lists. */
+/* How many namespaces there are to the process that a status is of is told by its line Tgid, which comes before all lists. */
 static void write_status(FILE *to, const struct process *caller, FILE *from, pid_t real)
 {
 	char line[4096];
-	uint32_t depth = 0;
+	uint32_t numbers[PIDTAB_LEVELS_MAX], count = 0;
 
 	while (fgets(line, sizeof line, from)) {
-		const struct name *name = strncmp(line, "Tgid:", 5) ? NULL : name_of_real((pid_t)strtol(line + 5, NULL, 10));
-
-		if (name)
-			depth = name->space->depth;
+		if (!strncmp(line, "Tgid:", 5))
+			count = numbers_of(name_of_real((pid_t)strtol(line + 5, NULL, 10)), caller, numbers);
 		if (strncmp(line, "State:\t", 7))
-			write_status_line(to, caller, line, depth);
+			write_status_line(to, caller, line, count);
 		else
 			fprintf(to, "State:\t%s", state_of(real, line + 7));
 	}

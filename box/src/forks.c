@@ -187,7 +187,7 @@ int64_t leave_fork(struct thread *thread, int64_t result)
 		if (caller->unshared)
 			caller->joined = table_do(PIDTAB_JOIN, caller->root, thread->child, 0) == 0;
 		caller->unshared = false;
-		result = number_of(name_of_root(thread->child_root), caller);
+		result = thread->child;
 	} else {
 		fork_failed(thread, result <= -FIRST_RESTART);
 	}

@@ -54,19 +54,12 @@ int64_t leave_query(struct thread *thread, int64_t result)
 
 static uint32_t begin_asking(const struct process *caller, int32_t pid)
 {
-	const struct name *name = pid > 0 ? name_seen(caller, (uint32_t)pid) : NULL;
+	struct process *target = pid > 0 ? process_seen(caller, (uint32_t)pid) : NULL;
 
-	if (!name || !name->process || name->process == caller)
+	if (!target || target == caller)
 		return 0;
-	name->process->asked++;
-	return name->root;
-}
-
-static struct process *target_process(const struct thread *thread)
-{
-	const struct name *name = thread->target ? name_of_root(thread->target) : NULL;
-
-	return name ? name->process : NULL;
+	target->asked++;
+	return target->root;
 }
 
 enum onward enter_setpgid(struct thread *thread, struct registers *registers)
@@ -84,7 +77,7 @@ enum onward enter_setpgid(struct thread *thread, struct registers *registers)
 /* The kernel has decided, or the caller has ended. */
 void setpgid_over(struct thread *thread, int64_t result)
 {
-	struct process *target = target_process(thread);
+	struct process *target = process_of_root(thread->target);
 	int32_t pid = (int32_t)call_argument(thread, 0), group = (int32_t)call_argument(thread, 1);
 
 	if (target && target->asked > 0)

@@ -10,9 +10,7 @@
 /* The parent in the table, if it is not outside. */
 struct process *parent_of(const struct process *child)
 {
-	struct name *name = name_of_root(table_stat(SUPERVISOR, child->root).parent);
-
-	return name ? name->process : NULL;
+	return process_of_root(table_stat(SUPERVISOR, child->root).parent);
 }
 
 /* The kernel says whose child it is: the ends of its former parents are fetched before. Whether there were some. */
@@ -35,41 +33,58 @@ void reap(struct process *parent, struct process *child)
 {
 	int64_t number = number_of(child->name, parent);
 
+	name_keep(child->name);
 	compare("wait", number, table_do(PIDTAB_WAIT, parent->root, (uint32_t)number, PIDTAB_CHILD));
 	process_free(child);
 }
 
-/* Reaps each zombie of the table that the kernel does not keep: of one parent, or of all. */
-static void reap_where(const struct process *only, bool (*is_gone)(const struct process *parent, const struct process *child))
+/* A wait of the parent did not tell whom it reaped: the zombies of the table that the kernel does not keep. */
+void reap_vanished(struct process *parent)
 {
-	for (struct process *child = processes, *next; child; child = next) {
-		struct process *parent;
+	uint64_t count;
+	const uint32_t *children = table_list(SUPERVISOR, PIDTAB_CHILDREN, parent->root, &count);
 
-		next = child->next;
-		if (!child->dead || !child->ended || child->gone)
-			continue;
-		parent = parent_of(child);
-		if (parent && (!only || parent == only) && is_gone(parent, child))
+	for (uint64_t i = 0; i < count; i++) {
+		struct process *child = process_of_root(children[i]);
+
+		if (child && child->dead && child->ended && kill(child->real, 0) && errno == ESRCH)
 			reap(parent, child);
 	}
 }
 
-static bool is_reaped_by_itself(const struct process *parent, const struct process *child)
+/* The kernel keeps no zombie whose parent wants none. */
+static void reap_unwanted(struct process *child)
 {
-	(void)child;
-	return parent->ignores_children || parent->wants_no_zombies;
+	struct process *parent = child->dead && child->ended ? parent_of(child) : NULL;
+
+	if (parent && (parent->ignores_children || parent->wants_no_zombies))
+		reap(parent, child);
 }
 
-static bool has_vanished(const struct process *parent, const struct process *child)
+/* ---- what an exit does to others ---- */
+
+/* The table is about to drop the members of the init's namespace, and their numbers with them. */
+static void keep_members(const struct process *init)
 {
-	(void)parent;
-	return kill(child->real, 0) && errno == ESRCH;
+	uint64_t count;
+	const uint32_t *members = table_list(SUPERVISOR, PIDTAB_NAMESPACE_MEMBERS, init->root, &count);
+
+	for (uint64_t i = 0; i < count; i++) {
+		const struct process *member = process_of_root(members[i]);
+
+		if (member)
+			name_keep(member->name);
+	}
 }
 
-/* A wait of the parent did not tell whom it reaped. */
-void reap_vanished(struct process *parent)
+/* The table has killed a member of the init's namespace. */
+static void fall(struct process *process, struct process *init)
 {
-	reap_where(parent, has_vanished);
+	process->ended = true;
+	if (process->dead || process->killer == init)
+		return;
+	process->killer = init;
+	kill(process->real, SIGKILL);
 }
 
 /* The table has no such task any more, but for the numbers that its group and session use. */
@@ -82,31 +97,27 @@ static void leave_table(struct process *process)
 		process_free(process);
 }
 
-/* The table has killed the members of the init's namespace, and does not say whom: each process is looked at. */
-static void fall(struct process *init)
+/* What the exit of a process did to another one. */
+static void take_effect(const struct pidtab_effect *effect, struct process *exiting)
 {
-	for (struct process *process = processes, *next; process; process = next) {
-		struct pidtab_task task;
+	struct process *process = process_of_root(effect->number);
 
-		next = process->next;
-		if (process == init || process->gone)
-			continue;
-		task = table_stat(SUPERVISOR, process->root);
-		if (!task.error && (!task.ended || process->ended))
-			continue;
-		process->ended = true;
-		if (!process->dead) {
-			process->killer = init;
-			kill(process->real, SIGKILL);
-		}
-		if (task.error) /* else it is a zombie, whose parent is outside */
-			leave_table(process);
+	if (!process || process == exiting)
+		return;
+	if (effect->what == PIDTAB_TASK_ADOPTED) {
+		reap_unwanted(process);
+		return;
 	}
+	fall(process, exiting);
+	if (effect->what == PIDTAB_TASK_GONE)
+		leave_table(process);
 }
 
 void process_ended(struct process *process, int status)
 {
 	int code = WIFSIGNALED(status) ? 128 + WTERMSIG(status) : WEXITSTATUS(status);
+	const struct pidtab_effect *effects;
+	uint64_t count;
 
 	if (process->ended)
 		return;
@@ -114,11 +125,13 @@ void process_ended(struct process *process, int status)
 		table_do(PIDTAB_EXIT, process->spare_root, 0, 0);
 		table_do(PIDTAB_WAIT, process->root, process->spare, PIDTAB_CHILD);
 	}
-	/* The table's status has eight bits: a signal is told as a shell tells it. */
-	table_do(PIDTAB_EXIT, process->root, (uint32_t)code, 0);
-	process->ended = true;
 	if (process->is_init)
-		fall(process);
+		keep_members(process);
+	/* The table's status has eight bits: a signal is told as a shell tells it. */
+	effects = table_exit(process->root, (uint32_t)code, &count);
+	process->ended = true;
+	for (uint64_t i = 0; i < count; i++)
+		take_effect(&effects[i], process);
 }
 
 /* Whether some process that fell with the init is not dead yet. */
@@ -157,7 +170,8 @@ void process_dead(struct process *process)
 		forget_killer(process);
 	if (process->gone)
 		process_free(process);
+	else
+		reap_unwanted(process);
 	if (killer)
 		let_go(killer);
-	reap_where(NULL, is_reaped_by_itself);
 }

@@ -1,65 +1,18 @@
-/* names.c - which number of the kernel goes with which name of the table. */
-#define _GNU_SOURCE
+/* names.c - which number of the kernel goes with which root number. The table is asked for all other numbers. */
 #include "box.h"
 
 #include <stdlib.h>
-#include <sys/mman.h>
+#include <string.h>
 
 struct process *processes;
 
 static struct name *by_real[MOST_REAL], *by_root[MOST_REAL];
-static struct space *spaces;
 
 void *need(void *memory)
 {
-	if (!memory || memory == MAP_FAILED)
+	if (!memory)
 		die("no memory");
 	return memory;
-}
-
-/* A namespace, with an array of its numbers that takes memory only where it is used. */
-static struct space *space_make(uint64_t id, struct space *around)
-{
-	struct space *space = need(calloc(1, sizeof *space));
-
-	*space = (struct space){ .id = id, .around = around, .depth = around ? around->depth + 1 : 0, .next = spaces };
-	space->by_number = need(mmap(NULL, MOST_REAL * sizeof(struct name *), PROT_READ | PROT_WRITE,
-	                             MAP_PRIVATE | MAP_ANONYMOUS | MAP_NORESERVE, -1, 0));
-	return spaces = space;
-}
-
-static struct space *space_of(uint64_t id)
-{
-	struct space *space = spaces;
-
-	while (space && space->id != id)
-		space = space->next;
-	return space;
-}
-
-/* A new namespace lies in one of its parent's, or in one that its parent's children go into. */
-static struct space *space_for(const struct pidtab_task *task)
-{
-	struct space *space = space_of(task->space), *around;
-
-	if (space)
-		return space;
-	around = name_of_root(task->parent)->space;
-	while (around->depth + 2 > task->count)
-		around = around->around;
-	return space_make(task->space, around);
-}
-
-static void name_drop(struct name *name)
-{
-	if (by_real[name->real] == name)
-		by_real[name->real] = NULL;
-	if (by_root[name->root] == name)
-		by_root[name->root] = NULL;
-	for (struct space *space = name->space; space; space = space->around)
-		if (space->by_number[name->levels[space->depth]] == name)
-			space->by_number[name->levels[space->depth]] = NULL;
-	free(name);
 }
 
 /* A pair of before that had one of the two numbers is over: its process, group and session are gone. */
@@ -69,35 +22,31 @@ static void drop_former(struct name *former)
 		return;
 	if (former->process)
 		die("two live processes have one number");
-	name_drop(former);
+	if (by_real[former->real] == former)
+		by_real[former->real] = NULL;
+	if (by_root[former->root] == former)
+		by_root[former->root] = NULL;
+	free(former->kept);
+	free(former);
 }
 
 /* The pair of a new process. */
 struct name *name_make(pid_t real, uint32_t root)
 {
 	struct name *name = need(calloc(1, sizeof *name));
-	struct pidtab_task task = table_stat(SUPERVISOR, root);
 
 	drop_former(by_real[real]);
 	drop_former(by_root[root]);
 	name->real = real;
 	name->root = root;
-	for (uint32_t i = 0; i < task.count; i++)
-		name->levels[i] = task.levels[i];
-	name->space = space_for(&task);
-	by_real[real] = by_root[root] = name;
-	for (struct space *space = name->space; space; space = space->around)
-		space->by_number[name->levels[space->depth]] = name;
-	return name;
+	return by_real[real] = by_root[root] = name;
 }
 
 /* A process, group or session of outside: to the table it is the supervisor, which is all that it knows of them. */
 void name_outside(pid_t real)
 {
-	static struct name outside = { .root = SUPERVISOR, .levels = { SUPERVISOR } };
+	static struct name outside = { .root = SUPERVISOR };
 
-	if (!outside.space)
-		outside.space = space_make(0, NULL);
 	by_root[SUPERVISOR] = &outside;
 	outside.real = real;
 	by_real[real] = &outside;
@@ -108,26 +57,73 @@ struct name *name_of_real(pid_t real)
 	return real > 0 && real < MOST_REAL ? by_real[real] : NULL;
 }
 
-struct name *name_of_root(uint32_t root)
+/* The process of a task of the table, live or ended; none of the supervisor, nor of a task that the kernel has not made yet. */
+struct process *process_of_root(uint32_t root)
 {
-	return root < MOST_REAL ? by_root[root] : NULL;
+	return by_root[root] ? by_root[root]->process : NULL;
 }
 
-/* What the number names in the caller's namespace. */
-struct name *name_seen(const struct process *caller, uint32_t number)
+/* The process that has the number, which is not 0, in the caller's namespace. */
+struct process *process_seen(const struct process *caller, uint32_t number)
 {
-	return number > 0 && number < MOST_REAL ? caller->name->space->by_number[number] : NULL;
+	return process_of_root(table_stat(caller->root, number).root);
+}
+
+/* ---- the numbers of a name ---- */
+
+/* From the root namespace inwards, and how many. The table is asked for those that are not kept. */
+static uint32_t read_levels(const struct name *name, struct level *levels)
+{
+	struct pidtab_task task;
+	uint64_t space;
+
+	if (name->kept) {
+		memcpy(levels, name->kept, name->count * sizeof *levels);
+		return name->count;
+	}
+	task = table_stat(SUPERVISOR, name->root);
+	space = task.space;
+	for (uint32_t i = task.count; i > 0; i--, space = table_around(space))
+		levels[i - 1] = (struct level){ space, task.levels[i - 1] };
+	return task.count;
+}
+
+/* The process is about to leave the table, which then has its numbers no more. A group may still use them, and a signal or a message that
+ * comes late may say them. */
+void name_keep(struct name *name)
+{
+	struct level levels[PIDTAB_LEVELS_MAX];
+
+	if (name->kept)
+		return;
+	name->count = read_levels(name, levels);
+	name->kept = need(malloc(name->count * sizeof *levels));
+	memcpy(name->kept, levels, name->count * sizeof *levels);
+}
+
+/* Those in the caller's namespace and in the ones inside it, and how many; none where the caller cannot see it. */
+uint32_t numbers_of(const struct name *name, const struct process *caller, uint32_t *numbers)
+{
+	uint64_t space = table_stat(SUPERVISOR, caller->root).space;
+	struct level levels[PIDTAB_LEVELS_MAX];
+	uint32_t count = name ? read_levels(name, levels) : 0, first = 0;
+
+	while (first < count && levels[first].space != space)
+		first++;
+	for (uint32_t i = first; i < count; i++)
+		numbers[i - first] = levels[i].number;
+	return count - first;
 }
 
 /* The number in the caller's namespace, 0 where it cannot be seen. */
 uint32_t number_of(const struct name *name, const struct process *caller)
 {
-	struct space *space = name ? name->space : NULL;
+	uint32_t numbers[PIDTAB_LEVELS_MAX];
 
-	while (space && space != caller->name->space)
-		space = space->around;
-	return space ? name->levels[space->depth] : 0;
+	return numbers_of(name, caller, numbers) ? numbers[0] : 0;
 }
+
+/* ---- processes ---- */
 
 struct process *process_new(struct name *name)
 {
@@ -158,21 +154,31 @@ void process_free(struct process *process)
 /* A clock of a process is the complement of its number, above three bits; in these, 3 says that it is a descriptor's. */
 enum { CLOCK_BITS = 3, CLOCK_OF_FILE = 3 };
 
-/* A pair without a process lives as long as a group or a session uses it: then the kernel gives the number to nobody else. */
-static bool is_in_use(const struct name *name)
+/* A group or a session whose leader is gone has a number and no task: a member that the caller sees tells the root number. */
+static const struct name *leader_gone(const struct process *caller, uint32_t number)
 {
-	return name && (name->process || name->root == SUPERVISOR || table_uses(name->root));
+	uint32_t member = table_first(caller->root, PIDTAB_GROUP_MEMBERS, number);
+	bool is_group = member != 0;
+	struct pidtab_task task;
+
+	if (!is_group)
+		member = table_first(caller->root, PIDTAB_SESSION_MEMBERS, number);
+	if (member == 0)
+		return NULL;
+	task = table_stat(SUPERVISOR, table_stat(caller->root, member).root);
+	return by_root[is_group ? task.group : task.session];
 }
 
 /* A process that is gone is nobody, though a group may have its number. */
 static pid_t real_seen(const struct process *caller, enum kind kind, int64_t number)
 {
-	const struct name *name = name_seen(caller, (uint32_t)number);
-	bool is_process = kind == PROCESS || kind == TASK;
+	const struct process *process = process_seen(caller, (uint32_t)number);
+	bool may_be_gone = !process && kind != PROCESS && kind != TASK;
+	const struct name *leader = may_be_gone ? leader_gone(caller, (uint32_t)number) : NULL;
 
-	if (!is_in_use(name) || (is_process && !name->process && name->root != SUPERVISOR))
-		return NOBODY;
-	return name->real;
+	if (process)
+		return process->real;
+	return leader ? leader->real : NOBODY;
 }
 
 static pid_t real_task(const struct process *caller, int64_t number)

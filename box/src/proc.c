@@ -353,7 +353,7 @@ static int64_t listed(const struct thread *thread, const char *name)
 
 	if (thread->lists_tasks)
 		return to_number(thread->process, TASK, real);
-	return of && of->process && of->root != SUPERVISOR ? number_of(of, thread->process) : 0;
+	return of && of->process ? number_of(of, thread->process) : 0;
 }
 
 /* Copies a record, and returns how long it is; one that the caller cannot see has no length. */

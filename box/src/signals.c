@@ -12,19 +12,20 @@
 
 /* ---- kill ---- */
 
-/* Whether the name is that of the init of the caller's own namespace, which no signal without a handler ends from inside. */
-static bool is_own_init(const struct process *caller, const struct name *target)
-{
-	return target->space == caller->name->space && target->levels[target->space->depth] == 1;
-}
+/* The init of the caller's own namespace has this number there. No signal without a handler ends it from inside. */
+enum { OWN_INIT = 1 };
 
 /* kill(-1, signal) of this program, since the kernel's -1 reaches beyond the box. */
 static int64_t kill_all(const struct process *caller, int signal)
 {
 	int64_t result = -ESRCH;
+	uint64_t count;
+	const uint32_t *members = table_list(caller->root, PIDTAB_NAMESPACE_MEMBERS, 0, &count);
 
-	for (struct process *process = processes; process; process = process->next) {
-		if (process == caller || process->gone || process->dead || number_of(process->name, caller) <= 1)
+	for (uint64_t i = 0; i < count; i++) {
+		const struct process *process = process_seen(caller, members[i]);
+
+		if (!process || process == caller || process->dead || members[i] == OWN_INIT)
 			continue;
 		if (!kill(process->real, signal))
 			result = 0;
@@ -39,7 +40,6 @@ enum onward enter_kill(struct thread *thread, struct registers *registers)
 	const struct process *caller = thread->process;
 	int32_t pid = (int32_t)call_argument(thread, 0);
 	int signal = (int)call_argument(thread, 1);
-	const struct name *name = pid > 0 ? name_seen(caller, (uint32_t)pid) : NULL;
 
 	if (pid == -1)
 		return answer_with(thread, kill_all(caller, signal));
@@ -47,7 +47,7 @@ enum onward enter_kill(struct thread *thread, struct registers *registers)
 		return GO;
 	if (pid > 0 && signal == 0)
 		thread->told = table_do(PIDTAB_GETPGID, caller->root, (uint32_t)pid, 0);
-	if (name && name->process && is_own_init(caller, name) && (signal == SIGKILL || signal == SIGSTOP))
+	if (pid == OWN_INIT && (signal == SIGKILL || signal == SIGSTOP))
 		return answer_with(thread, 0);
 	return translate(thread, registers);
 }

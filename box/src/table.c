@@ -2,7 +2,9 @@
 #include "box.h"
 
 #include <errno.h>
-#include <string.h>
+#include <stdlib.h>
+
+enum { LEAST_ROOM = 64 };
 
 uint64_t log_line;
 struct pidtab_reply reply;
@@ -45,65 +47,34 @@ void table_stop(void)
 	pidtab_close(&table);
 }
 
-/* The errnos of a table, by which it refuses. */
-static const char *error_name(uint32_t error)
+static void write_line(FILE *to, char *line, size_t size)
 {
-	static const char *const names[] = {
-		[EPERM] = "EPERM", [ENOENT] = "ENOENT", [ESRCH] = "ESRCH", [ECHILD] = "ECHILD", [EAGAIN] = "EAGAIN", [ENOMEM] = "ENOMEM",
-		[EACCES] = "EACCES", [EBUSY] = "EBUSY", [EINVAL] = "EINVAL", [ENOSPC] = "ENOSPC"
-	};
-
-	return error < sizeof names / sizeof names[0] && names[error] ? names[error] : "E?";
+	line[size] = '\n';
+	fwrite(line, 1, size + 1, to);
 }
 
-/* The answer as `pidtab run` writes it, of the kinds that calls of the box have: the library writes it for pidtab_line alone. */
-static void write_answer(FILE *to)
+/* A call was made: it and its reply are written as `pidtab run` has them. Its value is a number, or minus an errno. */
+static int64_t log_call(const struct pidtab_call *call)
 {
-	unsigned long first = reply.first, second = reply.second;
-
-	switch (reply.kind) {
-	case PIDTAB_FORKED: fprintf(to, "child %lu root %lu\n", first, second); break;
-	case PIDTAB_OK: fputs("ok\n", to); break;
-	case PIDTAB_NUMBER: fprintf(to, "%lu\n", first); break;
-	case PIDTAB_REAPED:
-		if (second == PIDTAB_KILLED)
-			fprintf(to, "reaped %lu killed\n", first);
-		else
-			fprintf(to, "reaped %lu exit %lu\n", first, second);
-		break;
-	case PIDTAB_NONE_YET: fputs("none\n", to); break;
-	case PIDTAB_CONTROL: fprintf(to, "control %lu\n", first); break;
-	case PIDTAB_END: fputs("end\n", to); break;
-	case PIDTAB_REFUSED:
-		fprintf(to, "%s %s", error_name(reply.error), pidtab_word(reply.refusal));
-		if (reply.refusal == PIDTAB_NO_NUMBER || reply.refusal == PIDTAB_PIDS_LIMIT)
-			fprintf(to, " %lu", first);
-		fputc('\n', to);
-		break;
-	}
-}
-
-static void write_line(const struct pidtab_call *call)
-{
-	char line[PIDTAB_LONGEST_CALL + 1];
+	char line[PIDTAB_LONGEST_ANSWER + 1];
 	size_t size;
 
-	must(pidtab_call_line(call, line, sizeof line - 1, &size));
-	line[size] = '\n';
-	fwrite(line, 1, size + 1, log_file);
+	log_line++;
+	if (log_file) {
+		must(pidtab_call_line(call, line, sizeof line - 1, &size));
+		write_line(log_file, line, size);
+	}
+	if (answers_file) {
+		must(pidtab_reply_line(&reply, line, sizeof line - 1, &size));
+		write_line(answers_file, line, size);
+	}
+	return reply.kind == PIDTAB_REFUSED ? -(int64_t)reply.error : (int64_t)reply.first;
 }
 
 static int64_t make(const struct pidtab_call *call)
 {
 	must(pidtab_call(&table, call, &reply));
-	log_line++;
-	if (log_file)
-		write_line(call);
-	if (answers_file)
-		write_answer(answers_file);
-	if (reply.kind == PIDTAB_REFUSED)
-		return -(int64_t)reply.error;
-	return (int64_t)reply.first;
+	return log_call(call);
 }
 
 int64_t table_do(uint32_t operation, uint32_t caller, uint32_t number, uint32_t choice)
@@ -121,7 +92,35 @@ int64_t table_control(uint32_t operation, uint32_t caller, uint64_t id, uint32_t
 	return make(&(struct pidtab_call){ .operation = operation, .caller = caller, .id = id, .number = number, .choice = choice });
 }
 
-/* It is no call, and so it is not in the log. */
+/* A list with room for as many things of a size as are wanted. */
+static void *with_room(void *list, uint64_t *room, uint64_t wanted, size_t size)
+{
+	if (wanted <= *room)
+		return list;
+	*room = wanted;
+	return need(realloc(list, wanted * size));
+}
+
+/* What the exit did to tasks. The list stands until the next exit. */
+const struct pidtab_effect *table_exit(uint32_t caller, uint32_t status, uint64_t *count)
+{
+	static struct pidtab_effect *effects;
+	static uint64_t room;
+	const struct pidtab_call call = { .operation = PIDTAB_EXIT, .caller = caller, .number = status };
+	uint32_t told;
+
+	*count = LEAST_ROOM;
+	do {
+		effects = with_room(effects, &room, *count, sizeof *effects);
+		told = pidtab_call_told(&table, &call, &reply, effects, room, count);
+	} while (told == PIDTAB_NO_ROOM);
+	must(told);
+	log_call(&call);
+	return effects;
+}
+
+/* ---- questions: they are no calls, and so they are not in the log ---- */
+
 struct pidtab_task table_stat(uint32_t caller, uint32_t number)
 {
 	struct pidtab_task task;
@@ -130,18 +129,36 @@ struct pidtab_task table_stat(uint32_t caller, uint32_t number)
 	return task;
 }
 
-/* Whether a group or a session has the number, in the namespace of all. It is no call either. */
-bool table_uses(uint32_t root)
+/* The namespace that the one with the id is in. */
+uint64_t table_around(uint64_t id)
 {
-	static const uint32_t uses[] = { PIDTAB_GROUPS, PIDTAB_SESSIONS };
-	struct pidtab_call call = { .operation = PIDTAB_NEXT, .caller = SUPERVISOR, .number = root };
-	struct pidtab_reply next;
+	struct pidtab_space space;
 
-	for (int i = 0; i < 2; i++) {
-		call.choice = uses[i];
-		must(pidtab_ask(&table, &call, &next));
-		if (next.kind == PIDTAB_NUMBER && next.first == root)
-			return true;
-	}
-	return false;
+	must(pidtab_space(&table, id, &space));
+	return space.parent;
+}
+
+/* The least number of a page, 0 where it has none. */
+uint32_t table_first(uint32_t caller, uint32_t whom, uint32_t number)
+{
+	uint32_t least = 0;
+	struct pidtab_reply counted;
+
+	must(pidtab_page(&table, caller, whom, number, 0, &least, 1, &counted));
+	return least;
+}
+
+/* All numbers of a page, in rising order. The list stands until the next one. */
+const uint32_t *table_list(uint32_t caller, uint32_t whom, uint32_t number, uint64_t *count)
+{
+	static uint32_t *numbers;
+	static uint64_t room;
+	struct pidtab_reply counted = { .first = LEAST_ROOM };
+
+	do {
+		numbers = with_room(numbers, &room, counted.first, sizeof *numbers);
+		must(pidtab_page(&table, caller, whom, number, 0, numbers, room, &counted));
+	} while (counted.first > room);
+	*count = counted.first;
+	return numbers;
 }

@@ -52,8 +52,7 @@ static bool is_ended_by_signal(const struct thread *thread)
 {
 	const struct process *caller = thread->process;
 	int32_t pid = (int32_t)call_argument(thread, 0);
-	const struct name *name = pid > 0 ? name_seen(caller, (uint32_t)pid) : NULL;
-	const struct process *child = name ? name->process : NULL;
+	const struct process *child = pid > 0 ? process_seen(caller, (uint32_t)pid) : NULL;
 	uint64_t blocked;
 
 	if (!child || child->ended || child->dead || child->gone || child->ends_unheard || parent_of(child) != caller)

@@ -15,8 +15,8 @@ FAULTS = (
     ("a wait reaps another", "life.c", "(uint32_t)number, PIDTAB_CHILD)", "(uint32_t)number, PIDTAB_ANY)", "waits"),
     ("a subreaper is not told", "groups.c", "table_do(PIDTAB_SUBREAPER, thread->process->root, 0, registers_argument(registers, 1) != 0);",
      "(void)0;", "orphan"),
-    ("a number is another one", "names.c", "return space ? name->levels[space->depth] : 0;",
-     "return space ? name->levels[name->space->depth] + (name->levels[space->depth] == 4) : 0;", "groups"),
+    ("a number is another one", "names.c", "return numbers_of(name, caller, numbers) ? numbers[0] : 0;",
+     "return numbers_of(name, caller, numbers) ? numbers[0] + (numbers[0] == 4) : 0;", "groups"),
     ("a session is its group", "groups.c", "return table_do(call->operation, thread->process->root, number, 0);",
      "return table_do(PIDTAB_GETPGID, thread->process->root, number, 0);", "groups"),
 )

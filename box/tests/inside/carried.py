@@ -96,6 +96,47 @@ def sockets():
     say("SO_PEERCRED", struct.unpack("3i", left.getsockopt(socket.SOL_SOCKET, socket.SO_PEERCRED, 12)) == me)
 
 
+def gone_sender():
+    """A message whose sender is gone."""
+    left, right = socket.socketpair(socket.AF_UNIX, socket.SOCK_DGRAM)
+    right.setsockopt(socket.SOL_SOCKET, socket.SO_PASSCRED, 1)
+    child = os.fork()
+    if child == 0:
+        left.send(b"d")
+        os._exit(0)
+    os.waitpid(child, 0)
+    _, control, _, _ = right.recvmsg(10, 100)
+    say("SCM_CREDENTIALS of one that is gone", struct.unpack("3i", control[0][2])[0] == child, of(os.kill, child, 0))
+
+
+def stat(pid):
+    """Its parent, group and session."""
+    with open(f"/proc/{pid}/stat", encoding="utf-8") as text:
+        return [int(it) for it in text.read().rpartition(")")[2].split()[1:4]]
+
+
+def without_leader(begin, apart):
+    """A group and a session whose leaders are gone, and a member lives: in the group, or apart from it."""
+    told, tell = os.pipe()
+    leader = os.fork()
+    if leader == 0:
+        begin()
+        member = sleeper()
+        if apart:
+            os.setpgid(member, member)
+        os.write(tell, struct.pack("i", member))
+        os._exit(0)
+    member = struct.unpack("i", os.read(told, 4))[0]
+    os.waitpid(leader, 0)
+    group, session = os.getpgid(member), os.getsid(member)
+    say("without a leader", group == leader, session == leader, stat(member) == [1, group, session], of(os.kill, leader, 0))
+    say("its group", of(os.killpg, leader, 0), of(os.getpriority, os.PRIO_PGRP, leader), of(fcntl.fcntl, told, fcntl.F_SETOWN, -leader))
+    say("its member", of(os.waitid, os.P_PGID, leader, os.WEXITED | os.WNOHANG), of(os.killpg, group, signal.SIGKILL), os.waitpid(-group, 0)[0] == member)
+    say("behind it", of(os.killpg, leader, 0), of(fcntl.fcntl, told, fcntl.F_SETOWN, -leader))
+    os.close(told)
+    os.close(tell)
+
+
 def owners():
     reader, writer = os.pipe()
     for pid in (os.getpid(), -os.getpgrp(), 0):
@@ -231,6 +272,10 @@ def main():
     scheduling(child)
     memory_and_limits(child)
     sockets()
+    gone_sender()
+    without_leader(os.setpgrp, False)
+    without_leader(os.setsid, False)
+    without_leader(os.setsid, True)
     owners()
     signals(child)
     terminals()
