@@ -1,6 +1,7 @@
 """Interrupts, as by Ctrl-C: the program goes on, and no answer is given to another call."""
 
 import dis
+import gc
 import os
 import pty
 import select
@@ -73,6 +74,8 @@ class Interrupter:
     def run(self, ask: Callable[[], object]) -> bool:
         """Whether the call was interrupted."""
         before = self.told()
+        # Nobody would catch what is raised where the collector ends a table of another test.
+        gc.disable()
         self.tell(self.trace)
         try:
             ask()
@@ -81,6 +84,7 @@ class Interrupter:
             return True
         finally:
             self.tell(before)
+            gc.enable()
         return False
 
 
