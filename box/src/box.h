@@ -210,7 +210,7 @@ void process_ended(struct process *process, int status);
 void process_dead(struct process *process);
 struct process *parent_of(const struct process *child);
 bool settle_parent(const struct process *parent, const struct process *child);
-void reap(struct process *parent, struct process *child);
+uint32_t reap(struct process *parent, struct process *child);
 void reap_vanished(struct process *parent);
 bool has_fallen_with(const struct process *init);
 

@@ -7,15 +7,21 @@
 #include <string.h>
 #include <sys/mman.h>
 #include <sys/stat.h>
+#include <sys/wait.h>
 #include <unistd.h>
 
-/* The state of a thread that this program has stopped: to the program it runs, or is stopped by a signal. */
+/* The state of a thread that this program has stopped: to the program it runs, or is stopped by a signal. Its parent may know that before the
+ * stop is reported here: so a report is fetched first. */
 static const char *state_of(pid_t real, const char *kernel)
 {
 	const struct thread *thread = real > 0 && real < MOST_REAL ? thread_of_real(real) : NULL;
 
 	if (*kernel != 't')
 		return kernel;
+	if (thread && thread->process && !thread->is_at_rest) {
+		catch_up(thread->process, WNOHANG);
+		thread = thread_of_real(real);
+	}
 	return thread && thread->is_at_rest ? "T (stopped)\n" : "R (running)\n";
 }
 

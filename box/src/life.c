@@ -28,14 +28,16 @@ bool settle_parent(const struct process *parent, const struct process *child)
 	return some;
 }
 
-/* The child has left the kernel: so it leaves the table. */
-void reap(struct process *parent, struct process *child)
+/* The child has left the kernel: so it leaves the table. Its number to the parent. */
+uint32_t reap(struct process *parent, struct process *child)
 {
-	int64_t number = number_of(child->name, parent);
+	uint32_t number;
 
 	name_keep(child->name);
-	compare("wait", number, table_do(PIDTAB_WAIT, parent->root, (uint32_t)number, PIDTAB_CHILD));
+	number = number_of(child->name, parent);
+	compare("wait", number, table_do(PIDTAB_WAIT, parent->root, number, PIDTAB_CHILD));
 	process_free(child);
+	return number;
 }
 
 /* A wait of the parent did not tell whom it reaped: the zombies of the table that the kernel does not keep. */

@@ -83,8 +83,10 @@ static uint32_t read_levels(const struct name *name, struct level *levels)
 	}
 	task = table_stat(SUPERVISOR, name->root);
 	space = task.space;
-	for (uint32_t i = task.count; i > 0; i--, space = table_around(space))
-		levels[i - 1] = (struct level){ space, task.levels[i - 1] };
+	for (uint32_t i = task.count; i-- > 0;) {
+		levels[i] = (struct level){ space, task.levels[i] };
+		space = i > 0 ? table_around(space) : 0;
+	}
 	return task.count;
 }
 

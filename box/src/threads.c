@@ -69,7 +69,7 @@ struct thread *thread_numbered(uint32_t number)
 /* The number by which it sees itself. */
 uint32_t thread_seen(const struct thread *thread)
 {
-	return thread->number ? thread->number : number_of(thread->process->name, thread->process);
+	return thread->number ? thread->number : table_stat(thread->process->root, 0).levels[0];
 }
 
 void each_unclaimed(void (*act)(struct thread *thread))

@@ -12,18 +12,15 @@
  * zombie that the table reaped with its namespace, and the kernel gave to an outer subreaper. */
 static int64_t waited(struct thread *thread, int64_t real, bool is_end)
 {
-	struct name *name = name_of_real((pid_t)real);
-	int64_t number;
+	const struct name *name = name_of_real((pid_t)real);
 
 	if (!name || !name->process)
 		return 0;
-	number = number_of(name, thread->process);
-	if (is_end) {
-		if (!settle_parent(thread->process, name->process) && checking)
-			compare_wait(thread, name->process);
-		reap(thread->process, name->process);
-	}
-	return number;
+	if (!is_end)
+		return number_of(name, thread->process);
+	if (!settle_parent(thread->process, name->process) && checking)
+		compare_wait(thread, name->process);
+	return reap(thread->process, name->process);
 }
 
 /* The call is made again, and the program sees nothing of the child. */

@@ -12,7 +12,7 @@ FAULTS = (
     ("no setsid of the kernel", "groups.c", "&& !checking ? answer_with(thread, thread->told) : watch(thread, registers)",
      "|| registers ? answer_with(thread, thread->told) : GO", "groups"),
     ("an exec is not told", "tracer.c", "table_do(PIDTAB_EXEC, process->root, 0, 0);", "(void)0;", "executed"),
-    ("a wait reaps another", "life.c", "(uint32_t)number, PIDTAB_CHILD)", "(uint32_t)number, PIDTAB_ANY)", "waits"),
+    ("a wait reaps another", "life.c", "number, PIDTAB_CHILD)", "number, PIDTAB_ANY)", "waits"),
     ("a subreaper is not told", "groups.c", "table_do(PIDTAB_SUBREAPER, thread->process->root, 0, registers_argument(registers, 1) != 0);",
      "(void)0;", "orphan"),
     ("a number is another one", "names.c", "return numbers_of(name, caller, numbers) ? numbers[0] : 0;",

@@ -243,6 +243,8 @@ def threads():
     threads = [threading.Thread(target=work) for _ in range(3)]
     for thread in threads:
         thread.start()
+    while len(numbers) < len(threads):
+        time.sleep(0.01)
     listed = {int(it) for it in os.listdir("/proc/self/task")}
     say("threads", len(set(numbers)), os.getpid() not in numbers, set(numbers) <= listed, os.getpid() in listed, len(listed))
     say("by number", call("tgkill", os.getpid(), numbers[0], 0), call("tgkill", os.getpid(), 999, 0), of(os.sched_getscheduler, numbers[1]))
