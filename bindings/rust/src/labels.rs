@@ -149,6 +149,11 @@ mod tests {
             .collect()
     }
 
+    const FORK: Call = Call::Fork {
+        caller: 1,
+        new_space: false,
+    };
+
     /// Forks children of the root init that end, up to the last number, which then comes again and again.
     fn go_up(table: &mut impl Calls) {
         loop {
@@ -180,13 +185,9 @@ mod tests {
     fn a_label_goes_with_its_task() {
         let mut table = Table::open(301).expect("a table");
         go_up(&mut table);
-        let forks: [fn(&mut Table); 2] = [
-            |it| {
-                drop(it.call(Call::Fork {
-                    caller: 1,
-                    new_space: false,
-                }))
-            },
+        let forks: [fn(&mut Table); 3] = [
+            |it| drop(it.call(FORK)),
+            |it| drop(it.told(FORK)),
             |it| drop(it.line("fork 1")),
         ];
         for fork in forks {
@@ -207,13 +208,14 @@ mod tests {
         go_up(&mut seat);
         let last = shared.counts().expect("counts").recorded - 1;
         let saved = shared.entries(last, 1).expect("the fork");
-        for way in ["call", "line", "replay"] {
+        for way in ["call", "told", "line", "replay"] {
             shared.label(LAST, "short").expect("a label");
             seat.exit(LAST, 0).expect("an end");
             assert_eq!(labels_of(shared.listing()), [(LAST, "short".into())]);
             seat.wait(1, Which::Any).expect("a wait");
             match way {
                 "call" => drop(seat.fork(1, false)),
+                "told" => drop(seat.told(FORK)),
                 "line" => drop(seat.line("fork 1")),
                 _ => shared.replay(&saved).expect("the same fork"),
             }
