@@ -221,7 +221,11 @@ enum pidtab_tree {
 enum pidtab_what {
 	PIDTAB_TASK_ENDED = 0,   /* the task ended: value is its status, 0 to 255, or PIDTAB_KILLED where its namespace fell */
 	PIDTAB_TASK_ADOPTED = 1, /* the task has another parent: value is the root number of that */
-	PIDTAB_TASK_GONE = 2     /* the task is there no more, as it was reaped or went with its namespace: value is 0 */
+	PIDTAB_TASK_GONE = 2,    /* the task is there no more, as it was reaped or went with its namespace: value is 0 */
+	PIDTAB_GROUP_GONE = 3,   /* no task, live or ended, is in the process group with the number any more: value is 0 */
+	PIDTAB_SESSION_GONE = 4, /* no task, live or ended, is in the session with the number any more: value is 0 */
+	PIDTAB_SPACE_FELL = 5,   /* the namespace has fallen, as its init has ended: number is 0, value is its id */
+	PIDTAB_SPACE_GONE = 6    /* the namespace is there no more, as nothing has a number in it: number is 0, value is its id */
 };
 /* The end of choices. */
 

@@ -95,6 +95,10 @@ mod kinds {
     pub(crate) const TASK_ENDED: u32 = 0;
     pub(crate) const TASK_ADOPTED: u32 = 1;
     pub(crate) const TASK_GONE: u32 = 2;
+    pub(crate) const GROUP_GONE: u32 = 3;
+    pub(crate) const SESSION_GONE: u32 = 4;
+    pub(crate) const SPACE_FELL: u32 = 5;
+    pub(crate) const SPACE_GONE: u32 = 6;
 }
 pub(crate) use kinds::*;
 // The end of kinds.

@@ -1,14 +1,15 @@
 -- What is told of the tasks that a call may touch is what became of all.
-use Rattle.std.proofs.Common.{◌≡◌, ◌≤◌, ◌+◌, length, length-append, arith, ◌⊎◌, inl, inr, ℕ, Bool, true, false, not, ◌&&◌, ◌==◌, List, [], ◌∷◌, ◌++◌, map, flat_map, Option, Some, None, option_map, is_some, if◌then◌else◌, refl, sym, ap, subst, ◌∙◌}
+use Rattle.std.proofs.Common.{◌≡◌, ◌⊎◌, inl, inr, ℕ, Bool, true, false, not, ◌&&◌, ◌==◌, List, [], ◌∷◌, ◌++◌, map, flat_map, Option, Some, None, option_map, if◌then◌else◌, refl, sym, ap, subst, ◌∙◌}
 use Rattle.std.proofs.lemmas.Bool.{eq-eqb}
-use Rattle.std.proofs.lemmas.List.{length-map}
+use Rattle.pid_types.specs.declared.call.Kind.{Kind}
+use Rattle.pid_types.specs.declared.call.Kind.TheVariants.{Group, Session}
 use Rattle.pid_types.specs.declared.plain.Row.{Row}
 use Rattle.pid_types.specs.declared.plain.Ended.TheVariants.{Killed}
 use Rattle.pid_types.specs.declared.plain.Life.{Life}
 use Rattle.pid_types.specs.declared.plain.Life.TheVariants.{Live, Zombie}
 use Rattle.pid_types.specs.Chains.{contains}
 use Rattle.pid_types.specs.Membership.{IsIn}
-use Rattle.pid_types.specs.Names.{is_live, root_number, row_at}
+use Rattle.pid_types.specs.Names.{is_live, row_at}
 use Rattle.pid_types.specs.Sound.{IsRising}
 use Rattle.pid_types.specs.State.{State}
 use Rattle.pid_types.specs.Wait.{end_of}
@@ -18,12 +19,15 @@ use Rattle.translate.specs.Relations.{relations_of, relations_at, parent_in}
 use Rattle.translate.specs.Stat.{still_lives}
 use Rattle.translate.specs.declared.relations.Relations.{Relations}
 use Rattle.call_effects.specs.declared.effect.Effect.{Effect}
-use Rattle.call_effects.specs.declared.effect.Effect.TheVariants.{Ended as HasEnded, Adopted, Gone}
+use Rattle.call_effects.specs.declared.effect.Effect.TheVariants.{Ended as HasEnded, Adopted, Gone, SpaceFell, SpaceGone}
+use Rattle.call_effects.specs.declared.spaces.WatchedSpace.{WatchedSpace}
 use Rattle.call_effects.specs.declared.tasks.Watched.{Watched}
-use Rattle.call_effects.specs.Changes.{as_list, ending, moving, changes, changes_in, end_with}
-use Rattle.call_effects.specs.Effects.{where_so, fate, AreEffects}
-use Rattle.call_effects.specs.Touched.{Touches, Watches}
-use Rattle.call_effects.proofs.Lists.{few_of}
+use Rattle.call_effects.specs.Changes.{as_list, changes, changes_in, end_with}
+use Rattle.call_effects.specs.Belonging.{gone_in}
+use Rattle.call_effects.specs.Effects.{fate, fate_of_members, fate_of_space, gone_as, has_members, is_space, stands, where_lost, where_so, AreEffects, Collects}
+use Rattle.call_effects.specs.Spaces.{changes_of_space}
+use Rattle.call_effects.specs.Touched.{AreWatched, AreWatchedSpaces, MayEnd, Touches, Watches, Watching}
+use Rattle.call_effects.proofs.Rows.{row_of}
 
 -- one effect or none, by a test
 as_where : (b : Bool) (e : Effect) → as_list (if b then Some e else None) ≡ where_so b e
@@ -34,8 +38,12 @@ as_unless : (b : Bool) (e : Effect) → as_list (if b then None else Some e) ≡
 as_unless true e = refl
 as_unless false e = refl
 
+as_not : (b : Bool) (e : Effect) → as_list (if b then None else Some e) ≡ where_so (not b) e
+as_not true e = refl
+as_not false e = refl
+
 -- a life says whether the row lives, and how it ended
-lives-is : (l : Life) (row : Row) → row.life ≡ l → still_lives row.life ≡ is_live row
+pub lives-is : (l : Life) (row : Row) → row.life ≡ l → still_lives row.life ≡ is_live row
 lives-is Live row e = rw e refl
 lives-is (Zombie ended) row e = rw e refl
 
@@ -68,23 +76,23 @@ nothing false e = refl
 same_fate : (w : Watched) → changes w (Some w.before) ≡ []
 same_fate w = rw (eq-eqb w.before.parent w.before.parent refl) (ap (λ es. es ++ []) (nothing (still_lives w.before.life) _))
 
-module _ (old new : State) (tasks : List Watched) (w : Watches old new tasks) where
-  abbrev numbers : List ℕ
-  numbers = w.numbers
+-- what is told of numbers is all, where nothing became of any other
+collected : (fates : ℕ → List Effect) (numbers : List ℕ) → IsRising numbers → ((n : ℕ) → (IsIn n numbers → ⊥) → fates n ≡ []) → (effects : List Effect)
+    → effects ≡ flat_map fates numbers → Collects fates effects
+collected fates numbers rise none effects e = record { numbers = numbers; rising = rise; whole = λ n. one n (contains numbers n) refl; is = e }
+  where
+    one : (n : ℕ) (b : Bool) → contains numbers n ≡ b → IsIn n numbers ⊎ (fates n ≡ [])
+    one n true is = inl (IsIn-from_contains numbers n is)
+    one n false is = inr (none n (λ on. let z : true ≡ false = sym (contains-from_IsIn numbers n on) ∙ is in absurd (cc)))
 
-  -- the row of one with relations
-  row_of : (n : ℕ) (r : Relations) → relations_at old.rows n ≡ Some r → (row : Row) × (row_at old.rows n ≡ Some row) × (r ≡ relations_of row)
-  row_of n r e = go (row_at old.rows n) refl e
-    where
-      go : (o : Option Row) → row_at old.rows n ≡ o → option_map relations_of o ≡ Some r → (row : Row) × (row_at old.rows n ≡ Some row) × (r ≡ relations_of row)
-      go None is e = absurd (cc)
-      go (Some row) is e = (row, is, (let z : r ≡ relations_of row = cc in z))
+-- ---- tasks
 
+module _ (old new : State) (tasks : List Watched) (numbers : List ℕ) (touches : Touches old new numbers) (watched : AreWatched old numbers tasks) where
   all_told : (ts : List Watched) → ((t : Watched) → IsIn t ts → relations_at old.rows t.number ≡ Some t.before)
       → flat_map (changes_in new) ts ≡ flat_map (fate old new) (map (λ (t : Watched). t.number) ts)
   all_told [] before = refl
   all_told (t ∷ ts) before =
-      let r = row_of t.number t.before (before t (inl refl)) in
+      let r = row_of old.rows t.number t.before (before t (inl refl)) in
       λ i. fate-is old new t r.0 r.1 r.2 i ++ all_told ts (λ u on. before u (inr on)) i
 
   -- nothing became of who is not watched
@@ -96,55 +104,78 @@ module _ (old new : State) (tasks : List Watched) (w : Watches old new tasks) wh
       go (Some row) is =
           let at = row_at-Some old.rows n row is in
           let t : Watched = record { number = n; before = relations_of row } in
-          let stays = subst (λ m. relations_at new.rows m ≡ Some (relations_of row)) at.1 (w.touches.rest row at.0 (λ on. off (subst (λ m. IsIn m numbers) at.1 on))) in
+          let stays = subst (λ m. relations_at new.rows m ≡ Some (relations_of row)) at.1 (touches.rest row at.0 (λ on. off (subst (λ m. IsIn m numbers) at.1 on))) in
           sym (fate-is old new t row is refl) ∙ ap (changes t) stays ∙ same_fate t
 
   -- so all is told
-  pub told : (effects : List Effect) → effects ≡ flat_map (changes_in new) tasks → AreEffects old new effects
-  told effects e = record {
-    numbers = numbers;
-    rising = w.touches.rising;
-    whole = λ n. one n (contains numbers n) refl;
-    is = e ∙ all_told tasks w.watched.before ∙ ap (flat_map (fate old new)) w.watched.numbered;
-  }
-    where
-      one : (n : ℕ) (b : Bool) → contains numbers n ≡ b → IsIn n numbers ⊎ (fate old new n ≡ [])
-      one n true is = inl (IsIn-from_contains numbers n is)
-      one n false is = inr (others n (λ on. let z : true ≡ false = sym (contains-from_IsIn numbers n on) ∙ is in absurd (cc)))
+  pub tasks_told : Collects (fate old new) (flat_map (changes_in new) tasks)
+  tasks_told =
+      collected (fate old new) numbers touches.rising others (flat_map (changes_in new) tasks)
+      (all_told tasks watched.before ∙ ap (flat_map (fate old new)) watched.numbered)
 
--- each task has two effects at most
-few_listed : (o : Option Effect) → length (as_list o) ≤ 1
-few_listed None = omega arith
-few_listed (Some e) = omega arith
+-- ---- process groups, sessions and namespaces
 
-few_changes : (w : Watched) (now : Option Relations) → length (changes w now) ≤ 2
-few_changes w now =
-    let e = length-append (as_list (ending w now)) (as_list (moving w now)) in
-    let a = few_listed (ending w now) in
-    let b = few_listed (moving w now) in
-    omega (arith, e, a, b)
-
-pub few_told : (new : State) (tasks : List Watched) → length (flat_map (changes_in new) tasks) ≤ length tasks + length tasks
-few_told new [] = omega arith
-few_told new (t ∷ ts) =
-    let e = length-append (changes_in new t) (flat_map (changes_in new) ts) in
-    let a = few_changes t (relations_at new.rows t.number) in
-    let rest = few_told new ts in
-    omega (arith, e, a, rest)
-
--- no more tasks are watched than there are
-pub few_watched : (old new : State) → IsRising (map (λ (r : Row). root_number r.name) old.rows) → (tasks : List Watched) → Watches old new tasks → length tasks ≤ length old.rows
-few_watched old new rise tasks w =
-    let le = few_of w.numbers (map (λ (r : Row). root_number r.name) old.rows) w.touches.rising rise one in
-    let a : length tasks ≡ length w.numbers = sym (length-map tasks (λ (t : Watched). t.number)) ∙ ap length w.watched.numbered in
-    let b = length-map old.rows (λ (r : Row). root_number r.name) in
-    omega (arith, le, a, b)
+-- what is not so, or stays so, is not lost
+not_lost : (so : State → ℕ → Bool) (old new : State) (numbers : List ℕ) → MayEnd so old new numbers → (n : ℕ) → (IsIn n numbers → ⊥) → (e : Effect) → where_lost so old new n e ≡ []
+not_lost so old new numbers ends n off e = go (so old n) refl
   where
-    one : (n : ℕ) → IsIn n w.numbers → IsIn n (map (λ (r : Row). root_number r.name) old.rows)
-    one n i = go (row_at old.rows n) refl (w.touches.there n i)
-      where
-        go : (o : Option Row) → row_at old.rows n ≡ o → is_some (option_map relations_of o) ≡ true → IsIn n (map (λ (r : Row). root_number r.name) old.rows)
-        go None is some = absurd (cc)
-        go (Some row) is some =
-            let at = row_at-Some old.rows n row is in
-            subst (λ m. IsIn m (map (λ (r : Row). root_number r.name) old.rows)) at.1 (IsIn-map (λ (r : Row). root_number r.name) row old.rows at.0)
+    go : (b : Bool) → so old n ≡ b → where_lost so old new n e ≡ []
+    go false is = rw is refl
+    go true is = let stays = ends.rest n is off in rw (is, stays) refl
+
+module _ (kind : Kind) (old new : State) (numbers : List ℕ) (ends : MayEnd (has_members kind) old new numbers) where
+  gone-is : (ns : List ℕ) → ((n : ℕ) → IsIn n ns → has_members kind old n ≡ true) → flat_map (gone_in kind new) ns ≡ flat_map (fate_of_members kind old new) ns
+  gone-is [] before = refl
+  gone-is (n ∷ ns) before =
+      let so = before n (inl refl) in
+      λ i. ap (λ b. where_so (b && not (has_members kind new n)) (gone_as kind n)) (sym so) i ++ gone-is ns (λ m on. before m (inr on)) i
+
+  pub members_told : Collects (fate_of_members kind old new) (flat_map (gone_in kind new) numbers)
+  members_told =
+      collected (fate_of_members kind old new) numbers ends.rising (λ n off. not_lost (has_members kind) old new numbers ends n off (gone_as kind n)) (flat_map (gone_in kind new) numbers)
+      (gone-is numbers ends.before)
+
+module _ (old new : State) (ids : List ℕ) (ends : MayEnd is_space old new ids) (standing : (id : ℕ) → stands old id ≡ true → (IsIn id ids → ⊥) → stands new id ≡ true)
+    (spaces : List WatchedSpace) (watched : AreWatchedSpaces old ids spaces) where
+  -- what is read of a namespace is what became of it
+  space-is : (w : WatchedSpace) → stands old w.id ≡ w.stood → is_space old w.id ≡ true → changes_of_space new w ≡ fate_of_space old new w.id
+  space-is w stood there = λ i.
+      (as_where (w.stood && not (stands new w.id)) (SpaceFell w.id) ∙ ap (λ b. where_so (b && not (stands new w.id)) (SpaceFell w.id)) (sym stood)) i
+      ++ (as_not (is_space new w.id) (SpaceGone w.id) ∙ ap (λ b. where_so (b && not (is_space new w.id)) (SpaceGone w.id)) (sym there)) i
+
+  spaces-are : (ws : List WatchedSpace) → ((w : WatchedSpace) → IsIn w ws → (stands old w.id ≡ w.stood) × (is_space old w.id ≡ true))
+      → flat_map (changes_of_space new) ws ≡ flat_map (fate_of_space old new) (map (λ (w : WatchedSpace). w.id) ws)
+  spaces-are [] all = refl
+  spaces-are (w ∷ ws) all = let h = all w (inl refl) in λ i. space-is w h.0 h.1 i ++ spaces-are ws (λ v on. all v (inr on)) i
+
+  pub spaces_told : Collects (fate_of_space old new) (flat_map (changes_of_space new) spaces)
+  spaces_told =
+      collected (fate_of_space old new) ids ends.rising nothing_else (flat_map (changes_of_space new) spaces)
+      (spaces-are spaces (λ w on. (watched.before w on, ends.before w.id (subst (IsIn w.id) watched.numbered (IsIn-map (λ (v : WatchedSpace). v.id) w spaces on))))
+      ∙ ap (flat_map (fate_of_space old new)) watched.numbered)
+    where
+      nothing_else : (n : ℕ) → (IsIn n ids → ⊥) → fate_of_space old new n ≡ []
+      nothing_else n off = fell (stands old n) refl
+        where
+          gone : where_lost is_space old new n (SpaceGone n) ≡ []
+          gone = not_lost is_space old new ids ends n off (SpaceGone n)
+
+          fell : (b : Bool) → stands old n ≡ b → fate_of_space old new n ≡ []
+          fell false is = ap (λ es. where_lost stands old new n (SpaceFell n) ++ es) gone ∙ rw is refl
+          fell true is = let stays = standing n is off in ap (λ es. where_lost stands old new n (SpaceFell n) ++ es) gone ∙ rw (is, stays) refl
+
+-- what is told of all that is watched are the effects
+pub told : (old new : State) (w : Watching) → Watches old new w → (effects : List Effect)
+    → effects ≡ flat_map (changes_in new) w.tasks ++ flat_map (gone_in Group new) w.groups ++ flat_map (gone_in Session new) w.sessions ++ flat_map (changes_of_space new) w.spaces
+    → AreEffects old new effects
+told old new w watches effects e = record {
+  tasks = flat_map (changes_in new) w.tasks;
+  groups = flat_map (gone_in Group new) w.groups;
+  sessions = flat_map (gone_in Session new) w.sessions;
+  spaces = flat_map (changes_of_space new) w.spaces;
+  of_tasks = tasks_told old new w.tasks watches.numbers watches.touches watches.watched;
+  of_groups = members_told Group old new w.groups watches.groups;
+  of_sessions = members_told Session old new w.sessions watches.sessions;
+  of_spaces = spaces_told old new watches.ids watches.spaces watches.standing w.spaces watches.watched_spaces;
+  is = e;
+}

@@ -1,6 +1,10 @@
 pub mod Lists
-pub mod Once
+pub mod Rows
+pub mod Members
+pub mod KeptSpaces
 pub mod Stays
 pub mod Touching
 pub mod Seen
 pub mod Fates
+pub mod Standing
+pub mod Watching

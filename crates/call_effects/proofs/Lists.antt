@@ -1,8 +1,17 @@
--- Numbers of a list by their places.
-use Rattle.std.proofs.Common.{◌≡◌, ◌⊎◌, ◌+◌, ◌<◌, ◌≤◌, ℕ, zero, suc, List, [], ◌∷◌, ◌++◌, length, take, refl, ap, subst, ◌∙◌, inl, inr, arith}
+-- Lists of numbers that rise, and lists in which each comes once.
+use Rattle.std.proofs.Common.{◌≡◌, ◌⊎◌, ◌==◌, ◌<◌, ◌≤◌, ℕ, zero, suc, List, [], ◌∷◌, length, refl, sym, subst, inl, inr, arith}
 use Rattle.std.specs.Prelude.{slice_index_or}
+use Rattle.std.specs.List.{AllPairs, Contains, dedup}
+use Rattle.std.specs.Ordering.{nat_cmp}
+use Rattle.std.proofs.lemmas.List.Kept.{AllPairs-from_increasing, Contains-dedup_nat, Contains-from_dedup}
+use Rattle.std.proofs.lemmas.Map.Keys.{IsStrictlyIncreasing-dedup}
+use Rattle.member_lists.specs.Owners.{times}
 use Rattle.pid_types.specs.Membership.{IsIn}
 use Rattle.pid_types.specs.Sound.{IsRising}
+use Rattle.task_table.proofs.Places.{place-of}
+use Rattle.translate.specs.Pages.{AreListed}
+use Rattle.translate.proofs.Rising.{once-more, IsIn-permuted, IsIn-unpermuted}
+use Rattle.call_effects.specs.Distinct.{SortsDistinct}
 
 -- the number at a place is in the list
 pub index-in : (ns : List ℕ) (i : ℕ) → i < length ns → IsIn (slice_index_or ns i 0) ns
@@ -10,13 +19,10 @@ index-in [] i few = absurd (omega (arith, few))
 index-in (n ∷ ns) zero few = inl refl
 index-in (n ∷ ns) (suc i) few = inr (index-in ns i (omega (arith, few)))
 
--- and ends the front that is longer by one
-pub take-next : (ns : List ℕ) (i : ℕ) → i < length ns → take (i + 1) ns ≡ take i ns ++ slice_index_or ns i 0 ∷ []
-take-next [] i few = absurd (omega (arith, few))
-take-next (n ∷ ns) zero few = refl
-take-next (n ∷ ns) (suc i) few =
-    let e : suc i + 1 ≡ suc (i + 1) = omega arith in
-    ap (λ j. take j (n ∷ ns)) e ∙ ap (λ ms. n ∷ ms) (take-next ns i (omega (arith, few)))
+-- in a rising list each number comes once
+pub once_rising : (ns : List ℕ) → IsRising ns → (m : ℕ) → times m ns ≤ 1
+once_rising [] rise m = omega arith
+once_rising (n ∷ ns) rise m = once-more m n ns (λ i. let lt = rise.0 n i in omega (arith, lt)) (once_rising ns rise.1 m)
 
 -- a rising list of some elements of another is not longer
 pub few_of : (ns ms : List ℕ) → IsRising ns → IsRising ms → ((n : ℕ) → IsIn n ns → IsIn n ms) → length ns ≤ length ms
@@ -34,3 +40,29 @@ few_of (n ∷ ns) (m ∷ ms) rise above all = go (λ le. few_of ns ms rise.1 abo
         → (n ≡ m) ⊎ IsIn n ms → length (n ∷ ns) ≤ length (m ∷ ms)
     go both one (inl same) = let le = both (rest same) in omega (arith, le)
     go both one (inr j) = let le = one (later (above.0 n j)) in omega (arith, le)
+
+-- numbers each of which is below all later ones rise
+rising_pairs : (xs : List ℕ) → AllPairs (λ x y. x < y) xs → IsRising xs
+rising_pairs [] all = tt
+rising_pairs (x ∷ xs) all = (
+  λ m i. let p = place-of 0 m xs i in let lt = p.1 in subst (λ n. x < n) p.2 (all zero (suc p.0) 0 (omega arith) (omega (arith, lt))),
+  rising_pairs xs (λ i j d lt few. all (suc i) (suc j) d (omega (arith, lt)) (omega (arith, few))),
+)
+
+IsIn-Contains : (xs : List ℕ) (x : ℕ) → IsIn x xs → Contains xs x
+IsIn-Contains xs x i = place-of x x xs i
+
+IsIn-from_Contains : (xs : List ℕ) (x : ℕ) → Contains xs x → IsIn x xs
+IsIn-from_Contains [] x (k, few, e) = absurd (omega (arith, few))
+IsIn-from_Contains (y ∷ xs) x (zero, few, e) = inl (sym e)
+IsIn-from_Contains (y ∷ xs) x (suc k, few, e) = inr (IsIn-from_Contains xs x (k, omega (arith, few), e))
+
+-- a sorted list without what comes again has each number of the list once, in rising order
+pub distinct : (old new : List ℕ) → SortsDistinct nat_cmp ◌==◌ old new → AreListed old 0 new
+distinct old new d = record {
+  rising = subst IsRising (sym d.is) (rising_pairs (dedup ◌==◌ d.sorted) (AllPairs-from_increasing (dedup ◌==◌ d.sorted) (IsStrictlyIncreasing-dedup d.sorted d.in_order)));
+  each = λ m. (
+    λ on. (omega arith, IsIn-unpermuted m old d.sorted d.permutes (IsIn-from_Contains d.sorted m (Contains-from_dedup ◌==◌ d.sorted m (IsIn-Contains (dedup ◌==◌ d.sorted) m (subst (IsIn m) d.is on))))),
+    λ h. subst (IsIn m) (sym d.is) (IsIn-from_Contains (dedup ◌==◌ d.sorted) m (Contains-dedup_nat d.sorted m (IsIn-Contains d.sorted m (IsIn-permuted m old d.sorted d.permutes h.1)))),
+  );
+}

@@ -1,9 +1,9 @@
 -- Who stays as he was: each row that a call does not touch.
-use Rattle.model_laws.proofs.Words.{◌≡◌, ◌==◌, ◌&&◌, ℕ, Bool, true, false, List, map, Option, Some, None, refl, sym, ap, ◌∙◌, subst, option_map, option_map_or, if◌then◌else◌, cond_both, and_from, and_parts, eq-eqb, eqb-true, false_from_ne_true, arith, Call, Exit, Wait, SetPgid, SetSid, Row, Name, Ended, Zombie, Exited, Done, IsIn, State, Outcome, sweep, with_row, on_row, root_number, number, is_live, is_member, is_parent, same_name, row_at, live_row, step, row_after_exit, rows_after_exit, new_parent, is_init, rehome, without_control, with_control, with_limit, with_child, set_executed, set_home, set_children_space, set_mark, IsSound, IsBelow, IsCoherent}
-use Rattle.model_laws.proofs.Ground.{IsIn-map, row_at-listed, find-only, unique_key, same_name-true, same_name-refl, is_parent-true}
+use Rattle.model_laws.proofs.Words.{◌≡◌, ◌==◌, ◌&&◌, ℕ, true, false, List, map, Option, Some, refl, ap, ◌∙◌, subst, option_map, option_map_or, if◌then◌else◌, cond_both, and_from, and_parts, eq-eqb, eqb-true, false_from_ne_true, Call, Row, Name, Zombie, Exited, IsIn, State, Outcome, sweep, with_row, on_row, root_number, is_live, is_parent, same_name, row_at, live_row, row_after_exit, rows_after_exit, new_parent, rehome, without_control, with_control, with_limit, set_executed, set_home, set_children_space, set_mark, IsSound, IsCoherent}
+use Rattle.model_laws.proofs.Ground.{IsIn-map, row_at-listed, find-only, unique_key, same_name-true}
 use Rattle.model_laws.proofs.Ancestry.{root_init_row}
 use Rattle.model_laws.proofs.Inserts.{IsIn-insert_old}
-use Rattle.model_laws.proofs.Calls.{Comes, still, born, born_first, fell, handed_on, waits, reaped, grouped, led, executed, control_made, control_removed, limit_set, moved, joined, marked}
+use Rattle.model_laws.proofs.Calls.{Comes, still, born, born_first, executed, control_made, control_removed, limit_set, moved, joined, marked}
 use Rattle.translate.specs.Relations.{relations_of, relations_at}
 use Rattle.call_effects.specs.Touched.{is_touching}
 

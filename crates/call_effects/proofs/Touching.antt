@@ -1,6 +1,6 @@
 -- Whom each call may touch.
-use Rattle.model_laws.proofs.Words.{◌≡◌, ◌==◌, ◌<◌, ◌≤◌, ℕ, zero, suc, ℤ, pos, negsuc, Bool, true, false, not, List, [], ◌∷◌, filter, Option, Some, None, refl, sym, ap, ◌∙◌, subst, inl, inr, arith, is_some, option_map, option_and_then, option_map_or, if◌then◌else◌, false_from_ne_true, not_from_false, ne_eqb, slice_index, Call, Fork, GetPid, NsPid, Exec, Exit, Wait, GetPpid, SetPgid, SetSid, MakeControl, RemoveControl, SetLimit, Move, Count, GetPgid, GetSid, Next, Join, SetSubreaper, Which, Row, Name, Ended, Done, Reaped, Reply, IsIn, IsRising, State, Outcome, sweep, without_row, root_number, number, number_or_zero, is_live, is_member, is_parent, is_numbered, same_name, row_at, live_row, task_at, self_or_task, target_of, parent_number, path_up, step, is_init, rows_after_exit, IsSound, IsBelow, set_group, start_session, with_row, matching, ended_children, unwrap_or}
-use Rattle.model_laws.proofs.Ground.{IsIn-filter, IsIn-from_filter, row_at-Some, row_at-listed, live_row-Some, unique_key, same_name-true, is_parent-true, is_parent-from, is_numbered-from, is_numbered-true, find-Some, number-within, number-on_path, own_name_in_use, task_at-own, Climbs}
+use Rattle.model_laws.proofs.Words.{◌≡◌, ◌==◌, ◌<◌, ℕ, zero, suc, ℤ, pos, negsuc, Bool, true, false, not, List, [], ◌∷◌, filter, Option, Some, None, refl, sym, ap, ◌∙◌, subst, inl, inr, arith, is_some, option_map, option_and_then, option_map_or, if◌then◌else◌, false_from_ne_true, not_from_false, ne_eqb, Call, Fork, GetPid, NsPid, Exec, Exit, Wait, GetPpid, SetPgid, SetSid, MakeControl, RemoveControl, SetLimit, Move, Count, GetPgid, GetSid, Next, Join, SetSubreaper, Which, Row, Name, Ended, Done, Reaped, IsIn, State, Outcome, sweep, without_row, root_number, number, number_or_zero, is_live, is_member, is_parent, is_numbered, same_name, row_at, live_row, task_at, self_or_task, parent_number, step, is_init, rows_after_exit, IsSound, IsBelow, set_group, start_session, with_row, matching, ended_children, unwrap_or}
+use Rattle.model_laws.proofs.Ground.{IsIn-filter, IsIn-from_filter, row_at-listed, live_row-Some, unique_key, same_name-true, is_parent-true, is_numbered-from, is_numbered-true, find-Some, number-within, number-on_path, own_name_in_use, task_at-own}
 use Rattle.model_laws.proofs.Lists.{IsIn-filter_map, IsIn-from_filter_map}
 use Rattle.model_laws.proofs.Ancestry.{number-root_of_row, parent_number-at, root_init_row, row_far, top_row, Far}
 use Rattle.model_laws.proofs.Calls.{Comes, still, fell, handed_on, waits, reaped, grouped, led, no_answer}
@@ -12,7 +12,6 @@ use Rattle.model_laws.specs.FallLaws.{HasFallen}
 use Rattle.std.specs.List.Sorted.{IsPermutation, IsSorted}
 use Rattle.std.specs.Ordering.{nat_cmp}
 use Rattle.std.proofs.lemmas.List.Sorted.{IsNonDecreasingBy-from_sort}
-use Rattle.member_lists.specs.Owners.{times}
 use Rattle.pid_types.specs.declared.call.Kind.TheVariants.{Task}
 use Rattle.translate.specs.declared.members.Reach.TheVariants.{Subtree}
 use Rattle.translate.specs.declared.page.Whom.{Whom}
@@ -20,10 +19,10 @@ use Rattle.translate.specs.declared.page.Whom.TheVariants.{Belonging, Namespace}
 use Rattle.translate.specs.Members.{numbers_in, is_among}
 use Rattle.translate.specs.Pages.{numbers_asked, numbers_belonging, belongs, is_meant, AreListed}
 use Rattle.translate.specs.Relations.{relations_of, relations_at}
-use Rattle.translate.proofs.Rising.{rising-once, times-permuted, IsIn-permuted, IsIn-unpermuted}
+use Rattle.translate.proofs.Rising.{once-more, rising-once, times-permuted, IsIn-permuted, IsIn-unpermuted}
 use Rattle.call_effects.specs.Touched.{is_touching, Touches}
 use Rattle.call_effects.specs.Whom.{list_of, root_seen, target_seen, IsRootList}
-use Rattle.call_effects.proofs.Once.{once_more, once_rising}
+use Rattle.call_effects.proofs.Lists.{once_rising}
 use Rattle.call_effects.proofs.Stays.{Stays, found, itself, other, all_stay, bystander, live_row-listed}
 
 -- the exit of a task that comes to more than a refusal has a caller
@@ -266,7 +265,7 @@ module _ (state : State) (stamp : ℕ) (sound : IsSound state) (below : IsBelow 
     touched : Touches state (after (Exit n status)) ys
     touched = record {
       rising = rising-once ys (IsNonDecreasingBy-from_sort (λ x. x) ys sorted) (λ m.
-          let e = times-permuted m (n ∷ xs) ys perm in let one = once_more m n xs own_child (once_rising xs listed.rising m) in omega (arith, e, one));
+          let e = times-permuted m (n ∷ xs) ys perm in let one = once-more m n xs own_child (once_rising xs listed.rising m) in omega (arith, e, one));
       there = λ m on. elim (IsIn-unpermuted m (n ∷ xs) ys perm on) [
         | inl e ↦ row_there caller i.0 m (i.1 ∙ sym e)
         | inr later ↦

@@ -1,5 +1,5 @@
 -- What became of a task, read off its relations before and behind a call.
-use Rattle.std.specs.Prelude.{◌≤◌, ◌+◌, ℕ, Bool, ◌&&◌, not, ◌==◌, List, [], ◌∷◌, ◌++◌, length, Option, Some, None, if◌then◌else◌, true, false}
+use Rattle.std.specs.Prelude.{Bool, ◌&&◌, not, ◌==◌, List, [], ◌∷◌, ◌++◌, Option, Some, None, if◌then◌else◌, false}
 use Rattle.std.specs.Option.{option_map_or}
 use Rattle.pid_types.specs.declared.plain.Ended.{Ended}
 use Rattle.pid_types.specs.declared.plain.Ended.TheVariants.{Killed}

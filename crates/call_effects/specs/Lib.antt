@@ -2,3 +2,6 @@ pub mod Effects
 pub mod Touched
 pub mod Changes
 pub mod Whom
+pub mod Belonging
+pub mod Spaces
+pub mod Distinct

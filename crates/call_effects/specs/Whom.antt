@@ -14,10 +14,10 @@ abbrev pub list_of : Option ℕ → List ℕ
 list_of None = []
 list_of (Some n) = n ∷ []
 
--- whether the reply is number 1
-abbrev pub is_one : Reply → Bool
-is_one (Number n) = n == 1
-is_one _ = false
+-- whether the reply is the number
+abbrev pub is_number : ℕ → Reply → Bool
+is_number m (Number n) = n == m
+is_number m _ = false
 
 -- the root number of the task with the number in the caller's namespace, where 0 is the caller
 abbrev pub root_seen : State → ℕ → ℕ → Option ℕ

@@ -3,7 +3,7 @@
 use pid_types::keys::Pid;
 use pid_types::plain::Ended;
 
-/// What a call did to a task. All numbers are those of the root namespace.
+/// What a call did to a task, a process group, a session or a namespace. All numbers are those of the root namespace.
 #[derive(Clone, Copy, Debug, PartialEq, Eq)]
 pub enum Effect {
     /// The task lived, and lives no more: so it ended. One that went with its namespace was killed.
@@ -12,4 +12,12 @@ pub enum Effect {
     Adopted { number: Pid, parent: Pid },
     /// The task is there no more: it was reaped, or went with its namespace.
     Gone { number: Pid },
+    /// No task, and no zombie, is in the process group any more.
+    GroupGone { number: Pid },
+    /// No task, and no zombie, is in the session any more.
+    SessionGone { number: Pid },
+    /// The namespace has fallen: its init has ended, and no task comes into it any more (`pid_namespaces(7)`).
+    SpaceFell { id: u64 },
+    /// The namespace is there no more: no identifier has a number in it.
+    SpaceGone { id: u64 },
 }

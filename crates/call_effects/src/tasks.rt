@@ -21,10 +21,7 @@ pub struct Watched {
 fn is_live(life: Life) -> bool
     ensures { result ≡ still_lives life }
 {
-    match life {
-        Life::Live => true,
-        Life::Zombie(_) => false,
-    }
+    matches!(life, Life::Live)
 }
 
 /// Whether the task lives, where it is there.
@@ -79,7 +76,7 @@ fn read_moving(watched: &Watched, now: Option<Relations>) -> Option<Effect>
 }
 
 /// Adds the effect, if there is one. It takes no memory.
-fn add(effect: Option<Effect>, told: &mut Vec<Effect>)
+pub(crate) fn add(effect: Option<Effect>, told: &mut Vec<Effect>)
     requires { vec_len told.old < vec_capacity told.old }
     ensures items { told.new.items ≡ told.old.items ++ as_list effect }
     ensures len { vec_len told.new ≤ vec_len told.old + 1 }
@@ -93,7 +90,9 @@ fn add(effect: Option<Effect>, told: &mut Vec<Effect>)
 /// Adds what became of the tasks. It takes no memory: there is room for two effects on each.
 pub(crate) fn add_changes(table: &PidTable, tasks: &[Watched], told: &mut Vec<Effect>)
     requires { vec_len told.old + length tasks.now + length tasks.now ≤ vec_capacity told.old }
-    ensures { told.new.items ≡ told.old.items ++ flat_map (changes_in table.now) tasks.now }
+    ensures items { told.new.items ≡ told.old.items ++ flat_map (changes_in table.now) tasks.now }
+    ensures len { vec_len told.new ≤ vec_len told.old + length tasks.now + length tasks.now }
+    ensures capacity { vec_capacity told.new ≡ vec_capacity told.old }
 {
     for watched in tasks {
         let now = table.relations(watched.number);

@@ -9,8 +9,9 @@ ghost use Rattle.pid_types.specs.Step.{step};
 ghost use Rattle.pid_types.specs.declared.call.Call.TheVariants as calls;
 ghost use Rattle.pid_types.specs.declared.plain.Row.{Row};
 ghost use Rattle.call_effects.specs.Touched.{is_touching, Touches};
-ghost use Rattle.call_effects.specs.Whom.{is_one, list_of, root_seen, target_seen, IsRootList};
+ghost use Rattle.call_effects.specs.Whom.{list_of, root_seen, target_seen, IsRootList};
 
+use crate::asked::{ROOT_INIT, is_number};
 use pid_table::PidTable;
 use pid_types::call::{Call, Kind, Which};
 use pid_types::keys::Pid;
@@ -18,9 +19,6 @@ use pid_types::reply::Reply;
 use std::alloc::AllocError;
 use translate::members::Reach;
 use translate::page::{Page, Whom};
-
-/// The root init calls for all numbers of the root namespace.
-const ROOT_INIT: Pid = 1;
 
 /// Whether the call may touch a task's life, its parent, its group or its session.
 pub(crate) fn may_touch(call: Call) -> bool
@@ -90,23 +88,13 @@ fn list_from_root(table: &PidTable, whom: Whom, number: Pid) -> Result<Vec<Pid>,
     }
 }
 
-/// Whether the reply is number 1.
-fn is_number_one(reply: &Reply) -> bool
-    ensures { result ≡ is_one reply.now }
-{
-    match reply {
-        Reply::Number(number) => *number == 1,
-        _ => false,
-    }
-}
-
 /// Whether the caller is the init of its own namespace.
 fn is_own_init(table: &PidTable, caller: Pid) -> bool
     ensures { (row : Row) → live_row table.now.rows caller ≡ Some row → result ≡ is_init table.now row }
 {
     let mut reply = Reply::Done;
     table.ask(Call::GetPid { caller }, &mut reply);
-    is_number_one(&reply)
+    is_number(1, &reply)
 }
 
 /// Whom an exit may touch.

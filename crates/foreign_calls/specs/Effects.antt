@@ -6,7 +6,7 @@ use Rattle.pid_types.specs.Step.{may_grow}
 use Rattle.translate.specs.Pages.{with_front}
 use Rattle.kept_table.specs.Chronicle.{Chronicle, next_stamp}
 use Rattle.call_effects.specs.Effects.{AreEffects}
-use Rattle.call_effects.specs.Touched.{is_touching}
+use Rattle.call_effects.specs.Touched.{is_touching, most_in}
 use Rattle.call_effects.specs.declared.effect.Effect.{Effect}
 use Rattle.foreign_numbers.specs.Effects.{effect_numbers}
 use Rattle.foreign_numbers.specs.declared.effects.EffectNumbers.{EffectNumbers}
@@ -15,7 +15,7 @@ use Rattle.foreign_calls.specs.Held.{IsDoneOr, NeedsOpen}
 use Rattle.foreign_calls.specs.Made.{IsSpent}
 use Rattle.foreign_calls.specs.Records.{roomless, Has, IsRecorded}
 
--- what the way from the one state to the other did to the tasks is at the front of the room, all of it, and how much it is is told
+-- what the way from the one state to the other did is at the front of the room, all of it, and how much it is is told
 pub record PutsEffects (old new : State) (before after : List EffectNumbers) (count : ℕ) : Type 0 where
   pub effects : List Effect
   pub are : AreEffects old new effects
@@ -29,10 +29,10 @@ pub record TellsEffects (old new : State) (before after : List EffectNumbers) (c
   pub not_done : status ≢ DONE → after ≡ before
   pub counted : status ≢ DONE → status ≢ NO_ROOM → count ≡ count_before
 
--- the room may be too short for a call that may touch a task; the count says which would do: no more than twice the tasks that there are
+-- the room may be too short for a call that may touch a task; the count says which would do: never more than what all that there is takes
 pub record WantsRoom (state : State) (call : Call) (room count : ℕ) : Type 0 where
   pub short : room < count
-  pub most : count ≤ length state.rows + length state.rows
+  pub most : count ≤ most_in state
   pub touching : IsTrue (is_touching call)
 
 -- the call makes something, or may touch a task, so that it may want memory

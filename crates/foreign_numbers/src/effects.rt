@@ -2,24 +2,37 @@
 ghost use Rattle.std.specs.Prelude.{◌≡◌};
 ghost use Rattle.foreign_numbers.specs.Effects.{effect_numbers, end_number};
 
-use crate::choices::{ADOPTED, ENDED, GONE};
+use crate::choices::{ADOPTED, ENDED, GONE, GROUP_GONE, SESSION_GONE, SPACE_FELL, SPACE_GONE};
 use crate::kinds::KILLED;
 use call_effects::effect::Effect;
 use pid_types::plain::Ended;
 
-/// What became of a task.
+/// What a call did to a task, a process group, a session or a namespace.
 ///
 /// | Field | What it tells |
 /// |---|---|
-/// | `what` | `ENDED`, `ADOPTED` or `GONE` of `choices` |
-/// | `number` | its root number |
-/// | `value` | how it ended, 0 to 255 or `KILLED`; its new parent's root number; else 0 |
+/// | `what` | `ENDED` to `SPACE_GONE` of `choices` |
+/// | `number` | its root number; 0 of a namespace |
+/// | `value` | how a task ended, 0 to 255 or `KILLED`; its new parent's root number; a namespace's id; else 0 |
 #[repr(C)]
 #[derive(Clone, Copy)]
 pub struct EffectNumbers {
     pub what: u32,
     pub number: u32,
     pub value: u64,
+}
+
+impl EffectNumbers {
+    /// With these numbers.
+    fn of(what: u32, number: u32, value: u64) -> EffectNumbers
+        ensures { result ≡ record { what = what; number = number; value = value } }
+    {
+        EffectNumbers {
+            what,
+            number,
+            value,
+        }
+    }
 }
 
 /// How a task ended, as a number.
@@ -37,20 +50,14 @@ pub fn tell_effect(effect: &Effect) -> EffectNumbers
     ensures { result ≡ effect_numbers effect.now }
 {
     match *effect {
-        Effect::Ended { number, end } => EffectNumbers {
-            what: ENDED,
-            number,
-            value: tell_end(end),
-        },
-        Effect::Adopted { number, parent } => EffectNumbers {
-            what: ADOPTED,
-            number,
-            value: u64::from(parent),
-        },
-        Effect::Gone { number } => EffectNumbers {
-            what: GONE,
-            number,
-            value: 0,
-        },
+        Effect::Ended { number, end } => EffectNumbers::of(ENDED, number, tell_end(end)),
+        Effect::Adopted { number, parent } => {
+            EffectNumbers::of(ADOPTED, number, u64::from(parent))
+        }
+        Effect::Gone { number } => EffectNumbers::of(GONE, number, 0),
+        Effect::GroupGone { number } => EffectNumbers::of(GROUP_GONE, number, 0),
+        Effect::SessionGone { number } => EffectNumbers::of(SESSION_GONE, number, 0),
+        Effect::SpaceFell { id } => EffectNumbers::of(SPACE_FELL, 0, id),
+        Effect::SpaceGone { id } => EffectNumbers::of(SPACE_GONE, 0, id),
     }
 }

@@ -12,7 +12,7 @@ ghost use Rattle.pid_types.specs.Shown.{Shows};
 ghost use Rattle.pid_types.specs.Sound.{IsBelow};
 ghost use Rattle.pid_types.specs.Step.{step, may_grow};
 ghost use Rattle.translate.specs.Stat.{stat_at, glimpse_in, IsSeen};
-ghost use Rattle.call_effects.specs.Touched.{is_touching, Watches};
+ghost use Rattle.call_effects.specs.Touched.{is_touching, most_in, most_of, Watches};
 ghost use Rattle.kept_table.specs.Calls.{begun, resumed, outcome, entry_of, after_call, counted, cut_at};
 ghost use Rattle.kept_table.specs.Calls.{IsWithoutFirst, to_cut, to_cut_once};
 ghost use Rattle.kept_table.specs.Chronicle.{Chronicle, total, next_stamp, recorded, recorded_by_all, kept_entry};
@@ -330,8 +330,8 @@ impl Kept {
     /// changes. An error is `Spent`, where the stamps are used up, or want of memory.
     pub fn touched(&self, call: Call) -> Result<Touched, CallFault>
         ensures before { IfOk result (Watches self.now.present (outcome self.now call).state) }
-        ensures few { IfOk result (λ tasks. length tasks ≤ length self.now.present.rows) }
-        ensures touching { IfOk result (λ tasks. 0 < length tasks → IsTrue (is_touching call)) }
+        ensures few { IfOk result (λ w. most_of w ≤ most_in self.now.present) }
+        ensures touching { IfOk result (λ w. 0 < most_of w → IsTrue (is_touching call)) }
         ensures spent { (result ≡ Err CallFault.Spent) ↔ (next_stamp self.now ≡ u64.MAX) }
         ensures no_memory { result ≡ Err CallFault.NoMemory → IsTrue (is_touching call) }
     {

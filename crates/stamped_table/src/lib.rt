@@ -5,7 +5,7 @@
 #![tactic(auto)]
 
 ghost use Rattle.std.specs.Prelude.{◌≡◌, ◌≢◌, ◌+◌, ◌<◌, ◌≤◌, ◌↔◌, IfOk, OnOk, OnErr, Err, IsTrue, length};
-ghost use Rattle.call_effects.specs.Touched.{is_touching, Watches};
+ghost use Rattle.call_effects.specs.Touched.{is_touching, most_in, most_of, Watches};
 ghost use Rattle.model_laws.specs.Refusals.{is_query};
 ghost use Rattle.pid_types.specs.Sound.{IsSound, IsBelow};
 ghost use Rattle.pid_types.specs.State.{root_state};
@@ -135,8 +135,8 @@ impl StampedTable {
     /// error is `Spent`, where the stamps are used up, or want of memory.
     pub fn touched(&self, call: Call) -> Result<Touched, CallFault>
         ensures before { IfOk result (Watches self.now.state (after_call self.now call).state) }
-        ensures few { IfOk result (λ tasks. length tasks ≤ length self.now.state.rows) }
-        ensures touching { IfOk result (λ tasks. 0 < length tasks → IsTrue (is_touching call)) }
+        ensures few { IfOk result (λ w. most_of w ≤ most_in self.now.state) }
+        ensures touching { IfOk result (λ w. 0 < most_of w → IsTrue (is_touching call)) }
         ensures spent { (result ≡ Err CallFault.Spent) ↔ (self.now.stamp ≡ u64.MAX) }
         ensures no_memory { result ≡ Err CallFault.NoMemory → IsTrue (is_touching call) }
     {

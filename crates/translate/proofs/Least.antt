@@ -14,7 +14,7 @@ use Rattle.task_table.specs.Lawful.{IsLawful}
 use Rattle.task_table.proofs.Keys.{number-is_key}
 use Rattle.task_table.proofs.InUse.{user, used-by}
 
-least_bound : (ns : List ℕ) (m : ℕ) → least_of ns ≡ Some m → IsIn m ns × ((k : ℕ) → IsIn k ns → m ≤ k)
+pub least_bound : (ns : List ℕ) (m : ℕ) → least_of ns ≡ Some m → IsIn m ns × ((k : ℕ) → IsIn k ns → m ≤ k)
 least_bound [] m e = absurd (cc)
 least_bound (n ∷ ns) m e = go (least_of ns) refl (λ k h. least_bound ns k h) e
   where
@@ -43,7 +43,7 @@ least_bound (n ∷ ns) m e = go (least_of ns) refl (λ k h. least_bound ns k h) 
             (inl (sym same), λ j i. elim i [ inl own ↦ omega (arith, own, same) | inr later ↦ (let le = h.1 j later in omega (arith, le, ge, same)) ])
 
 -- the least is who is there and not above any
-least-some : (ns : List ℕ) (n : ℕ) → IsIn n ns → ((m : ℕ) → IsIn m ns → n ≤ m) → least_of ns ≡ Some n
+pub least-some : (ns : List ℕ) (n : ℕ) → IsIn n ns → ((m : ℕ) → IsIn m ns → n ≤ m) → least_of ns ≡ Some n
 least-some ns n i least = go (least_of ns) refl
   where
     none : (xs : List ℕ) → least_of xs ≡ None → IsIn n xs → ⊥
@@ -58,7 +58,7 @@ least-some ns n i least = go (least_of ns) refl
         let high = b.1 n i in
         e ∙ ap Some (let z : m ≡ n = omega (arith, low, high) in z)
 
-least-none : (ns : List ℕ) → ((n : ℕ) → IsIn n ns → ⊥) → least_of ns ≡ None
+pub least-none : (ns : List ℕ) → ((n : ℕ) → IsIn n ns → ⊥) → least_of ns ≡ None
 least-none [] none = refl
 least-none (n ∷ ns) none = absurd (none n (inl refl))
 

@@ -49,7 +49,7 @@ once-each P ns once all n = go (times n ns) refl
     go (suc c) e = let one = once n (each-in P ns all n (times-IsIn n ns (omega (arith, e)))) in omega (arith, one)
 
 -- one that is new comes before others
-once-more : (m n : ℕ) (ns : List ℕ) → (IsIn n ns → ⊥) → times m ns ≤ 1 → times m (n ∷ ns) ≤ 1
+pub once-more : (m n : ℕ) (ns : List ℕ) → (IsIn n ns → ⊥) → times m ns ≤ 1 → times m (n ∷ ns) ≤ 1
 once-more m n ns new few = go (n == m) refl (times-cons m n ns)
   where
     go : (b : Bool) → (n == m) ≡ b → times m (n ∷ ns) ≡ cond {A = ℕ} b 1 0 + times m ns → times m (n ∷ ns) ≤ 1

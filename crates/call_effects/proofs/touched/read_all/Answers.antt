@@ -1,12 +1,11 @@
-use Rattle.std.proofs.Common.{◌≡◌, ◌∙◌, ◌++◌, ◌∷◌, [], ℕ, map, take, refl, sym, ap, subst, inl, Some, false, true, is_some}
+use Rattle.std.proofs.Common.{◌≡◌, ◌∙◌, ◌++◌, ◌∷◌, [], map, sym, ap, subst, Some, false, true, is_some}
 use Rattle.std.specs.Prelude.{slice_index_or}
-use Rattle.std.proofs.lemmas.List.{map-append}
+use Rattle.std.proofs.lemmas.List.{map-append, take_more}
 use Rattle.pid_types.specs.Membership.{IsIn}
 use Rattle.model_laws.proofs.Lists.{each_pushed}
 use Rattle.translate.specs.Relations.{relations_at}
 use Rattle.call_effects.specs.declared.tasks.Watched.{Watched}
-use Rattle.call_effects.specs.Touched.{AreWatched}
-use Rattle.call_effects.proofs.Lists.{take-next, index-in}
+use Rattle.call_effects.proofs.Lists.{index-in}
 use Rattle.call_effects.proofs.touched.read_all.Goals as goal
 
 pub unreachable-requires : goal.unreachable-requires
@@ -24,7 +23,7 @@ loop-number-preserved c =
     record {
       watched = record {
         numbered = ap (map (λ (w : Watched). w.number)) items ∙ map-append (λ (w : Watched). w.number) c.loop-number.tasks.items (more ∷ []) ∙ ap (λ ns. ns ++ n ∷ []) was.numbered
-            ∙ sym (take-next c.args.numbers.now c.loop-number.number-index c.loop-number-test.true);
+            ∙ sym (take_more c.args.numbers.now c.loop-number.number-index 0 c.loop-number-test.true);
         before = λ w on. each_pushed (λ (w : Watched). relations_at c.args.table.now.rows w.number ≡ Some w.before) c.loop-number.tasks.items more was.before
             (sym c.relations.ensures ∙ c.in-Some.is) w (subst (IsIn w) items on);
       };

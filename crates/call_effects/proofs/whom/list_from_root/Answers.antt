@@ -1,7 +1,5 @@
-use Rattle.std.proofs.Common.{◌≡◌, ◌∙◌, ℕ, List, Option, None, Some, refl, sym, ap, subst, option_map, Vec, Global}
+use Rattle.std.proofs.Common.{◌≡◌, ◌∙◌, ℕ, Option, None, Some, refl, sym, ap, subst, option_map, Vec, Global}
 use Rattle.translate.specs.Pages.{ListsPage}
-use Rattle.translate.specs.declared.page.Page.{Page}
-use Rattle.model_laws.specs.StepLaws.{IsRootInit}
 use Rattle.call_effects.proofs.Seen.{root_list, root_page}
 use Rattle.call_effects.proofs.Stays.{root_calls}
 use Rattle.call_effects.proofs.whom.list_from_root.Goals as goal
