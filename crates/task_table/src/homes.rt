@@ -1,6 +1,7 @@
 //! Tasks that come to control groups and go.
 
-ghost use Rattle.std.specs.Prelude.{◌≡◌, ◌+◌, ◌<◌, ℕ, length, option_and_then, true, false, IsSome, None, slice_set, if◌then◌else◌};
+ghost use Rattle.std.specs.Prelude.{◌≡◌, ◌+◌, ◌<◌, length, option_and_then, true, false, IsSome, None, slice_set};
+ghost use Rattle.std.specs.Prelude.{if◌then◌else◌};
 ghost use Rattle.member_lists.specs.Owners.{owner_of};
 ghost use Rattle.pids_charge.specs.Charges.{Home, home_at, live_at, zombies_at, all_tasks, kept, ChangesHome};
 ghost use Rattle.task_tree.specs.Tree.{lives};
