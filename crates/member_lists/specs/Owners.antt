@@ -1,5 +1,5 @@
 -- What a contract sees of `MemberLists`: at each key its owner, or none.
-use Rattle.std.specs.Prelude.{◌≡◌, ℕ, ◌==◌, List, Option, Some, None, if◌then◌else◌, slice_index_or, count_by}
+use Rattle.std.specs.Prelude.{◌≡◌, ◌≤◌, ◌^◌, ℕ, ◌==◌, List, length, Option, Some, None, if◌then◌else◌, slice_index_or, count_by}
 use Rattle.std.specs.List.{AllByRecursion}
 
 -- the owner of a key
@@ -18,3 +18,9 @@ pub record AreMembers (owners : List (Option ℕ)) (owner : ℕ) (keys : List �
 -- the owner after all members of one went to another
 abbrev pub handed : ℕ → ℕ → ℕ → ℕ
 handed from to p = if p == from then to else p
+
+-- each key has the owner that it had, and there is no less room
+pub record HasMoreRoom (old new : List (Option ℕ)) : Type 0 where
+  pub same : (k : ℕ) → owner_of new k ≡ owner_of old k
+  pub longer : length old ≤ length new
+  pub few : length old ≤ 2 ^ 30 → length new ≤ 2 ^ 30

@@ -1,12 +1,12 @@
 //! Members by owner: which owner each key has, and the members of each owner in a list.
 //!
-//! Keys and owners are numbers below 2^30. Each call but `grow` and `move_all` costs a few reads and writes, and
-//! each but `grow` takes no memory; the members of an owner come in no order that a caller may rely on.
+//! Keys and owners are numbers below 2^30. Each call but `grow`, `reserve` and `move_all` costs a few reads and writes,
+//! and each but the first two takes no memory; the members of an owner come in no order that a caller may rely on.
 #![tactic(auto)]
 
 ghost use Rattle.std.specs.Prelude.{◌≡◌, ◌≢◌, ℕ, ◌+◌, ◌<◌, ◌≤◌, ◌^◌, length, map, Some, None, MatchOption, OnOk, OnErr};
 ghost use Rattle.std.specs.Prelude.{slice_set, option_map, IsSome, [], ◌++◌, replicate};
-ghost use Rattle.member_lists.specs.Owners.{owner_of, AreMembers, handed};
+ghost use Rattle.member_lists.specs.Owners.{owner_of, AreMembers, HasMoreRoom, handed};
 ghost use Rattle.member_lists.specs.Links.{nil, lone, link_at, head_at, owner_in, chain, AreTold, Ends, IsLinked};
 
 mod members;
@@ -193,6 +193,20 @@ impl MemberLists {
         self.links.resize(keys, LONE)?;
         self.heads.resize(keys, NIL)?;
         Ok(())
+    }
+
+    /// Makes room for so many keys, and as many owners, where there is none yet. The error is want of memory, and then
+    /// nothing has changed.
+    #[inline(never)]
+    pub fn reserve(&mut self, keys: usize) -> Result<(), AllocError>
+        requires { keys ≤ 2 ^ 30 }
+        ensures ok { OnOk result (keys ≤ length self.new) }
+        ensures more { HasMoreRoom self.old self.new }
+    {
+        if self.keys() >= keys {
+            return Ok(());
+        }
+        self.grow(keys - self.keys())
     }
 
     /// How many keys there are, and as many owners.

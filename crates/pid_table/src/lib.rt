@@ -16,6 +16,7 @@ ghost use Rattle.task_table.specs.View.{state_of};
 ghost use Rattle.task_table.specs.Whole.{IsWhole};
 ghost use Rattle.translate.specs.From.{rows_from};
 ghost use Rattle.translate.specs.Inside.{ids_inside};
+ghost use Rattle.translate.specs.Residents.{TellsControlTasks};
 ghost use Rattle.translate.specs.Listed.{TellsList};
 ghost use Rattle.translate.specs.Pages.{ListsPage, TellsPage, TellsSeenPage};
 ghost use Rattle.translate.specs.Relations.{relations_at};
@@ -38,6 +39,7 @@ use task_tree::Task;
 use translate::inside::{Inside, read_inside};
 use translate::page::{Page, list_page, read_page};
 use translate::relations::{Relations, read_relations};
+use translate::residents::{ControlPage, read_control_tasks};
 use translate::shown;
 use translate::space::{SpaceStat, read_space};
 use translate::stat::{Stat, read_stat};
@@ -206,6 +208,20 @@ impl PidTable {
         ensures err { OnErr result (room.new ≡ room.old) }
     {
         read_inside(&self.store, inside, room)
+    }
+
+    /// Writes the numbers of the live tasks directly in a control group over the front of the room, and answers how
+    /// many there are: [`read_control_tasks`]. The error is want of memory, and then the room is as it was.
+    pub fn control_tasks(
+        &self,
+        asked: &ControlPage,
+        room: &mut [Pid],
+    ) -> Result<ShortReply, AllocError>
+        ensures told { IfOk result (λ reply.
+            TellsControlTasks self.now asked.now room.old room.new (reply_of reply)) }
+        ensures err { OnErr result (room.new ≡ room.old) }
+    {
+        read_control_tasks(&self.store, asked, room)
     }
 
     /// One read of the namespace with the id: [`read_space`]. None where there is none.

@@ -1,5 +1,5 @@
 -- The root control group alone.
-use Rattle.pids_charge.proofs.Words.{None, Option, Some, [], arith, length, refl, true, ℕ, ◌+◌, ◌∷◌, ◌≡◌, ◌≢◌, cases_eq, option_map_or, Slab, Updates, get}
+use Rattle.pids_charge.proofs.Words.{None, Option, Some, [], ap, sym, false, inl, inr, ◌∙◌, ◌⊎◌, arith, length, refl, true, ℕ, ◌+◌, ◌∷◌, ◌≡◌, ◌≢◌, cases_eq, option_map_or, Slab, Updates, get, tree_of}
 use Rattle.pids_charge.proofs.Words.{IsKept, all_in, tasks_in, Counter, Node}
 use Rattle.pids_charge.proofs.Sums.{sum-zero}
 
@@ -30,3 +30,11 @@ module _ {nodes : Slab Node} (begins : Begins nodes) where
 
   pub IsKept-begun : IsKept nodes (root_counter ∷ []) (None ∷ []) ((0, 0) ∷ [])
   IsKept-begun = grind (arith, cases_eq, sum-zero, no_tasks)
+
+  -- nothing else stands
+  pub only-root : (k : ℕ) → (tree_of nodes).stand k ≡ true → k ≡ 0
+  only-root k up = go (cases_eq k 0)
+    where
+      go : (k ≡ 0) ⊎ (k ≢ 0) → k ≡ 0
+      go (inl same) = same
+      go (inr differs) = absurd (let z : true ≡ false = sym up ∙ ap (λ o. option_map_or (λ (n : Node). n.standing) o false) (begins.rest k differs) in cc)

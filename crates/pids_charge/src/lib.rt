@@ -10,6 +10,7 @@ ghost use Rattle.std.specs.Prelude.{length, map, filter, option_map, option_and_
 ghost use Rattle.std.specs.Prelude.{OnOk, OnErr, IfOk, IfSome, Err, nat_lt};
 ghost use Rattle.std.specs.Result.{result_err};
 ghost use Rattle.std.specs.List.{AllByRecursion};
+ghost use Rattle.member_lists.specs.Owners.{HasMoreRoom};
 ghost use Rattle.pid_types.specs.Bounds.{deepest_control};
 ghost use Rattle.pid_types.specs.Controls.{control_at, parent_control, control_path};
 ghost use Rattle.pid_types.specs.Changes.{limited};
@@ -110,6 +111,7 @@ impl Controls {
         ensures controls { IfOk result (λ v. v.controls ≡ record { id = 0; parent = None; limit = None } ∷ []) }
         ensures tasks { IfOk result (λ v. (k : ℕ) → tasks_of (home_at v k) ≡ 0) }
         ensures none { IfOk result (λ v. all_tasks v ≡ 0) }
+        ensures key { IfOk result (λ v. (k : ℕ) → stands v k ≡ true → k ≡ 0) }
     {
         let mut nodes = Slab::new(alloc);
         let mut counters = Vec::new(alloc);
@@ -127,12 +129,19 @@ impl Controls {
         })
     }
 
-    /// A new control group without a limit below another one, whose id is the stamp. `ControlDepth` comes
-    /// where the other one has level 64, `NoMemory` where there is no memory or no key is left below 2^30;
-    /// then nothing has changed.
-    pub fn make(&mut self, parent: ControlKey, stamp: u64) -> Result<ControlKey, ControlFault>
+    /// A new control group without a limit below another one, whose id is the stamp. Its key gets room among the owners
+    /// of the residents, whom the table lists. `ControlDepth` comes where the other one has level 64, `NoMemory` where
+    /// there is no memory or no key is left below 2^30; then nothing has changed but that room.
+    pub fn make(
+        &mut self,
+        parent: ControlKey,
+        stamp: u64,
+        residents: &mut MemberLists,
+    ) -> Result<ControlKey, ControlFault>
         requires stands { stands self.old parent ≡ true }
         requires above { AllByRecursion (λ g. g.id < stamp) self.old.controls }
+        ensures residents { HasMoreRoom residents.old residents.new }
+        ensures room { IfOk result (λ key. key < length residents.new) }
         ensures controls { OnOk result (self.new.controls
             ≡ self.old.controls ++ record { id = stamp; parent = Some (id_at self.old parent); limit = None } ∷ []) }
         ensures fresh { IfOk result (λ key. home_at self.old key ≡ None) }
@@ -148,7 +157,12 @@ impl Controls {
             return Err(ControlFault::ControlDepth);
         }
         let level = node_at(&self.nodes, parent).level + 1;
-        let key = make_room(&mut self.nodes, &mut self.counters, &mut self.children)?;
+        let key = make_room(
+            &mut self.nodes,
+            &mut self.counters,
+            &mut self.children,
+            residents,
+        )?;
         self.ids.push(stamp, key)?;
         self.nodes
             .insert_reserved(Node::new(stamp, Some(parent), level));

@@ -10,7 +10,7 @@ use Rattle.groups_sessions.specs.Membership.{Membership, membership_at}
 use Rattle.pids_charge.specs.Charges.{Charges, Home, home_at, tasks_of, live_at, zombies_at, all_tasks}
 use Rattle.task_table.specs.Store.{IsStore, uses_at, one_if, is_in_group, is_in_session, lives_in, waits_in}
 
-nothing : {X : Type 0} (xs : List X) → length xs ≡ 0 → xs ≡ []
+pub nothing : {X : Type 0} (xs : List X) → length xs ≡ 0 → xs ≡ []
 nothing [] e = refl
 nothing (x ∷ xs) e = absurd (omega (arith, e))
 

@@ -21,3 +21,4 @@ pub mod Seated
 pub mod Newborn
 pub mod Regrouped
 pub mod Gone
+pub mod Housed

@@ -4,3 +4,4 @@ pub mod Lawful
 pub mod Whole
 pub mod Store
 pub mod Found
+pub mod Residents

@@ -30,8 +30,10 @@ ghost use Rattle.task_tree.specs.Tree.{task_at, parent_of, rank_of, lives, hande
 ghost use Rattle.groups_sessions.specs.Membership.{Membership, membership_at, group_of, session_of, AreInSession};
 ghost use Rattle.groups_sessions.specs.Membership.{AreOthersInSession};
 ghost use Rattle.task_table.specs.Store.{IsStore, IsLess, IsSame, Begins, home_without};
+ghost use Rattle.task_table.specs.Residents.{AreResidents};
 
 mod homes;
+mod residents;
 mod room;
 mod settle;
 mod uses;
@@ -39,12 +41,14 @@ pub mod view;
 
 use groups_sessions::Members;
 use homes::leave_home;
+use member_lists::{MemberLists, Members as Residents};
 use pid_numbers::Numbers;
 use pid_types::call::Kind;
 use pid_types::keys::{ControlKey, IdentKey, Pid, SpaceKey, TaskKey};
 use pid_types::plain::{Ended, Life};
 use pid_types::reply::Refusal;
 use pids_charge::{ControlFault, Controls};
+use residents::no_residents;
 use room::room_for;
 use settle::settle;
 use std::alloc::{AllocError, Global};
@@ -53,27 +57,31 @@ use task_tree::{Task, TaskTree};
 use uses::{add_uses, take_use, take_uses};
 
 /// What a table of processes holds.
+///
+/// The live tasks directly in each control group are in a list, which takes 16 bytes for each key.
 #[derive(Drop)]
 pub struct Tasks {
     numbers: Numbers,
     tree: TaskTree,
     members: Members,
     controls: Controls,
+    residents: MemberLists,
 }
 
 impl Model for Tasks {
-    ghost use Rattle.task_table.specs.Store.{Store, IsStore};
+    ghost use Rattle.task_table.specs.Store.{Store};
+    ghost use Rattle.task_table.specs.Residents.{IsKept};
 
     ghost Value = { Store };
 
     ghost view = { λ a. record { numbering = a.numbers; tree = a.tree; members = a.members; charges = a.controls } };
 
-    ghost invariant = { λ a. IsStore (record {
+    ghost invariant = { λ a. IsKept (record {
       numbering = a.numbers;
       tree = a.tree;
       members = a.members;
       charges = a.controls;
-    }) };
+    }) a.residents };
 }
 
 impl Tasks {
@@ -94,6 +102,7 @@ impl Tasks {
             tree: TaskTree::new(alloc),
             members: Members::new(alloc),
             controls: Controls::new(alloc)?,
+            residents: no_residents(alloc)?,
         })
     }
 
@@ -123,6 +132,15 @@ impl Tasks {
         ensures { result.now ≡ self.now.charges }
     {
         &self.controls
+    }
+
+    /// The live tasks directly in a control group, one after the other, in no order that a caller may rely on. A step
+    /// costs one read. They are what the kernel's `cgroup.procs` lists (the cgroup-v2 document, "Processes").
+    pub fn residents(&self, home: ControlKey) -> Residents<'_>
+        requires { stands self.now.charges home ≡ true }
+        ensures { AreResidents self.now.tree home result }
+    {
+        self.residents.members(home)
     }
 
     /// What is true at any time; the call does nothing. The four parts agree.
@@ -159,6 +177,7 @@ impl Tasks {
     {
         self.controls.transfer(task.home, to);
         self.tree.update(key, Task { home: to, ..task });
+        self.residents.move_to(key, to);
     }
 
     /// A live task ends, and waits for its parent by its number in the parent's namespace.
@@ -182,6 +201,7 @@ impl Tasks {
         let rank = self.rank_for(key);
         self.tree.finish(key, task, end, rank);
         self.controls.died(task.home);
+        self.residents.remove(key);
     }
 
     /// The number of a task in its parent's namespace; 0 where it has no parent.
@@ -309,7 +329,7 @@ impl Tasks {
         self.tree.remove(key);
         self.tree.laws();
         self.members.leave(key);
-        leave_home(&mut self.controls, &task);
+        leave_home(&mut self.controls, &mut self.residents, key, &task);
         take_uses(&mut self.numbers, group, session);
         take_use(&mut self.numbers, key, Kind::Task);
     }
@@ -339,7 +359,7 @@ impl Tasks {
         ensures err { OnErr result (self.new ≡ self.old) }
         ensures rest { self.new ≡ record self.old { charges = self.new.charges } }
     {
-        self.controls.make(parent, stamp)
+        self.controls.make(parent, stamp, &mut self.residents)
     }
 
     /// Removes a control group: [`Controls::remove`]. Its zombies go to the parent.
@@ -445,7 +465,7 @@ impl Tasks {
         ensures kept { length self.old.members ≤ length self.new.members }
     {
         let key = self.numbers.next_key()?;
-        room_for(&mut self.tree, key)?;
+        room_for(&mut self.tree, &mut self.residents, key)?;
         self.members.reserve(key, key)?;
         Ok(key)
     }
@@ -487,6 +507,7 @@ impl Tasks {
             &mut self.tree,
             &mut self.members,
             &mut self.controls,
+            &mut self.residents,
             key,
             from,
             task,
@@ -538,6 +559,7 @@ impl Tasks {
             &mut self.tree,
             &mut self.members,
             &mut self.controls,
+            &mut self.residents,
             key,
             Some(from),
             task,

@@ -3,6 +3,7 @@
 ghost use Rattle.std.specs.Prelude.{◌≡◌, ◌≢◌, ℕ, ◌+◌, ◌<◌, ◌≤◌, ◌^◌, ◌==◌, ◌&&◌, length, option_map, Some, None, true};
 ghost use Rattle.std.specs.Prelude.{IsSome, slice_set};
 ghost use Rattle.pid_types.specs.declared.call.Kind.{Kind};
+ghost use Rattle.member_lists.specs.Owners.{owner_of};
 ghost use Rattle.pid_numbers.specs.Numbering.{identifier_at};
 ghost use Rattle.pids_charge.specs.Charges.{Home, home_at, stands, all_tasks, ChangesHome};
 ghost use Rattle.task_tree.specs.Tree.{task_at, parent_of, lives};
@@ -11,6 +12,7 @@ ghost use Rattle.task_table.specs.Store.{uses_at, one_if, is_kind, bare_at, join
 
 use crate::uses::add_uses;
 use groups_sessions::Members;
+use member_lists::MemberLists;
 use pid_numbers::Numbers;
 use pid_types::keys::{IdentKey, TaskKey};
 use pids_charge::Controls;
@@ -34,6 +36,7 @@ pub(crate) fn settle(
     tree: &mut TaskTree,
     members: &mut Members,
     controls: &mut Controls,
+    residents: &mut MemberLists,
     key: TaskKey,
     from: Option<TaskKey>,
     task: Task,
@@ -49,6 +52,8 @@ pub(crate) fn settle(
     requires few { (k : Kind) (i : ℕ) → uses_at numbers.old k i ≤ 2 ^ 30 }
     requires home { stands controls.old task.home ≡ true }
     requires all { all_tasks controls.old + 1 < 2 ^ 64 }
+    requires within { (key < length residents.old) × (task.home < length residents.old) }
+    requires nowhere { owner_of residents.old key ≡ None }
     ensures uses { (k : Kind) (i : ℕ) → uses_at numbers.new k i
         ≡ uses_at numbers.old k i + use_of (joins members.old from key) k i }
     ensures bare { (i : ℕ) → bare_at numbers.new i ≡ bare_at numbers.old i }
@@ -63,6 +68,7 @@ pub(crate) fn settle(
     ensures charged { ChangesHome controls.old controls.new task.home
         (option_map (λ (h : Home). record h { live = h.live + 1 }) (home_at controls.old task.home)) }
     ensures count { all_tasks controls.new ≡ all_tasks controls.old + 1 }
+    ensures residents { residents.new ≡ slice_set residents.old key (Some task.home) }
 {
     members.laws();
     let (group, session) = lineage(members, key, from);
@@ -70,4 +76,5 @@ pub(crate) fn settle(
     members.enter(key, group, session);
     add_uses(numbers, group, session);
     controls.charge(task.home);
+    residents.add(key, task.home);
 }

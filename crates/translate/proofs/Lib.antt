@@ -9,3 +9,4 @@ pub mod Meant
 pub mod Passed
 pub mod SeenMembers
 pub mod Inner
+pub mod InControl

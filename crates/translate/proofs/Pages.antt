@@ -151,17 +151,17 @@ module _ (s : Store) (l : IsLawful s) where
 
   -- numbers of keys, none of which comes twice
   module _ (sp from : ℕ) where
-    numbers-in : (keys : List ℕ) (m : ℕ) → IsIn m (numbers_from s.numbering sp from keys) → (from ≤ m) × ((k : ℕ) × IsIn k keys × (number_of s.numbering k sp ≡ Some m))
+    pub numbers-in : (keys : List ℕ) (m : ℕ) → IsIn m (numbers_from s.numbering sp from keys) → (from ≤ m) × ((k : ℕ) × IsIn k keys × (number_of s.numbering k sp ≡ Some m))
     numbers-in keys m on =
         let f = IsIn-from_filter (nat_le from) m (filter_map (λ k. number_of s.numbering k sp) keys) on in
         let g = IsIn-from_filter_map (λ k. number_of s.numbering k sp) m keys f.0 in
         (grind (arith, f.1), g)
 
-    numbers-of : (keys : List ℕ) (m k : ℕ) → from ≤ m → IsIn k keys → number_of s.numbering k sp ≡ Some m → IsIn m (numbers_from s.numbering sp from keys)
+    pub numbers-of : (keys : List ℕ) (m k : ℕ) → from ≤ m → IsIn k keys → number_of s.numbering k sp ≡ Some m → IsIn m (numbers_from s.numbering sp from keys)
     numbers-of keys m k le on has =
         IsIn-filter (nat_le from) m (filter_map (λ k. number_of s.numbering k sp) keys) (IsIn-filter_map (λ k. number_of s.numbering k sp) k m keys on has) (grind (arith, le))
 
-    numbers-once : (keys : List ℕ) → ((k : ℕ) → times k keys ≤ 1) → (m : ℕ) → times m (numbers_from s.numbering sp from keys) ≤ 1
+    pub numbers-once : (keys : List ℕ) → ((k : ℕ) → times k keys ≤ 1) → (m : ℕ) → times m (numbers_from s.numbering sp from keys) ≤ 1
     numbers-once keys once m =
         let found = once-found (λ k. number_of s.numbering k sp) (λ j k n. l.numbering.distinct j k sp n) keys once m in
         let le = times-filter (nat_le from) m (filter_map (λ k. number_of s.numbering k sp) keys) in

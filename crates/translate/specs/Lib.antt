@@ -10,3 +10,4 @@ pub mod Members
 pub mod Passed
 pub mod Inside
 pub mod Relations
+pub mod Residents

@@ -19,6 +19,7 @@ pub mod members;
 pub mod page;
 mod queries;
 pub mod relations;
+pub mod residents;
 pub mod shown;
 pub mod space;
 pub mod stat;

@@ -49,7 +49,7 @@ pub struct Page {
 }
 
 /// Adds the numbers in the namespace, from one on, of the tasks with the keys. The error is want of memory.
-fn gather(
+pub(crate) fn gather(
     store: &Tasks,
     space: SpaceKey,
     from: Pid,

@@ -26,7 +26,7 @@ pub node_at-level-requires : goal.node_at-level-requires
 node_at-level-requires c = views.there_in c.self.inside c.self.view_is c.args.parent c.requires.stands
 
 pub invariant_of-self : goal.invariant_of-self
-invariant_of-self c = made.IsKept-room c.self.inside.nodes c.make_room.new.nodes c.make_room.new.nodes.capacity c.in_err-key.ensures.nodes c.self.inside.counters.items c.make_room.new.counters.items c.self.inside.children c.make_room.new.children c.self.inside.ids c.self.invariant c.in_err-key.ensures.counters c.in_err-key.ensures.children c.in_err-key.ensures.longer c.in_err-key.ensures.more c.in_err-key.ensures.small
+invariant_of-self c = made.IsKept-room c.self.inside.nodes c.make_room.new.nodes c.make_room.new.nodes.capacity c.in_err-key.ensures.nodes c.self.inside.counters.items c.make_room.new.counters.items c.self.inside.children c.make_room.new.children c.self.inside.ids c.self.invariant c.in_err-key.ensures.counters c.in_err-key.ensures.children.same c.in_err-key.ensures.longer c.in_err-key.ensures.children.longer (c.in_err-key.ensures.children.few c.self.invariant.small)
 
 pub returns-in_err-key-clause-err : goal.returns-in_err-key-clause-err
 returns-in_err-key-clause-err c =
@@ -40,7 +40,7 @@ pub push-requires : goal.push-requires
 push-requires c = made.below-ids (tree_of c.self.inside.nodes) (limit_in c.self.inside.nodes) c.args.stamp c.self.inside.ids (subst (λ (v : Charges). AllByRecursion (λ (g : Control). g.id < c.args.stamp) v.controls) (sym c.self.view_is) c.requires.above)
 
 pub invariant_of-self-in_err-push : goal.invariant_of-self-in_err-push
-invariant_of-self-in_err-push c = rw c.in_err-push.ensures.err (made.IsKept-room c.self.inside.nodes c.make_room.new.nodes c.make_room.new.nodes.capacity c.in_ok-key.ensures.nodes c.self.inside.counters.items c.make_room.new.counters.items c.self.inside.children c.make_room.new.children c.self.inside.ids c.self.invariant c.in_ok-key.ensures.counters c.in_ok-key.ensures.children c.in_ok-key.ensures.longer c.in_ok-key.ensures.more c.in_ok-key.ensures.small)
+invariant_of-self-in_err-push c = rw c.in_err-push.ensures.err (made.IsKept-room c.self.inside.nodes c.make_room.new.nodes c.make_room.new.nodes.capacity c.in_ok-key.ensures.nodes c.self.inside.counters.items c.make_room.new.counters.items c.self.inside.children c.make_room.new.children c.self.inside.ids c.self.invariant c.in_ok-key.ensures.counters c.in_ok-key.ensures.children.same c.in_ok-key.ensures.longer c.in_ok-key.ensures.children.longer (c.in_ok-key.ensures.children.few c.self.invariant.small))
 
 pub returns-in_err-push-clause-err : goal.returns-in_err-push-clause-err
 returns-in_err-push-clause-err c =
@@ -66,11 +66,11 @@ invariant_of-self-2 c =
       counted = made.IsCounted-made m c.self.inside.counters.items c.self.invariant.counted c.make_room.new.counters.items room.counters counter refl room.room;
       linked = linked.linked-both c.make_room.new.counters.items c.in_ok-key.key counter room.room c.self.inside.nodes c.insert_reserved.new.self
           c.self.inside.counters.items c.self.invariant.linked room.counters room.longer _ m.updates refl refl;
-      listed = made.IsListed-made m c.self.inside.children c.self.inside.ids c.self.invariant.listed below c.make_room.new.children room.children room.lists;
+      listed = made.IsListed-made m c.self.inside.children c.self.inside.ids c.self.invariant.listed below c.make_room.new.children room.children.same room.lists;
       room = λ k on.
-          let within = made.room-made m c.self.inside.children c.self.invariant.room c.make_room.new.children room.more room.lists k on in
+          let within = made.room-made m c.self.inside.children c.self.invariant.room c.make_room.new.children room.children.longer room.lists k on in
           omega (arith, within, length-set c.make_room.new.children c.in_ok-key.key some);
-      small = omega (arith, room.small, length-set c.make_room.new.children c.in_ok-key.key some);
+      small = let small = room.children.few c.self.invariant.small in omega (arith, small, length-set c.make_room.new.children c.in_ok-key.key some);
     })
 
 pub returns : goal.returns
@@ -81,6 +81,8 @@ returns c =
     let ids = c.self.inside.ids in
     let group : ℕ → Control = λ i. record { id = c.args.stamp; parent = Some i; limit = None } in
     record {
+      residents = c.in_ok-key.ensures.residents;
+      room = c.in_ok-key.ensures.homes;
       controls =
           ap (map (control_in (tree_of new) (limit_in new))) c.in_ok-push.ensures.ok ∙ made.controls-made m c.self.inside.children ids c.self.invariant.listed
           ∙ ap (λ i. map (control_in (tree_of nodes) (limit_in nodes)) ids ++ group i ∷ [])

@@ -1,4 +1,4 @@
-use Rattle.pids_charge.proofs.Words.{◌∙◌, rules}
+use Rattle.pids_charge.proofs.Words.{◌∙◌, sym, rules}
 use Rattle.pids_charge.proofs.Views as views
 use Rattle.pids_charge.proofs.Begun as begun
 use Rattle.pids_charge.proofs.Controls.new.Goals as goal
@@ -17,5 +17,6 @@ returns c =
     record {
       controls = search rules;
       tasks = λ k. views.tasks-is c.insert.new.self c.push-2.new.self k ∙ begun.no_tasks begins k;
+      key = λ k up. begun.only-root begins k (sym (views.stands-is c.insert.new.self c.push-2.new.self k) ∙ up);
       none = views.all-is c.insert.new.self c.push-2.new.self ∙ begun.no_task begins;
     }

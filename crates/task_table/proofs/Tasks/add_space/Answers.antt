@@ -14,8 +14,12 @@ kept old new (Ok key) fresh others same s some =
     ap (λ o. option_map_or (λ t. t.path) o []) (others s (λ e. let l = ap length (ap (path_at old) e ∙ ap (λ o. option_map_or (λ t. t.path) o []) fresh) in omega (arith, some, l)))
 
 pub invariant_of-self : goal.invariant_of-self
-invariant_of-self c =
-    let old : Store = record { numbering = c.self.inside.numbers; tree = c.self.inside.tree; members = c.self.inside.members; charges = c.self.inside.controls } in
-    rest.renumbered-where old c.add_space.new.self c.self.invariant c.add_space.ensures.names
-    (λ i u is. kept c.self.inside.numbers c.add_space.new.self c.add_space.result c.add_space.ensures.fresh c.add_space.ensures.others c.add_space.ensures.err u.space
-    (let f = c.laws.ensures.full i u is in let a = f.0 in let b = f.1 in omega (arith, a, b)))
+invariant_of-self c = record {
+  agree =
+      let old : Store = record { numbering = c.self.inside.numbers; tree = c.self.inside.tree; members = c.self.inside.members; charges = c.self.inside.controls } in
+      rest.renumbered-where old c.add_space.new.self c.self.invariant.agree c.add_space.ensures.names
+      (λ i u is. kept c.self.inside.numbers c.add_space.new.self c.add_space.result c.add_space.ensures.fresh c.add_space.ensures.others c.add_space.ensures.err u.space
+      (let f = c.laws.ensures.full i u is in let a = f.0 in let b = f.1 in omega (arith, a, b)));
+  housed =
+      c.self.invariant.housed;
+}

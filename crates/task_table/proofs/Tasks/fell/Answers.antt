@@ -10,7 +10,11 @@ path_kept space None = refl
 path_kept space (Some t) = refl
 
 pub invariant_of-self : goal.invariant_of-self
-invariant_of-self c =
-    let old : Store = record { numbering = c.self.inside.numbers; tree = c.self.inside.tree; members = c.self.inside.members; charges = c.self.inside.controls } in
-    rest.renumbered old c.fell.new.self c.self.invariant c.fell.ensures.names
-    (λ s. ap (λ o. option_map_or (λ t. t.path) o []) (c.fell.ensures.namespaces s) ∙ path_kept c.args.space (namespace_at c.self.inside.numbers s))
+invariant_of-self c = record {
+  agree =
+      let old : Store = record { numbering = c.self.inside.numbers; tree = c.self.inside.tree; members = c.self.inside.members; charges = c.self.inside.controls } in
+      rest.renumbered old c.fell.new.self c.self.invariant.agree c.fell.ensures.names
+      (λ s. ap (λ o. option_map_or (λ t. t.path) o []) (c.fell.ensures.namespaces s) ∙ path_kept c.args.space (namespace_at c.self.inside.numbers s));
+  housed =
+      c.self.invariant.housed;
+}

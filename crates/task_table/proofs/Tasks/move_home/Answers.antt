@@ -1,19 +1,28 @@
-use Rattle.std.proofs.Common.{None, refl, sym, ap, ◌∙◌}
-use Rattle.std.specs.Prelude.{slice_index_or}
+use Rattle.std.proofs.Common.{is_some, None, Some, if◌then◌else◌, refl, sym, ap, ◌∙◌}
+use Rattle.std.specs.Prelude.{slice_set, slice_index_or}
 use Rattle.task_tree.specs.declared.Task.{Task}
 use Rattle.task_table.specs.Store.{Store}
 use Rattle.task_table.proofs.Changes as changes
 use Rattle.task_table.proofs.HomeCounts as homes
+use Rattle.task_table.proofs.Housed as housed
 use Rattle.task_table.proofs.Tasks.move_home.Goals as goal
 
 pub invariant_of-self : goal.invariant_of-self
-invariant_of-self c =
-    let there = rw (← c.self.view_is) at c.requires.there in
-    let stands = rw (← c.self.view_is) at c.requires.stands in
-    let old : Store = record { numbering = c.self.inside.numbers; tree = c.self.inside.tree; members = c.self.inside.members; charges = c.self.inside.controls } in
-    let task : Task = record c.args.task { home = c.args.to } in
-    changes.retasked old _ c.self.invariant c.args.key c.args.task task there refl refl c.update.ensures.tasks
-    (homes.live-moved c.self.inside.controls c.transfer.new.self c.args.task c.args.to c.transfer.ensures.homes c.requires.live (changes.live_some old c.self.invariant c.args.key c.args.task there c.requires.live) stands)
-    (homes.zombies-moved c.self.inside.controls c.transfer.new.self c.args.task c.args.to c.transfer.ensures.homes c.requires.live)
-    c.transfer.ensures.tasks
-    (λ k p r e. c.self.invariant.ranks k p r (sym (ap (λ l. slice_index_or l k None) c.update.ensures.ranks) ∙ e))
+invariant_of-self c = record {
+  agree =
+      let there = rw (← c.self.view_is) at c.requires.there in
+      let stands = rw (← c.self.view_is) at c.requires.stands in
+      let old : Store = record { numbering = c.self.inside.numbers; tree = c.self.inside.tree; members = c.self.inside.members; charges = c.self.inside.controls } in
+      let task : Task = record c.args.task { home = c.args.to } in
+      changes.retasked old _ c.self.invariant.agree c.args.key c.args.task task there refl refl c.update.ensures.tasks
+      (homes.live-moved c.self.inside.controls c.transfer.new.self c.args.task c.args.to c.transfer.ensures.homes c.requires.live (changes.live_some old c.self.invariant.agree c.args.key c.args.task there c.requires.live) stands)
+      (homes.zombies-moved c.self.inside.controls c.transfer.new.self c.args.task c.args.to c.transfer.ensures.homes c.requires.live)
+      c.transfer.ensures.tasks
+      (λ k p r e. c.self.invariant.agree.ranks k p r (sym (ap (λ l. slice_index_or l k None) c.update.ensures.ranks) ∙ e));
+  housed =
+      let there = rw (← c.self.view_is) at c.requires.there in
+      housed.changed c.self.inside.controls c.transfer.new.self c.self.inside.tree.tasks c.update.new.self.tasks c.self.inside.residents c.move_to.new.self c.self.invariant.housed c.args.key (Some (record c.args.task { home = c.args.to })) c.update.ensures.tasks
+      (changes.in_range c.self.inside.tree.tasks c.args.key (ap is_some there))
+      (c.move_to.ensures ∙ ap (λ b. slice_set c.self.inside.residents c.args.key (if b then Some c.args.to else None)) (sym c.requires.live))
+      (housed.less-moved c.self.inside.controls c.transfer.new.self c.args.task.home c.args.to c.transfer.ensures.homes);
+}

@@ -10,7 +10,11 @@ path_kept space cursor s None = refl
 path_kept space cursor s (Some t) = refl
 
 pub invariant_of-self : goal.invariant_of-self
-invariant_of-self c =
-    let old : Store = record { numbering = c.self.inside.numbers; tree = c.self.inside.tree; members = c.self.inside.members; charges = c.self.inside.controls } in
-    rest.renumbered old c.put_cursor.new.self c.self.invariant c.put_cursor.ensures.names
-    (λ s. ap (λ o. option_map_or (λ t. t.path) o []) (c.put_cursor.ensures.namespaces s) ∙ path_kept c.args.space c.args.cursor s (namespace_at c.self.inside.numbers s))
+invariant_of-self c = record {
+  agree =
+      let old : Store = record { numbering = c.self.inside.numbers; tree = c.self.inside.tree; members = c.self.inside.members; charges = c.self.inside.controls } in
+      rest.renumbered old c.put_cursor.new.self c.self.invariant.agree c.put_cursor.ensures.names
+      (λ s. ap (λ o. option_map_or (λ t. t.path) o []) (c.put_cursor.ensures.namespaces s) ∙ path_kept c.args.space c.args.cursor s (namespace_at c.self.inside.numbers s));
+  housed =
+      c.self.invariant.housed;
+}

@@ -11,7 +11,11 @@ path_kept flag None = refl
 path_kept flag (Some t) = refl
 
 pub invariant_of-self : goal.invariant_of-self
-invariant_of-self c =
-    let old : Store = record { numbering = c.self.inside.numbers; tree = c.self.inside.tree; members = c.self.inside.members; charges = c.self.inside.controls } in
-    rest.renumbered old c.set_fallen.new.self c.self.invariant c.set_fallen.ensures.names
-    (λ s. ap (λ o. option_map_or (λ t. t.path) o []) (c.set_fallen.ensures.namespaces s) ∙ path_kept (is_flagged c.args.flags.now s) (namespace_at c.self.inside.numbers s))
+invariant_of-self c = record {
+  agree =
+      let old : Store = record { numbering = c.self.inside.numbers; tree = c.self.inside.tree; members = c.self.inside.members; charges = c.self.inside.controls } in
+      rest.renumbered old c.set_fallen.new.self c.self.invariant.agree c.set_fallen.ensures.names
+      (λ s. ap (λ o. option_map_or (λ t. t.path) o []) (c.set_fallen.ensures.namespaces s) ∙ path_kept (is_flagged c.args.flags.now s) (namespace_at c.self.inside.numbers s));
+  housed =
+      c.self.invariant.housed;
+}
