@@ -316,6 +316,7 @@ bindings-c:
 		$(CC) $(CHECKED) -o $(OUT)/test_dump_seeds $(DUMP_SEEDS_TEST:%=bindings/c/%.c) $(OUT)/proved.a && $(RUN) $(OUT)/test_dump_seeds && \
 		$(CC) $(CHECKED) -o $(OUT)/test_dump_record $(DUMP_RECORD_TEST:%=bindings/c/%.c) $(OUT)/test_heap.o $(OUT)/proved.a && $(RUN) $(OUT)/test_dump_record && \
 		$(CC) $(THREADED) $(HELD) -Dfree=test_free -c -o $(OUT)/held_heap.o bindings/c/heap.c && \
+		$(CC) $(CHECKED) -o $(OUT)/test_effects_seeds $(EFFECTS_SEEDS_TEST:%=bindings/c/%.c) $(OUT)/proved.a && $(RUN) $(OUT)/test_effects_seeds && \
 		$(CC) $(THREADED) -o $(OUT)/test_threads $(THREADS_TEST:%=bindings/c/%.c) $(OUT)/held_heap.o $(OUT)/proved.a && $(RUN) $(OUT)/test_threads && \
 		for sanitizer in '$(TESTED)' '$(THREADED)'; do \
 			$(CC) $$sanitizer $(HELD) -Dfree=test_free -c -o $(OUT)/readers_heap.o bindings/c/heap.c && \

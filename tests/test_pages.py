@@ -130,7 +130,8 @@ class Examples(unittest.TestCase):
         for path in (it for it in shown if it.stem != "lines"):
             with self.subTest(path.name), tempfile.TemporaryDirectory() as folder:
                 code = path.read_text(encoding="utf-8")
-                self.assertEqual(run_c(code, Path(folder), ["-pthread", f"-I{BUILT}", str(ARCHIVE)]), printed_by(code))
+                words = ["-pthread", f"-I{C_EXAMPLES}", f"-I{BUILT}", str(ARCHIVE)]
+                self.assertEqual(run_c(code, Path(folder), words), printed_by(code))
 
     def test_rust(self) -> None:
         need_archive()

@@ -311,15 +311,18 @@ static struct pidtab_effect effects[EFFECTS], others[EFFECTS];
 
 static void say_effect(char *to, const struct pidtab_effect *it)
 {
-	static const char *const words[] = { [PIDTAB_TASK_ENDED] = "ended", [PIDTAB_TASK_ADOPTED] = "adopted", [PIDTAB_TASK_GONE] = "gone" };
+	static const char *const words[] = { [PIDTAB_TASK_ENDED] = "ended", [PIDTAB_TASK_ADOPTED] = "adopted", [PIDTAB_TASK_GONE] = "gone",
+		[PIDTAB_GROUP_GONE] = "group-gone", [PIDTAB_SESSION_GONE] = "session-gone", [PIDTAB_SPACE_FELL] = "space-fell", [PIDTAB_SPACE_GONE] = "space-gone" };
+	bool is_of_space = it->what == PIDTAB_SPACE_FELL || it->what == PIDTAB_SPACE_GONE;
 
-	to += sprintf(to, ", %s %" PRIu32, words[it->what], it->number);
-	if (it->what == PIDTAB_TASK_GONE)
-		CHECK(it->value == 0);
+	CHECK(it->what < sizeof words / sizeof *words && (!is_of_space || it->number == 0));
+	to += sprintf(to, ", %s %" PRIu64, words[it->what], is_of_space ? it->value : it->number);
+	if (it->what == PIDTAB_TASK_ENDED)
+		say_end(strcpy(to, " ") + 1, it->value);
 	else if (it->what == PIDTAB_TASK_ADOPTED)
 		sprintf(to, " %" PRIu64, it->value);
 	else
-		say_end(strcpy(to, " ") + 1, it->value);
+		CHECK(is_of_space || it->value == 0);
 }
 
 /* Makes the call, and tells its answer and what it did to tasks. Of the tables one makes it by its line. */

@@ -54,11 +54,11 @@ static const struct pidtab_call exit_2 = { .operation = PIDTAB_EXIT, .caller = 2
 
 static void *tells_an_end(void *unused)
 {
-	struct pidtab_effect effects[2];
+	struct pidtab_effect effects[4];
 	struct pidtab_reply reply;
 	uint64_t count;
 
-	CHECK(pidtab_call_told(&table, &exit_2, &reply, effects, 2, &count) == PIDTAB_DONE && count == 1 && effects[0].number == 2);
+	CHECK(pidtab_call_told(&table, &exit_2, &reply, effects, 4, &count) == PIDTAB_DONE && count == 1 && effects[0].number == 2);
 	return unused;
 }
 
@@ -159,11 +159,11 @@ static void *calls(void *unused)
 
 static void *tells_a_recorded_end(void *unused)
 {
-	struct pidtab_effect effects[2];
+	struct pidtab_effect effects[4];
 	struct pidtab_reply reply;
 	uint64_t ordinal, count;
 
-	CHECK(pidtab_record_call_told(&record, 1, &exit_2, &reply, &ordinal, effects, 2, &count) == PIDTAB_DONE && count == 1 && effects[0].number == 2);
+	CHECK(pidtab_record_call_told(&record, 1, &exit_2, &reply, &ordinal, effects, 4, &count) == PIDTAB_DONE && count == 1 && effects[0].number == 2);
 	return unused;
 }
 

@@ -151,7 +151,7 @@ func (it *caseWorld) callOn(line string) Call {
 	return entry.Call
 }
 
-// callTold is the answer to the line, and behind it what the call does to tasks, which are the same of each table.
+// callTold is the answer to the line, and behind it what the call does, which are the same of each table.
 func (it *caseWorld) callTold(line string) string {
 	seat, call := it.seats[it.at], it.callOn(line)
 	reply, effects, err := seat.Told(call)
@@ -169,9 +169,17 @@ func (it *caseWorld) callTold(line string) string {
 	return said
 }
 
-// sayEffect is what has become of a task.
+// sayEffect is what has become of a task, a process group, a session or a namespace.
 func sayEffect(effect Effect) string {
 	switch effect.Kind {
+	case EffectGroupGone:
+		return fmt.Sprintf("group-gone %d", effect.Number)
+	case EffectSessionGone:
+		return fmt.Sprintf("session-gone %d", effect.Number)
+	case EffectSpaceFell:
+		return fmt.Sprintf("space-fell %d", effect.Space)
+	case EffectSpaceGone:
+		return fmt.Sprintf("space-gone %d", effect.Space)
 	case EffectEnded:
 		return fmt.Sprintf("ended %d %s", effect.Number, sayEnd(effect.Status, effect.Killed))
 	case EffectAdopted:

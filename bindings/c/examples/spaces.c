@@ -1,8 +1,5 @@
 /* Tells the namespaces of a table from the root inwards, each with its own tasks. Built by `cc spaces.c -Iout out/libpidtab.a`. */
-#include "pidtab.h"
-
-#include <inttypes.h>
-#include <stdio.h>
+#include "example.h"
 
 #define ROOM 2
 
@@ -47,24 +44,15 @@ static uint32_t tell_space(const struct pidtab *table, uint64_t id)
 	return status;
 }
 
-int main(void)
+static uint32_t run(struct pidtab *table)
 {
-	struct pidtab table = PIDTAB_INIT;
-	uint32_t status = pidtab_open(&table, 32768);
-
-	if (status == PIDTAB_DONE) {
-		/* 2 is the init of a namespace, in which is its child 3, and 4 that of one within it. 5 is the init of another one, which ends. */
-		pidtab_fork(&table, 1, true, NULL);
-		pidtab_fork(&table, 2, false, NULL);
-		pidtab_fork(&table, 3, true, NULL);
-		pidtab_fork(&table, 1, true, NULL);
-		pidtab_exit(&table, 5, 0);
-		status = tell_space(&table, 0);
-	}
-	if (status != PIDTAB_DONE)
-		fprintf(stderr, "%s\n", pidtab_text(status));
-	pidtab_close(&table);
-	return status != PIDTAB_DONE;
+	/* 2 is the init of a namespace, in which is its child 3, and 4 that of one within it. 5 is the init of another one, which ends. */
+	pidtab_fork(table, 1, true, NULL);
+	pidtab_fork(table, 2, false, NULL);
+	pidtab_fork(table, 3, true, NULL);
+	pidtab_fork(table, 1, true, NULL);
+	pidtab_exit(table, 5, 0);
+	return tell_space(table, 0);
 }
 
 /* It prints

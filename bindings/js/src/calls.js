@@ -274,7 +274,7 @@ export class Would extends onOwner(EachCall) {
   _forked() {}
 }
 
-/** The calls, each of which is made, and tells what it did to tasks beside its answer. */
+/** The calls, each of which is made, and tells what it did beside its answer. */
 export class Telling extends onOwner(EachCall) {
   /** Where the room is too short, no call was made, and it is taken anew as the call takes it. */
   _made(instance, form, room = SHORT_ROOM) {
@@ -282,7 +282,7 @@ export class Telling extends onOwner(EachCall) {
       const [status, count] = this._owner._callTold(instance, address, room);
       if (status === STATUS.NO_ROOM) return count;
       const answer = this._replied(instance, form, status);
-      return { answer, effects: effectsAt(instance.words, address / 4, count) };
+      return { answer, effects: effectsAt(instance, address / 4, count) };
     });
     return typeof told === "number" ? this._made(instance, form, told) : told;
   }

@@ -40,7 +40,7 @@ export const WHOM = { CHILDREN: 0, GROUP_MEMBERS: 1, SESSION_MEMBERS: 2, NAMESPA
 export const TREE = { SPACES: 0, CONTROLS: 1 };
 
 /** Of an effect: what became of the task. */
-export const WHAT = { TASK_ENDED: 0, TASK_ADOPTED: 1, TASK_GONE: 2 };
+export const WHAT = { TASK_ENDED: 0, TASK_ADOPTED: 1, TASK_GONE: 2, GROUP_GONE: 3, SESSION_GONE: 4, SPACE_FELL: 5, SPACE_GONE: 6 };
 
 export const KIND = { FORKED: 0, OK: 1, NUMBER: 2, LEVELS: 3, REAPED: 4, NONE_YET: 5, COUNTED: 6, CONTROL: 7, END: 8, REFUSED: 9 };
 // The end of kinds.

@@ -34,8 +34,8 @@ function told(call) {
 
 const sayEnd = ({ killed, status }) => (killed ? "killed" : `exit ${status}`);
 
-/** What has become of a task. */
-const sayEffect = (it) => [it.what, it.number, ...{ ended: [sayEnd(it)], adopted: [it.parent], gone: [] }[it.what]].join(" ");
+/** What has become of a task, a group, a session or a namespace. */
+const sayEffect = (it) => [it.what, it.number ?? it.id, ...({ ended: [sayEnd(it)], adopted: [it.parent] }[it.what] ?? [])].join(" ");
 
 const saySpace = ({ id, parent, level, init, fallen }) => `space ${id} parent ${parent ?? "-"} level ${level} init ${init ?? "-"}${fallen ? " fallen" : ""}`;
 
@@ -63,7 +63,7 @@ function byItsMethod(table, line) {
   }
 }
 
-/** The answer that the line has, and behind it what its call does to tasks. */
+/** The answer that the line has, and behind it what its call does. */
 function sayTold({ told }, line) {
   const it = byItsMethod(told, line);
   return it instanceof Refusal ? sayFault(it) : [say(it.answer, line.split(" ")[0]), ...it.effects.map(sayEffect)].join(", ");
@@ -146,7 +146,7 @@ class World {
     return answer;
   }
 
-  /** The answer, and what the call does to tasks, which are the same of each table. */
+  /** The answer, and what the call does, which are the same of each table. */
   callTold(line) {
     const seat = this.seats[this.at];
     const [found, ...others] = [seat, ...this.tables].map((it) => sayTold(it, line));

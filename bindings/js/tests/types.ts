@@ -22,7 +22,9 @@ const { answer, effects }: Told<Forked> = table.told.fork(1, { newSpace: true })
 const waited: Reaped | null = table.told.wait(answer.root, { own: true }).answer;
 function say(effect: Effect): string {
   if (effect.what === "ended") return effect.killed ? "killed" : `exit ${effect.status}`;
-  return effect.what === "adopted" ? `a child of ${effect.parent}` : "gone";
+  if (effect.what === "adopted") return `a child of ${effect.parent}`;
+  if (effect.what === "space-fell" || effect.what === "space-gone") return `namespace ${effect.id + 0n}`;
+  return `${effect.what} ${effect.number + 0}`;
 }
 const said: string[] = effects.map(say);
 

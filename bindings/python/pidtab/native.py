@@ -260,7 +260,7 @@ class Would(OfTable, EachCall):
 
 
 class Teller(EachCall):
-    """Makes a call on a table, and keeps what it did to tasks."""
+    """Makes a call on a table, and keeps what it did."""
 
     def __init__(self, table: "NumberCalls") -> None:
         self._table = table
@@ -271,7 +271,7 @@ class Teller(EachCall):
 
 
 def telling(method: Callable[Concatenate[EachCall, P], T]) -> Callable[Concatenate["ToldCalls", P], Told[T]]:
-    """The method of a call, which tells what the call did to tasks too."""
+    """The method of a call, which tells what the call did too."""
 
     @wraps(method)
     def tell(calls: "ToldCalls", /, *taken: P.args, **named: P.kwargs) -> Told[T]:
@@ -284,9 +284,9 @@ def telling(method: Callable[Concatenate[EachCall, P], T]) -> Callable[Concatena
 
 
 class ToldCalls(OfTable):
-    """Calls that tell what they did to tasks, as the `told` of a table or of a seat: each is made, and answers a `Told`. It raises what the call raises.
+    """Calls that tell what they did, as the `told` of a table or of a seat: each is made, and answers a `Told`. It raises what the call raises.
 
-    `told.exit(2)` has who was killed with a namespace, or who takes the children. It costs what the call costs, and some searches for each task that the
+    `told.exit(2)` has who was killed with a namespace, or who takes the children, and which groups, sessions and namespaces are gone. It costs what the call costs, and some searches for each task that the
     call may touch. An exit, a wait, a setpgid and a setsid take memory for a list: where there is none, it is a MemoryError, and the call was not made.
 
     Where an interrupt took away what a call of a seat has told, the same call on `shared.at(ordinal)` tells it. As long as somebody has this, the table is
@@ -429,7 +429,7 @@ class NumberCalls(Labelled, AskableCalls):
 
     @abstractmethod
     def _call_told(self, call: bytes, reply: PidtabReply, *room: object) -> int:
-        """The status of the function that makes a call, and writes into a room what it did to tasks."""
+        """The status of the function that makes a call, and writes into a room what it did."""
 
     @property
     def would(self) -> Would:
@@ -438,7 +438,7 @@ class NumberCalls(Labelled, AskableCalls):
 
     @property
     def told(self) -> ToldCalls:
-        """Calls that tell what they did to tasks: `table.told.exit(2)` is made as `table.exit(2)`, and tells who ended, who has another parent, who is gone."""
+        """Calls that tell what they did: `table.told.exit(2)` is made as `table.exit(2)`, and tells who ended, who has another parent, who and what is gone."""
         return ToldCalls(self)
 
     def fork_at(self, caller: int, child: Forked, new: bool = False) -> bool:
@@ -467,7 +467,7 @@ class NumberCalls(Labelled, AskableCalls):
         return told
 
     def _make_told(self, call: Call, form: Form[T], effects: list[Effect]) -> T:
-        """Makes a call, and adds what it did to tasks."""
+        """Makes a call, and adds what it did."""
         self._check_owner()
         told = make_call(call, form, lambda packed, reply: add_effects(effects, partial(self._call_told, packed, reply)))
         if self._labels.by_root and isinstance(told, Forked):

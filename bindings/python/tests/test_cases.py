@@ -6,8 +6,8 @@ import unittest
 from collections.abc import Iterator
 from typing import Any
 
-from pidtab import BadList, BadText, Calls, Effect, Ended, Gone, NotKept, Process, ProgramMissing, Queries, Refusal, Seat, SeatsTaken, Shared, SpaceStat, Stat
-from pidtab import Table, find_program, read_list
+from pidtab import Adopted, BadList, BadText, Calls, Effect, Ended, Gone, GroupGone, NotKept, Process, ProgramMissing, Queries, Refusal, Seat, SeatsTaken
+from pidtab import SessionGone, Shared, SpaceFell, SpaceGone, SpaceStat, Stat, Table, find_program, read_list
 from pidtab.calls import Call
 from pidtab.forms import QUERIES, say_answer
 from pidtab.history import Entry
@@ -57,14 +57,26 @@ def say_space(space: SpaceStat) -> str:
 
 
 def say_effect(effect: Effect) -> str:
-    """What became of a task."""
-    if isinstance(effect, Ended):
-        return f"ended {effect.number} killed" if effect.killed else f"ended {effect.number} exit {effect.status}"
-    return f"gone {effect.number}" if isinstance(effect, Gone) else f"adopted {effect.number} {effect.parent}"
+    """What became of a task, a process group, a session or a namespace."""
+    match effect:
+        case Ended(number, status):
+            return f"ended {number} killed" if effect.killed else f"ended {number} exit {status}"
+        case Adopted(number, parent):
+            return f"adopted {number} {parent}"
+        case Gone(number):
+            return f"gone {number}"
+        case GroupGone(number):
+            return f"group-gone {number}"
+        case SessionGone(number):
+            return f"session-gone {number}"
+        case SpaceFell(id):
+            return f"space-fell {id}"
+        case SpaceGone(id):
+            return f"space-gone {id}"
 
 
 def say_told(table: Table | Seat, line: str) -> list[str]:
-    """The answer to a good line, and what the call did to tasks."""
+    """The answer to a good line, and what the call did."""
     told = value_of(table.told, line)
     if isinstance(told, Refusal):
         return [say_fault(told)]

@@ -42,8 +42,10 @@ def fall(table: pidtab.Table, seat: pidtab.Seat) -> int:
                 answer = None if status is None else number + status
             case pidtab.Adopted():
                 return effect.parent
-            case gone:
-                return gone.number
+            case pidtab.Gone(number) | pidtab.GroupGone(number) | pidtab.SessionGone(number):
+                return number
+            case space:
+                return space.id
     reaped: pidtab.Told[pidtab.Reaped | None] = seat.told.wait(1)
     return table.told.fork(1).answer.root + (reaped.answer.child if reaped.answer else 0)
 

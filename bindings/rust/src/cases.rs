@@ -132,7 +132,7 @@ impl World {
         answer
     }
 
-    /// The answer to the line, and what its call does to tasks, which are the same of each table.
+    /// The answer to the line, and what its call does, which are the same of each table.
     fn call_told(&mut self, line: &str) -> String {
         let (call, seat) = (call_on(line), &mut self.seats[self.at]);
         let told = seat.told(call).expect("a call");
@@ -391,6 +391,10 @@ fn say_effect(effect: &Effect) -> String {
         Effect::Ended { number, ended } => format!(", ended {number} {}", say_end(*ended)),
         Effect::Adopted { number, parent } => format!(", adopted {number} {parent}"),
         Effect::Gone { number } => format!(", gone {number}"),
+        Effect::GroupGone { number } => format!(", group-gone {number}"),
+        Effect::SessionGone { number } => format!(", session-gone {number}"),
+        Effect::SpaceFell { id } => format!(", space-fell {id}"),
+        Effect::SpaceGone { id } => format!(", space-gone {id}"),
     }
 }
 

@@ -95,6 +95,10 @@ mod kinds {
     pub(crate) const TASK_ENDED: u32 = 0;
     pub(crate) const TASK_ADOPTED: u32 = 1;
     pub(crate) const TASK_GONE: u32 = 2;
+    pub(crate) const GROUP_GONE: u32 = 3;
+    pub(crate) const SESSION_GONE: u32 = 4;
+    pub(crate) const SPACE_FELL: u32 = 5;
+    pub(crate) const SPACE_GONE: u32 = 6;
 }
 pub(crate) use kinds::*;
 // The end of kinds.
@@ -318,7 +322,7 @@ impl Entry {
     }
 }
 
-// The sizes are those that bindings/c/test.c asserts.
+// The sizes are those that test.c, test_shared.c and test_saved.c of bindings/c assert.
 const _: () = {
     assert!(size_of::<Held>() == 16 && size_of::<Call>() == 32);
     assert!(size_of::<Reply>() == 168 && size_of::<Task>() == 192);

@@ -1221,7 +1221,7 @@ impl Seat<'_> {
         self.turn(locked).fork_at(caller, new_space, child)
     }
 
-    /// As [`Table::told`](crate::Table::told): makes the call, and tells what it did to tasks besides. It is recorded as any call.
+    /// As [`Table::told`](crate::Table::told): makes the call, and tells what it did besides. It is recorded as any call.
     ///
     /// # Errors
     /// `NoMemory`, `Spent`, `Busy`, `Unsaved`.
