@@ -367,6 +367,17 @@ uint32_t pidtab_space(const struct pidtab *table, uint64_t id, struct pidtab_spa
  * has no such id; NO_MEMORY; and then ids and count are as they were. */
 uint32_t pidtab_inside(const struct pidtab *table, uint32_t tree, uint64_t id, uint64_t from, uint64_t *ids, size_t room, uint64_t *count);
 
+/* Tells the live tasks that are directly in the control group with the id `control`, where 0 is the root: cgroup.procs of cgroup-v2.rst, in which no
+ * zombie appears. numbers has their numbers in the caller's namespace from `from` on, in rising order, as many as there is room for; what is behind
+ * stays. Who is not visible there is left out, and so is who is in a control group below this one.
+ *
+ * reply is of the kind PIDTAB_COUNTED, with how many there are in all from there on, or a refusal: PIDTAB_NO_CALLER, or else PIDTAB_NO_CONTROL. So the
+ * next page begins at the last number + 1, and a room of 0 only counts.
+ *
+ * It is no call, as pidtab_ask makes none, but it takes memory for a list while it works. DONE; CLOSED; NO_MEMORY, and then numbers and reply are as
+ * they were. */
+uint32_t pidtab_control_tasks(const struct pidtab *table, uint32_t caller, uint64_t control, uint32_t from, uint32_t *numbers, size_t room, struct pidtab_reply *reply);
+
 /* Tells the reply that the call would get now, and changes nothing: the numbers of a fork, and whom a wait would reap (waitid(2) with WNOWAIT).
  * Whether there is memory for the call it does not say. DONE, CLOSED, OUT_OF_RANGE, SPENT. */
 uint32_t pidtab_would(const struct pidtab *table, const struct pidtab_call *call, struct pidtab_reply *reply);
@@ -644,6 +655,9 @@ uint32_t pidtab_record_space(const struct pidtab_record *record, uint64_t id, st
 
 /* Tells what is directly inside, as pidtab_inside does; it is not recorded. DONE, CLOSED, OUT_OF_RANGE, NO_MEMORY. */
 uint32_t pidtab_record_inside(const struct pidtab_record *record, uint32_t tree, uint64_t id, uint64_t from, uint64_t *ids, size_t room, uint64_t *count);
+
+/* Tells the live tasks directly in a control group, as pidtab_control_tasks does; it is not recorded. DONE, CLOSED, NO_MEMORY. */
+uint32_t pidtab_record_control_tasks(const struct pidtab_record *record, uint32_t caller, uint64_t control, uint32_t from, uint32_t *numbers, size_t room, struct pidtab_reply *reply);
 
 /* Tells the reply that the call would get now, as pidtab_would does; it is not recorded. DONE, CLOSED, OUT_OF_RANGE, SPENT. */
 uint32_t pidtab_record_would(const struct pidtab_record *record, const struct pidtab_call *call, struct pidtab_reply *reply);

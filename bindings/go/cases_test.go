@@ -349,9 +349,18 @@ func (it *caseWorld) stat(caller, pid uint32) string {
 // page is whom a page lists.
 func (it *caseWorld) page(numbers []uint64) string {
 	caller, number, from := uint32(numbers[1]), uint32(numbers[2]), uint32(numbers[3])
-	ask := func(of lister) ([]uint32, error) {
-		return listsOf(of)[numbers[0]](caller, number, from)
-	}
+	return it.numbersOf(func(of lister) ([]uint32, error) { return listsOf(of)[numbers[0]](caller, number, from) })
+}
+
+// controlTasks are the live tasks of a control group.
+func (it *caseWorld) controlTasks(numbers []uint64) string {
+	return it.numbersOf(func(of lister) ([]uint32, error) {
+		return of.ControlTasks(uint32(numbers[0]), numbers[1], uint32(numbers[2]))
+	})
+}
+
+// numbersOf are the numbers that are asked for, which are the same of each table.
+func (it *caseWorld) numbersOf(ask func(of lister) ([]uint32, error)) string {
 	found, err := ask(it.shared)
 	for _, table := range it.tables {
 		it.same(of(ask(table)), told{found, err})
@@ -537,6 +546,8 @@ func (it *caseWorld) step(step, text string) (found string, err error) {
 		return it.stat(uint32(numbers[0]), uint32(numbers[1])), nil
 	case "page":
 		return it.page(numbers), nil
+	case "control_tasks":
+		return it.controlTasks(numbers), nil
 	case "inside":
 		return it.inside(numbers), nil
 	case "space":

@@ -291,4 +291,42 @@ func ExampleTable_Told() {
 	// 3 is gone
 	// 4 ends with 0 is killed: true
 	// 4 is gone
+	// the process group 4 is gone
+	// the session 4 is gone
+	// the namespace 1 has fallen
+	// caller 1 <nil>
+	// 2 is gone
+	// the namespace 1 is gone
+}
+
+// tellControl tells a control group with its live tasks, and then each directly inside it.
+func tellControl(table *pidtab.Table, id uint64, depth int) {
+	tasks, _ := table.ControlTasks(1, id, 0)
+	fmt.Println("level", depth, "control group", id, "has", tasks)
+	inner, _ := table.ControlsInside(id, 0)
+	for _, id := range inner {
+		tellControl(table, id, depth+1)
+	}
+}
+
+// The tree of control groups, as systemd-cgls shows it. A child begins in that of its parent, and a zombie counts, but is no live task.
+func ExampleTable_ControlTasks() {
+	table := opened()
+	defer table.Close()
+	service, _ := table.Mk(0)
+	worker, _ := table.Mk(service)
+	table.Fork(1, pidtab.NoNewNamespace)
+	table.Move(2, service)
+	for i := 0; i < 3; i++ {
+		table.Fork(2, pidtab.NoNewNamespace)
+	}
+	table.Move(4, worker)
+	table.Exit(5, 0)
+	tellControl(table, 0, 0)
+	fmt.Println(table.Count(service))
+	// Output:
+	// level 0 control group 0 has [1]
+	// level 1 control group 1 has [2 3]
+	// level 2 control group 2 has [4]
+	// 4 <nil>
 }

@@ -190,6 +190,9 @@ export interface Ask extends Queries {
   spacesInside(id?: Long, start?: Long): bigint[];
   /** The ids of the control groups directly in the one with the id, in the same way. */
   controlsInside(id?: Long, start?: Long): bigint[];
+  /** The live tasks directly in the control group with the id, as `children` has those of a task: as cgroup.procs has them, in which no zombie appears.
+   * no-caller, no-control, NoMemory. */
+  controlTasks(caller: number, control?: Long, start?: number): number[];
 }
 
 /** A method for each call. */

@@ -190,6 +190,27 @@ tested("more control groups inside than there is room for at first", (table) => 
   assert.deepEqual([table.ask.controlsInside(), table.ask.controlsInside(0n, 150n)], [made, made.slice(149)]);
 });
 
+// The control group 2 is in 1. 3 is the init of a namespace, and its child 4 is 2 there. 2 and 4 are in 1, 5 in 2, and 6 is a zombie there.
+tested("live tasks of control groups", (table) => {
+  table.answers(["mk 0", "mk 1", "fork 1", "fork 1 new", "fork 3", "move 2 1", "move 4 1", "fork 1", "move 5 2", "fork 5", "exit 6 0"]);
+  const { ask } = table;
+  assert.deepEqual([ask.controlTasks(1), ask.controlTasks(1, 0n), ask.controlTasks(1, 1), ask.controlTasks(1, 2n)], [[1, 3], [1, 3], [2, 4], [5]]);
+  assert.deepEqual([ask.controlTasks(1, 1n, 3), ask.controlTasks(1, 1n, 2 ** 32 - 1)], [[4], []]);
+  // 3 and 4 see each other alone.
+  assert.deepEqual([ask.controlTasks(3), ask.controlTasks(4, 1n), ask.controlTasks(3, 2n)], [[1], [2], []]);
+  assert.throws(() => ask.controlTasks(6, 9n), { name: "Refusal", code: "ESRCH", word: "no-caller", id: null, message: "controlTasks 6 9: ESRCH no-caller" });
+  // 4 is the id of a namespace.
+  for (const id of [4n, 2n ** 64n - 1n]) assert.throws(() => ask.controlTasks(1, id), { name: "Refusal", code: "ENOENT", word: "no-control", id: null });
+  for (const given of [["1"], [1, "0"], [1, 0n, "2"], [null]]) assert.throws(() => ask.controlTasks(...given), TypeError);
+  for (const given of [[-1], [1, -1n], [1, 2n ** 64n], [1, 0n, 2 ** 32]]) assert.throws(() => ask.controlTasks(...given), RangeError);
+  assert.equal(table.mk(), 12n);
+});
+
+tested("more live tasks than there is room for at first", (table) => {
+  const all = [1, ...Array.from({ length: 300 }, () => table.fork(1).root)];
+  assert.deepEqual([table.ask.controlTasks(1), table.ask.controlTasks(1, 0n, 237)], [all, all.slice(236)]);
+});
+
 /** The namespaces that a task is in, from its own outwards. */
 function spacesOf({ ask }, task) {
   const spaces = [];

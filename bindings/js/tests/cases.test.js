@@ -163,14 +163,11 @@ class World {
 
   /** Whom a page lists. */
   page(whom, ...numbers) {
-    const name = ["children", "groupMembers", "sessionMembers", "namespaceMembers", "namespaceOwn"][whom];
-    const [found, ...others] = [this.record, ...this.tables].map(({ ask }) => told(() => ask[name](...numbers.map(Number)).join(" ") || "none"));
-    for (const other of others) assert.equal(other, found);
-    return found;
+    return this.listed(["children", "groupMembers", "sessionMembers", "namespaceMembers", "namespaceOwn"][whom], numbers.map(Number));
   }
 
-  inside(tree, ...numbers) {
-    const name = ["spacesInside", "controlsInside"][tree];
+  /** What a method lists, which is the same of each table. */
+  listed(name, numbers) {
     const [found, ...others] = [this.record, ...this.tables].map(({ ask }) => told(() => ask[name](...numbers).join(" ") || "none"));
     for (const other of others) assert.equal(other, found);
     return found;
@@ -226,7 +223,8 @@ class World {
     if (word === "told") return this.callTold(words.join(" "));
     if (word === "stat") return this.stat(...numbers);
     if (word === "page") return this.page(...numbers);
-    if (word === "inside") return this.inside(...numbers);
+    if (word === "control_tasks") return this.listed("controlTasks", [Number(numbers[0]), numbers[1], Number(numbers[2])]);
+    if (word === "inside") return this.listed(["spacesInside", "controlsInside"][numbers[0]], numbers.slice(1));
     if (word === "space") return this.space(...numbers);
     if (word === "json") return this.call(words.join(" ")) && toJson(this.told);
     if (word === "parse") return lineOfFault(text);

@@ -177,10 +177,21 @@ def read_page(whom: int, asked: Sequence[SupportsIndex], read: Callable[..., int
     """All whom a page lists, by a function that writes a page of them into a room, and answers a status."""
     method, name = LISTED[whom]
     caller, number, start = (check_range(it, given, 0, GREATEST_PID) for it, given in zip(("caller", name, "start"), asked))
-    line, reply, there = f"{method} {caller} {number}", PidtabReply(), SHORT_PAGE
+    return read_numbers(f"{method} {caller} {number}", partial(read, caller, whom, number, start))
+
+
+def read_control_tasks(caller: SupportsIndex, control: SupportsIndex, start: SupportsIndex, read: Callable[..., int]) -> tuple[int, ...]:
+    """The live tasks directly in a control group, by such a function."""
+    numbers = check_range("caller", caller, 0, GREATEST_PID), check_range("control", control, 0, GREATEST_ID)
+    return read_numbers("control_tasks {} {}".format(*numbers), partial(read, *numbers, check_range("start", start, 0, GREATEST_PID)))
+
+
+def read_numbers(line: str, read: Callable[..., int]) -> tuple[int, ...]:
+    """All numbers that are asked for, by a function that writes as many as there is room for, and tells in a reply how many there are."""
+    reply, there = PidtabReply(), SHORT_PAGE
     while True:
         room = (ctypes.c_uint32 * there)()
-        status = read(caller, whom, number, start, room, there, reply)
+        status = read(room, there, reply)
         if status != DONE:
             raise fault_of(status, line)
         if reply.kind == REFUSED:
@@ -235,6 +246,8 @@ class Asked(Protocol):
     def _space(self, id: int, space: PidtabSpace) -> int: ...
 
     def _inside(self, *taken: object) -> int: ...
+
+    def _control_tasks(self, *taken: object) -> int: ...
 
 
 class OfTable:
@@ -375,6 +388,14 @@ class Ask(OfTable, Queries):
     def controls_inside(self, id: int = 0, start: int = 0) -> tuple[int, ...]:
         """The ids of the control groups directly in the one with the id, as `spaces_inside` has those of a namespace."""
         return self._inside(CONTROLS, id, start)
+
+    def control_tasks(self, caller: int, control: int = 0, start: int = 0) -> tuple[int, ...]:
+        """The live tasks directly in the control group with the id, as `children` has those of a task: cgroup.procs, in which no zombie appears.
+
+        no-caller, no-control.
+        """
+        self._table._check_owner()
+        return read_control_tasks(caller, control, start, self._table._control_tasks)
 
     def _inside(self, tree: int, id: int, start: int) -> tuple[int, ...]:
         self._table._check_owner()

@@ -121,7 +121,7 @@ class Effects(OnEachTable):
             table.join(1, 2)
             table.fork(1)
             told = table.told.exit(2, 9)
-            of_tasks = [Ended(2, 9), Ended(3, None), Gone(3), Gone(4), Ended(5, None), Gone(5), Ended(7, None)]
+            of_tasks: list[Effect] = [Ended(2, 9), Ended(3, None), Gone(3), Gone(4), Ended(5, None), Gone(5), Ended(7, None)]
             self.assertEqual(told, Told(None, [*of_tasks, SpaceFell(1), SpaceFell(4), SpaceGone(4)]))
             self.assertEqual([it.killed for it in told.effects if isinstance(it, Ended)], [False, True, True, True])
             # 7 has a number in the namespace, and then nobody has.

@@ -3,9 +3,10 @@
 import json
 import unittest
 
-from pidtab import Refusal, Seat, Shared, Table, TableClosed, read_list
+from pidtab import Refusal, Shared, Table, TableClosed, read_list
 from pidtab.accounts import Accounts
 from pidtab.calls import Calls
+from pidtab.native import NumberCalls
 from pidtab.tree import draw_list
 from tests.ways import need_library, need_shared
 
@@ -30,7 +31,7 @@ def go_up(table: Calls) -> None:
         table.wait(1)
 
 
-def take_last_number(table: Table | Seat) -> None:
+def take_last_number(table: NumberCalls) -> None:
     """The last number had a task with a label, which is gone: the next child of the root init gets it."""
     go_up(table)
     table.label(LAST, "before")

@@ -26,7 +26,7 @@ def child(table: pidtab.AskableCalls) -> int:
 
 
 def count(queries: pidtab.Queries) -> int:
-    return queries.count()
+    return queries.count() + len(queries.control_tasks(1, 0, 2)) if isinstance(queries, pidtab.Ask) else queries.count()
 
 
 def use(table: pidtab.Table, shared: pidtab.Shared, seat: pidtab.Seat, many: pidtab.Replicated) -> int:
@@ -56,6 +56,7 @@ def misuse(process: pidtab.Process, shared: pidtab.Shared, calls: pidtab.Calls, 
     child(shared)  # wrong
     calls.ask  # wrong
     table.ask.fork(1)  # wrong
+    table.ask.control_tasks("1")  # wrong
     table.fork("1")  # wrong
 
 

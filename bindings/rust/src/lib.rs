@@ -411,6 +411,7 @@ mod tests {
         assert_eq!(table.ask(Call::Getpid { caller: 1 }), Err(Error::Busy));
         assert_eq!(table.stat(1, 0), Err(Error::Busy));
         assert_eq!(table.children(1, 0, 0), Err(Error::Busy));
+        assert_eq!(table.control_tasks(1, 0, 0), Err(Error::Busy));
         assert_eq!(table.space(0), Err(Error::Busy));
         assert_eq!(table.told(Call::Getpid { caller: 1 }), Err(Error::Busy));
         assert_eq!(table.line("getpid 1"), Err(LineError::Busy));
