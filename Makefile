@@ -294,6 +294,8 @@ CALLS_TEST = test_calls shared guard guard_record
 PAGE_TEST = test_page shared guard guard_record
 SPACE_TEST = test_space shared guard guard_record
 EFFECTS_TEST = test_effects shared guard guard_record
+EFFECTS_SEEDS_TEST = test_effects_seeds guard heap
+CONTROL_TEST = test_control shared guard guard_record
 WOULD_TEST = test_would shared guard guard_record
 SHARED_TEST = test_shared shared guard guard_record heap
 FOLLOW_TEST = test_follow shared guard guard_record heap
@@ -314,6 +316,7 @@ bindings-c:
 		$(CC) $(CHECKED) -o $(OUT)/test_record $(RECORD_TEST:%=bindings/c/%.c) $(OUT)/test_heap.o $(OUT)/proved.a && $(RUN) $(OUT)/test_record && \
 		$(CC) $(CHECKED) -o $(OUT)/test_dump $(DUMP_TEST:%=bindings/c/%.c) $(OUT)/test_heap.o $(OUT)/proved.a && $(RUN) $(OUT)/test_dump && \
 		$(CC) $(CHECKED) -o $(OUT)/test_dump_seeds $(DUMP_SEEDS_TEST:%=bindings/c/%.c) $(OUT)/proved.a && $(RUN) $(OUT)/test_dump_seeds && \
+		$(CC) $(CHECKED) -o $(OUT)/test_effects_seeds $(EFFECTS_SEEDS_TEST:%=bindings/c/%.c) $(OUT)/proved.a && $(RUN) $(OUT)/test_effects_seeds && \
 		$(CC) $(CHECKED) -o $(OUT)/test_dump_record $(DUMP_RECORD_TEST:%=bindings/c/%.c) $(OUT)/test_heap.o $(OUT)/proved.a && $(RUN) $(OUT)/test_dump_record && \
 		$(CC) $(THREADED) $(HELD) -Dfree=test_free -c -o $(OUT)/held_heap.o bindings/c/heap.c && \
 		$(CC) $(THREADED) -o $(OUT)/test_threads $(THREADS_TEST:%=bindings/c/%.c) $(OUT)/held_heap.o $(OUT)/proved.a && $(RUN) $(OUT)/test_threads && \
@@ -326,6 +329,7 @@ bindings-c:
 			$(CC) $$sanitizer -o $(OUT)/test_calls $(CALLS_TEST:%=bindings/c/%.c) $(OUT)/calls_heap.o $(OUT)/proved.a && $(RUN) $(OUT)/test_calls && \
 			$(CC) $$sanitizer -o $(OUT)/test_page $(PAGE_TEST:%=bindings/c/%.c) $(OUT)/calls_heap.o $(OUT)/proved.a && $(RUN) $(OUT)/test_page && \
 			$(CC) $$sanitizer -o $(OUT)/test_space $(SPACE_TEST:%=bindings/c/%.c) $(OUT)/calls_heap.o $(OUT)/proved.a && $(RUN) $(OUT)/test_space && \
+			$(CC) $$sanitizer -o $(OUT)/test_control $(CONTROL_TEST:%=bindings/c/%.c) $(OUT)/calls_heap.o $(OUT)/proved.a && $(RUN) $(OUT)/test_control && \
 			$(CC) $$sanitizer -o $(OUT)/test_effects $(EFFECTS_TEST:%=bindings/c/%.c) $(OUT)/calls_heap.o $(OUT)/proved.a && $(RUN) $(OUT)/test_effects && \
 			$(CC) $$sanitizer -o $(OUT)/test_would $(WOULD_TEST:%=bindings/c/%.c) $(OUT)/calls_heap.o $(OUT)/proved.a && $(RUN) $(OUT)/test_would && \
 			$(CC) $$sanitizer -o $(OUT)/test_shared $(SHARED_TEST:%=bindings/c/%.c) $(OUT)/proved.a && $(RUN) $(OUT)/test_shared && \

@@ -112,7 +112,7 @@ class Examples(unittest.TestCase):
         need_shared()
         # One needs a server, which `cluster.test_postgres` has.
         shown = sorted(it for it in (PACKAGES / "examples").glob("*.py") if it.stem != "postgres_log")
-        self.assertEqual([it.stem for it in shown], ["effects", "end_group", "follow", "reserve", "saved", "shared", "spaces", "text"])
+        self.assertEqual([it.stem for it in shown], ["controls", "effects", "end_group", "follow", "reserve", "saved", "shared", "spaces", "text"])
         for path in shown:
             with self.subTest(path.name), tempfile.TemporaryDirectory() as folder:
                 code = path.read_text(encoding="utf-8")
@@ -125,12 +125,13 @@ class Examples(unittest.TestCase):
     def test_c_in_files(self) -> None:
         need_archive()
         shown = sorted(C_EXAMPLES.glob("*.c"))
-        self.assertEqual([it.stem for it in shown], ["effects", "end_group", "lines", "reserve", "saver", "spaces", "text"])
+        self.assertEqual([it.stem for it in shown], ["controls", "effects", "end_group", "lines", "reserve", "saver", "spaces", "text"])
         # That of lines.c is run by SavedHistory.
         for path in (it for it in shown if it.stem != "lines"):
             with self.subTest(path.name), tempfile.TemporaryDirectory() as folder:
                 code = path.read_text(encoding="utf-8")
-                self.assertEqual(run_c(code, Path(folder), ["-pthread", f"-I{BUILT}", str(ARCHIVE)]), printed_by(code))
+                words = ["-pthread", f"-I{C_EXAMPLES}", f"-I{BUILT}", str(ARCHIVE)]
+                self.assertEqual(run_c(code, Path(folder), words), printed_by(code))
 
     def test_rust(self) -> None:
         need_archive()

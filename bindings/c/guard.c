@@ -15,6 +15,7 @@ uint32_t proved_stat(struct pidtab *table, uint32_t caller, uint32_t number, str
 uint32_t proved_page(struct pidtab *table, uint32_t caller, uint32_t whom, uint32_t number, uint32_t from, uint32_t *numbers, size_t room, struct pidtab_reply *reply);
 uint32_t proved_space(struct pidtab *table, uint64_t id, struct pidtab_space *space);
 uint32_t proved_inside(struct pidtab *table, uint32_t tree, uint64_t id, uint64_t from, uint64_t *ids, size_t room, uint64_t *count);
+uint32_t proved_control_tasks(struct pidtab *table, uint32_t caller, uint64_t control, uint32_t from, uint32_t *numbers, size_t room, struct pidtab_reply *reply);
 uint32_t proved_would(struct pidtab *table, const struct pidtab_call *call, struct pidtab_reply *reply);
 uint32_t proved_fork_at(struct pidtab *table, uint32_t caller, uint32_t new_space, uint32_t child, uint32_t root, struct pidtab_reply *reply);
 uint32_t proved_call_told(struct pidtab *table, const struct pidtab_call *call, struct pidtab_reply *reply, struct pidtab_effect *effects, size_t room, uint64_t *count);
@@ -179,6 +180,15 @@ uint32_t pidtab_inside(const struct pidtab *table, uint32_t tree, uint64_t id, u
 	if (!enter_query(table, &held))
 		return PIDTAB_BUSY;
 	return leave_query(table, proved_inside(&held, tree, id, from, ids, room, count));
+}
+
+uint32_t pidtab_control_tasks(const struct pidtab *table, uint32_t caller, uint64_t control, uint32_t from, uint32_t *numbers, size_t room, struct pidtab_reply *reply)
+{
+	struct pidtab held;
+
+	if (!enter_query(table, &held))
+		return PIDTAB_BUSY;
+	return leave_query(table, proved_control_tasks(&held, caller, control, from, numbers, room, reply));
 }
 
 uint32_t pidtab_would(const struct pidtab *table, const struct pidtab_call *call, struct pidtab_reply *reply)

@@ -12,6 +12,7 @@ uint32_t proved_record_stat(struct pidtab_record *record, uint32_t caller, uint3
 uint32_t proved_record_page(struct pidtab_record *record, uint32_t caller, uint32_t whom, uint32_t number, uint32_t from, uint32_t *numbers, size_t room, struct pidtab_reply *reply);
 uint32_t proved_record_space(struct pidtab_record *record, uint64_t id, struct pidtab_space *space);
 uint32_t proved_record_inside(struct pidtab_record *record, uint32_t tree, uint64_t id, uint64_t from, uint64_t *ids, size_t room, uint64_t *count);
+uint32_t proved_record_control_tasks(struct pidtab_record *record, uint32_t caller, uint64_t control, uint32_t from, uint32_t *numbers, size_t room, struct pidtab_reply *reply);
 uint32_t proved_record_would(struct pidtab_record *record, const struct pidtab_call *call, struct pidtab_reply *reply);
 uint32_t proved_record_fork_at(struct pidtab_record *record, uint32_t worker, uint32_t caller, uint32_t new_space, uint32_t child, uint32_t root, struct pidtab_reply *reply, uint64_t *ordinal);
 uint32_t proved_record_call_told(struct pidtab_record *record, uint32_t worker, const struct pidtab_call *call, struct pidtab_reply *reply, uint64_t *ordinal, struct pidtab_effect *effects, size_t room, uint64_t *count);
@@ -179,6 +180,15 @@ uint32_t pidtab_record_inside(const struct pidtab_record *record, uint32_t tree,
 	if (!enter_query(record, &held))
 		return PIDTAB_BUSY;
 	return leave_query(record, proved_record_inside(&held, tree, id, from, ids, room, count));
+}
+
+uint32_t pidtab_record_control_tasks(const struct pidtab_record *record, uint32_t caller, uint64_t control, uint32_t from, uint32_t *numbers, size_t room, struct pidtab_reply *reply)
+{
+	struct pidtab_record held;
+
+	if (!enter_query(record, &held))
+		return PIDTAB_BUSY;
+	return leave_query(record, proved_record_control_tasks(&held, caller, control, from, numbers, room, reply));
 }
 
 uint32_t pidtab_record_would(const struct pidtab_record *record, const struct pidtab_call *call, struct pidtab_reply *reply)

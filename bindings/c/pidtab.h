@@ -222,10 +222,10 @@ enum pidtab_what {
 	PIDTAB_TASK_ENDED = 0,   /* the task ended: value is its status, 0 to 255, or PIDTAB_KILLED where its namespace fell */
 	PIDTAB_TASK_ADOPTED = 1, /* the task has another parent: value is the root number of that */
 	PIDTAB_TASK_GONE = 2,    /* the task is there no more, as it was reaped or went with its namespace: value is 0 */
-	PIDTAB_GROUP_GONE = 3,   /* no task, live or ended, is in the process group with the number any more: value is 0 */
-	PIDTAB_SESSION_GONE = 4, /* no task, live or ended, is in the session with the number any more: value is 0 */
-	PIDTAB_SPACE_FELL = 5,   /* the namespace has fallen, as its init has ended: number is 0, value is its id */
-	PIDTAB_SPACE_GONE = 6    /* the namespace is there no more, as nothing has a number in it: number is 0, value is its id */
+	PIDTAB_GROUP_GONE = 3,   /* the process group with the number has no member any more: value is 0 */
+	PIDTAB_SESSION_GONE = 4, /* the session with the number has no member any more: value is 0 */
+	PIDTAB_SPACE_FELL = 5,   /* the namespace whose id is value has fallen: its init has ended, and it takes no task any more; number is 0 */
+	PIDTAB_SPACE_GONE = 6    /* the namespace whose id is value is there no more, as nothing has a number in it; number is 0 */
 };
 /* The end of choices. */
 
@@ -367,6 +367,17 @@ uint32_t pidtab_space(const struct pidtab *table, uint64_t id, struct pidtab_spa
  * has no such id; NO_MEMORY; and then ids and count are as they were. */
 uint32_t pidtab_inside(const struct pidtab *table, uint32_t tree, uint64_t id, uint64_t from, uint64_t *ids, size_t room, uint64_t *count);
 
+/* Tells the live tasks that are directly in the control group with the id `control`, where 0 is the root: cgroup.procs of cgroup-v2.rst, in which no
+ * zombie appears. numbers has their numbers in the caller's namespace from `from` on, in rising order, as many as there is room for; what is behind
+ * stays. Who is not visible there is left out, and so is who is in a control group below this one.
+ *
+ * reply is of the kind PIDTAB_COUNTED, with how many there are in all from there on, or a refusal: PIDTAB_NO_CALLER, or else PIDTAB_NO_CONTROL. So the
+ * next page begins at the last number + 1, and a room of 0 only counts.
+ *
+ * It is no call, as pidtab_ask makes none, but it takes memory for a list while it works. DONE; CLOSED; NO_MEMORY, and then numbers and reply are as
+ * they were. */
+uint32_t pidtab_control_tasks(const struct pidtab *table, uint32_t caller, uint64_t control, uint32_t from, uint32_t *numbers, size_t room, struct pidtab_reply *reply);
+
 /* Tells the reply that the call would get now, and changes nothing: the numbers of a fork, and whom a wait would reap (waitid(2) with WNOWAIT).
  * Whether there is memory for the call it does not say. DONE, CLOSED, OUT_OF_RANGE, SPENT. */
 uint32_t pidtab_would(const struct pidtab *table, const struct pidtab_call *call, struct pidtab_reply *reply);
@@ -376,22 +387,25 @@ uint32_t pidtab_would(const struct pidtab *table, const struct pidtab_call *call
  * reply, a refusal too, which reply then is; NO_MEMORY. */
 uint32_t pidtab_fork_at(struct pidtab *table, uint32_t caller, uint32_t new_space, uint32_t child, uint32_t root, struct pidtab_reply *reply);
 
-/* What a call did to a task. */
+/* What a call did to a task, or what is there no more behind it. */
 struct pidtab_effect {
 	uint32_t what;   /* an enum pidtab_what */
-	uint32_t number; /* the root number of the task */
-	uint64_t value;  /* as what says */
+	uint32_t number; /* the root number of the task, the process group or the session; 0 of a namespace */
+	uint64_t value;  /* as what says: of a namespace its id */
 };
 
-/* Makes a call as pidtab_call does, and tells what it did to tasks besides: who ended, who has another parent, and who is there no more. So the exit
- * of a namespace's init tells whom the kernel would kill, and each other exit who takes its children. Of a call that does nothing of this count is 0.
+/* Makes a call as pidtab_call does, and tells what it did besides: which tasks ended, have another parent, or are there no more; which process groups
+ * and sessions have no member any more, where a zombie is one until it is reaped; and which namespaces have fallen, or are gone. So the exit of a
+ * namespace's init tells whom the kernel would kill, and each other exit who takes its children. Of a call that does nothing of this count is 0.
  *
- * effects has them by root numbers in rising order, and what is behind them stays. Of a task that ended and is gone it has both, in this order. count
- * is how many there are.
+ * effects has first the tasks by root numbers in rising order, then the process groups, then the sessions, and then the namespaces by rising ids. Of one
+ * task it has ended, adopted and gone in this order, and of one namespace fell and gone. What is behind them stays, and count is how many there are.
  *
- * No effect is lost: the call is made only where there is room for two on each task that it may touch. These are the caller of an exit and its
- * children, or all in the namespace whose init it is, and one task for a wait, a setpgid and a setsid. Where room is less it is NO_ROOM, and count is
- * the room that the call takes; a room of 0 so asks for it. Behind another call it may take more.
+ * No effect is lost: the call is made only where there is room for all that it may have. It may touch the caller of an exit and its children, or all
+ * in the namespace whose init the caller is; the child that a wait reaps; the target of a setpgid; and the caller of a setsid. The room is two for each
+ * of them, one for each process group and each session that they are in, and two for each namespace but the root that the numbers of a task, of its group
+ * or of its session are in. Four for each task of the table and two for each namespace always do. Where room is less it is NO_ROOM, and count is the
+ * room that the call takes; a room of 0 so asks for it. Behind another call it may take more.
  *
  * DONE, CLOSED, OUT_OF_RANGE, SPENT, NO_ROOM, and NO_MEMORY for FORK, MK, EXIT, WAIT, SETPGID and SETSID alone: the list takes memory, and has it before
  * the call is made. Of each status but DONE, reply and effects are as they were, and count is so too but for NO_ROOM. */
@@ -641,6 +655,9 @@ uint32_t pidtab_record_space(const struct pidtab_record *record, uint64_t id, st
 
 /* Tells what is directly inside, as pidtab_inside does; it is not recorded. DONE, CLOSED, OUT_OF_RANGE, NO_MEMORY. */
 uint32_t pidtab_record_inside(const struct pidtab_record *record, uint32_t tree, uint64_t id, uint64_t from, uint64_t *ids, size_t room, uint64_t *count);
+
+/* Tells the live tasks directly in a control group, as pidtab_control_tasks does; it is not recorded. DONE, CLOSED, NO_MEMORY. */
+uint32_t pidtab_record_control_tasks(const struct pidtab_record *record, uint32_t caller, uint64_t control, uint32_t from, uint32_t *numbers, size_t room, struct pidtab_reply *reply);
 
 /* Tells the reply that the call would get now, as pidtab_would does; it is not recorded. DONE, CLOSED, OUT_OF_RANGE, SPENT. */
 uint32_t pidtab_record_would(const struct pidtab_record *record, const struct pidtab_call *call, struct pidtab_reply *reply);

@@ -77,6 +77,7 @@ uint32_t pidtab_shared_stat(struct pidtab_shared *shared, uint32_t caller, uint3
 uint32_t pidtab_shared_page(struct pidtab_shared *shared, uint32_t caller, uint32_t whom, uint32_t number, uint32_t from, uint32_t *numbers, size_t room, struct pidtab_reply *reply);
 uint32_t pidtab_shared_space(struct pidtab_shared *shared, uint64_t id, struct pidtab_space *space);
 uint32_t pidtab_shared_inside(struct pidtab_shared *shared, uint32_t tree, uint64_t id, uint64_t from, uint64_t *ids, size_t room, uint64_t *count);
+uint32_t pidtab_shared_control_tasks(struct pidtab_shared *shared, uint32_t caller, uint64_t control, uint32_t from, uint32_t *numbers, size_t room, struct pidtab_reply *reply);
 uint32_t pidtab_shared_would(struct pidtab_shared *shared, const struct pidtab_call *call, struct pidtab_reply *reply);
 uint32_t pidtab_shared_fork_at(struct pidtab_shared *shared, uint32_t worker, uint32_t caller, uint32_t new_space, uint32_t child, uint32_t root, struct pidtab_reply *reply, uint64_t *ordinal);
 uint32_t pidtab_shared_call_told(struct pidtab_shared *shared, uint32_t worker, const struct pidtab_call *call, struct pidtab_reply *reply, uint64_t *ordinal, struct pidtab_effect *effects, size_t room, uint64_t *count);

@@ -402,6 +402,12 @@ uint32_t pidtab_shared_inside(struct pidtab_shared *shared, uint32_t tree, uint6
 	return answered(shared, pidtab_record_inside(&shared->record, tree, id, from, ids, room, count));
 }
 
+uint32_t pidtab_shared_control_tasks(struct pidtab_shared *shared, uint32_t caller, uint64_t control, uint32_t from, uint32_t *numbers, size_t room, struct pidtab_reply *reply)
+{
+	share_as_call(shared);
+	return answered(shared, pidtab_record_control_tasks(&shared->record, caller, control, from, numbers, room, reply));
+}
+
 uint32_t pidtab_shared_would(struct pidtab_shared *shared, const struct pidtab_call *call, struct pidtab_reply *reply)
 {
 	share_as_call(shared);

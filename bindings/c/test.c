@@ -15,6 +15,7 @@ _Static_assert(sizeof(struct pidtab_reply) == 168, "pidtab_reply");
 _Static_assert(offsetof(struct pidtab_reply, first) == 16 && offsetof(struct pidtab_reply, levels) == 32, "pidtab_reply");
 _Static_assert(sizeof(struct pidtab_task) == 192, "pidtab_task");
 _Static_assert(offsetof(struct pidtab_task, space) == 40 && offsetof(struct pidtab_task, root) == 56, "pidtab_task");
+_Static_assert(sizeof(struct pidtab_effect) == 16 && offsetof(struct pidtab_effect, value) == 8, "pidtab_effect");
 _Static_assert(PIDTAB_CLOSED == EBADF && PIDTAB_NO_MEMORY == ENOMEM && PIDTAB_BUSY == EBUSY && PIDTAB_OUT_OF_RANGE == EINVAL, "status");
 _Static_assert(PIDTAB_NO_ROOM == ERANGE && PIDTAB_EMPTY_LINE == ENODATA && PIDTAB_BAD_LINE == EPROTO && PIDTAB_SPENT == EOVERFLOW, "status");
 _Static_assert(PIDTAB_SUBREAPER == 18 && PIDTAB_REFUSED == 9, "operations and kinds");

@@ -311,15 +311,18 @@ static struct pidtab_effect effects[EFFECTS], others[EFFECTS];
 
 static void say_effect(char *to, const struct pidtab_effect *it)
 {
-	static const char *const words[] = { [PIDTAB_TASK_ENDED] = "ended", [PIDTAB_TASK_ADOPTED] = "adopted", [PIDTAB_TASK_GONE] = "gone" };
+	static const char *const words[] = { [PIDTAB_TASK_ENDED] = "ended", [PIDTAB_TASK_ADOPTED] = "adopted", [PIDTAB_TASK_GONE] = "gone",
+		[PIDTAB_GROUP_GONE] = "group-gone", [PIDTAB_SESSION_GONE] = "session-gone", [PIDTAB_SPACE_FELL] = "space-fell", [PIDTAB_SPACE_GONE] = "space-gone" };
+	bool is_of_space = it->what == PIDTAB_SPACE_FELL || it->what == PIDTAB_SPACE_GONE;
 
-	to += sprintf(to, ", %s %" PRIu32, words[it->what], it->number);
-	if (it->what == PIDTAB_TASK_GONE)
-		CHECK(it->value == 0);
+	CHECK(it->what < sizeof words / sizeof *words && (!is_of_space || it->number == 0));
+	to += sprintf(to, ", %s %" PRIu64, words[it->what], is_of_space ? it->value : it->number);
+	if (it->what == PIDTAB_TASK_ENDED)
+		say_end(strcpy(to, " ") + 1, it->value);
 	else if (it->what == PIDTAB_TASK_ADOPTED)
 		sprintf(to, " %" PRIu64, it->value);
 	else
-		say_end(strcpy(to, " ") + 1, it->value);
+		CHECK(is_of_space || it->value == 0);
 }
 
 /* Makes the call, and tells its answer and what it did to tasks. Of the tables one makes it by its line. */
@@ -379,22 +382,31 @@ static void read_task(uint32_t caller, uint32_t number)
 		it.group, it.session, it.control, end, it.executed ? " executed" : "", it.subreaper ? " subreaper" : "");
 }
 
-/* Whom a page lists. One that is cut short has the first of them. */
-static void read_page(const uint64_t *numbers)
+/* A page of the shared table, or of one without a history, for the numbers of the step: of a control group, or of whom a page lists. */
+static uint32_t page_of(bool of_control, const struct pidtab *table, const uint64_t *numbers, uint32_t *found, size_t room, struct pidtab_reply *reply)
 {
-	uint32_t whom = (uint32_t)numbers[0], caller = (uint32_t)numbers[1], number = (uint32_t)numbers[2], from = (uint32_t)numbers[3];
+	uint32_t first = (uint32_t)numbers[0], second = (uint32_t)numbers[1], third = (uint32_t)numbers[2], from = (uint32_t)numbers[3];
+
+	if (of_control)
+		return table ? pidtab_control_tasks(table, first, numbers[1], third, found, room, reply) : pidtab_shared_control_tasks(&shared, first, numbers[1], third, found, room, reply);
+	return table ? pidtab_page(table, second, first, third, from, found, room, reply) : pidtab_shared_page(&shared, second, first, third, from, found, room, reply);
+}
+
+/* Whom a page has. One that is cut short has the first of them. */
+static void read_page(bool of_control, const uint64_t *numbers)
+{
 	uint32_t found[64] = { 0 }, others[64] = { 0 };
 	struct pidtab_reply reply, other;
 
-	CHECK(pidtab_shared_page(&shared, caller, whom, number, from, found, 64, &reply) == PIDTAB_DONE);
+	CHECK(page_of(of_control, NULL, numbers, found, 64, &reply) == PIDTAB_DONE);
 	for (int i = 0; i < 3 && has_tables; i++)
-		CHECK(pidtab_page(&tables[i], caller, whom, number, from, others, 64, &other) == PIDTAB_DONE && same_reply(&reply, &other) && memcmp(found, others, sizeof found) == 0);
+		CHECK(page_of(of_control, &tables[i], numbers, others, 64, &other) == PIDTAB_DONE && same_reply(&reply, &other) && memcmp(found, others, sizeof found) == 0);
 	if (reply.kind == PIDTAB_REFUSED) {
 		say(told, &reply);
 		return;
 	}
 	CHECK(reply.kind == PIDTAB_COUNTED && reply.first <= 64);
-	CHECK(pidtab_shared_page(&shared, caller, whom, number, from, others, 1, &other) == PIDTAB_DONE && same_reply(&reply, &other) && others[0] == found[0]);
+	CHECK(page_of(of_control, NULL, numbers, others, 1, &other) == PIDTAB_DONE && same_reply(&reply, &other) && others[0] == found[0]);
 	strcpy(told, "none");
 	if (reply.first != 0)
 		say_levels(told, found, (uint32_t)reply.first, ' ');
@@ -578,8 +590,8 @@ static bool make(const char *step, const char *wanted)
 		make_told(step + strlen("told "));
 	else if (strcmp(word, "stat") == 0)
 		read_task((uint32_t)numbers[0], (uint32_t)numbers[1]);
-	else if (strcmp(word, "page") == 0)
-		read_page(numbers);
+	else if (strcmp(word, "page") == 0 || strcmp(word, "control_tasks") == 0)
+		read_page(word[0] == 'c', numbers);
 	else if (strcmp(word, "inside") == 0)
 		read_inside(numbers);
 	else if (strcmp(word, "space") == 0)

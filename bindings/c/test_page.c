@@ -3,87 +3,38 @@
 #include "pidtab_shared.h"
 #include "test_heap.h"
 #include "test_tasks.h"
+#include "test_page.h"
 
 #include <errno.h>
 #include <pthread.h>
 
 #define TABLES 20
 #define CALLS 2000
-#define MOST 400
 #define READERS 3
 #define FORKS 300
 #define CHILDREN 100
 
-static struct pidtab_reply blank(void)
-{
-	struct pidtab_reply reply;
-
-	memset(&reply, 0x55, sizeof reply);
-	return reply;
-}
-
-/* What a page writes into, and the reply beside it. */
-struct page {
-	uint32_t numbers[MOST];
-	struct pidtab_reply reply;
+/* What a page is asked for. */
+struct asked {
+	const struct pidtab *table;
+	uint32_t caller, whom, number;
 };
 
-static void clear(struct page *it)
+static uint32_t read_asked(const void *asked, uint32_t from, struct page *it, size_t room)
 {
-	memset(it->numbers, 0x55, sizeof it->numbers);
-	it->reply = blank();
+	const struct asked *of = asked;
+
+	return pidtab_page(of->table, of->caller, of->whom, of->number, from, it->numbers, room, &it->reply);
 }
 
-/* The numbers from a place on are as they were. */
-static bool is_rest_untold(const struct page *it, size_t place)
+/* To the number these belong. */
+static void belong(uint32_t caller, uint32_t whom, uint32_t number, const uint32_t *wanted, size_t count)
 {
-	while (place < MOST && it->numbers[place] == 0x55555555)
-		place++;
-	return place == MOST;
+	pages_have(read_asked, &(struct asked){ &table, caller, whom, number }, wanted, count);
 }
 
-static void is_untold(const struct page *it)
-{
-	struct pidtab_reply was = blank();
-
-	CHECK(is_rest_untold(it, 0) && is_same_reply(&it->reply, &was));
-}
-
-/* All that belong to the number from one on are these, of which as many were told as there was room for. */
-static void has_told(const struct page *it, size_t room, const uint32_t *wanted, size_t count)
-{
-	struct pidtab_reply reply = { .kind = PIDTAB_COUNTED, .first = count };
-	size_t told = count < room ? count : room;
-
-	CHECK(is_same_reply(&it->reply, &reply));
-	CHECK(memcmp(it->numbers, wanted, told * sizeof *wanted) == 0 && is_rest_untold(it, told));
-}
-
-/* To the number these belong, from each number on, with each room, and one page behind another. */
-static void belong(const struct pidtab *table, uint32_t caller, uint32_t whom, uint32_t number, const uint32_t *wanted, size_t count)
-{
-	struct page it;
-
-	for (size_t behind = 0; behind <= count; behind++)
-		for (size_t room = 0; room <= count + 2; room++) {
-			uint32_t from = behind == 0 ? 0 : wanted[behind - 1] + 1;
-
-			clear(&it);
-			CHECK(pidtab_page(table, caller, whom, number, from, it.numbers, room, &it.reply) == PIDTAB_DONE);
-			has_told(&it, room, wanted + behind, count - behind);
-			if (behind == count)
-				continue;
-			clear(&it);
-			CHECK(pidtab_page(table, caller, whom, number, wanted[behind], it.numbers, room, &it.reply) == PIDTAB_DONE);
-			has_told(&it, room, wanted + behind, count - behind);
-		}
-	clear(&it);
-	CHECK(pidtab_page(table, caller, whom, number, UINT32_MAX, it.numbers, MOST, &it.reply) == PIDTAB_DONE);
-	has_told(&it, MOST, wanted, 0);
-}
-
-#define BELONG(caller, whom, number, ...) belong(&table, caller, whom, number, (const uint32_t[]){ __VA_ARGS__ }, sizeof (uint32_t[]){ __VA_ARGS__ } / sizeof(uint32_t))
-#define NOBODY(caller, whom, number) belong(&table, caller, whom, number, (const uint32_t[1]){ 0 }, 0)
+#define BELONG(caller, whom, number, ...) belong(caller, whom, number, (const uint32_t[]){ __VA_ARGS__ }, sizeof (uint32_t[]){ __VA_ARGS__ } / sizeof(uint32_t))
+#define NOBODY(caller, whom, number) belong(caller, whom, number, (const uint32_t[1]){ 0 }, 0)
 
 static void is_refused(uint32_t caller, uint32_t whom)
 {
@@ -233,7 +184,6 @@ static void want_of_memory(void)
 {
 	uint32_t children[CHILDREN], all[CHILDREN + 1] = { 1 };
 	size_t size;
-	struct page it;
 
 	CHECK(pidtab_open(&table, 32768) == PIDTAB_DONE);
 	for (uint32_t i = 0; i < CHILDREN; i++)
@@ -241,19 +191,9 @@ static void want_of_memory(void)
 	size = text_of(texts[0]);
 	for (uint32_t whom = PIDTAB_CHILDREN; whom <= PIDTAB_NAMESPACE_OWN; whom++)
 		for (size_t room = 0; room <= MOST; room += MOST / 2) {
-			int at = 1;
+			const struct asked asked = { &table, 1, whom, 1 };
 
-			for (uint32_t status = PIDTAB_NO_MEMORY; status != PIDTAB_DONE; at++) {
-				clear(&it);
-				refuse_at = at;
-				status = pidtab_page(&table, 1, whom, 1, 0, it.numbers, room, &it.reply);
-				refuse_at = 0;
-				CHECK(status == PIDTAB_DONE || status == PIDTAB_NO_MEMORY);
-				if (status == PIDTAB_NO_MEMORY)
-					is_untold(&it);
-			}
-			CHECK(at > 2);
-			has_told(&it, room, whom == PIDTAB_CHILDREN ? children : all, whom == PIDTAB_CHILDREN ? CHILDREN : CHILDREN + 1);
+			pages_want_memory(read_asked, &asked, room, whom == PIDTAB_CHILDREN ? children : all, whom == PIDTAB_CHILDREN ? CHILDREN : CHILDREN + 1);
 		}
 	CHECK(text_of(texts[1]) == size && memcmp(texts[0], texts[1], size) == 0);
 	CHECK(pidtab_close(&table) == PIDTAB_DONE);
@@ -263,14 +203,6 @@ static void want_of_memory(void)
 static uint32_t number_of(const struct pidtab_task *task, uint32_t whom)
 {
 	return whom == PIDTAB_CHILDREN ? task->parent : whom == PIDTAB_GROUP_MEMBERS ? task->group : task->session;
-}
-
-static struct pidtab_task read_task(uint32_t caller, uint32_t number)
-{
-	struct pidtab_task task;
-
-	CHECK(pidtab_stat(&table, caller, number, &task) == PIDTAB_DONE && task.error == 0);
-	return task;
 }
 
 /* Whether the first namespace is the second one, or inside it, as the parents of namespaces say. */
@@ -294,25 +226,21 @@ static bool is_in_namespace(const struct pidtab_task *task, uint32_t caller, uin
 	return named.error == 0 && (whom == PIDTAB_NAMESPACE_OWN ? task->space == named.space : is_within(task->space, named.space));
 }
 
-/* Who belongs to the number, of all tasks from one on that the caller sees. The root namespace knows what the caller's own is that it does not see. */
+/* Whether the task belongs to the number. The root namespace knows what the caller's own is that it does not see. */
+static bool belongs(const void *asked, const struct pidtab_task *seen)
+{
+	const struct asked *of = asked;
+	struct pidtab_task own = read_task(1, of->caller), whole = read_task(1, seen->root);
+	uint32_t wanted = of->number != 0 ? of->number : of->whom == PIDTAB_CHILDREN ? of->caller : number_of(&own, of->whom);
+
+	if (of->whom >= PIDTAB_NAMESPACE_MEMBERS)
+		return is_in_namespace(&whole, of->caller, of->whom, of->number);
+	return number_of(of->number != 0 ? seen : &whole, of->whom) == wanted;
+}
+
 static size_t searched(uint32_t caller, uint32_t whom, uint32_t number, uint32_t from, uint32_t *found)
 {
-	struct pidtab_call next = { .operation = PIDTAB_NEXT, .caller = caller, .choice = PIDTAB_TASKS, .number = from };
-	struct pidtab_task own = read_task(1, caller);
-	struct pidtab_reply reply;
-	size_t count = 0;
-
-	while (pidtab_ask(&table, &next, &reply) == PIDTAB_DONE && reply.kind == PIDTAB_NUMBER) {
-		struct pidtab_task seen = read_task(caller, (uint32_t)reply.first), whole = read_task(1, seen.root);
-		uint32_t wanted = number != 0 ? number : whom == PIDTAB_CHILDREN ? caller : number_of(&own, whom);
-		bool is_listed = whom < PIDTAB_NAMESPACE_MEMBERS ? number_of(number != 0 ? &seen : &whole, whom) == wanted : is_in_namespace(&whole, caller, whom, number);
-
-		next.number = (uint32_t)reply.first + 1;
-		if (is_listed && count < MOST)
-			found[count++] = (uint32_t)reply.first;
-	}
-	CHECK(reply.kind == PIDTAB_END);
-	return count;
+	return search(caller, from, belongs, &(struct asked){ &table, caller, whom, number }, found);
 }
 
 /* The children of the caller, whose namespace for them has fallen, go into its own again. */
@@ -420,17 +348,26 @@ static void of_a_record(void)
 
 static struct pidtab_shared shared;
 
-/* The children are 2, 3, 4 and so on, never fewer than before: what a page tells is of one moment. */
+/* A page of the children, or of the live tasks of the root control group from 2 on: they are the same. */
+static uint32_t read_shared(bool by_control, uint32_t *numbers, size_t room, struct pidtab_reply *reply)
+{
+	return by_control ? pidtab_shared_control_tasks(&shared, 1, 0, 2, numbers, room, reply)
+			  : pidtab_shared_page(&shared, 1, PIDTAB_CHILDREN, 0, 0, numbers, room, reply);
+}
+
+/* They are 2, 3, 4 and so on, never fewer than before: what a page tells is of one moment. */
 static void *reads_pages(void *unused)
 {
 	uint32_t numbers[FORKS + 1];
 	struct pidtab_reply reply;
+	bool by_control = false;
 
 	for (size_t before = 0, room = 0; before < FORKS; before = reply.first, room = (room + 7) % (FORKS + 1)) {
-		CHECK(unused == NULL && pidtab_shared_page(&shared, 1, PIDTAB_CHILDREN, 0, 0, numbers, room, &reply) == PIDTAB_DONE);
+		CHECK(unused == NULL && read_shared(by_control, numbers, room, &reply) == PIDTAB_DONE);
 		CHECK(reply.kind == PIDTAB_COUNTED && reply.first >= before && reply.first <= FORKS);
 		for (uint32_t i = 0; i < room && i < reply.first; i++)
 			CHECK(numbers[i] == i + 2);
+		by_control = !by_control;
 	}
 	return NULL;
 }

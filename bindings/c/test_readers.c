@@ -117,6 +117,7 @@ static void ask_table(const struct pidtab *it)
 	CHECK(pidtab_page(it, 1, PIDTAB_CHILDREN, 0, 0, numbers, 2, &reply) == PIDTAB_DONE && reply.first == 1 && numbers[0] == 2);
 	CHECK(pidtab_space(it, 0, &space) == PIDTAB_DONE && space.init == 1 && pidtab_space(it, 1, &space) == PIDTAB_OUT_OF_RANGE);
 	CHECK(pidtab_inside(it, PIDTAB_SPACES, 0, 0, ids, 2, &count) == PIDTAB_DONE && count == 0);
+	CHECK(pidtab_control_tasks(it, 1, 0, 2, numbers, 2, &reply) == PIDTAB_DONE && reply.first == 1 && numbers[0] == 2);
 	CHECK(pidtab_list(it, text.bytes, sizeof text.bytes, &text.size) == PIDTAB_DONE && strncmp(text.bytes, "task 1 ", 7) == 0);
 	CHECK(pidtab_dump(it, text.bytes, sizeof text.bytes, &text.size) == PIDTAB_DONE && strncmp(text.bytes, "pidtab table 1 ", 15) == 0);
 }
@@ -138,6 +139,7 @@ static void ask_record(const struct pidtab_record *it)
 	CHECK(pidtab_record_page(it, 1, PIDTAB_GROUP_MEMBERS, 0, 0, numbers, 2, &reply) == PIDTAB_DONE && reply.first == 2 && numbers[1] == 2);
 	CHECK(pidtab_record_space(it, 0, &space) == PIDTAB_DONE && space.init == 1 && pidtab_record_space(it, 1, &space) == PIDTAB_OUT_OF_RANGE);
 	CHECK(pidtab_record_inside(it, PIDTAB_CONTROLS, 0, 0, ids, 2, &inside) == PIDTAB_DONE && inside == 0);
+	CHECK(pidtab_record_control_tasks(it, 1, 0, 0, numbers, 2, &reply) == PIDTAB_DONE && reply.first == 2 && numbers[1] == 2);
 	CHECK(pidtab_record_counts(it, &first_kept, &recorded) == PIDTAB_DONE && first_kept == 0 && recorded == 1);
 	CHECK(pidtab_record_worker(it, 0, &calls) == PIDTAB_DONE && calls == 1);
 	CHECK(pidtab_record_entry(it, 0, &entry.worker, &entry.call, &entry.reply) == PIDTAB_DONE && entry.reply.first == 2);

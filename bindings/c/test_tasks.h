@@ -1,17 +1,7 @@
 /* A table of calls that look random, and its tasks, for tests that compare what is read of it. A test takes this in behind test.h. */
+#include "test_text.h"
+
 #define HELD_TASKS 40
-
-static struct pidtab table = PIDTAB_INIT;
-
-static char texts[2][1 << 20];
-
-static size_t text_of(char *room)
-{
-	size_t size = 0;
-
-	CHECK(pidtab_dump(&table, room, sizeof texts[0], &size) == PIDTAB_DONE);
-	return size;
-}
 
 /* The root init, and tasks that were forked, by their root numbers. Who gives place to another one ends. */
 static uint32_t held[HELD_TASKS] = { 1 };

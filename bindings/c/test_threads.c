@@ -54,11 +54,11 @@ static const struct pidtab_call exit_2 = { .operation = PIDTAB_EXIT, .caller = 2
 
 static void *tells_an_end(void *unused)
 {
-	struct pidtab_effect effects[2];
+	struct pidtab_effect effects[4];
 	struct pidtab_reply reply;
 	uint64_t count;
 
-	CHECK(pidtab_call_told(&table, &exit_2, &reply, effects, 2, &count) == PIDTAB_DONE && count == 1 && effects[0].number == 2);
+	CHECK(pidtab_call_told(&table, &exit_2, &reply, effects, 4, &count) == PIDTAB_DONE && count == 1 && effects[0].number == 2);
 	return unused;
 }
 
@@ -134,6 +134,7 @@ static void each_function_is_busy(void)
 	CHECK(pidtab_page(&table, 1, PIDTAB_CHILDREN, 0, 0, &number, 1, &reply) == PIDTAB_BUSY && reply.kind == 77 && number == 7);
 	CHECK(pidtab_space(&table, 0, &space) == PIDTAB_BUSY && space.level == 77);
 	CHECK(pidtab_inside(&table, PIDTAB_SPACES, 0, 0, &id, 1, &count) == PIDTAB_BUSY && id == 7 && count == 77);
+	CHECK(pidtab_control_tasks(&table, 1, 0, 0, &number, 1, &reply) == PIDTAB_BUSY && reply.kind == 77 && number == 7);
 }
 
 static struct pidtab_record record = PIDTAB_RECORD_INIT;
@@ -159,11 +160,11 @@ static void *calls(void *unused)
 
 static void *tells_a_recorded_end(void *unused)
 {
-	struct pidtab_effect effects[2];
+	struct pidtab_effect effects[4];
 	struct pidtab_reply reply;
 	uint64_t ordinal, count;
 
-	CHECK(pidtab_record_call_told(&record, 1, &exit_2, &reply, &ordinal, effects, 2, &count) == PIDTAB_DONE && count == 1 && effects[0].number == 2);
+	CHECK(pidtab_record_call_told(&record, 1, &exit_2, &reply, &ordinal, effects, 4, &count) == PIDTAB_DONE && count == 1 && effects[0].number == 2);
 	return unused;
 }
 
@@ -294,6 +295,7 @@ static void each_function_of_a_record_is_busy(void)
 	CHECK(pidtab_record_page(&record, 1, PIDTAB_CHILDREN, 0, 0, &number, 1, &reply) == PIDTAB_BUSY && reply.kind == 77 && number == 7);
 	CHECK(pidtab_record_space(&record, 0, &space) == PIDTAB_BUSY && space.level == 77);
 	CHECK(pidtab_record_inside(&record, PIDTAB_SPACES, 0, 0, &id, 1, &count) == PIDTAB_BUSY && id == 7 && count == 77);
+	CHECK(pidtab_record_control_tasks(&record, 1, 0, 0, &number, 1, &reply) == PIDTAB_BUSY && reply.kind == 77 && number == 7);
 	CHECK(pidtab_record_counts(&record, &one, &other) == PIDTAB_BUSY && pidtab_record_worker(&record, 0, &one) == PIDTAB_BUSY);
 	CHECK(pidtab_record_entry(&record, 0, &one, &call, &reply) == PIDTAB_BUSY);
 	CHECK(pidtab_record_read(&record, 0, &entry, 1, &size) == PIDTAB_BUSY);

@@ -151,7 +151,7 @@ func (it *caseWorld) callOn(line string) Call {
 	return entry.Call
 }
 
-// callTold is the answer to the line, and behind it what the call does to tasks, which are the same of each table.
+// callTold is the answer to the line, and behind it what the call does, which are the same of each table.
 func (it *caseWorld) callTold(line string) string {
 	seat, call := it.seats[it.at], it.callOn(line)
 	reply, effects, err := seat.Told(call)
@@ -169,9 +169,17 @@ func (it *caseWorld) callTold(line string) string {
 	return said
 }
 
-// sayEffect is what has become of a task.
+// sayEffect is what has become of a task, a process group, a session or a namespace.
 func sayEffect(effect Effect) string {
 	switch effect.Kind {
+	case EffectGroupGone:
+		return fmt.Sprintf("group-gone %d", effect.Number)
+	case EffectSessionGone:
+		return fmt.Sprintf("session-gone %d", effect.Number)
+	case EffectSpaceFell:
+		return fmt.Sprintf("space-fell %d", effect.Space)
+	case EffectSpaceGone:
+		return fmt.Sprintf("space-gone %d", effect.Space)
 	case EffectEnded:
 		return fmt.Sprintf("ended %d %s", effect.Number, sayEnd(effect.Status, effect.Killed))
 	case EffectAdopted:
@@ -341,9 +349,18 @@ func (it *caseWorld) stat(caller, pid uint32) string {
 // page is whom a page lists.
 func (it *caseWorld) page(numbers []uint64) string {
 	caller, number, from := uint32(numbers[1]), uint32(numbers[2]), uint32(numbers[3])
-	ask := func(of lister) ([]uint32, error) {
-		return listsOf(of)[numbers[0]](caller, number, from)
-	}
+	return it.numbersOf(func(of lister) ([]uint32, error) { return listsOf(of)[numbers[0]](caller, number, from) })
+}
+
+// controlTasks are the live tasks of a control group.
+func (it *caseWorld) controlTasks(numbers []uint64) string {
+	return it.numbersOf(func(of lister) ([]uint32, error) {
+		return of.ControlTasks(uint32(numbers[0]), numbers[1], uint32(numbers[2]))
+	})
+}
+
+// numbersOf are the numbers that are asked for, which are the same of each table.
+func (it *caseWorld) numbersOf(ask func(of lister) ([]uint32, error)) string {
 	found, err := ask(it.shared)
 	for _, table := range it.tables {
 		it.same(of(ask(table)), told{found, err})
@@ -529,6 +546,8 @@ func (it *caseWorld) step(step, text string) (found string, err error) {
 		return it.stat(uint32(numbers[0]), uint32(numbers[1])), nil
 	case "page":
 		return it.page(numbers), nil
+	case "control_tasks":
+		return it.controlTasks(numbers), nil
 	case "inside":
 		return it.inside(numbers), nil
 	case "space":

@@ -3,20 +3,25 @@ package pidtab
 // #include <pidtab.h>
 import "C"
 
-// EffectKind is what has become of a task.
+// EffectKind is what has become of a task, a process group, a session or a namespace.
 type EffectKind uint32
 
 // The kinds of an Effect, with its fields that each tells.
 const (
-	EffectEnded   EffectKind = C.PIDTAB_TASK_ENDED   // Status and Killed: the task lives no more
-	EffectAdopted EffectKind = C.PIDTAB_TASK_ADOPTED // Parent: the task has another parent
-	EffectGone    EffectKind = C.PIDTAB_TASK_GONE    // nothing: the task is there no more, as it was reaped or went with its namespace
+	EffectEnded       EffectKind = C.PIDTAB_TASK_ENDED   // Number, Status and Killed: the task lives no more
+	EffectAdopted     EffectKind = C.PIDTAB_TASK_ADOPTED // Number and Parent: the task has another parent
+	EffectGone        EffectKind = C.PIDTAB_TASK_GONE    // Number: the task is there no more, as it was reaped or went with its namespace
+	EffectGroupGone   EffectKind = C.PIDTAB_GROUP_GONE   // Number: the process group has no member any more, no zombie either
+	EffectSessionGone EffectKind = C.PIDTAB_SESSION_GONE // Number: the session has no member any more, no zombie either
+	EffectSpaceFell   EffectKind = C.PIDTAB_SPACE_FELL   // Space: the namespace has fallen, as its init has ended, and takes no task any more
+	EffectSpaceGone   EffectKind = C.PIDTAB_SPACE_GONE   // Space: the namespace is there no more, as nothing has a number in it
 )
 
-// Effect is what a call did to a task, by root numbers; == compares two. What its kind does not tell is 0.
+// Effect is what a call did, by root numbers; == compares two. What its kind does not tell is 0.
 type Effect struct {
 	Kind   EffectKind
-	Number uint32 // of the task
+	Number uint32 // of the task, the process group or the session
+	Space  uint64 // the id of the namespace
 	Parent uint32 // whose child it is now
 	Status uint8  // of its exit
 	Killed bool   // by the fall of its namespace; then the status is 0
@@ -50,6 +55,8 @@ func tellEffects(tell func(effects *C.struct_pidtab_effect, room C.size_t, count
 func effectOf(numbers *C.struct_pidtab_effect) Effect {
 	effect := Effect{Kind: EffectKind(numbers.what), Number: uint32(numbers.number)}
 	switch {
+	case effect.Kind == EffectSpaceFell || effect.Kind == EffectSpaceGone:
+		effect.Space = uint64(numbers.value)
 	case effect.Kind == EffectAdopted:
 		effect.Parent = uint32(numbers.value)
 	case effect.Kind == EffectEnded && numbers.value == C.PIDTAB_KILLED:

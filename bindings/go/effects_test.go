@@ -36,6 +36,14 @@ func adopted(number, parent uint32) Effect {
 
 func gone(number uint32) Effect { return Effect{Kind: EffectGone, Number: number} }
 
+func groupGone(number uint32) Effect { return Effect{Kind: EffectGroupGone, Number: number} }
+
+func sessionGone(number uint32) Effect { return Effect{Kind: EffectSessionGone, Number: number} }
+
+func spaceFell(id uint64) Effect { return Effect{Kind: EffectSpaceFell, Space: id} }
+
+func spaceGone(id uint64) Effect { return Effect{Kind: EffectSpaceGone, Space: id} }
+
 // isTold is that a call has the effects, and no fault.
 func isTold(t *testing.T, it teller, call Call, wanted ...Effect) Reply {
 	t.Helper()
@@ -54,7 +62,7 @@ func isNotMade(t *testing.T, it teller, call Call, wanted error) {
 	}
 }
 
-// 2 is the init of a namespace, in which are its child 3 and the children 4 and 5 of that. 5 is the init of one within.
+// 2 is the init of the namespace 1, in which are its child 3 and the children 4 and 5 of that. 5 is the init of 4 within.
 func TestWhatCallsDoToTasks(t *testing.T) {
 	table, shared := open(t, 32768), openShared(t, Settings{PidMax: 32768, Workers: 1})
 	seat := seatOf(t, shared)
@@ -62,8 +70,8 @@ func TestWhatCallsDoToTasks(t *testing.T) {
 		play(t, it, "fork 1 new", "fork 2", "fork 3", "fork 3 new")
 		isTold(t, it, exitOf(4, 255), ended(4, 255))
 		isTold(t, it, exitOf(3, 1), ended(3, 1), adopted(4, 2), adopted(5, 2))
-		isTold(t, it, exitOf(2, 9), ended(2, 9), gone(3), gone(4), killed(5), gone(5))
-		if reply := isTold(t, it, waitOf(1, 2), gone(2)); reply != (Reply{Kind: ReplyReaped, First: 2, Second: 9}) {
+		isTold(t, it, exitOf(2, 9), ended(2, 9), gone(3), gone(4), killed(5), gone(5), spaceFell(1), spaceFell(4), spaceGone(4))
+		if reply := isTold(t, it, waitOf(1, 2), gone(2), spaceGone(1)); reply != (Reply{Kind: ReplyReaped, First: 2, Second: 9}) {
 			t.Error(reply)
 		}
 		if reply := isTold(t, it, exitOf(1, 0)); !errors.Is(reply.Err(), syscall.EBUSY) {
@@ -86,6 +94,36 @@ func TestWhatCallsDoToTasks(t *testing.T) {
 	}
 }
 
+// 2 leads a session, of which are its children 3 and 4, and 4 leads a group. A zombie is a member until it is reaped.
+func TestWhatCallsDoToGroupsAndSessions(t *testing.T) {
+	table, shared := open(t, 32768), openShared(t, Settings{PidMax: 32768, Workers: 1})
+	for _, it := range []teller{table, seatOf(t, shared)} {
+		play(t, it, "fork 1", "setsid 2", "fork 2", "fork 2", "setpgid 2 4 4")
+		isTold(t, it, setpgidOf(2, 3, 0))
+		isTold(t, it, setpgidOf(2, 3, 2), groupGone(3))
+		isTold(t, it, exitOf(2, 1), ended(2, 1), adopted(3, 1), adopted(4, 1))
+		isTold(t, it, waitOf(1, 2), gone(2))
+		isTold(t, it, Call{Operation: OpSetsid, Caller: 3}, groupGone(2))
+		isTold(t, it, exitOf(4, 2), ended(4, 2))
+		isTold(t, it, waitOf(1, 4), gone(4), groupGone(4), sessionGone(2))
+	}
+}
+
+// 3 is the init of the namespace 2, and 2 is in its group, whose number keeps the namespace.
+func TestAGroupKeepsANamespace(t *testing.T) {
+	table, shared := open(t, 32768), openShared(t, Settings{PidMax: 32768, Workers: 1})
+	for _, it := range []teller{table, seatOf(t, shared)} {
+		play(t, it, "fork 1", "fork 2 new", "setpgid 2 3 0", "setpgid 2 0 3")
+		isTold(t, it, exitOf(3, 0), ended(3, 0), spaceFell(2))
+		isTold(t, it, waitOf(2, 3), gone(3))
+		isTold(t, it, setpgidOf(2, 0, 1), groupGone(3), spaceGone(2))
+	}
+}
+
+func setpgidOf(caller uint32, pid, group int32) Call {
+	return Call{Operation: OpSetpgid, Caller: caller, Pid: pid, Pgid: group}
+}
+
 // refusedBy is the reply to a call that is refused.
 func refusedBy(t *testing.T, table *Table, call Call) Reply {
 	t.Helper()
@@ -97,7 +135,8 @@ func refusedBy(t *testing.T, table *Table, call Call) Reply {
 }
 
 func TestMoreEffectsThanThereIsRoomForAtFirst(t *testing.T) {
-	for _, count := range []int{shortRoom/2 - 2, shortRoom/2 - 1, shortRoom / 2, 5 * shortRoom} {
+	// Of each task there may be two effects, and one of their group and of their session.
+	for _, count := range []int{shortRoom/2 - 3, shortRoom/2 - 2, shortRoom/2 - 1, 5 * shortRoom} {
 		table, wanted := open(t, 32768), []Effect{ended(2, 7)}
 		play(t, table, "fork 1")
 		for i := 0; i < count; i++ {

@@ -12,6 +12,15 @@ import (
 	"pidtab"
 )
 
+// opened is a new table.
+func opened() *pidtab.Table {
+	table, err := pidtab.Open(32768)
+	if err != nil {
+		log.Fatal(err)
+	}
+	return table
+}
+
 // serve makes a container of the worker's own, and in it one process after the other.
 func serve(seat *pidtab.Seat) {
 	container, _ := seat.Fork(1, pidtab.NewNamespace)
@@ -176,10 +185,7 @@ func endAll(table *pidtab.Table, tasks []uint32) {
 
 // The end of a process group, with all that come from its members.
 func ExampleTable_GroupMembers() {
-	table, err := pidtab.Open(32768)
-	if err != nil {
-		log.Fatal(err)
-	}
+	table := opened()
 	defer table.Close()
 	table.Fork(1, pidtab.NoNewNamespace)
 	table.Setpgid(1, 2, 2)
@@ -201,10 +207,7 @@ func ExampleTable_GroupMembers() {
 
 // The namespaces that a task is in, from its own outwards.
 func ExampleTable_Space() {
-	table, err := pidtab.Open(32768)
-	if err != nil {
-		log.Fatal(err)
-	}
+	table := opened()
 	defer table.Close()
 	// 2 is the init of a namespace, and 3 that of one within it, which ends.
 	table.Fork(1, pidtab.NewNamespace)
@@ -228,10 +231,7 @@ func ExampleTable_Space() {
 
 // A fork with the numbers that were told before, or none.
 func ExampleTable_ForkAt() {
-	table, err := pidtab.Open(32768)
-	if err != nil {
-		log.Fatal(err)
-	}
+	table := opened()
 	defer table.Close()
 	told, _ := table.Would(pidtab.Call{Operation: pidtab.OpFork, Caller: 1})
 	child := pidtab.Child{Number: uint32(told.First), Root: uint32(told.Second)}
@@ -244,40 +244,89 @@ func ExampleTable_ForkAt() {
 	// false <nil>
 }
 
-// What an exit does to other tasks, and then that of a namespace's init.
-func ExampleTable_Told() {
-	table, err := pidtab.Open(32768)
-	if err != nil {
-		log.Fatal(err)
+// tell says what a call has done.
+func tell(effect pidtab.Effect) {
+	switch effect.Kind {
+	case pidtab.EffectEnded:
+		fmt.Println(effect.Number, "ends with", effect.Status, "is killed:", effect.Killed)
+	case pidtab.EffectAdopted:
+		fmt.Println(effect.Number, "is a child of", effect.Parent, "now")
+	case pidtab.EffectGone:
+		fmt.Println(effect.Number, "is gone")
+	case pidtab.EffectGroupGone:
+		fmt.Println("the process group", effect.Number, "is gone")
+	case pidtab.EffectSessionGone:
+		fmt.Println("the session", effect.Number, "is gone")
+	case pidtab.EffectSpaceFell:
+		fmt.Println("the namespace", effect.Space, "has fallen")
+	case pidtab.EffectSpaceGone:
+		fmt.Println("the namespace", effect.Space, "is gone")
 	}
+}
+
+// What an exit does to other tasks, then what that of a namespace's init does, and then the wait for that.
+func ExampleTable_Told() {
+	table := opened()
 	defer table.Close()
-	// 2 is the init of a namespace, in which are its child 3 and the child 4 of that.
+	// 2 is the init of a namespace, in which are its child 3 and the child 4 of that, which leads a session.
 	table.Fork(1, pidtab.NewNamespace)
 	table.Fork(2, pidtab.NoNewNamespace)
 	table.Fork(3, pidtab.NoNewNamespace)
-	for _, task := range []uint32{3, 2} {
-		_, effects, err := table.Told(pidtab.Call{Operation: pidtab.OpExit, Caller: task, Number: 7})
-		fmt.Println("exit", task, err)
+	table.Setsid(4)
+	for _, call := range []pidtab.Call{
+		{Operation: pidtab.OpExit, Caller: 3, Number: 7}, {Operation: pidtab.OpExit, Caller: 2, Number: 7}, {Operation: pidtab.OpWait, Caller: 1},
+	} {
+		_, effects, err := table.Told(call)
+		fmt.Println("caller", call.Caller, err)
 		for _, effect := range effects {
-			switch {
-			case effect.Kind == pidtab.EffectAdopted:
-				fmt.Println(effect.Number, "is a child of", effect.Parent, "now")
-			case effect.Kind == pidtab.EffectGone:
-				fmt.Println(effect.Number, "is gone")
-			case effect.Killed:
-				fmt.Println(effect.Number, "is killed")
-			default:
-				fmt.Println(effect.Number, "ends with", effect.Status)
-			}
+			tell(effect)
 		}
 	}
 	// Output:
-	// exit 3 <nil>
-	// 3 ends with 7
+	// caller 3 <nil>
+	// 3 ends with 7 is killed: false
 	// 4 is a child of 2 now
-	// exit 2 <nil>
-	// 2 ends with 7
+	// caller 2 <nil>
+	// 2 ends with 7 is killed: false
 	// 3 is gone
-	// 4 is killed
+	// 4 ends with 0 is killed: true
 	// 4 is gone
+	// the process group 4 is gone
+	// the session 4 is gone
+	// the namespace 1 has fallen
+	// caller 1 <nil>
+	// 2 is gone
+	// the namespace 1 is gone
+}
+
+// tellControl tells a control group with its live tasks, and then each directly inside it.
+func tellControl(table *pidtab.Table, id uint64, depth int) {
+	tasks, _ := table.ControlTasks(1, id, 0)
+	fmt.Println("level", depth, "control group", id, "has", tasks)
+	inner, _ := table.ControlsInside(id, 0)
+	for _, id := range inner {
+		tellControl(table, id, depth+1)
+	}
+}
+
+// The tree of control groups, as systemd-cgls shows it. A child begins in that of its parent, and a zombie counts, but is no live task.
+func ExampleTable_ControlTasks() {
+	table := opened()
+	defer table.Close()
+	service, _ := table.Mk(0)
+	worker, _ := table.Mk(service)
+	table.Fork(1, pidtab.NoNewNamespace)
+	table.Move(2, service)
+	for i := 0; i < 3; i++ {
+		table.Fork(2, pidtab.NoNewNamespace)
+	}
+	table.Move(4, worker)
+	table.Exit(5, 0)
+	tellControl(table, 0, 0)
+	fmt.Println(table.Count(service))
+	// Output:
+	// level 0 control group 0 has [1]
+	// level 1 control group 1 has [2 3]
+	// level 2 control group 2 has [4]
+	// 4 <nil>
 }

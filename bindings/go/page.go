@@ -36,6 +36,27 @@ func (table *Table) NamespaceOwn(caller, pid, from uint32) ([]uint32, error) {
 	return table.page(C.PIDTAB_NAMESPACE_OWN, caller, pid, from)
 }
 
+// ControlTasks are the numbers of the live tasks directly in the control group with the id, where 0 is the root, as Children has those of a task: as
+// cgroup.procs has them, in which no zombie appears. Refused as no-caller, no-control; ErrNoMemory, ErrClosed, ErrBusy.
+func (table *Table) ControlTasks(caller uint32, control uint64, from uint32) ([]uint32, error) {
+	held := table.held()
+	held.lock.RLock()
+	defer held.lock.RUnlock()
+	return allOf(func(numbers *C.uint32_t, room C.size_t, reply *C.struct_pidtab_reply) C.uint32_t {
+		return C.pidtab_control_tasks(&held.raw, C.uint32_t(caller), C.uint64_t(control), C.uint32_t(from), numbers, room, reply)
+	})
+}
+
+// ControlTasks are the numbers of the live tasks directly in a control group, as ControlTasks of a Table has them; it is not recorded.
+func (shared *Shared) ControlTasks(caller uint32, control uint64, from uint32) ([]uint32, error) {
+	held := shared.held()
+	held.lock.RLock()
+	defer held.lock.RUnlock()
+	return allOf(func(numbers *C.uint32_t, room C.size_t, reply *C.struct_pidtab_reply) C.uint32_t {
+		return C.pidtab_record_control_tasks(held.raw, C.uint32_t(caller), C.uint64_t(control), C.uint32_t(from), numbers, room, reply)
+	})
+}
+
 // Children are the numbers of the children of the task pid, as Children of a Table has them; it is not recorded. Refused as no-caller; ErrNoMemory.
 func (shared *Shared) Children(caller, pid, from uint32) ([]uint32, error) {
 	return shared.page(C.PIDTAB_CHILDREN, caller, pid, from)

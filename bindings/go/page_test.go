@@ -2,6 +2,7 @@ package pidtab
 
 import (
 	"errors"
+	"fmt"
 	"reflect"
 	"sync"
 	"testing"
@@ -14,6 +15,7 @@ type lister interface {
 	SessionMembers(caller, session, from uint32) ([]uint32, error)
 	NamespaceMembers(caller, pid, from uint32) ([]uint32, error)
 	NamespaceOwn(caller, pid, from uint32) ([]uint32, error)
+	ControlTasks(caller uint32, control uint64, from uint32) ([]uint32, error)
 }
 
 // listsOf are its lists, in the order of the numbers of the header.
@@ -104,41 +106,112 @@ func TestMoreThanThereIsRoomForAtFirst(t *testing.T) {
 		if found, err := table.Children(1, 0, 0); err != nil || !reflect.DeepEqual(found, wanted) {
 			t.Fatal(found, err)
 		}
+		if found, err := table.ControlTasks(1, 0, 2); err != nil || !reflect.DeepEqual(found, wanted) {
+			t.Fatal(found, err)
+		}
 	}
 }
 
-func TestListsBesideAWriter(t *testing.T) {
+// The control group 2 is in 1. 3 is the init of a namespace, and its child 4 is 2 there. 2 and 4 are in 1, 5 in 2, and 6 is a zombie there.
+func TestTasksOfControlGroups(t *testing.T) {
+	table, shared := open(t, 32768), openShared(t, Settings{PidMax: 32768, Workers: 1})
+	makeBoth(t, table, seatOf(t, shared), "mk 0", "mk 1", "fork 1", "fork 1 new", "fork 3", "move 2 1", "move 4 1", "fork 1", "move 5 2", "fork 5", "exit 6 0")
+	for _, it := range []lister{table, shared} {
+		for _, row := range []struct {
+			caller  uint32
+			control uint64
+			from    uint32
+			wanted  []uint32
+		}{
+			{1, 0, 0, numbered(1, 3)}, {1, 1, 0, numbered(2, 4)}, {1, 1, 3, numbered(4)}, {1, 1, 1<<32 - 1, numbered()}, {1, 2, 0, numbered(5)},
+			// 3 and 4 see each other alone.
+			{3, 0, 0, numbered(1)}, {4, 1, 0, numbered(2)}, {3, 2, 0, numbered()},
+		} {
+			if found, err := it.ControlTasks(row.caller, row.control, row.from); err != nil || !reflect.DeepEqual(found, row.wanted) {
+				t.Error(row, found, err)
+			}
+		}
+		isListRefused(t, it, 6, 9, NoCaller)
+		isListRefused(t, it, 9, 1, NoCaller)
+		// 4 is the id of a namespace.
+		isListRefused(t, it, 1, 4, NoControl)
+		isListRefused(t, it, 1, 1<<64-1, NoControl)
+	}
+	wantCounts(t, shared, 0, 11)
+	table.Close()
+	shared.Close()
+	for _, it := range []lister{table, shared} {
+		if _, err := it.ControlTasks(1, 0, 0); !errors.Is(err, ErrClosed) {
+			t.Error(err)
+		}
+	}
+}
+
+// isListRefused is that the live tasks of the control group are not told, for this reason.
+func isListRefused(t *testing.T, it lister, caller uint32, control uint64, wanted Word) {
+	t.Helper()
+	var refusal Refusal
+	if found, err := it.ControlTasks(caller, control, 0); found != nil || !errors.As(err, &refusal) || refusal.Word != wanted {
+		t.Error(found, err)
+	}
+}
+
+// As in a forked child, where the thread whose call was under way is not.
+func TestAListBesideACallThatDoesNotEnd(t *testing.T) {
+	table := open(t, 32768)
+	table.own.raw.in_use = 255
+	if found, err := table.ControlTasks(1, 0, 0); found != nil || err != ErrBusy {
+		t.Error(found, err)
+	}
+	table.own.raw.in_use = 0
+}
+
+// besideAWriter has goroutines read while another one forks children of 1: each reads how many it has seen by now, until it has seen all.
+func besideAWriter(t *testing.T, newSpace bool, read func(shared *Shared, before int) (int, error)) {
+	t.Helper()
 	const forks, readers = 300, 3
 	shared := openShared(t, Settings{PidMax: 32768, Workers: 1})
-	seat, err := shared.Seat()
-	if err != nil {
-		t.Fatal(err)
-	}
+	seat := seatOf(t, shared)
 	var all sync.WaitGroup
 	for range [readers]int{} {
 		all.Add(1)
 		go func() {
 			defer all.Done()
 			for before := 0; before < forks; {
-				found, err := shared.Children(1, 0, 0)
-				if err != nil || len(found) < before {
-					t.Error(found, err)
+				now, err := read(shared, before)
+				if err != nil || now < before {
+					t.Error(before, now, err)
 					return
 				}
-				for place, number := range found {
-					if number != uint32(place)+2 {
-						t.Error(found)
-						return
-					}
-				}
-				before = len(found)
+				before = now
 			}
 		}()
 	}
 	for range [forks]int{} {
-		if _, err := seat.Fork(1, NoNewNamespace); err != nil {
+		if _, err := seat.Fork(1, newSpace); err != nil {
 			t.Fatal(err)
 		}
 	}
 	all.Wait()
+}
+
+// inOrder is how many numbers were told, which are all from the first on.
+func inOrder[Number uint32 | uint64](found []Number, err error, first Number) (int, error) {
+	for place, number := range found {
+		if number != Number(place)+first {
+			return 0, fmt.Errorf("%v", found)
+		}
+	}
+	return len(found), err
+}
+
+func TestListsBesideAWriter(t *testing.T) {
+	besideAWriter(t, NoNewNamespace, func(shared *Shared, before int) (int, error) {
+		found, err := shared.Children(1, 0, 0)
+		return inOrder(found, err, 2)
+	})
+	besideAWriter(t, NoNewNamespace, func(shared *Shared, before int) (int, error) {
+		found, err := shared.ControlTasks(1, 0, 2)
+		return inOrder(found, err, 2)
+	})
 }

@@ -529,7 +529,7 @@ func (seat *Seat) ForkAt(caller uint32, newSpace bool, child Child) (bool, error
 	return isMade(own.after(status, ordinal))
 }
 
-// Told makes the call, and tells what it did to tasks beside its reply, as Told of a Table does. It is recorded as any call. ErrOutOfRange.
+// Told makes the call, and tells what it did beside its reply, as Told of a Table does. It is recorded as any call. ErrOutOfRange.
 func (seat *Seat) Told(call Call) (Reply, []Effect, error) {
 	own, numbers, reply := seat.place(), call.numbers(), new(C.struct_pidtab_reply)
 	own.held.lock.LockForCall()

@@ -3,7 +3,6 @@ package pidtab
 import (
 	"errors"
 	"reflect"
-	"sync"
 	"testing"
 )
 
@@ -40,10 +39,7 @@ func isNoSpace(t *testing.T, it spaceReader, id uint64, wanted string) {
 func openSpaces(t *testing.T) (*Table, *Shared, *Seat) {
 	t.Helper()
 	table, shared := open(t, 32768), openShared(t, Settings{PidMax: 32768, Workers: 1})
-	seat, err := shared.Seat()
-	if err != nil {
-		t.Fatal(err)
-	}
+	seat := seatOf(t, shared)
 	makeBoth(t, table, seat, "fork 1 new", "fork 2 new", "fork 1 new", "join 1 4", "fork 1")
 	return table, shared, seat
 }
@@ -170,70 +166,22 @@ func TestNamespacesAsJSON(t *testing.T) {
 }
 
 func TestNamespacesBesideAWriter(t *testing.T) {
-	const forks, readers = 300, 3
-	shared := openShared(t, Settings{PidMax: 32768, Workers: 1})
-	seat, err := shared.Seat()
-	if err != nil {
-		t.Fatal(err)
-	}
-	var all sync.WaitGroup
-	for range [readers]int{} {
-		all.Add(1)
-		go func() {
-			defer all.Done()
-			for id := uint64(1); id <= forks; {
-				found, err := shared.Space(id)
-				if errors.Is(err, ErrOutOfRange) {
-					continue
-				}
-				if err != nil || !reflect.DeepEqual(found, inSpace(0, SpaceStat{ID: id, Level: 1, Init: uint32(id) + 1})) {
-					t.Error(found, err)
-					return
-				}
-				id++
-			}
-		}()
-	}
-	for range [forks]int{} {
-		if _, err := seat.Fork(1, NewNamespace); err != nil {
-			t.Fatal(err)
+	besideAWriter(t, NewNamespace, func(shared *Shared, before int) (int, error) {
+		id := uint64(before) + 1
+		found, err := shared.Space(id)
+		if errors.Is(err, ErrOutOfRange) {
+			return before, nil
 		}
-	}
-	all.Wait()
+		if !reflect.DeepEqual(found, inSpace(0, SpaceStat{ID: id, Level: 1, Init: uint32(id) + 1})) {
+			t.Error(found)
+		}
+		return before + 1, err
+	})
 }
 
 func TestWhatIsInsideBesideAWriter(t *testing.T) {
-	const forks, readers = 300, 3
-	shared := openShared(t, Settings{PidMax: 32768, Workers: 1})
-	seat, err := shared.Seat()
-	if err != nil {
-		t.Fatal(err)
-	}
-	var all sync.WaitGroup
-	for range [readers]int{} {
-		all.Add(1)
-		go func() {
-			defer all.Done()
-			for before := 0; before < forks; {
-				found, err := shared.SpacesInside(0, 0)
-				if err != nil || len(found) < before {
-					t.Error(found, err)
-					return
-				}
-				for place, id := range found {
-					if id != uint64(place)+1 {
-						t.Error(found)
-						return
-					}
-				}
-				before = len(found)
-			}
-		}()
-	}
-	for range [forks]int{} {
-		if _, err := seat.Fork(1, NewNamespace); err != nil {
-			t.Fatal(err)
-		}
-	}
-	all.Wait()
+	besideAWriter(t, NewNamespace, func(shared *Shared, before int) (int, error) {
+		found, err := shared.SpacesInside(0, 0)
+		return inOrder(found, err, 1)
+	})
 }

@@ -95,9 +95,10 @@ func (table *Table) ForkAt(caller uint32, newSpace bool, child Child) (bool, err
 	return isMade(status)
 }
 
-// Told makes the call, and tells what it did to tasks beside its reply, which may be a refusal: who ended, who has another parent, and who is gone, by
-// root numbers in rising order. Of a task that ended and is gone there are both, in this order. So the exit of a namespace's init tells whom the kernel
-// would kill, and each other exit who takes the children.
+// Told makes the call, and tells what it did beside its reply, which may be a refusal: first which tasks ended, have another parent or are gone, by root
+// numbers in rising order, then which process groups and which sessions have no member any more, and then which namespaces have fallen or are gone, by
+// rising ids. Of a task that ended and is gone, and of a namespace that fell and is gone, there are both, in this order. So the exit of a namespace's
+// init tells whom the kernel would kill, and each other exit who takes the children.
 //
 // It costs what the call costs, and some searches for each task that it may touch. ErrOutOfRange, ErrClosed, ErrSpent, ErrBusy, and ErrNoMemory for a fork,
 // a mk, an exit, a wait, a setpgid and a setsid: then the call was not made.

@@ -190,6 +190,9 @@ export interface Ask extends Queries {
   spacesInside(id?: Long, start?: Long): bigint[];
   /** The ids of the control groups directly in the one with the id, in the same way. */
   controlsInside(id?: Long, start?: Long): bigint[];
+  /** The live tasks directly in the control group with the id, as `children` has those of a task: as cgroup.procs has them, in which no zombie appears.
+   * no-caller, no-control, NoMemory. */
+  controlTasks(caller: number, control?: Long, start?: number): number[];
 }
 
 /** A method for each call. */
@@ -222,13 +225,19 @@ export interface EachCall extends Queries {
   // The end of calls.
 }
 
-/** What a call did to a task, by root numbers: it lives no more, it has another parent, or it is there no more, as it was reaped or went with its namespace. */
+/** What a call did, by root numbers and by ids: a task lives no more, has another parent, or is there no more, as it was reaped or went with its namespace;
+ * a process group or a session has no member any more, no zombie either; a namespace has fallen, or is there no more, as nothing has a number in it. */
 export type Effect =
   | { what: "ended"; number: number; status: number | null; killed: boolean }
   | { what: "adopted"; number: number; parent: number }
-  | { what: "gone"; number: number };
+  | { what: "gone"; number: number }
+  | { what: "group-gone"; number: number }
+  | { what: "session-gone"; number: number }
+  | { what: "space-fell"; id: bigint }
+  | { what: "space-gone"; id: bigint };
 
-/** The answer of a call, and what it did to tasks in the rising order of their numbers. Of a task that ended and is gone there are both, in this order. */
+/** The answer of a call, and what it did: first to tasks by rising numbers, then to process groups, to sessions, and to namespaces by rising ids. Of a task
+ * that ended and is gone, and of a namespace that fell and is gone, there are both, in this order. */
 export interface Told<Answer> {
   answer: Answer;
   effects: Effect[];
@@ -244,7 +253,7 @@ export interface Calls extends EachCall {
   readonly ask: Ask;
   /** What each call would answer: the numbers of a fork, and whom a wait would reap. It throws what the call would throw, and nothing changes. */
   readonly would: EachCall;
-  /** Calls that tell what they did to tasks: who ended, who has another parent, and who is gone. Each is made, and throws what the call throws. They take
+  /** Calls that tell what they did: who ended, who has another parent, who and what is gone. Each is made, and throws what the call throws. They take
    * memory for that: where there is none, it is a NoMemory, and no call was made. */
   readonly told: ToldCalls;
   /** The answer to a raw line. A refusal is thrown, a line of another language is a BadLine, and an empty one a RangeError. */

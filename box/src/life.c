@@ -99,10 +99,10 @@ static void leave_table(struct process *process)
 		process_free(process);
 }
 
-/* What the exit of a process did to another one. */
+/* What the exit of a process did to another one. A group, a session or a namespace has no record here. */
 static void take_effect(const struct pidtab_effect *effect, struct process *exiting)
 {
-	struct process *process = process_of_root(effect->number);
+	struct process *process = effect->what <= PIDTAB_TASK_GONE ? process_of_root(effect->number) : NULL;
 
 	if (!process || process == exiting)
 		return;

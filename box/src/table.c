@@ -101,7 +101,7 @@ static void *with_room(void *list, uint64_t *room, uint64_t wanted, size_t size)
 	return need(realloc(list, wanted * size));
 }
 
-/* What the exit did to tasks. The list stands until the next exit. */
+/* What the exit did. The list stands until the next exit. */
 const struct pidtab_effect *table_exit(uint32_t caller, uint32_t status, uint64_t *count)
 {
 	static struct pidtab_effect *effects;

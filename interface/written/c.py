@@ -111,7 +111,7 @@ def operations(tables):
 
 
 # What waits for its turn as a call does; all other functions go before the calls.
-AS_CALLS = ("ask", "stat", "page", "space", "inside", "would")
+AS_CALLS = ("ask", "stat", "page", "space", "inside", "control_tasks", "would")
 # What is more than the function of a record behind the lock.
 BY_HAND = ("open", "load", "close", "call", "calls", "line", "fork_at", "call_told")
 

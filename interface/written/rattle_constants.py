@@ -1,7 +1,7 @@
 """The crates: the numbers of operations, choices and kinds by their names, and the statuses."""
 
 from model import fields, of
-from names import FIELDS, capitals, sentence, takes
+from names import FIELDS, capitals, sentence, snake, takes
 from places import arms
 
 FOLDER = "crates/foreign_numbers/src"
@@ -26,7 +26,7 @@ def choices(tables):
     """What a wait selects, what a next looks for, what pages list, and what an effect is."""
     listed = [(it.name, it.number, sentence(it.tells)) for name in ("which", "use", "whom", "tree") for it in of(tables, name)]
     # The crates have a name of each enum. In C all names are in one, where ENDED is a status.
-    effects = [(it.model.upper(), it.number, sentence(it.tells.format(killed="[`crate::kinds::KILLED`]"))) for it in of(tables, "what")]
+    effects = [(snake(it.model).upper(), it.number, sentence(it.tells.format(killed="[`crate::kinds::KILLED`]"))) for it in of(tables, "what")]
     return constants(listed + effects)
 
 

@@ -262,14 +262,31 @@ uint32_t proved_stat(struct pidtab *table, uint32_t caller, uint32_t number, str
 	return table->is_open ? fetched(it, Z_pidtabZ_stat(it, caller, number), TASK, task, sizeof *task) : PIDTAB_CLOSED;
 }
 
-/* A function of the module that writes numbers into a room of its memory, and tells in its reply how many there are. */
+/* Functions of the module that write numbers into a room of its memory, and tell in its reply how many there are. */
 typedef uint32_t write_page(instance *it, uint32_t caller, uint32_t whom, uint32_t number, uint32_t from, uint32_t numbers, uint32_t room);
+typedef uint32_t write_tasks(instance *it, uint32_t caller, uint32_t from, uint32_t numbers, uint32_t room);
+
+/* What is asked for: a page, or else the live tasks of a control group. */
+struct asked {
+	write_page *page;
+	write_tasks *tasks;
+	uint64_t control;
+	uint32_t caller, whom, number, from;
+};
+
+static uint32_t ask_for(instance *it, const struct asked *asked, uint32_t numbers, uint32_t room)
+{
+	if (asked->page)
+		return asked->page(it, asked->caller, asked->whom, asked->number, asked->from, numbers, room);
+	put(it, NUMBERS, &asked->control, sizeof asked->control);
+	return asked->tasks(it, asked->caller, asked->from, numbers, room);
+}
 
 /* The numbers in a room of the caller: first they are counted. */
-static uint32_t paged(instance *it, write_page *page, const uint32_t taken[4], uint32_t *numbers, size_t room, struct pidtab_reply *reply)
+static uint32_t paged(instance *it, const struct asked *asked, uint32_t *numbers, size_t room, struct pidtab_reply *reply)
 {
 	struct pidtab_reply counted;
-	uint32_t status = page(it, taken[0], taken[1], taken[2], taken[3], 0, 0), count, address;
+	uint32_t status = ask_for(it, asked, 0, 0), count, address;
 
 	if (status != PIDTAB_DONE)
 		return status;
@@ -279,7 +296,7 @@ static uint32_t paged(instance *it, write_page *page, const uint32_t taken[4], u
 		address = Z_pidtabZ_take(it, count * (uint32_t)sizeof *numbers);
 		if (!address)
 			return PIDTAB_NO_MEMORY;
-		status = page(it, taken[0], taken[1], taken[2], taken[3], address, count);
+		status = ask_for(it, asked, address, count);
 		if (status == PIDTAB_DONE)
 			memcpy(numbers, it->w2c_memory.data + address, count * sizeof *numbers);
 		Z_pidtabZ_give(it, address);
@@ -289,9 +306,16 @@ static uint32_t paged(instance *it, write_page *page, const uint32_t taken[4], u
 
 uint32_t proved_page(struct pidtab *table, uint32_t caller, uint32_t whom, uint32_t number, uint32_t from, uint32_t *numbers, size_t room, struct pidtab_reply *reply)
 {
-	const uint32_t taken[4] = { caller, whom, number, from };
+	const struct asked asked = { .page = Z_pidtabZ_page, .caller = caller, .whom = whom, .number = number, .from = from };
 
-	return table->is_open ? paged(table->at, Z_pidtabZ_page, taken, numbers, room, reply) : PIDTAB_CLOSED;
+	return table->is_open ? paged(table->at, &asked, numbers, room, reply) : PIDTAB_CLOSED;
+}
+
+uint32_t proved_control_tasks(struct pidtab *table, uint32_t caller, uint64_t control, uint32_t from, uint32_t *numbers, size_t room, struct pidtab_reply *reply)
+{
+	const struct asked asked = { .tasks = Z_pidtabZ_control_tasks, .control = control, .caller = caller, .from = from };
+
+	return table->is_open ? paged(table->at, &asked, numbers, room, reply) : PIDTAB_CLOSED;
 }
 
 /* A function of the module that reads the namespace with the id among its numbers. */
@@ -506,9 +530,16 @@ uint32_t proved_record_stat(struct pidtab_record *record, uint32_t caller, uint3
 
 uint32_t proved_record_page(struct pidtab_record *record, uint32_t caller, uint32_t whom, uint32_t number, uint32_t from, uint32_t *numbers, size_t room, struct pidtab_reply *reply)
 {
-	const uint32_t taken[4] = { caller, whom, number, from };
+	const struct asked asked = { .page = Z_pidtabZ_record_page, .caller = caller, .whom = whom, .number = number, .from = from };
 
-	return record->is_open ? paged(record->at, Z_pidtabZ_record_page, taken, numbers, room, reply) : PIDTAB_CLOSED;
+	return record->is_open ? paged(record->at, &asked, numbers, room, reply) : PIDTAB_CLOSED;
+}
+
+uint32_t proved_record_control_tasks(struct pidtab_record *record, uint32_t caller, uint64_t control, uint32_t from, uint32_t *numbers, size_t room, struct pidtab_reply *reply)
+{
+	const struct asked asked = { .tasks = Z_pidtabZ_record_control_tasks, .control = control, .caller = caller, .from = from };
+
+	return record->is_open ? paged(record->at, &asked, numbers, room, reply) : PIDTAB_CLOSED;
 }
 
 uint32_t proved_record_space(struct pidtab_record *record, uint64_t id, struct pidtab_space *space)

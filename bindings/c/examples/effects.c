@@ -1,22 +1,43 @@
-/* Tells what an exit did to other tasks, and then what that of a namespace's init did. Built by `cc effects.c -Iout out/libpidtab.a`. */
-#include "pidtab.h"
+/* Tells what an exit did, then what that of a namespace's init did, and then what the wait for that did. Built by `cc effects.c -Iout out/libpidtab.a`. */
+#include "example.h"
 
-#include <inttypes.h>
-#include <stdio.h>
 #include <stdlib.h>
 
 #define ROOM 4
 
-static void tell_effect(const struct pidtab_effect *it)
+/* How a task ended. */
+static void tell_end(const struct pidtab_effect *it)
 {
-	if (it->what == PIDTAB_TASK_ADOPTED)
-		printf("  %u is a child of %" PRIu64 "\n", it->number, it->value);
-	else if (it->what == PIDTAB_TASK_GONE)
-		printf("  %u is gone\n", it->number);
-	else if (it->value == PIDTAB_KILLED)
+	if (it->value == PIDTAB_KILLED)
 		printf("  %u was killed\n", it->number);
 	else
 		printf("  %u ended with status %" PRIu64 "\n", it->number, it->value);
+}
+
+static void tell_effect(const struct pidtab_effect *it)
+{
+	switch (it->what) {
+	case PIDTAB_TASK_ENDED:
+		tell_end(it);
+		break;
+	case PIDTAB_TASK_ADOPTED:
+		printf("  %u is a child of %" PRIu64 "\n", it->number, it->value);
+		break;
+	case PIDTAB_TASK_GONE:
+		printf("  %u is gone\n", it->number);
+		break;
+	case PIDTAB_GROUP_GONE:
+		printf("  the process group %u is gone\n", it->number);
+		break;
+	case PIDTAB_SESSION_GONE:
+		printf("  the session %u is gone\n", it->number);
+		break;
+	case PIDTAB_SPACE_FELL:
+		printf("  the namespace %" PRIu64 " has fallen\n", it->value);
+		break;
+	case PIDTAB_SPACE_GONE:
+		printf("  the namespace %" PRIu64 " is gone\n", it->value);
+	}
 }
 
 /* Makes the call, and tells its effects. Where there is little room, the call is not made, and says how much it takes. */
@@ -38,33 +59,24 @@ static uint32_t tell_call(struct pidtab *table, const struct pidtab_call *call)
 	return status;
 }
 
-static uint32_t tell_exit(struct pidtab *table, uint32_t task, uint32_t with)
+static uint32_t run(struct pidtab *table)
 {
-	const struct pidtab_call call = { .operation = PIDTAB_EXIT, .caller = task, .number = with };
+	static const struct pidtab_call calls[] = { { .operation = PIDTAB_EXIT, .caller = 3, .number = 1 }, { .operation = PIDTAB_EXIT, .caller = 2 },
+		{ .operation = PIDTAB_WAIT, .caller = 1, .choice = PIDTAB_ANY } };
+	static const char *const names[] = { "the exit of 3", "the exit of 2", "the wait of 1" };
+	uint32_t status = PIDTAB_DONE;
 
-	printf("the exit of %u\n", task);
-	return tell_call(table, &call);
-}
-
-int main(void)
-{
-	struct pidtab table = PIDTAB_INIT;
-	uint32_t status = pidtab_open(&table, 32768);
-
-	if (status == PIDTAB_DONE) {
-		/* 2 is the init of a namespace, in which is its child 3, whose children are 4 and 5. */
-		pidtab_fork(&table, 1, true, NULL);
-		pidtab_fork(&table, 2, false, NULL);
-		pidtab_fork(&table, 3, false, NULL);
-		pidtab_fork(&table, 3, false, NULL);
-		status = tell_exit(&table, 3, 1);
+	/* 2 is the init of a namespace, in which is its child 3, whose children are 4, which leads a session, and 5. */
+	pidtab_fork(table, 1, true, NULL);
+	pidtab_fork(table, 2, false, NULL);
+	pidtab_fork(table, 3, false, NULL);
+	pidtab_fork(table, 3, false, NULL);
+	pidtab_setsid(table, 4);
+	for (int i = 0; i < 3 && status == PIDTAB_DONE; i++) {
+		puts(names[i]);
+		status = tell_call(table, &calls[i]);
 	}
-	if (status == PIDTAB_DONE)
-		status = tell_exit(&table, 2, 0);
-	if (status != PIDTAB_DONE)
-		fprintf(stderr, "%s\n", pidtab_text(status));
-	pidtab_close(&table);
-	return status != PIDTAB_DONE;
+	return status;
 }
 
 /* It prints
@@ -80,4 +92,10 @@ int main(void)
  *       4 is gone
  *       5 was killed
  *       5 is gone
+ *       the process group 4 is gone
+ *       the session 4 is gone
+ *       the namespace 1 has fallen
+ *     the wait of 1
+ *       2 is gone
+ *       the namespace 1 is gone
  */

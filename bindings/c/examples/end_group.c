@@ -1,7 +1,5 @@
 /* Ends a process group with all that come from its members, also those that have left it. Built by `cc end_group.c -Iout out/libpidtab.a`. */
-#include "pidtab.h"
-
-#include <stdio.h>
+#include "example.h"
 
 #define ROOM 2
 
@@ -36,19 +34,10 @@ static void make_job(struct pidtab *table)
 	pidtab_fork(table, 4, false, NULL);
 }
 
-int main(void)
+static uint32_t run(struct pidtab *table)
 {
-	struct pidtab table = PIDTAB_INIT;
-	uint32_t status = pidtab_open(&table, 32768);
-
-	if (status == PIDTAB_DONE) {
-		make_job(&table);
-		status = end_all(&table, PIDTAB_GROUP_MEMBERS, 2);
-	}
-	if (status != PIDTAB_DONE)
-		fprintf(stderr, "%s\n", pidtab_text(status));
-	pidtab_close(&table);
-	return status != PIDTAB_DONE;
+	make_job(table);
+	return end_all(table, PIDTAB_GROUP_MEMBERS, 2);
 }
 
 /* It prints

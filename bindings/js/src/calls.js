@@ -170,7 +170,15 @@ export class Ask extends onOwner(Queries) {
     return this._inside("controlsInside", TREE.CONTROLS, "control group", checkLong("id", id), checkLong("start", start));
   }
 
-  /** All ids that are directly inside, as `_page` has all numbers. */
+  controlTasks(caller, control = 0n, start = 0) {
+    const [who, id, from] = [checkNumber("caller", caller), checkLong("control", control), checkNumber("start", start)];
+    return this._numbers(`controlTasks ${who} ${id}`, (instance, address, room) => {
+      instance.writeNumbers([id]);
+      return instance.control_tasks(who, from, address, room);
+    });
+  }
+
+  /** All ids that are directly inside, as `_numbers` has all numbers. */
   _inside(name, tree, what, id, start, room = SHORT_PAGE) {
     const instance = this._open();
     const asked = `${name} ${id}`;
@@ -186,13 +194,17 @@ export class Ask extends onOwner(Queries) {
     return count > room ? this._inside(name, tree, what, id, start, count) : ids;
   }
 
-  /** All whom the page lists, from one number on. Where the room is too short, it is taken anew for as many as there are: none comes meanwhile. */
-  _page(name, whom, caller, number, start, room = SHORT_PAGE) {
-    const instance = this._open();
+  /** All whom the page lists, from one number on. */
+  _page(name, whom, caller, number, start) {
     const taken = [checkNumber("caller", caller), whom, number, checkNumber("start", start)];
-    const asked = `${name} ${caller} ${number}`;
+    return this._numbers(`${name} ${caller} ${number}`, (instance, address, room) => instance.page(...taken, address, room));
+  }
+
+  /** All numbers that are written into a room. Where that is too short, it is taken anew for as many as there are: none comes meanwhile. */
+  _numbers(asked, write, room = SHORT_PAGE) {
+    const instance = this._open();
     const [count, numbers] = instance.withRoom(4 * room, asked, (address) => {
-      const status = instance.page(...taken, address, room);
+      const status = write(instance, address, room);
       if (status !== STATUS.DONE) throw faultOf(status, asked);
       instance.refresh();
       const { words } = instance;
@@ -201,7 +213,7 @@ export class Ask extends onOwner(Queries) {
       const told = words[at + REPLY.first];
       return [told, numbersAt(words, address / 4, Math.min(told, room))];
     });
-    return count > room ? this._page(name, whom, caller, number, start, count) : numbers;
+    return count > room ? this._numbers(asked, write, count) : numbers;
   }
 }
 
@@ -274,7 +286,7 @@ export class Would extends onOwner(EachCall) {
   _forked() {}
 }
 
-/** The calls, each of which is made, and tells what it did to tasks beside its answer. */
+/** The calls, each of which is made, and tells what it did beside its answer. */
 export class Telling extends onOwner(EachCall) {
   /** Where the room is too short, no call was made, and it is taken anew as the call takes it. */
   _made(instance, form, room = SHORT_ROOM) {
@@ -282,7 +294,7 @@ export class Telling extends onOwner(EachCall) {
       const [status, count] = this._owner._callTold(instance, address, room);
       if (status === STATUS.NO_ROOM) return count;
       const answer = this._replied(instance, form, status);
-      return { answer, effects: effectsAt(instance.words, address / 4, count) };
+      return { answer, effects: effectsAt(instance, address / 4, count) };
     });
     return typeof told === "number" ? this._made(instance, form, told) : told;
   }

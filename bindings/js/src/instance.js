@@ -36,7 +36,7 @@ export class Instance {
     this.exports = { ...new WebAssembly.Instance(compiled, {}).exports };
     this.memory = this.exports.memory;
     this.at = placesOf(this.exports);
-    for (const name of ["load", "ask", "stat", "page", "space", "inside", "would", "list", "dump"]) this[name] = this.exports[`${prefix}${name}`];
+    for (const name of ["load", "ask", "stat", "page", "space", "inside", "control_tasks", "would", "list", "dump"]) this[name] = this.exports[`${prefix}${name}`];
     this.look();
   }
 

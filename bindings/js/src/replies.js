@@ -73,18 +73,23 @@ export function aSpace({ words, longs }, at) {
 const EFFECT_WORDS = EFFECT.value + 2;
 export const EFFECT_BYTES = 4 * EFFECT_WORDS;
 
-/** What has become of a task, by the kind of the effect. */
+/** What has become of a task, a group, a session or a namespace, by the kind of the effect. The value is a number, and an id a BigInt. */
 const EFFECTS = {
   [WHAT.TASK_ENDED]: (number, status) => ({ what: "ended", number, ...ending(status) }),
   [WHAT.TASK_ADOPTED]: (number, parent) => ({ what: "adopted", number, parent }),
   [WHAT.TASK_GONE]: (number) => ({ what: "gone", number }),
+  [WHAT.GROUP_GONE]: (number) => ({ what: "group-gone", number }),
+  [WHAT.SESSION_GONE]: (number) => ({ what: "session-gone", number }),
+  [WHAT.SPACE_FELL]: (number, value, id) => ({ what: "space-fell", id }),
+  [WHAT.SPACE_GONE]: (number, value, id) => ({ what: "space-gone", id }),
 };
 
 /** So many effects from a place on. */
-export function effectsAt(words, at, count) {
+export function effectsAt({ words, longs }, at, count) {
   const effects = [];
   for (let place = at; place < at + EFFECT_WORDS * count; place += EFFECT_WORDS) {
-    effects.push(EFFECTS[words[place + EFFECT.what]](words[place + EFFECT.number], words[place + EFFECT.value]));
+    const tell = EFFECTS[words[place + EFFECT.what]];
+    effects.push(tell(words[place + EFFECT.number], words[place + EFFECT.value], long(longs, place, EFFECT.value)));
   }
   return effects;
 }

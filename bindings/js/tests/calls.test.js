@@ -51,15 +51,20 @@ tested("what a call would answer", (table) => {
 const ended = (number, status) => ({ what: "ended", number, status, killed: status === null });
 const adopted = (number, parent) => ({ what: "adopted", number, parent });
 const gone = (number) => ({ what: "gone", number });
+const groupGone = (number) => ({ what: "group-gone", number });
+const sessionGone = (number) => ({ what: "session-gone", number });
+const spaceFell = (id) => ({ what: "space-fell", id });
+const spaceGone = (id) => ({ what: "space-gone", id });
 
-// 2 is the init of a namespace, in which are its child 3 and the children 4 and 5 of that. 5 is the init of one within.
+// 2 is the init of the namespace 1, in which are its child 3 and the children 4 and 5 of that. 5 is the init of 4 within.
 tested("what calls do to tasks", (table) => {
   table.answers(["fork 1 new", "fork 2", "fork 3", "fork 3 new"]);
   const { told } = table;
   assert.deepEqual(told.exit(4, 255), { answer: undefined, effects: [ended(4, 255)] });
   assert.deepEqual(told.exit(3), { answer: undefined, effects: [ended(3, 0), adopted(4, 2), adopted(5, 2)] });
-  assert.deepEqual(told.exit(2, 9).effects, [ended(2, 9), gone(3), gone(4), ended(5, null), gone(5)]);
-  assert.deepEqual(told.wait(1, { pid: 2 }), { answer: { child: 2, status: 9, killed: false }, effects: [gone(2)] });
+  const fallen = [spaceFell(1n), spaceFell(4n), spaceGone(4n)];
+  assert.deepEqual(told.exit(2, 9).effects, [ended(2, 9), gone(3), gone(4), ended(5, null), gone(5), ...fallen]);
+  assert.deepEqual(told.wait(1, { pid: 2 }), { answer: { child: 2, status: 9, killed: false }, effects: [gone(2), spaceGone(1n)] });
   assert.throws(() => told.exit(1), { code: "EBUSY", word: "root-init", message: "exit 1 0: EBUSY root-init" });
   assert.throws(() => told.wait(1), { code: "ECHILD" });
   assert.deepEqual(told.fork(1, { newSpace: true }), { answer: { child: 6, root: 6 }, effects: [] });
@@ -68,8 +73,30 @@ tested("what calls do to tasks", (table) => {
   assert.deepEqual([told.line, told.list, table.mk()], [undefined, undefined, 17n]);
 });
 
+// 2 leads a session, of which are its children 3 and 4, and 4 leads a group. A zombie is a member until it is reaped.
+tested("what calls do to groups and sessions", (table) => {
+  table.answers(["fork 1", "setsid 2", "fork 2", "fork 2", "setpgid 2 4 4", "setpgid 2 3 0"]);
+  const { told } = table;
+  assert.deepEqual(told.setpgid(2, 3, 2).effects, [groupGone(3)]);
+  assert.deepEqual(told.exit(2, 1).effects, [ended(2, 1), adopted(3, 1), adopted(4, 1)]);
+  assert.deepEqual(told.wait(1).effects, [gone(2)]);
+  assert.deepEqual(told.setsid(3), { answer: 3, effects: [groupGone(2)] });
+  assert.deepEqual(told.exit(4, 2).effects, [ended(4, 2)]);
+  assert.deepEqual(told.wait(1).effects, [gone(4), groupGone(4), sessionGone(2)]);
+});
+
+// 3 is the init of the namespace 2, and 2 is in its group, whose number keeps the namespace.
+tested("a group that keeps a namespace", (table) => {
+  table.answers(["fork 1", "fork 2 new", "setpgid 2 3 0", "setpgid 2 0 3"]);
+  const { told } = table;
+  assert.deepEqual(told.exit(3).effects, [ended(3, 0), spaceFell(2n)]);
+  assert.deepEqual(told.wait(2).effects, [gone(3)]);
+  assert.deepEqual(told.setpgid(2, 0, 1).effects, [groupGone(3), spaceGone(2n)]);
+});
+
 tested("more effects than there is room for at first", (table) => {
-  for (const count of [30, 31, 32, 320]) {
+  // Of each task there may be two effects, and one of their group and of their session.
+  for (const count of [29, 30, 31, 320]) {
     const parent = table.fork(1).root;
     const children = Array.from({ length: count }, () => table.fork(parent).root);
     assert.deepEqual(table.told.exit(parent, 7).effects, [ended(parent, 7), ...children.map((child) => adopted(child, 1))]);
@@ -161,6 +188,27 @@ tested("what is directly inside namespaces and control groups", (table) => {
 tested("more control groups inside than there is room for at first", (table) => {
   const made = Array.from({ length: 200 }, () => table.mk());
   assert.deepEqual([table.ask.controlsInside(), table.ask.controlsInside(0n, 150n)], [made, made.slice(149)]);
+});
+
+// The control group 2 is in 1. 3 is the init of a namespace, and its child 4 is 2 there. 2 and 4 are in 1, 5 in 2, and 6 is a zombie there.
+tested("live tasks of control groups", (table) => {
+  table.answers(["mk 0", "mk 1", "fork 1", "fork 1 new", "fork 3", "move 2 1", "move 4 1", "fork 1", "move 5 2", "fork 5", "exit 6 0"]);
+  const { ask } = table;
+  assert.deepEqual([ask.controlTasks(1), ask.controlTasks(1, 0n), ask.controlTasks(1, 1), ask.controlTasks(1, 2n)], [[1, 3], [1, 3], [2, 4], [5]]);
+  assert.deepEqual([ask.controlTasks(1, 1n, 3), ask.controlTasks(1, 1n, 2 ** 32 - 1)], [[4], []]);
+  // 3 and 4 see each other alone.
+  assert.deepEqual([ask.controlTasks(3), ask.controlTasks(4, 1n), ask.controlTasks(3, 2n)], [[1], [2], []]);
+  assert.throws(() => ask.controlTasks(6, 9n), { name: "Refusal", code: "ESRCH", word: "no-caller", id: null, message: "controlTasks 6 9: ESRCH no-caller" });
+  // 4 is the id of a namespace.
+  for (const id of [4n, 2n ** 64n - 1n]) assert.throws(() => ask.controlTasks(1, id), { name: "Refusal", code: "ENOENT", word: "no-control", id: null });
+  for (const given of [["1"], [1, "0"], [1, 0n, "2"], [null]]) assert.throws(() => ask.controlTasks(...given), TypeError);
+  for (const given of [[-1], [1, -1n], [1, 2n ** 64n], [1, 0n, 2 ** 32]]) assert.throws(() => ask.controlTasks(...given), RangeError);
+  assert.equal(table.mk(), 12n);
+});
+
+tested("more live tasks than there is room for at first", (table) => {
+  const all = [1, ...Array.from({ length: 300 }, () => table.fork(1).root)];
+  assert.deepEqual([table.ask.controlTasks(1), table.ask.controlTasks(1, 0n, 237)], [all, all.slice(236)]);
 });
 
 /** The namespaces that a task is in, from its own outwards. */

@@ -34,8 +34,8 @@ function told(call) {
 
 const sayEnd = ({ killed, status }) => (killed ? "killed" : `exit ${status}`);
 
-/** What has become of a task. */
-const sayEffect = (it) => [it.what, it.number, ...{ ended: [sayEnd(it)], adopted: [it.parent], gone: [] }[it.what]].join(" ");
+/** What has become of a task, a group, a session or a namespace. */
+const sayEffect = (it) => [it.what, it.number ?? it.id, ...({ ended: [sayEnd(it)], adopted: [it.parent] }[it.what] ?? [])].join(" ");
 
 const saySpace = ({ id, parent, level, init, fallen }) => `space ${id} parent ${parent ?? "-"} level ${level} init ${init ?? "-"}${fallen ? " fallen" : ""}`;
 
@@ -63,7 +63,7 @@ function byItsMethod(table, line) {
   }
 }
 
-/** The answer that the line has, and behind it what its call does to tasks. */
+/** The answer that the line has, and behind it what its call does. */
 function sayTold({ told }, line) {
   const it = byItsMethod(told, line);
   return it instanceof Refusal ? sayFault(it) : [say(it.answer, line.split(" ")[0]), ...it.effects.map(sayEffect)].join(", ");
@@ -146,7 +146,7 @@ class World {
     return answer;
   }
 
-  /** The answer, and what the call does to tasks, which are the same of each table. */
+  /** The answer, and what the call does, which are the same of each table. */
   callTold(line) {
     const seat = this.seats[this.at];
     const [found, ...others] = [seat, ...this.tables].map((it) => sayTold(it, line));
@@ -163,14 +163,11 @@ class World {
 
   /** Whom a page lists. */
   page(whom, ...numbers) {
-    const name = ["children", "groupMembers", "sessionMembers", "namespaceMembers", "namespaceOwn"][whom];
-    const [found, ...others] = [this.record, ...this.tables].map(({ ask }) => told(() => ask[name](...numbers.map(Number)).join(" ") || "none"));
-    for (const other of others) assert.equal(other, found);
-    return found;
+    return this.listed(["children", "groupMembers", "sessionMembers", "namespaceMembers", "namespaceOwn"][whom], numbers.map(Number));
   }
 
-  inside(tree, ...numbers) {
-    const name = ["spacesInside", "controlsInside"][tree];
+  /** What a method lists, which is the same of each table. */
+  listed(name, numbers) {
     const [found, ...others] = [this.record, ...this.tables].map(({ ask }) => told(() => ask[name](...numbers).join(" ") || "none"));
     for (const other of others) assert.equal(other, found);
     return found;
@@ -226,7 +223,8 @@ class World {
     if (word === "told") return this.callTold(words.join(" "));
     if (word === "stat") return this.stat(...numbers);
     if (word === "page") return this.page(...numbers);
-    if (word === "inside") return this.inside(...numbers);
+    if (word === "control_tasks") return this.listed("controlTasks", [Number(numbers[0]), numbers[1], Number(numbers[2])]);
+    if (word === "inside") return this.listed(["spacesInside", "controlsInside"][numbers[0]], numbers.slice(1));
     if (word === "space") return this.space(...numbers);
     if (word === "json") return this.call(words.join(" ")) && toJson(this.told);
     if (word === "parse") return lineOfFault(text);

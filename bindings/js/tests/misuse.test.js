@@ -60,7 +60,7 @@ test("a table that was closed", { skip }, () => {
   table.close();
   const foretold = [() => would.fork(1), () => would.mk(), () => told.fork(1), () => told.exit(2), () => told.setpgid(1), () => table.forkAt(1, { child: 2, root: 2 })];
   const pages = PAGES.map((name) => () => ask[name](1));
-  for (const call of [...foretold, () => table.fork(1), () => table.line("fork 1"), () => table.list(), () => table.dump(), () => ask.getpid(1), () => ask.stat(1), () => ask.space(0), () => ask.spacesInside(), () => ask.controlsInside(), () => table.mk(), ...pages]) {
+  for (const call of [...foretold, () => table.fork(1), () => table.line("fork 1"), () => table.list(), () => table.dump(), () => ask.getpid(1), () => ask.stat(1), () => ask.space(0), () => ask.spacesInside(), () => ask.controlsInside(), () => ask.controlTasks(1), () => table.mk(), ...pages]) {
     assert.throws(call, { name: "TableClosed", code: "EBADF", message: "the table was closed" });
   }
 });

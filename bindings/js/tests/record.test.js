@@ -61,8 +61,8 @@ test("namespaces, of a record and of a seat, are not recorded", { skip }, () => 
 test("calls that tell what they did are recorded", { skip }, () => {
   const { record, seats } = recorded();
   const [first, second] = seats;
-  assert.deepEqual(first.told.exit(2, 7).effects.map(({ what, number }) => [what, number]), [["ended", 2], ["ended", 3], ["gone", 3]]);
-  assert.deepEqual(second.told.wait(1).effects, [{ what: "gone", number: 2 }]);
+  assert.deepEqual(first.told.exit(2, 7).effects.map(({ what, number, id }) => [what, number ?? id]), [["ended", 2], ["ended", 3], ["gone", 3], ["space-fell", 1n]]);
+  assert.deepEqual(second.told.wait(1).effects, [{ what: "gone", number: 2 }, { what: "space-gone", id: 1n }]);
   assert.throws(() => second.told.exit(3), { code: "ESRCH" });
   assert.deepEqual([first.ordinal, second.ordinal, record.told], [3n, 5n, undefined]);
   assert.deepEqual([...record.entries(3)].map(({ worker, line, answer }) => [worker, line, answer]), [

@@ -12,7 +12,7 @@ table.move(child.root, Number(group));
 const listing: Listing = Table.load(table.dump()).list();
 const stat: Stat = table.ask.stat(1);
 const space: SpaceStat = table.ask.space(stat.space);
-const belonging: number[] = [...table.ask.children(1), ...table.ask.groupMembers(1, 2), ...table.ask.sessionMembers(1, 0, 3), ...table.ask.namespaceMembers(1, 0, 3), ...table.ask.namespaceOwn(1)];
+const belonging: number[] = [...table.ask.children(1), ...table.ask.groupMembers(1, 2), ...table.ask.sessionMembers(1, 0, 3), ...table.ask.namespaceMembers(1, 0, 3), ...table.ask.namespaceOwn(1), ...table.ask.controlTasks(1, 2n, 3)];
 table.label(child.root, "nginx");
 table.label(child.root, null);
 const label: string | undefined = listing.tasks[0].label;
@@ -22,7 +22,9 @@ const { answer, effects }: Told<Forked> = table.told.fork(1, { newSpace: true })
 const waited: Reaped | null = table.told.wait(answer.root, { own: true }).answer;
 function say(effect: Effect): string {
   if (effect.what === "ended") return effect.killed ? "killed" : `exit ${effect.status}`;
-  return effect.what === "adopted" ? `a child of ${effect.parent}` : "gone";
+  if (effect.what === "adopted") return `a child of ${effect.parent}`;
+  if (effect.what === "space-fell" || effect.what === "space-gone") return `namespace ${effect.id + 0n}`;
+  return `${effect.what} ${effect.number + 0}`;
 }
 const said: string[] = effects.map(say);
 

@@ -113,6 +113,11 @@ uint32_t EXPORTED(inside)(uint32_t tree, uint32_t ids, uint32_t room)
 	return pidtab_inside(&held.table, tree, at.numbers[0], at.numbers[1], pointer(ids), room, &at.numbers[2]);
 }
 
+uint32_t EXPORTED(control_tasks)(uint32_t caller, uint32_t from, uint32_t numbers, uint32_t room)
+{
+	return pidtab_control_tasks(&held.table, caller, at.numbers[0], from, pointer(numbers), room, &at.reply);
+}
+
 uint32_t EXPORTED(would)(void)
 {
 	return pidtab_would(&held.table, &at.call, &at.reply);
@@ -181,6 +186,11 @@ uint32_t EXPORTED(record_space)(void)
 uint32_t EXPORTED(record_inside)(uint32_t tree, uint32_t ids, uint32_t room)
 {
 	return pidtab_record_inside(&held.record, tree, at.numbers[0], at.numbers[1], pointer(ids), room, &at.numbers[2]);
+}
+
+uint32_t EXPORTED(record_control_tasks)(uint32_t caller, uint32_t from, uint32_t numbers, uint32_t room)
+{
+	return pidtab_record_control_tasks(&held.record, caller, at.numbers[0], from, pointer(numbers), room, &at.reply);
 }
 
 uint32_t EXPORTED(record_would)(void)

@@ -1,4 +1,4 @@
-"""A supervisor that has a process of Linux for each task does what each call says: it kills, hands children on, and forgets."""
+"""A supervisor that has a process of Linux for each task does what each call says: it kills, hands children on, and forgets, also what it kept of a group."""
 
 from collections.abc import Iterable
 
@@ -6,7 +6,7 @@ import pidtab
 
 
 def follow(effects: Iterable[pidtab.Effect]) -> None:
-    """What has become of each task, by its root number."""
+    """What has become of each task, process group and session, by its root number, and of each namespace."""
     for effect in effects:
         match effect:
             case pidtab.Ended(number, status):
@@ -15,13 +15,23 @@ def follow(effects: Iterable[pidtab.Effect]) -> None:
                 print(f"  {number} is a child of {parent} now")
             case pidtab.Gone(number):
                 print(f"  {number} is gone")
+            case pidtab.GroupGone(number):
+                print(f"  the process group {number} is gone")
+            case pidtab.SessionGone(number):
+                print(f"  the session {number} is gone")
+            case pidtab.SpaceFell(id):
+                print(f"  the namespace {id} has fallen")
+            case pidtab.SpaceGone(id):
+                print(f"  the namespace {id} is gone")
 
 
 with pidtab.Table() as table:
-    # 2 is the init of a namespace, in which are its child 3 and the children 4 and 5 of that. 6 is a child of 5.
+    # 2 is the init of a namespace, in which are its child 3 and the children 4 and 5 of that. 5 leads a session, and 6 is its child.
     table.fork(1, new=True)
-    for parent in (2, 3, 3, 5):
+    for parent in (2, 3, 3):
         table.fork(parent)
+    table.setsid(5)
+    table.fork(5)
     for task in (3, 2):
         print("exit", task)
         follow(table.told.exit(task, 7).effects)
@@ -44,5 +54,9 @@ with pidtab.Table() as table:
 #       5 is gone
 #       6 is killed
 #       6 is gone
+#       the process group 5 is gone
+#       the session 5 is gone
+#       the namespace 1 has fallen
 #     Reaped(child=2, status=7)
 #       2 is gone
+#       the namespace 1 is gone

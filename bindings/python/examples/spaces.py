@@ -1,4 +1,4 @@
-"""Tells the namespaces of a table from the root inwards, each with its own tasks, and its control groups."""
+"""Tells the namespaces of a table from the root inwards, each with its own tasks."""
 
 import pidtab
 
@@ -13,13 +13,6 @@ def tell_space(table: pidtab.Table, id: int) -> None:
         tell_space(table, inner)
 
 
-def tell_control(table: pidtab.Table, id: int, depth: int = 0) -> None:
-    """The control group with the count of its tasks, and then each directly inside it."""
-    print("  " * depth + f"control group {id}: {table.ask.count(id)}")
-    for inner in table.ask.controls_inside(id):
-        tell_control(table, inner, depth + 1)
-
-
 with pidtab.Table() as table:
     # 2 is the init of a namespace, in which is its child 3, and 4 that of one within it. 5 is the init of another one, which ends.
     table.fork(1, new=True)
@@ -28,8 +21,6 @@ with pidtab.Table() as table:
     table.fork(1, new=True)
     table.exit(5)
     tell_space(table, 0)
-    table.move(4, table.mk(table.mk()))
-    tell_control(table, 0)
 
 # It prints
 #
@@ -37,6 +28,3 @@ with pidtab.Table() as table:
 #       namespace 1: 2 3
 #         namespace 3: 4
 #       namespace 4, fallen: 5
-#     control group 0: 5
-#       control group 6: 1
-#         control group 7: 1

@@ -10,7 +10,7 @@ from pidtab.accounts import Accounts
 from pidtab.answers import Forked, Reaped, SpaceStat, Stat
 from pidtab.bounds import DEFAULT_PID_MAX, GREATEST_PID_MAX, LEAST_PID_MAX
 from pidtab.calls import Calls, Kind, Queries
-from pidtab.effects import Adopted, Effect, Ended, Gone, Told
+from pidtab.effects import Adopted, Effect, Ended, Gone, GroupGone, SessionGone, SpaceFell, SpaceGone, Told
 from pidtab.etcd_log import EtcdLog
 from pidtab.faults import (
     BadHistory,
@@ -71,6 +71,7 @@ __all__ = [
     "Following",
     "Forked",
     "Gone",
+    "GroupGone",
     "Kind",
     "LibraryFault",
     "LibraryMissing",
@@ -96,8 +97,11 @@ __all__ = [
     "SaverEnded",
     "Seat",
     "SeatsTaken",
+    "SessionGone",
     "Shared",
     "Space",
+    "SpaceFell",
+    "SpaceGone",
     "SpaceStat",
     "Stat",
     "Submitted",

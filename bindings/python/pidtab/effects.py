@@ -1,11 +1,23 @@
-"""What calls do to tasks, which is told beside their answers. All numbers are root numbers."""
+"""What calls do to tasks, process groups, sessions and namespaces, which is told beside their answers. All numbers are root numbers."""
 
 import ctypes
 from collections.abc import Callable
 from dataclasses import dataclass
 from typing import Any, Generic, NamedTuple, TypeVar
 
-from pidtab.raw import DONE, KILLED, NO_ROOM, TASK_ADOPTED, TASK_ENDED, TASK_GONE, PidtabEffect
+from pidtab.raw import (
+    DONE,
+    GROUP_GONE,
+    KILLED,
+    NO_ROOM,
+    SESSION_GONE,
+    SPACE_FELL,
+    SPACE_GONE,
+    TASK_ADOPTED,
+    TASK_ENDED,
+    TASK_GONE,
+    PidtabEffect,
+)
 
 # The room for a first try, in effects.
 SHORT_ROOM = 64
@@ -41,7 +53,35 @@ class Gone:
     number: int
 
 
-Effect = Ended | Adopted | Gone
+@dataclass(frozen=True, slots=True)
+class GroupGone:
+    """A process group that has no member any more, no zombie either: its number."""
+
+    number: int
+
+
+@dataclass(frozen=True, slots=True)
+class SessionGone:
+    """A session that has no member any more, no zombie either: its number."""
+
+    number: int
+
+
+@dataclass(frozen=True, slots=True)
+class SpaceFell:
+    """A namespace that has fallen: its id. Its init has ended, and it takes no task any more."""
+
+    id: int
+
+
+@dataclass(frozen=True, slots=True)
+class SpaceGone:
+    """A namespace that is there no more: its id. Nothing has a number in it."""
+
+    id: int
+
+
+Effect = Ended | Adopted | Gone | GroupGone | SessionGone | SpaceFell | SpaceGone
 
 
 class Pair(NamedTuple):
@@ -52,9 +92,9 @@ class Pair(NamedTuple):
 
 
 class Told(Pair, Generic[T]):
-    """What a call was answered, and what it did to tasks, in the rising order of their numbers.
+    """What a call was answered, and what it did: first to tasks by rising numbers, then to process groups, to sessions, and to namespaces by rising ids.
 
-    Of a task that ended and is gone there are both, in this order.
+    Of a task that ended and is gone, and of a namespace that fell and is gone, there are both, in this order.
     """
 
     __slots__ = ()
@@ -70,6 +110,10 @@ EFFECTS: dict[int, Callable[[int, int], Effect]] = {
     TASK_ENDED: lambda number, value: Ended(number, None if value == KILLED else value),
     TASK_ADOPTED: Adopted,
     TASK_GONE: lambda number, value: Gone(number),
+    GROUP_GONE: lambda number, value: GroupGone(number),
+    SESSION_GONE: lambda number, value: SessionGone(number),
+    SPACE_FELL: lambda number, value: SpaceFell(value),
+    SPACE_GONE: lambda number, value: SpaceGone(value),
 }
 
 

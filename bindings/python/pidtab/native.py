@@ -177,10 +177,21 @@ def read_page(whom: int, asked: Sequence[SupportsIndex], read: Callable[..., int
     """All whom a page lists, by a function that writes a page of them into a room, and answers a status."""
     method, name = LISTED[whom]
     caller, number, start = (check_range(it, given, 0, GREATEST_PID) for it, given in zip(("caller", name, "start"), asked))
-    line, reply, there = f"{method} {caller} {number}", PidtabReply(), SHORT_PAGE
+    return read_numbers(f"{method} {caller} {number}", partial(read, caller, whom, number, start))
+
+
+def read_control_tasks(caller: SupportsIndex, control: SupportsIndex, start: SupportsIndex, read: Callable[..., int]) -> tuple[int, ...]:
+    """The live tasks directly in a control group, by such a function."""
+    numbers = check_range("caller", caller, 0, GREATEST_PID), check_range("control", control, 0, GREATEST_ID)
+    return read_numbers("control_tasks {} {}".format(*numbers), partial(read, *numbers, check_range("start", start, 0, GREATEST_PID)))
+
+
+def read_numbers(line: str, read: Callable[..., int]) -> tuple[int, ...]:
+    """All numbers that are asked for, by a function that writes as many as there is room for, and tells in a reply how many there are."""
+    reply, there = PidtabReply(), SHORT_PAGE
     while True:
         room = (ctypes.c_uint32 * there)()
-        status = read(caller, whom, number, start, room, there, reply)
+        status = read(room, there, reply)
         if status != DONE:
             raise fault_of(status, line)
         if reply.kind == REFUSED:
@@ -236,6 +247,8 @@ class Asked(Protocol):
 
     def _inside(self, *taken: object) -> int: ...
 
+    def _control_tasks(self, *taken: object) -> int: ...
+
 
 class OfTable:
     """What asks a table, and holds it."""
@@ -260,7 +273,7 @@ class Would(OfTable, EachCall):
 
 
 class Teller(EachCall):
-    """Makes a call on a table, and keeps what it did to tasks."""
+    """Makes a call on a table, and keeps what it did."""
 
     def __init__(self, table: "NumberCalls") -> None:
         self._table = table
@@ -271,7 +284,7 @@ class Teller(EachCall):
 
 
 def telling(method: Callable[Concatenate[EachCall, P], T]) -> Callable[Concatenate["ToldCalls", P], Told[T]]:
-    """The method of a call, which tells what the call did to tasks too."""
+    """The method of a call, which tells what the call did too."""
 
     @wraps(method)
     def tell(calls: "ToldCalls", /, *taken: P.args, **named: P.kwargs) -> Told[T]:
@@ -284,9 +297,9 @@ def telling(method: Callable[Concatenate[EachCall, P], T]) -> Callable[Concatena
 
 
 class ToldCalls(OfTable):
-    """Calls that tell what they did to tasks, as the `told` of a table or of a seat: each is made, and answers a `Told`. It raises what the call raises.
+    """Calls that tell what they did, as the `told` of a table or of a seat: each is made, and answers a `Told`. It raises what the call raises.
 
-    `told.exit(2)` has who was killed with a namespace, or who takes the children. It costs what the call costs, and some searches for each task that the
+    `told.exit(2)` has who was killed with a namespace, or who takes the children, and which groups, sessions and namespaces are gone. It costs what the call costs, and some searches for each task that the
     call may touch. An exit, a wait, a setpgid and a setsid take memory for a list: where there is none, it is a MemoryError, and the call was not made.
 
     Where an interrupt took away what a call of a seat has told, the same call on `shared.at(ordinal)` tells it. As long as somebody has this, the table is
@@ -376,6 +389,14 @@ class Ask(OfTable, Queries):
         """The ids of the control groups directly in the one with the id, as `spaces_inside` has those of a namespace."""
         return self._inside(CONTROLS, id, start)
 
+    def control_tasks(self, caller: int, control: int = 0, start: int = 0) -> tuple[int, ...]:
+        """The live tasks directly in the control group with the id, as `children` has those of a task: cgroup.procs, in which no zombie appears.
+
+        no-caller, no-control.
+        """
+        self._table._check_owner()
+        return read_control_tasks(caller, control, start, self._table._control_tasks)
+
     def _inside(self, tree: int, id: int, start: int) -> tuple[int, ...]:
         self._table._check_owner()
         return read_inside(tree, id, start, self._table._inside)
@@ -429,7 +450,7 @@ class NumberCalls(Labelled, AskableCalls):
 
     @abstractmethod
     def _call_told(self, call: bytes, reply: PidtabReply, *room: object) -> int:
-        """The status of the function that makes a call, and writes into a room what it did to tasks."""
+        """The status of the function that makes a call, and writes into a room what it did."""
 
     @property
     def would(self) -> Would:
@@ -438,7 +459,7 @@ class NumberCalls(Labelled, AskableCalls):
 
     @property
     def told(self) -> ToldCalls:
-        """Calls that tell what they did to tasks: `table.told.exit(2)` is made as `table.exit(2)`, and tells who ended, who has another parent, who is gone."""
+        """Calls that tell what they did: `table.told.exit(2)` is made as `table.exit(2)`, and tells who ended, who has another parent, who and what is gone."""
         return ToldCalls(self)
 
     def fork_at(self, caller: int, child: Forked, new: bool = False) -> bool:
@@ -467,7 +488,7 @@ class NumberCalls(Labelled, AskableCalls):
         return told
 
     def _make_told(self, call: Call, form: Form[T], effects: list[Effect]) -> T:
-        """Makes a call, and adds what it did to tasks."""
+        """Makes a call, and adds what it did."""
         self._check_owner()
         told = make_call(call, form, lambda packed, reply: add_effects(effects, partial(self._call_told, packed, reply)))
         if self._labels.by_root and isinstance(told, Forked):

@@ -48,6 +48,11 @@ class ReplicaAsk(Ask):
         self._wait()
         return super().space(id)
 
+    def control_tasks(self, caller: int, control: int = 0, start: int = 0) -> tuple[int, ...]:
+        """As `Ask.control_tasks`, of this host's own table."""
+        self._wait()
+        return super().control_tasks(caller, control, start)
+
     def _inside(self, tree: int, id: int, start: int) -> tuple[int, ...]:
         self._wait()
         return super()._inside(tree, id, start)
@@ -216,6 +221,10 @@ class Replicated(AskableCalls):
     def _inside(self, *taken: object) -> int:
         super()._check_owner()
         return self._replica.read(lambda table: as_table(table)._inside(*taken))
+
+    def _control_tasks(self, *taken: object) -> int:
+        super()._check_owner()
+        return self._replica.read(lambda table: as_table(table)._control_tasks(*taken))
 
     def _list_text(self) -> str:
         super()._check_owner()

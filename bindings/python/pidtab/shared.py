@@ -157,6 +157,9 @@ class Seat(NumberCalls):
     def _inside(self, *taken: object) -> int:
         return self.shared._inside(*taken)
 
+    def _control_tasks(self, *taken: object) -> int:
+        return self.shared._control_tasks(*taken)
+
     def _would(self, call: bytes, reply: PidtabReply) -> int:
         return self.shared._would(call, reply)
 
@@ -678,6 +681,9 @@ class Shared(Labelled, Owner):
 
     def _inside(self, *taken: object) -> int:
         return self._status("pidtab_shared_inside", *taken)
+
+    def _control_tasks(self, *taken: object) -> int:
+        return self._status("pidtab_shared_control_tasks", *taken)
 
     def _would(self, call: bytes, reply: PidtabReply) -> int:
         return self._status("pidtab_shared_would", call, reply)

@@ -96,6 +96,9 @@ class Table(NumberCalls):
     def _inside(self, *taken: object) -> int:
         return self._later("pidtab_inside", *taken)
 
+    def _control_tasks(self, *taken: object) -> int:
+        return self._later("pidtab_control_tasks", *taken)
+
     def _would(self, call: bytes, reply: PidtabReply) -> int:
         return self._later("pidtab_would", call, reply)
 

@@ -3,11 +3,11 @@
 import errno
 import json
 import unittest
-from collections.abc import Iterator
+from collections.abc import Callable, Iterator
 from typing import Any
 
-from pidtab import BadList, BadText, Calls, Effect, Ended, Gone, NotKept, Process, ProgramMissing, Queries, Refusal, Seat, SeatsTaken, Shared, SpaceStat, Stat
-from pidtab import Table, find_program, read_list
+from pidtab import Adopted, Ask, BadList, BadText, Calls, Effect, Ended, Gone, GroupGone, NotKept, Process, ProgramMissing, Queries, Refusal, Seat, SeatsTaken
+from pidtab import SessionGone, Shared, SpaceFell, SpaceGone, SpaceStat, Stat, Table, find_program, read_list
 from pidtab.calls import Call
 from pidtab.forms import QUERIES, say_answer
 from pidtab.history import Entry
@@ -56,11 +56,28 @@ def say_space(space: SpaceStat) -> str:
     return f"space {space.id} parent {parent} level {space.level} init {init}{' fallen' * space.fallen}"
 
 
+def say_numbers(numbers: tuple[int, ...]) -> str:
+    """Numbers, or ids, or `none`."""
+    return " ".join(map(str, numbers)) or "none"
+
+
 def say_effect(effect: Effect) -> str:
-    """What became of a task."""
-    if isinstance(effect, Ended):
-        return f"ended {effect.number} killed" if effect.killed else f"ended {effect.number} exit {effect.status}"
-    return f"gone {effect.number}" if isinstance(effect, Gone) else f"adopted {effect.number} {effect.parent}"
+    """What became of a task, a process group, a session or a namespace."""
+    match effect:
+        case Ended(number, status):
+            return f"ended {number} killed" if effect.killed else f"ended {number} exit {status}"
+        case Adopted(number, parent):
+            return f"adopted {number} {parent}"
+        case Gone(number):
+            return f"gone {number}"
+        case GroupGone(number):
+            return f"group-gone {number}"
+        case SessionGone(number):
+            return f"session-gone {number}"
+        case SpaceFell(id):
+            return f"space-fell {id}"
+        case SpaceGone(id):
+            return f"space-gone {id}"
 
 
 def say_told(table: Table | Seat, line: str) -> list[str]:
@@ -190,54 +207,32 @@ class World:
         self.test.assertEqual(self.shared.entry(seat.ordinal), Entry(seat.ordinal, self.at, line, said[0]))
         return ", ".join(said)
 
-    def stat(self, caller: int, pid: int) -> str:
-        """A task that is read at once."""
+    def asked(self, say: Callable[[Ask], str]) -> str:
+        """What is read, which is the same of each table."""
         assert self.shared is not None
         told = set()
         for queries in [self.shared.ask, *[it.ask for it in self.tables if isinstance(it, Table)]]:
             try:
-                told.add(say_task(queries.stat(caller, pid)))
+                told.add(say(queries))
             except Refusal as fault:
                 told.add(say_fault(fault))
-        (task,) = told
-        return task
-
-    def page(self, whom: int, *numbers: int) -> str:
-        """Whom a page lists."""
-        assert self.shared is not None
-        told = set()
-        for queries in [self.shared.ask, *[it.ask for it in self.tables if isinstance(it, Table)]]:
-            try:
-                found = lists_of(queries)[whom](*numbers)
-                told.add(" ".join(map(str, found)) or "none")
-            except Refusal as fault:
-                told.add(say_fault(fault))
-        (page,) = told
-        return page
-
-    def space(self, id: int) -> str:
-        """A namespace that is read at once."""
-        assert self.shared is not None
-        told = set()
-        for queries in [self.shared.ask, *[it.ask for it in self.tables if isinstance(it, Table)]]:
-            try:
-                told.add(say_space(queries.space(id)))
             except LookupError:
                 told.add("OUT_OF_RANGE")
-        (space,) = told
-        return space
+        (found,) = told
+        return found
 
-    def inside(self, tree: int, id: int, start: int) -> str:
-        """What is directly inside."""
-        assert self.shared is not None
-        told = set()
-        for queries in [self.shared.ask, *[it.ask for it in self.tables if isinstance(it, Table)]]:
-            try:
-                told.add(" ".join(map(str, (queries.spaces_inside, queries.controls_inside)[tree](id, start))) or "none")
-            except LookupError:
-                told.add("OUT_OF_RANGE")
-        (inside,) = told
-        return inside
+    def look(self, word: str, numbers: list[int]) -> str:
+        """What a step reads that is no call."""
+        if word == "stat":
+            return self.asked(lambda it: say_task(it.stat(*numbers)))
+        if word == "space":
+            return self.asked(lambda it: say_space(it.space(*numbers)))
+        if word == "control_tasks":
+            return self.asked(lambda it: say_numbers(it.control_tasks(*numbers)))
+        choice, *rest = numbers
+        if word == "page":
+            return self.asked(lambda it: say_numbers(lists_of(it)[choice](*rest)))
+        return self.asked(lambda it: say_numbers((it.spaces_inside, it.controls_inside)[choice](*rest)))
 
     def read(self, word: str, numbers: list[int]) -> str:
         """What a step of a history tells."""
@@ -287,14 +282,8 @@ class World:
             return json.dumps(self.told.to_object() if hasattr(self.told, "to_object") else self.told, separators=(",", ":"))
         elif word == "told":
             return self.call_told(" ".join(words))
-        elif word == "stat":
-            return self.stat(*numbers)
-        elif word == "page":
-            return self.page(*numbers)
-        elif word == "inside":
-            return self.inside(*numbers)
-        elif word == "space":
-            return self.space(*numbers)
+        elif word in ("stat", "page", "control_tasks", "inside", "space"):
+            return self.look(word, numbers)
         elif word in ("list", "dump"):
             assert self.shared is not None
             for table in [self.shared, *self.tables]:

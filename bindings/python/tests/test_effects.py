@@ -1,4 +1,4 @@
-"""What calls tell of what they did to tasks: by hand, beside the list, for threads, and where a call is interrupted."""
+"""What calls tell of what they did: by hand, beside the list, for threads, and where a call is interrupted."""
 
 import random
 import threading
@@ -14,12 +14,46 @@ import pidtab.effects
 import pidtab.native
 import pidtab.shared
 import pidtab.table
-from pidtab import Adopted, Effect, Ended, Forked, Gone, LibraryFault, Listing, Reaped, Seat, Shared, Table, TableClosed, Told
+from pidtab import (
+    Adopted,
+    Effect,
+    Ended,
+    Forked,
+    Gone,
+    GroupGone,
+    LibraryFault,
+    Listing,
+    Reaped,
+    Seat,
+    SessionGone,
+    Shared,
+    SpaceFell,
+    SpaceGone,
+    Table,
+    TableClosed,
+    Told,
+)
 from pidtab.calls import EachCall
 from pidtab.effects import SHORT_ROOM, add_effects
-from pidtab.raw import CLOSED, DONE, KILLED, NO_MEMORY, NO_ROOM, OUT_OF_RANGE, SPENT, TASK_ADOPTED, TASK_ENDED, TASK_GONE
+from pidtab.raw import (
+    CLOSED,
+    DONE,
+    GROUP_GONE,
+    KILLED,
+    NO_MEMORY,
+    NO_ROOM,
+    OUT_OF_RANGE,
+    SESSION_GONE,
+    SPACE_FELL,
+    SPACE_GONE,
+    SPENT,
+    TASK_ADOPTED,
+    TASK_ENDED,
+    TASK_GONE,
+)
 from tests.test_ends import OTHERS, in_child
 from tests.test_interrupts import CallInterrupter
+from tests.test_labels import take_last_number
 from tests.test_would import outcome
 from tests.ways import OnEachTable, need_library, need_shared, open_stand_in
 
@@ -42,11 +76,26 @@ def difference(before: Listing, after: Listing) -> list[Effect]:
             effects.append(Gone(old.root))
         elif new.parent != old.parent:
             effects.append(Adopted(old.root, new.parent))
+    effects += [GroupGone(it) for it in sorted({it.group for it in before.tasks} - {it.group for it in after.tasks})]
+    effects += [SessionGone(it) for it in sorted({it.session for it in before.tasks} - {it.session for it in after.tasks})]
+    return effects + difference_of_spaces(before, after)
+
+
+def difference_of_spaces(before: Listing, after: Listing) -> list[Effect]:
+    """What has become of the namespaces between two lists."""
+    now = {it.id: it for it in after.spaces}
+    effects: list[Effect] = []
+    for old in before.spaces:
+        if not old.fallen and (old.id not in now or now[old.id].fallen):
+            effects.append(SpaceFell(old.id))
+        if old.id not in now:
+            effects.append(SpaceGone(old.id))
     return effects
 
 
 class Effects(OnEachTable):
-    """By hand. 2 is the init of a namespace, in which are its child 3 and the child 4 of that; 5 is the child of 3 in one within it. 6 is a child of 1."""
+    """By hand. 2 is the init of the namespace 1, in which are its child 3 and the child 4 of that; 5 is the init of 4, within that, and a child of 3.
+    6 is a child of 1."""
 
     def fill(self, table: Table | Seat) -> None:
         table.fork(1, new=True)
@@ -72,8 +121,36 @@ class Effects(OnEachTable):
             table.join(1, 2)
             table.fork(1)
             told = table.told.exit(2, 9)
-            self.assertEqual(told, Told(None, [Ended(2, 9), Ended(3, None), Gone(3), Gone(4), Ended(5, None), Gone(5), Ended(7, None)]))
+            of_tasks: list[Effect] = [Ended(2, 9), Ended(3, None), Gone(3), Gone(4), Ended(5, None), Gone(5), Ended(7, None)]
+            self.assertEqual(told, Told(None, [*of_tasks, SpaceFell(1), SpaceFell(4), SpaceGone(4)]))
             self.assertEqual([it.killed for it in told.effects if isinstance(it, Ended)], [False, True, True, True])
+            # 7 has a number in the namespace, and then nobody has.
+            self.assertEqual(table.told.wait(1, pid=2), Told(Reaped(2, 9), [Gone(2)]))
+            self.assertEqual(table.told.wait(1, pid=7), Told(Reaped(7, None), [Gone(7), SpaceGone(1)]))
+
+    def test_groups_and_sessions(self) -> None:
+        for table in self.tables():
+            self.assertEqual(table.told.setpgid(1, 6, 0), Told(None, []))
+            self.assertEqual(table.told.setpgid(1, 6, 1), Told(None, [GroupGone(6)]))
+            self.assertEqual([table.told.setsid(6), table.told.fork(6)], [Told(6, []), Told(Forked(7, 7), [])])
+            # 6 is a member of both until it is reaped, and its child 7 stays.
+            self.assertEqual(table.told.exit(6, 1), Told(None, [Ended(6, 1), Adopted(7, 1)]))
+            self.assertEqual(table.told.wait(1), Told(Reaped(6, 1), [Gone(6)]))
+            self.assertEqual(table.told.setsid(7), Told(7, [GroupGone(6), SessionGone(6)]))
+            self.assertEqual(table.told.exit(7, 2), Told(None, [Ended(7, 2)]))
+            self.assertEqual(table.told.wait(1), Told(Reaped(7, 2), [Gone(7), GroupGone(7), SessionGone(7)]))
+
+    def test_a_group_keeps_a_namespace(self) -> None:
+        for table in self.tables():
+            # 6 goes into the group of 7, which is the init of the namespace 7: so many calls were made by then.
+            table.told.setpgid(1, 6, 6)
+            child = table.told.fork(1, new=True).answer
+            self.assertEqual((child, table.ask.stat(1, 7).space), (Forked(7, 7), 7))
+            table.told.setpgid(1, 7, 0)
+            self.assertEqual(table.told.setpgid(1, 6, 7), Told(None, [GroupGone(6)]))
+            self.assertEqual(table.told.exit(7), Told(None, [Ended(7, 0), SpaceFell(7)]))
+            self.assertEqual(table.told.wait(1), Told(Reaped(7, 0), [Gone(7)]))
+            self.assertEqual(table.told.setpgid(1, 6, 1), Told(None, [GroupGone(7), SpaceGone(7)]))
 
     def test_a_wait(self) -> None:
         for table in self.tables():
@@ -124,11 +201,7 @@ class Effects(OnEachTable):
         self.addCleanup(shared.close)
         for table in (Table(301), shared.seat()):
             self.addCleanup(table.close)
-            for _ in range(299):
-                table.fork(1)
-            table.label(300, "before")
-            table.exit(300)
-            table.wait(1)
+            take_last_number(table)
             self.assertEqual(table.told.fork(1), Told(Forked(300, 300), []))
             self.assertEqual([it.label for it in table.list().tasks if it.root == 300], [None])
 
@@ -172,7 +245,8 @@ class Effects(OnEachTable):
         table.wait(1, pid=child)
 
     def test_values(self) -> None:
-        self.assertEqual(len({Ended(2, 1), Adopted(2, 1), Gone(2), Ended(2, 1)}), 3)
+        each = [Ended(2, 1), Adopted(2, 1), Gone(2), GroupGone(2), SessionGone(2), SpaceFell(2), SpaceGone(2)]
+        self.assertEqual((len({*each, Ended(2, 1), SpaceGone(2)}), repr(each[-1])), (7, "SpaceGone(id=2)"))
         with self.assertRaises(AttributeError):
             Gone(2).number = 3  # type: ignore[misc]
         answer, effects = self.table.told.exit(6, 1)
@@ -188,12 +262,13 @@ class Others(unittest.TestCase):
         chance, kinds = random.Random(SEED), Counter[type]()
         with Table(301) as table, Shared(1, pid_max=301) as shared:
             seat, roots = shared.seat(), [1]
-            for _ in range(2000):
+            for _ in range(4000):
                 caller, other = chance.choice(roots), chance.choice(roots)
                 calls: list[Callable[[EachCall], object]] = [
                     lambda it: it.fork(caller, False), lambda it: it.fork(caller, True), lambda it: it.fork(1), lambda it: it.join(1, other),
                     lambda it: it.join(1, 1), lambda it: it.exit(caller, 9), lambda it: it.wait(caller), lambda it: it.wait(1), lambda it: it.subreaper(caller),
-                    lambda it: it.setsid(caller), lambda it: it.setpgid(caller, 0, 0), lambda it: it.getppid(caller),
+                    lambda it: it.setsid(caller), lambda it: it.setpgid(caller, 0, 0), lambda it: it.getppid(caller), lambda it: it.wait(1),
+                    lambda it: it.setsid(other), lambda it: it.setpgid(1, other, 1), lambda it: it.setpgid(other, 0, 0),
                 ]  # fmt: skip
                 call, before = chance.choice(calls), table.list()
                 told = outcome(lambda: call(table.told))  # type: ignore[arg-type]
@@ -203,13 +278,13 @@ class Others(unittest.TestCase):
                 kinds.update(map(type, effects))
                 roots = [it.root for it in after.tasks]
             self.assertEqual(shared.dump(), table.dump())
-        for kind in (Ended, Adopted, Gone):
+        for kind in (Ended, Adopted, Gone, GroupGone, SessionGone, SpaceFell, SpaceGone):
             self.assertGreater(kinds[kind], 50)
 
     def test_more_than_there_is_room_for_at_first(self) -> None:
         need_library()
-        # Of each task that an exit may touch there may be two effects.
-        for count in (SHORT_ROOM // 2 - 2, SHORT_ROOM // 2 - 1, SHORT_ROOM // 2, 5 * SHORT_ROOM):
+        # Of each task that an exit may touch there may be two effects, and one of their group and of their session.
+        for count in (SHORT_ROOM // 2 - 3, SHORT_ROOM // 2 - 2, SHORT_ROOM // 2 - 1, 5 * SHORT_ROOM):
             with Table() as table:
                 table.fork(1)
                 children = [table.fork(2).root for _ in range(count)]
@@ -250,14 +325,17 @@ class Rooms(unittest.TestCase):
             if there < 2000:
                 count.value = 1000 * len(rooms)
                 return NO_ROOM
-            for place, told in enumerate([(TASK_ENDED, 2, KILLED), (TASK_ENDED, 3, 255), (TASK_ADOPTED, 4, 2**32 - 1), (TASK_GONE, 2**32 - 1, 0)]):
+            of_tasks = [(TASK_ENDED, 2, KILLED), (TASK_ENDED, 3, 255), (TASK_ADOPTED, 4, 2**32 - 1), (TASK_GONE, 2**32 - 1, 0)]
+            others = [(GROUP_GONE, 2**32 - 1, 0), (SESSION_GONE, 3, 0), (SPACE_FELL, 0, 2**64 - 1), (SPACE_GONE, 0, 4)]
+            for place, told in enumerate(of_tasks + others):
                 room[place] = told
-            count.value = 4
+            count.value = 8
             return DONE
 
         self.assertEqual(add_effects(effects, make), DONE)
         self.assertEqual(rooms, [SHORT_ROOM, 1125, 2250])
-        self.assertEqual(effects, [Gone(7), Ended(2, None), Ended(3, 255), Adopted(4, 2**32 - 1), Gone(2**32 - 1)])
+        of_tasks = [Ended(2, None), Ended(3, 255), Adopted(4, 2**32 - 1), Gone(2**32 - 1)]
+        self.assertEqual(effects, [Gone(7), *of_tasks, GroupGone(2**32 - 1), SessionGone(3), SpaceFell(2**64 - 1), SpaceGone(4)])
 
     def table(self, **functions: object) -> Table:
         """A table of functions in the place of the library's."""

@@ -6,6 +6,7 @@ import unittest
 from pidtab import Refusal, Shared, Table, TableClosed, read_list
 from pidtab.accounts import Accounts
 from pidtab.calls import Calls
+from pidtab.native import NumberCalls
 from pidtab.tree import draw_list
 from tests.ways import need_library, need_shared
 
@@ -28,6 +29,14 @@ def go_up(table: Calls) -> None:
     while (child := table.fork(1).root) != LAST:
         table.exit(child)
         table.wait(1)
+
+
+def take_last_number(table: NumberCalls) -> None:
+    """The last number had a task with a label, which is gone: the next child of the root init gets it."""
+    go_up(table)
+    table.label(LAST, "before")
+    table.exit(LAST)
+    table.wait(1)
 
 
 def labels_of(table: Table | Shared | Calls) -> dict[int, str | None]:

@@ -1,7 +1,6 @@
 """The children of tasks, the members of groups and sessions, and the tasks of namespaces. bindings/c/test_page.c compares more of them."""
 
 import random
-import threading
 import unittest
 from collections.abc import Callable
 
@@ -13,13 +12,11 @@ from pidtab.native import SHORT_PAGE, read_page
 from pidtab.raw import CHILDREN, CLOSED, COUNTED, DONE, NO_MEMORY, PidtabReply
 from tests.test_ends import OTHERS, in_child
 from tests.test_interrupts import CallInterrupter
-from tests.ways import OnEachTable, need_library, need_shared
+from tests.ways import OnEachTable, need_library, read_beside_a_writer
 
 FILES = {pidtab.native.__file__, pidtab.shared.__file__, pidtab.table.__file__}
 
 SEED = 5
-FORKS = 300
-THREADS = 3
 
 NAMES = ("children", "group_members", "session_members", "namespace_members", "namespace_own")
 
@@ -168,26 +165,12 @@ class Many(unittest.TestCase):
             self.assertEqual([one.ask.children(1), two.ask(now=True).children(1), two.ask(now=True).session_members(1)], [(2,), (2,), (1, 2)])
 
     def test_threads_beside_a_writer(self) -> None:
-        need_shared()
-        with Shared(1) as shared:
-            seat, faults = shared.seat(), []
+        def read(shared: Shared, before: int) -> int:
+            told = shared.ask.children(1)
+            self.assertEqual(told, tuple(range(2, len(told) + 2)))
+            return len(told)
 
-            def read_lists() -> None:
-                told: tuple[int, ...] = ()
-                while len(told) < FORKS:
-                    before, told = told, shared.ask.children(1)
-                    if told != tuple(range(2, len(told) + 2)) or len(told) < len(before):
-                        faults.append(told)
-                        return
-
-            threads = [threading.Thread(target=read_lists) for _ in range(THREADS)]
-            for it in threads:
-                it.start()
-            for _ in range(FORKS):
-                seat.fork(1)
-            for it in threads:
-                it.join()
-            self.assertEqual((faults, shared.counts().recorded), ([], FORKS))
+        read_beside_a_writer(self, read)
 
 
 class Reading(unittest.TestCase):

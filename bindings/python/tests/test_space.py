@@ -2,7 +2,6 @@
 
 import json
 import random
-import threading
 import unittest
 
 import pidtab.native
@@ -14,13 +13,11 @@ from pidtab.raw import CLOSED, DONE, NO_MEMORY, OUT_OF_RANGE, SPACES, PidtabSpac
 from tests.test_changes import validator
 from tests.test_ends import OTHERS, in_child
 from tests.test_interrupts import CallInterrupter
-from tests.ways import OnEachTable, need_library, need_shared
+from tests.ways import OnEachTable, need_library, read_beside_a_writer
 
 FILES = {pidtab.native.__file__, pidtab.shared.__file__, pidtab.table.__file__}
 
 SEED = 5
-FORKS = 300
-THREADS = 3
 
 ROOT = SpaceStat(id=0, parent=None, level=0, init=1, fallen=False)
 
@@ -195,31 +192,18 @@ class Others(unittest.TestCase):
             self.assertEqual([one.ask.spaces_inside(), two.ask(now=True).spaces_inside(), two.ask(now=True).controls_inside()], [(id,), (id,), ()])
 
     def test_threads_beside_a_writer(self) -> None:
-        need_shared()
-        with Shared(1) as shared:
-            seat, faults = shared.seat(), []
+        def read(shared: Shared, before: int) -> int:
+            id = before + 1
+            try:
+                told = shared.ask.space(id)
+            except LookupError:
+                return before
+            inside = shared.ask.spaces_inside()
+            self.assertEqual((told, inside), (SpaceStat(id, 0, 1, id + 1, False), tuple(range(1, len(inside) + 1))))
+            self.assertGreaterEqual(len(inside), id)
+            return id
 
-            def read_spaces() -> None:
-                id = 1
-                while id <= FORKS:
-                    try:
-                        told = shared.ask.space(id)
-                    except LookupError:
-                        continue
-                    inside = shared.ask.spaces_inside()
-                    if told != SpaceStat(id, 0, 1, id + 1, False) or inside != tuple(range(1, len(inside) + 1)) or len(inside) < id:
-                        faults.append(told)
-                        return
-                    id += 1
-
-            threads = [threading.Thread(target=read_spaces) for _ in range(THREADS)]
-            for it in threads:
-                it.start()
-            for _ in range(FORKS):
-                seat.fork(1, new=True)
-            for it in threads:
-                it.join()
-            self.assertEqual((faults, shared.counts().recorded), ([], FORKS))
+        read_beside_a_writer(self, read, new=True)
 
     def test_by_the_schema(self) -> None:
         check = validator()

@@ -26,7 +26,7 @@ def child(table: pidtab.AskableCalls) -> int:
 
 
 def count(queries: pidtab.Queries) -> int:
-    return queries.count()
+    return queries.count() + len(queries.control_tasks(1, 0, 2)) if isinstance(queries, pidtab.Ask) else queries.count()
 
 
 def use(table: pidtab.Table, shared: pidtab.Shared, seat: pidtab.Seat, many: pidtab.Replicated) -> int:
@@ -42,8 +42,10 @@ def fall(table: pidtab.Table, seat: pidtab.Seat) -> int:
                 answer = None if status is None else number + status
             case pidtab.Adopted():
                 return effect.parent
-            case gone:
-                return gone.number
+            case pidtab.Gone(number) | pidtab.GroupGone(number) | pidtab.SessionGone(number):
+                return number
+            case space:
+                return space.id
     reaped: pidtab.Told[pidtab.Reaped | None] = seat.told.wait(1)
     return table.told.fork(1).answer.root + (reaped.answer.child if reaped.answer else 0)
 
@@ -54,6 +56,7 @@ def misuse(process: pidtab.Process, shared: pidtab.Shared, calls: pidtab.Calls, 
     child(shared)  # wrong
     calls.ask  # wrong
     table.ask.fork(1)  # wrong
+    table.ask.control_tasks("1")  # wrong
     table.fork("1")  # wrong
 
 

@@ -11,6 +11,7 @@ import pidtab.table
 from pidtab import Forked, Reaped, Refusal, Seat, Shared, Table, TableClosed
 from tests.test_ends import OTHERS, in_child
 from tests.test_interrupts import CallInterrupter
+from tests.test_labels import take_last_number
 from tests.ways import need_library, need_shared
 
 FILES = {pidtab.native.__file__, pidtab.shared.__file__, pidtab.table.__file__}
@@ -90,11 +91,7 @@ class WouldOfTable(unittest.TestCase):
     def test_a_label_is_of_the_task_before(self) -> None:
         table = Table(301)
         self.addCleanup(table.close)
-        for _ in range(299):
-            table.fork(1)
-        table.label(300, "before")
-        table.exit(300)
-        table.wait(1)
+        take_last_number(table)
         self.assertEqual(table.would.fork(1), Forked(300, 300))
         self.assertEqual([it.label for it in table.list().tasks if it.root == 300], [])
         self.assertIs(table.fork_at(1, Forked(300, 300)), True)

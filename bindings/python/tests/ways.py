@@ -2,7 +2,9 @@
 
 import errno
 import importlib.util
+import threading
 import unittest
+from collections.abc import Callable
 from types import SimpleNamespace
 from typing import TYPE_CHECKING
 from unittest import mock
@@ -116,6 +118,37 @@ def ask(table: Calls, line: str) -> str:
     except Refusal as refusal:
         assert refusal.errno is not None
         return f"{errno.errorcode[refusal.errno]} {refusal.why}"
+
+
+# What readers see beside a writer: so many of them, and so many forks.
+READERS = 3
+FORKS = 300
+
+
+def read_beside_a_writer(test: unittest.TestCase, read: Callable[[Shared, int], int], new: bool = False) -> None:
+    """Threads read how many children the root init has by now, each until it has seen all that a seat forks meanwhile. None is ever lost."""
+    need_shared()
+    with Shared(1) as shared:
+        seat, faults = shared.seat(), list[object]()
+
+        def read_on() -> None:
+            before = 0
+            try:
+                while before < FORKS:
+                    now = read(shared, before)
+                    test.assertGreaterEqual(now, before)
+                    before = now
+            except Exception as fault:
+                faults.append(fault)
+
+        threads = [threading.Thread(target=read_on) for _ in range(READERS)]
+        for it in threads:
+            it.start()
+        for _ in range(FORKS):
+            seat.fork(1, new)
+        for it in threads:
+            it.join()
+        test.assertEqual((faults, shared.counts().recorded), ([], FORKS))
 
 
 class OnEachTable(unittest.TestCase):

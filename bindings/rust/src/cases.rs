@@ -132,7 +132,7 @@ impl World {
         answer
     }
 
-    /// The answer to the line, and what its call does to tasks, which are the same of each table.
+    /// The answer to the line, and what its call does, which are the same of each table.
     fn call_told(&mut self, line: &str) -> String {
         let (call, seat) = (call_on(line), &mut self.seats[self.at]);
         let told = seat.told(call).expect("a call");
@@ -181,11 +181,18 @@ impl World {
             .tables
             .iter()
             .all(|it| of_table(it, caller, number, from) == told));
-        match told.as_deref() {
-            Ok([]) => String::from("none"),
-            Ok(found) => joined(found, " "),
-            Err(fault) => say_error(fault),
-        }
+        say_page(told)
+    }
+
+    /// The live tasks of a control group.
+    fn control_tasks(&mut self, numbers: &[u64]) -> String {
+        let (caller, control, from) = (numbers[0] as u32, numbers[1], numbers[2] as u32);
+        let told = self.shared.control_tasks(caller, control, from);
+        assert!(self
+            .tables
+            .iter()
+            .all(|it| it.control_tasks(caller, control, from) == told));
+        say_page(told)
     }
 
     /// A namespace that is read at once.
@@ -386,11 +393,24 @@ fn say(reply: &Reply) -> String {
 }
 
 /// What became of a task, behind a comma.
+/// The numbers of a page.
+fn say_page(told: Result<Vec<u32>, Error>) -> String {
+    match told.as_deref() {
+        Ok([]) => String::from("none"),
+        Ok(found) => joined(found, " "),
+        Err(fault) => say_error(fault),
+    }
+}
+
 fn say_effect(effect: &Effect) -> String {
     match effect {
         Effect::Ended { number, ended } => format!(", ended {number} {}", say_end(*ended)),
         Effect::Adopted { number, parent } => format!(", adopted {number} {parent}"),
         Effect::Gone { number } => format!(", gone {number}"),
+        Effect::GroupGone { number } => format!(", group-gone {number}"),
+        Effect::SessionGone { number } => format!(", session-gone {number}"),
+        Effect::SpaceFell { id } => format!(", space-fell {id}"),
+        Effect::SpaceGone { id } => format!(", space-gone {id}"),
     }
 }
 
@@ -533,6 +553,7 @@ fn make_open(
         "told" => return world.call_told(&words[1..].join(" ")),
         "stat" => return world.stat(numbers[0] as u32, numbers[1] as u32),
         "page" => return world.page(numbers),
+        "control_tasks" => return world.control_tasks(numbers),
         "inside" => return world.inside(numbers),
         "space" => return world.space(numbers[0]),
         "list" | "dump" | "opening" => assert_eq!(world.text(word), text),

@@ -1,8 +1,8 @@
-//! What calls do to tasks, which is told beside their replies.
+//! What calls do, which is told beside their replies: to tasks, process groups, sessions and namespaces.
 use crate::numbers::ended_of;
 use crate::{raw, Ended, Error, Reply};
 
-/// What a call did to a task. All numbers are root numbers. More may come.
+/// What a call did to a task, or what is there no more behind it. All numbers are root numbers. More may come.
 #[derive(Clone, Copy, Debug, PartialEq, Eq, Hash)]
 #[non_exhaustive]
 pub enum Effect {
@@ -25,12 +25,32 @@ pub enum Effect {
         /// Its number.
         number: u32,
     },
+    /// The process group has no member any more, no zombie either.
+    GroupGone {
+        /// Its number.
+        number: u32,
+    },
+    /// The session has no member any more, no zombie either.
+    SessionGone {
+        /// Its number.
+        number: u32,
+    },
+    /// The namespace has fallen: its init has ended, and it takes no task any more.
+    SpaceFell {
+        /// Its id.
+        id: u64,
+    },
+    /// The namespace is there no more, as nothing has a number in it.
+    SpaceGone {
+        /// Its id.
+        id: u64,
+    },
 }
 
 impl Effect {
     /// The effect that the library's numbers say.
     fn of(numbers: &raw::Effect) -> Effect {
-        let number = numbers.number;
+        let (number, id) = (numbers.number, numbers.value);
         match numbers.what {
             raw::TASK_ENDED => Effect::Ended {
                 number,
@@ -41,17 +61,22 @@ impl Effect {
                 parent: numbers.value as u32,
             },
             raw::TASK_GONE => Effect::Gone { number },
+            raw::GROUP_GONE => Effect::GroupGone { number },
+            raw::SESSION_GONE => Effect::SessionGone { number },
+            raw::SPACE_FELL => Effect::SpaceFell { id },
+            raw::SPACE_GONE => Effect::SpaceGone { id },
             other => unreachable!("no effect has the number {other}"),
         }
     }
 }
 
-/// What a call was replied, and what it did to tasks.
+/// What a call was replied, and what it did.
 #[derive(Clone, Debug, PartialEq, Eq, Hash)]
 pub struct Told {
     /// The reply, which may be a refusal.
     pub reply: Reply,
-    /// What it did, by root numbers in rising order. Of a task that ended and is gone there are both, in this order.
+    /// What it did: first to tasks by root numbers in rising order, then to process groups and to sessions likewise, and then to namespaces by rising ids. Of a
+    /// task that ended and is gone, and of a namespace that fell and is gone, there are both, in this order.
     pub effects: Vec<Effect>,
 }
 
@@ -115,6 +140,36 @@ mod tests {
         Effect::Gone { number }
     }
 
+    fn group_gone(number: u32) -> Effect {
+        Effect::GroupGone { number }
+    }
+
+    fn session_gone(number: u32) -> Effect {
+        Effect::SessionGone { number }
+    }
+
+    fn fell(id: u64) -> Effect {
+        Effect::SpaceFell { id }
+    }
+
+    fn space_gone(id: u64) -> Effect {
+        Effect::SpaceGone { id }
+    }
+
+    fn wait(caller: u32) -> Call {
+        let which = Which::Any;
+        Call::Wait { caller, which }
+    }
+
+    fn setpgid(caller: u32, pid: i32, pgid: i32) -> Call {
+        Call::Setpgid { caller, pid, pgid }
+    }
+
+    fn reaped(child: u32, status: u8) -> Reply {
+        let ended = Ended::Exited(status);
+        Reply::Reaped(Reaped { child, ended })
+    }
+
     /// That each of these calls is told so, of a table and of a seat.
     fn are_told(lines: &[&str], calls: &[(Call, Reply, &[Effect])]) {
         let mut table = Table::open(32768).expect("a table");
@@ -137,20 +192,12 @@ mod tests {
         assert_eq!(shared.list(), table.list());
     }
 
-    /// 2 is the init of a namespace, in which are its child 3 and the children 4 and 5 of that. 5 is the init of one within.
+    /// 2 is the init of the namespace 1, in which are its child 3 and the children 4 and 5 of that. 5 is the init of the namespace 4 within.
     #[test]
     fn a_fall() {
-        let reaped = Reaped {
-            child: 2,
-            ended: Ended::Exited(9),
-        };
         let refused = Reply::Refused {
             errno: 16,
             refusal: Refusal::RootInit,
-        };
-        let wait = Call::Wait {
-            caller: 1,
-            which: Which::Any,
         };
         are_told(
             &["fork 1 new", "fork 2", "fork 3", "fork 3 new"],
@@ -164,17 +211,75 @@ mod tests {
                 (
                     exit(2, 9),
                     Reply::Done,
-                    &[ended(2, 9), gone(3), gone(4), killed(5), gone(5)],
+                    &[
+                        ended(2, 9),
+                        gone(3),
+                        gone(4),
+                        killed(5),
+                        gone(5),
+                        fell(1),
+                        fell(4),
+                        space_gone(4),
+                    ],
                 ),
-                (wait, Reply::Reaped(reaped), &[gone(2)]),
+                (wait(1), reaped(2, 9), &[gone(2), space_gone(1)]),
                 (exit(1, 0), refused, &[]),
+            ],
+        );
+    }
+
+    /// 2 leads a session, of which are its children 3 and 4, and 4 leads a group. A zombie is a member until it is reaped.
+    #[test]
+    fn groups_and_sessions() {
+        are_told(
+            &["fork 1", "setsid 2", "fork 2", "fork 2"],
+            &[
+                (setpgid(2, 3, 0), Reply::Done, &[]),
+                (setpgid(2, 4, 4), Reply::Done, &[]),
+                (setpgid(2, 3, 2), Reply::Done, &[group_gone(3)]),
+                (
+                    exit(2, 1),
+                    Reply::Done,
+                    &[ended(2, 1), adopted(3, 1), adopted(4, 1)],
+                ),
+                (wait(1), reaped(2, 1), &[gone(2)]),
+                (
+                    Call::Setsid { caller: 3 },
+                    Reply::Number(3),
+                    &[group_gone(2)],
+                ),
+                (exit(4, 2), Reply::Done, &[ended(4, 2)]),
+                (
+                    wait(1),
+                    reaped(4, 2),
+                    &[gone(4), group_gone(4), session_gone(2)],
+                ),
+            ],
+        );
+    }
+
+    /// 3 is the init of the namespace 2, and 2 is in its group, whose number keeps the namespace.
+    #[test]
+    fn a_group_keeps_a_namespace() {
+        are_told(
+            &["fork 1", "fork 2 new", "setpgid 2 3 0"],
+            &[
+                (setpgid(2, 0, 3), Reply::Done, &[]),
+                (exit(3, 0), Reply::Done, &[ended(3, 0), fell(2)]),
+                (wait(2), reaped(3, 0), &[gone(3)]),
+                (
+                    setpgid(2, 0, 1),
+                    Reply::Done,
+                    &[group_gone(3), space_gone(2)],
+                ),
             ],
         );
     }
 
     #[test]
     fn more_than_there_is_room_for_at_first() {
-        for count in [SHORT / 2 - 2, SHORT / 2 - 1, SHORT / 2, 5 * SHORT] {
+        // Of each task there may be two effects, and one of their group and of their session.
+        for count in [SHORT / 2 - 3, SHORT / 2 - 2, SHORT / 2 - 1, 5 * SHORT] {
             let mut table = Table::open(32768).expect("a table");
             table.fork(1, false).expect("a child");
             let mut wanted = vec![ended(2, 7)];

@@ -140,7 +140,11 @@ pub struct Reaped {
 ///
 /// ```compile_fail,E0004
 /// use pidtab::Effect::*;
-/// fn all(it: pidtab::Effect) { match it { Ended { .. } | Adopted { .. } | Gone { .. } => {} } }
+/// fn all(it: pidtab::Effect) {
+///     match it {
+///         Ended { .. } | Adopted { .. } | Gone { .. } | GroupGone { .. } | SessionGone { .. } | SpaceFell { .. } | SpaceGone { .. } => {}
+///     }
+/// }
 /// ```
 ///
 /// ```compile_fail,E0004
@@ -311,8 +315,9 @@ impl Table {
         Ok(true)
     }
 
-    /// Makes the call, and tells what it did to tasks besides: who ended, who has another parent, and who is gone. So the exit of a namespace's init
-    /// tells whom the kernel would kill, and each other exit who takes the children. A wait takes its child away. Other calls have no effects.
+    /// Makes the call, and tells what it did besides: who ended, who has another parent, and who is gone; which process groups and sessions have no member
+    /// any more; and which namespaces have fallen, or are gone. So the exit of a namespace's init tells whom the kernel would kill, and each other exit who
+    /// takes the children. A wait takes its child away, and a setpgid and a setsid may leave a group without members. Other calls have no effects.
     ///
     /// ```
     /// use pidtab::{Call, Calls, Effect, Ended, Table};
@@ -328,10 +333,11 @@ impl Table {
     ///         Effect::Ended { number, ended: Ended::Killed } => format!("{number} is killed"),
     ///         Effect::Adopted { number, parent } => format!("{number} is a child of {parent} now"),
     ///         Effect::Gone { number } => format!("{number} is gone"),
+    ///         Effect::SpaceFell { id } => format!("the namespace {id} has fallen"),
     ///         other => format!("{other:?}"),
     ///     });
     /// }
-    /// assert_eq!(said, ["2 ends with 7", "3 is killed", "3 is gone"]);
+    /// assert_eq!(said, ["2 ends with 7", "3 is killed", "3 is gone", "the namespace 1 has fallen"]);
     /// # Ok::<(), pidtab::Error>(())
     /// ```
     ///
@@ -405,6 +411,7 @@ mod tests {
         assert_eq!(table.ask(Call::Getpid { caller: 1 }), Err(Error::Busy));
         assert_eq!(table.stat(1, 0), Err(Error::Busy));
         assert_eq!(table.children(1, 0, 0), Err(Error::Busy));
+        assert_eq!(table.control_tasks(1, 0, 0), Err(Error::Busy));
         assert_eq!(table.space(0), Err(Error::Busy));
         assert_eq!(table.told(Call::Getpid { caller: 1 }), Err(Error::Busy));
         assert_eq!(table.line("getpid 1"), Err(LineError::Busy));

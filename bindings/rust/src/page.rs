@@ -1,4 +1,4 @@
-//! Whom a page lists: the children of a task, the members of a process group or of a session, and the tasks of a namespace.
+//! Whom a page lists: the children of a task, the members of a process group or of a session, the tasks of a namespace, and those of a control group.
 use crate::{raw, Error, Reply, Table};
 
 /// The room for a first try, in numbers.
@@ -104,6 +104,45 @@ impl Table {
         self.page(raw::NAMESPACE_OWN, caller, number, from)
     }
 
+    /// The live tasks that are directly in the control group with the id, where 0 is the root, as [`Table::children`] has those of a task: as `cgroup.procs`
+    /// has them, in which no zombie appears.
+    ///
+    /// ```
+    /// use pidtab::{Calls, Error, Table};
+    ///
+    /// /// The control group, and then each directly inside it, with their live tasks, as `systemd-cgls` has them.
+    /// fn tree(table: &Table, id: u64, depth: usize) -> Result<String, Error> {
+    ///     let mut said = format!("{:depth$}{id}: {:?}\n", "", table.control_tasks(1, id, 0)?);
+    ///     for inner in table.controls_inside(id, 0)?.unwrap_or_default() {
+    ///         said += &tree(table, inner, depth + 1)?;
+    ///     }
+    ///     Ok(said)
+    /// }
+    ///
+    /// let mut table = Table::open(32768)?;
+    /// let service = table.mk(0)?;
+    /// let worker = table.mk(service)?;
+    /// table.fork(1, false)?;
+    /// table.move_task(2, service)?;
+    /// table.fork(2, false)?;
+    /// table.fork(2, false)?;
+    /// table.fork(2, false)?;
+    /// table.move_task(4, worker)?;
+    /// // A zombie counts, and is no live task.
+    /// table.exit(5, 0)?;
+    /// assert_eq!(tree(&table, 0, 0)?, "0: [1]\n 1: [2, 3]\n  2: [4]\n");
+    /// # Ok::<(), Error>(())
+    /// ```
+    ///
+    /// # Errors
+    /// `Refused` as `NoCaller`, `NoControl`; `NoMemory`, `Busy`.
+    pub fn control_tasks(&self, caller: u32, control: u64, from: u32) -> Result<Vec<u32>, Error> {
+        all(|numbers, reply| {
+            self.raw
+                .control_tasks(caller, control, from, numbers, reply)
+        })
+    }
+
     fn page(&self, whom: u32, caller: u32, number: u32, from: u32) -> Result<Vec<u32>, Error> {
         all(|numbers, reply| self.raw.page(caller, whom, number, from, numbers, reply))
     }
@@ -170,11 +209,42 @@ mod tests {
         assert_eq!(table.mk(0), Ok(7));
     }
 
+    /// The control group 2 is in 1. 3 is the init of a namespace, and its child 4 is 2 there. 2 and 4 are in 1, 5 in 2, and 6 is a zombie there.
+    #[test]
+    fn of_control_groups() {
+        let mut table = open();
+        assert_eq!((table.mk(0), table.mk(1)), (Ok(1), Ok(2)));
+        let lines = "fork 1,fork 1 new,fork 3,move 2 1,move 4 1,fork 1,move 5 2,fork 5,exit 6 0";
+        for line in lines.split(',') {
+            table.line(line).expect("a call");
+        }
+        for (caller, control, from, tasks) in [
+            (1, 0, 0, &[1, 3][..]),
+            (1, 1, 0, &[2, 4]),
+            (1, 1, 3, &[4]),
+            (1, 1, u32::MAX, &[]),
+            (1, 2, 0, &[5]),
+            (3, 0, 0, &[1]),
+            (4, 1, 0, &[2]),
+            (3, 2, 0, &[]),
+        ] {
+            let found = table.control_tasks(caller, control, from);
+            assert_eq!(found.as_deref(), Ok(tasks));
+        }
+        let refused = |errno, refusal| Err(Error::Refused { errno, refusal });
+        assert_eq!(table.control_tasks(6, 9, 0), refused(3, Refusal::NoCaller));
+        assert_eq!(table.control_tasks(1, 9, 0), refused(2, Refusal::NoControl));
+        // 4 is the id of a namespace.
+        assert_eq!(table.control_tasks(1, 4, 0), refused(2, Refusal::NoControl));
+        assert_eq!(table.mk(0), Ok(12));
+    }
+
     #[test]
     fn more_than_there_is_room_for_at_first() {
         let mut table = open();
         for count in 0..3 * SHORT as u32 {
             let children: Vec<_> = (2..count + 2).collect();
+            assert_eq!(table.control_tasks(1, 0, 2).as_ref(), Ok(&children));
             assert_eq!(table.children(1, 0, 0), Ok(children));
             table.fork(1, false).expect("a child");
         }

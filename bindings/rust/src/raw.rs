@@ -322,7 +322,7 @@ impl Entry {
     }
 }
 
-// The sizes are those that bindings/c/test.c asserts.
+// The sizes are those that test.c, test_shared.c and test_saved.c of bindings/c assert.
 const _: () = {
     assert!(size_of::<Held>() == 16 && size_of::<Call>() == 32);
     assert!(size_of::<Reply>() == 168 && size_of::<Task>() == 192);
@@ -369,6 +369,15 @@ extern "C" {
         ids: *mut u64,
         room: usize,
         count: *mut u64,
+    ) -> u32;
+    fn pidtab_control_tasks(
+        table: *const Held,
+        caller: u32,
+        control: u64,
+        from: u32,
+        numbers: *mut u32,
+        room: usize,
+        reply: *mut Reply,
     ) -> u32;
     fn pidtab_would(table: *const Held, call: *const Call, reply: *mut Reply) -> u32;
     fn pidtab_fork_at(
@@ -453,6 +462,15 @@ extern "C" {
         ids: *mut u64,
         room: usize,
         count: *mut u64,
+    ) -> u32;
+    fn pidtab_record_control_tasks(
+        record: *const Held,
+        caller: u32,
+        control: u64,
+        from: u32,
+        numbers: *mut u32,
+        room: usize,
+        reply: *mut Reply,
     ) -> u32;
     fn pidtab_record_would(record: *const Held, call: *const Call, reply: *mut Reply) -> u32;
     fn pidtab_record_fork_at(
@@ -710,6 +728,28 @@ impl Table {
         }
     }
 
+    pub(crate) fn control_tasks(
+        &self,
+        caller: u32,
+        control: u64,
+        from: u32,
+        numbers: &mut [u32],
+        reply: &mut Reply,
+    ) -> u32 {
+        // SAFETY: it is open and lent to queries alone; each pointer is that of a reference or of a slice with that length.
+        unsafe {
+            pidtab_control_tasks(
+                &*self.held,
+                caller,
+                control,
+                from,
+                numbers.as_mut_ptr(),
+                numbers.len(),
+                reply,
+            )
+        }
+    }
+
     pub(crate) fn would(&self, call: &Call, reply: &mut Reply) -> u32 {
         // SAFETY: it is open and lent to queries alone; each pointer is that of a reference or of a slice with that length.
         unsafe { pidtab_would(&*self.held, call, reply) }
@@ -910,6 +950,28 @@ impl Record {
                 ids.as_mut_ptr(),
                 ids.len(),
                 count,
+            )
+        }
+    }
+
+    pub(crate) fn control_tasks(
+        &self,
+        caller: u32,
+        control: u64,
+        from: u32,
+        numbers: &mut [u32],
+        reply: &mut Reply,
+    ) -> u32 {
+        // SAFETY: it is open and lent to queries alone; each pointer is that of a reference or of a slice with that length.
+        unsafe {
+            pidtab_record_control_tasks(
+                &*self.held,
+                caller,
+                control,
+                from,
+                numbers.as_mut_ptr(),
+                numbers.len(),
+                reply,
             )
         }
     }

@@ -436,6 +436,14 @@ impl Shared {
         self.look().controls_inside(id, from)
     }
 
+    /// As [`Record::control_tasks`].
+    ///
+    /// # Errors
+    /// `Refused` as `NoCaller`, `NoControl`; `NoMemory`, `Busy`.
+    pub fn control_tasks(&self, caller: u32, control: u64, from: u32) -> Result<Vec<u32>, Error> {
+        self.look_first().control_tasks(caller, control, from)
+    }
+
     /// As [`Record::counts`].
     ///
     /// # Errors
@@ -810,6 +818,17 @@ impl Record {
     /// `NoMemory`, `Busy`.
     pub fn controls_inside(&self, id: u64, from: u64) -> Result<Option<Vec<u64>>, Error> {
         space::inside(|ids, count| self.raw.inside(raw::CONTROLS, id, from, ids, count))
+    }
+
+    /// The live tasks that are directly in the control group with the id, as [`Table::control_tasks`] has them. It is no call, and is not recorded.
+    ///
+    /// # Errors
+    /// `Refused` as `NoCaller`, `NoControl`; `NoMemory`, `Busy`.
+    pub fn control_tasks(&self, caller: u32, control: u64, from: u32) -> Result<Vec<u32>, Error> {
+        page::all(|numbers, reply| {
+            self.raw
+                .control_tasks(caller, control, from, numbers, reply)
+        })
     }
 
     /// The ordinal of the first kept entry, and how many calls were recorded, the cut ones too.
@@ -1221,7 +1240,7 @@ impl Seat<'_> {
         self.turn(locked).fork_at(caller, new_space, child)
     }
 
-    /// As [`Table::told`](crate::Table::told): makes the call, and tells what it did to tasks besides. It is recorded as any call.
+    /// As [`Table::told`](crate::Table::told): makes the call, and tells what it did besides. It is recorded as any call.
     ///
     /// # Errors
     /// `NoMemory`, `Spent`, `Busy`, `Unsaved`.
@@ -1423,6 +1442,7 @@ mod tests {
         assert_eq!(shared.ask(Call::Getpid { caller: 1 }), Err(Error::Busy));
         assert_eq!(shared.stat(1, 0), Err(Error::Busy));
         assert_eq!(shared.children(1, 0, 0), Err(Error::Busy));
+        assert_eq!(shared.control_tasks(1, 0, 0), Err(Error::Busy));
         let (fork, child) = (
             Call::Fork {
                 caller: 1,

@@ -340,6 +340,8 @@ fn readers_beside_a_writer() {
             assert_eq!(shared.stat(1, 0).expect("a task").numbers(), [1]);
             let children = shared.children(1, 0, 0).expect("a list");
             assert!(children.len() < 2, "{children:?}");
+            let live = shared.control_tasks(1, 0, 0).expect("a list");
+            assert!(live.len() == 1 || live.len() == 2, "{live:?}");
             let root = shared.space(0).expect("a read");
             assert_eq!(root.and_then(|it| it.init), Some(1));
             let (_, recorded) = counts(&shared);

@@ -85,6 +85,7 @@ fn threads_that_ask() {
                     assert_eq!(table.ask(Call::Count { id: 0 }), Ok(Reply::Counted(2)));
                     assert_eq!(table.stat(1, 2).expect("a task").numbers(), [2]);
                     assert_eq!(table.children(1, 0, 0), Ok(vec![2]));
+                    assert_eq!(table.control_tasks(1, 0, 0), Ok(vec![1, 2]));
                     assert_eq!(table.space(1), Ok(None));
                 }
                 assert_eq!(table.list(), list);

@@ -52,15 +52,15 @@ pub const ADOPTED: u32 = 1;
 /// The task is there no more, as it was reaped or went with its namespace: value is 0.
 pub const GONE: u32 = 2;
 
-/// No task, live or ended, is in the process group with the number any more: value is 0.
-pub const GROUPGONE: u32 = 3;
+/// The process group with the number has no member any more: value is 0.
+pub const GROUP_GONE: u32 = 3;
 
-/// No task, live or ended, is in the session with the number any more: value is 0.
-pub const SESSIONGONE: u32 = 4;
+/// The session with the number has no member any more: value is 0.
+pub const SESSION_GONE: u32 = 4;
 
-/// The namespace has fallen, as its init has ended: number is 0, value is its id.
-pub const SPACEFELL: u32 = 5;
+/// The namespace whose id is value has fallen: its init has ended, and it takes no task any more; number is 0.
+pub const SPACE_FELL: u32 = 5;
 
-/// The namespace is there no more, as nothing has a number in it: number is 0, value is its id.
-pub const SPACEGONE: u32 = 6;
+/// The namespace whose id is value is there no more, as nothing has a number in it; number is 0.
+pub const SPACE_GONE: u32 = 6;
 // The end of choices.
