@@ -9,3 +9,5 @@ pub mod laws;
 pub mod read;
 mod words;
 pub mod write;
+
+pub use words::count_lines;

@@ -61,7 +61,7 @@ pub(crate) fn read_hex_then(words: &[u8], digits: usize) -> Option<(&[u8], &[u8]
 
 /// How many lines there are: one more than newlines.
 #[tactic(auto, using(crate::proofs::Lines::cuts))]
-pub(crate) fn count_lines(lines: &[u8]) -> usize
+pub fn count_lines(lines: &[u8]) -> usize
     ensures { result ≡ length (lines_in lines.now) }
 {
     let mut count = 1;

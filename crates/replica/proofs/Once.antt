@@ -1,5 +1,5 @@
 -- The entries of a session are made in the order of their numbers, each once.
-use Rattle.std.proofs.Common.{◌≡◌, ◌⊎◌, inl, inr, ℕ, ◌+◌, ◌<◌, ◌≤◌, Bool, true, false, eqb, leb, List, [], ◌∷◌, ◌++◌, Option, Some, None, refl, sym, ap, ◌∙◌, subst, arith}
+use Rattle.std.proofs.Common.{◌≡◌, ◌⊎◌, inl, inr, ℕ, ◌+◌, ◌≤◌, true, false, eqb, leb, List, [], ◌∷◌, Option, Some, None, refl, sym, ap, ◌∙◌, subst, arith}
 use Rattle.std.proofs.lemmas.Option.{none-some, same_Some}
 use Rattle.pid_script.proofs.Cuts.{by_test, same_eqb}
 use Rattle.log_entries.specs.Entries.{Entry, Settings, Opened, Ended, Calls, Wanted, Announced}
@@ -7,7 +7,7 @@ use Rattle.replica.specs.declared.outcome.Outcome.{Outcome}
 use Rattle.replica.specs.declared.outcome.Outcome.TheVariants as outcome
 use Rattle.replica.specs.Replicas.{Replica, applied, called, begins, outcome_at, outcome_of, used, without}
 use Rattle.replica.specs.Laws.{made_by, made_in, Rises, Follow, EachIsMadeOnce}
-use Rattle.replica.proofs.Sessions.{found, same_number, found_without, found_other, found_used, found_used_other}
+use Rattle.replica.proofs.Found.{found, same_number, found_without, found_other, found_used, found_used_other}
 
 -- one entry at a position: nothing of the session is made, and the session stays, is gone, or opens there; or its next number is made
 abbrev Moves : ℕ → ℕ → Option ℕ → List ℕ → Option ℕ → Type 0

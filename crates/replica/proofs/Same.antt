@@ -1,12 +1,12 @@
 -- One log makes one replica, and repeats change nothing.
-use Rattle.std.proofs.Common.{◌≡◌, ℕ, ◌+◌, ◌≤◌, Bool, true, false, eqb, leb, List, [], ◌∷◌, ◌++◌, Option, Some, None, refl, sym, ap, ◌∙◌, subst, arith}
-use Rattle.log_entries.specs.Entries.{Entry, Settings, Opened, Ended, Calls, Wanted, Announced}
+use Rattle.std.proofs.Common.{◌≡◌, ℕ, true, leb, List, [], ◌∷◌, ◌++◌, Option, Some, sym, ap, ◌∙◌, subst, arith}
+use Rattle.log_entries.specs.Entries.{Settings, Opened, Ended, Calls, Wanted, Announced}
 use Rattle.log_entries.proofs.Whole.{texts_tell}
 use Rattle.replica.specs.declared.outcome.Outcome.{Outcome}
 use Rattle.replica.specs.declared.outcome.Outcome.TheVariants as outcome
-use Rattle.replica.specs.Replicas.{Replica, applied, entered, called, outcome_at, outcome_of, answers_at, at}
+use Rattle.replica.specs.Replicas.{Replica, applied, called, outcome_of, answers_at, at}
 use Rattle.replica.specs.Laws.{Applies, Runs, OneLogIsOneReplica, RepeatsChangeNothing}
-use Rattle.replica.proofs.Sessions.{found, found_used}
+use Rattle.replica.proofs.Found.{found, found_used}
 
 -- what is applied at one position is one entry
 one_step : (position : ℕ) (bytes : List ℕ) (old : Replica) (before : List ℕ) (a b : Replica) (wa wb : Outcome) (after_a after_b : List ℕ)

@@ -24,6 +24,12 @@ pub record Replica : Type 0 where
   pub log : Log
   pub table : Stamped
 
+abbrev pub stamped : State → ℕ → Stamped
+stamped state stamp = record { state = state; stamp = stamp }
+
+abbrev pub replica_of : Log → State → ℕ → Replica
+replica_of log state stamp = record { log = log; table = stamped state stamp }
+
 -- no stamp is left
 abbrev pub is_spent : Stamped → Bool
 is_spent t = t.stamp == 2 ^ 64 - 1

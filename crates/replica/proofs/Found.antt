@@ -1,5 +1,5 @@
 -- What is found of a session.
-use Rattle.std.proofs.Common.{◌≡◌, ◌⊎◌, inl, inr, ℕ, zero, suc, Bool, true, false, not, eqb, List, [], ◌∷◌, ◌++◌, take, filter, Option, Some, None, refl, sym, ap, ◌∙◌, subst, arith}
+use Rattle.std.proofs.Common.{◌≡◌, ◌⊎◌, inl, inr, ℕ, zero, suc, true, false, eqb, List, [], ◌∷◌, take, Option, Some, None, refl, sym, subst, arith}
 use Rattle.std.specs.Map.{lookup}
 use Rattle.pid_script.proofs.Cuts.{by_test, same_eqb}
 use Rattle.replica.specs.Replicas.{without, used}
