@@ -1,0 +1,9 @@
+use Rattle.std.proofs.Common.{sym, ◌∙◌}
+use Rattle.log_entries.specs.Told.{entry_of}
+use Rattle.log_entries.proofs.Whole.{texts_tell}
+use Rattle.log_entries.proofs.laws.what_is_written_is_read.Goals as goal
+
+pub returns : goal.returns
+returns c =
+    let read = c.in-Ok.ensures.ok in
+    texts_tell (entry_of c.in-Ok.read) (entry_of c.args.entry.now) read.0 c.requires.good (sym read.1 ∙ c.requires.written)

@@ -1,0 +1,24 @@
+//! Laws of the entries.
+ghost use Rattle.std.specs.Prelude.{◌≡◌};
+ghost use Rattle.log_entries.specs.Entries.{Entry as LogEntry, IsGood, entry_text};
+ghost use Rattle.log_entries.specs.Told.{entry_of};
+
+use crate::entry::Entry;
+use crate::read::read_entry;
+
+/// One text is of one entry.
+pub fn texts_tell_entries()
+    ensures { (a b : LogEntry) → IsGood a → IsGood b → entry_text a ≡ entry_text b → a ≡ b }
+{}
+
+/// What is written of an entry is read as that entry.
+pub fn what_is_written_is_read<'a>(text: &'a [u8], entry: &Entry) -> Entry<'a>
+    requires good { IsGood (entry_of entry.now) }
+    requires written { text.now ≡ entry_text (entry_of entry.now) }
+    ensures { entry_of result ≡ entry_of entry.now }
+{
+    match read_entry(text) {
+        Ok(read) => read,
+        Err(_) => unreachable!(),
+    }
+}

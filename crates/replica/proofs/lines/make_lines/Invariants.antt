@@ -1,0 +1,20 @@
+use Rattle.std.proofs.Common.{◌≡◌, ◌++◌, List, ℕ, length}
+use Rattle.sha2.specs.Hashers.{Holds256}
+use Rattle.log_entries.specs.Reading.{lines_in}
+use Rattle.replica.specs.Replicas.{after_lines, answers_to, dialogue, stamped}
+use Rattle.replica.proofs.lines.make_lines.Given as goal
+
+-- what is left to make, behind what was made, comes to what there was to make
+abbrev pub invariant-loop-line : goal.invariant-loop-line
+invariant-loop-line g l =
+    let start = stamped (g.T.Table.state l.initial.table) (g.T.Table.stamp l.initial.table) in
+    let now = stamped (g.T.Table.state l.table) (g.T.Table.stamp l.table) in
+    record {
+      after : after_lines now (lines_in l.rest) ≡ after_lines start (lines_in l.lines);
+      answer : l.answers.items ++ answers_to now (lines_in l.rest) ≡ l.initial.answers.items ++ answers_to start (lines_in l.lines);
+      hashed : (m : List ℕ) → Holds256 l.initial.hasher m
+          → (k : List ℕ) × Holds256 l.hasher k × (k ++ dialogue now (lines_in l.rest) ≡ m ++ dialogue start (lines_in l.lines));
+    }
+
+abbrev pub decreases-loop-line : goal.decreases-loop-line
+decreases-loop-line g l = length l.rest

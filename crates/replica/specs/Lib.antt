@@ -1,0 +1,4 @@
+pub mod Applied
+pub mod Laws
+pub mod Log
+pub mod Replicas

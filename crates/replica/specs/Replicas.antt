@@ -1,0 +1,162 @@
+-- A replica, and what an entry of the log makes of it.
+use Rattle.std.specs.Prelude.{ℕ, ◌+◌, ◌^◌, ◌-◌, ◌==◌, ◌&&◌, ◌||◌, not, nat_le, min, Bool, true, false, List, [], ◌∷◌, ◌++◌, length, take, filter, codes, Option, Some, None, if◌then◌else◌}
+use Rattle.std.specs.Map.{lookup}
+use Rattle.sha2.specs.Sha256.{sha256}
+use Rattle.pid_types.specs.State.{State}
+use Rattle.pid_types.specs.Step.{step}
+use Rattle.pid_script.specs.declared.line.Line.{Line}
+use Rattle.pid_script.specs.declared.line.Line.TheVariants as says
+use Rattle.pid_script.specs.Answers.{reply_text}
+use Rattle.pid_script.specs.Reading.{parsed}
+use Rattle.pid_script.specs.Script.{with_newline}
+use Rattle.log_entries.specs.Entries.{Entry, Settings, Opened, Ended, Calls, Wanted, Announced, entry_text}
+use Rattle.replica.specs.declared.outcome.Outcome.{Outcome}
+use Rattle.replica.specs.declared.outcome.Outcome.TheVariants as outcome
+use Rattle.replica.specs.Log.{Log}
+
+-- a state, and the stamp of the next call on it
+pub record Stamped : Type 0 where
+  pub state : State
+  pub stamp : ℕ
+
+-- a replica: what it knows of its log, and its table
+pub record Replica : Type 0 where
+  pub log : Log
+  pub table : Stamped
+
+abbrev pub stamped : State → ℕ → Stamped
+stamped state stamp = record { state = state; stamp = stamp }
+
+abbrev pub replica_of : Log → State → ℕ → Replica
+replica_of log state stamp = record { log = log; table = stamped state stamp }
+
+-- no stamp is left
+abbrev pub is_spent : Stamped → Bool
+is_spent t = t.stamp == 2 ^ 64 - 1
+
+-- the answer to a line, and what the line leaves of the table
+abbrev pub answer_to : Stamped → Line → List ℕ
+answer_to t says.Empty = []
+answer_to t says.Bad = codes "bad line"
+answer_to t (says.Call call) = if is_spent t then codes "spent" else reply_text (step t.state t.stamp call).reply
+
+abbrev pub after_line : Stamped → Line → Stamped
+after_line t says.Empty = t
+after_line t says.Bad = t
+after_line t (says.Call call) = if is_spent t then t else record { state = (step t.state t.stamp call).state; stamp = t.stamp + 1 }
+
+-- what lines leave, one made after the other; their answers; and the lines with their answers. A newline is behind each
+abbrev pub after_lines : Stamped → List (List ℕ) → Stamped
+after_lines t [] = t
+after_lines t (line ∷ lines) = after_lines (after_line t (parsed line)) lines
+
+abbrev pub answers_to : Stamped → List (List ℕ) → List ℕ
+answers_to t [] = []
+answers_to t (line ∷ lines) = with_newline (answer_to t (parsed line)) ++ answers_to (after_line t (parsed line)) lines
+
+abbrev pub dialogue : Stamped → List (List ℕ) → List ℕ
+dialogue t [] = []
+dialogue t (line ∷ lines) =
+    (with_newline line ++ with_newline (answer_to t (parsed line))) ++ dialogue (after_line t (parsed line)) lines
+
+-- the sessions without one; and with one that was used just now and its last number, for which another may end
+abbrev pub without : ℕ → List (ℕ × ℕ) → List (ℕ × ℕ)
+without session = filter (λ e. not (session == e.0))
+
+abbrev pub used : ℕ → ℕ → List (ℕ × ℕ) → List (ℕ × ℕ)
+used session number sessions = (session, number) ∷ take 4095 (without session sessions)
+
+-- what becomes of the entry with a number, behind the last one of its session
+abbrev pub outcome_of : Option ℕ → ℕ → Outcome
+outcome_of None sequence = outcome.Gone
+outcome_of (Some last) sequence =
+    if nat_le sequence last then outcome.Repeated else if sequence == last + 1 then outcome.Made else outcome.Gap
+
+-- calls that are made
+abbrev pub made : Replica → ℕ → ℕ → List (List ℕ) → Replica
+made r session sequence lines = record {
+  log = record r.log {
+    sessions = used session sequence r.log.sessions;
+    digest = sha256 (r.log.digest ++ dialogue r.table lines);
+    calls = min (r.log.calls + length lines) (2 ^ 64 - 1);
+  };
+  table = after_lines r.table lines;
+}
+
+-- calls, by what becomes of them
+abbrev pub called : Replica → ℕ → ℕ → List (List ℕ) → Outcome → Replica
+called r session sequence lines outcome.Made = made r session sequence lines
+called r session sequence lines outcome.Repeated = r
+called r session sequence lines outcome.Gone = r
+called r session sequence lines outcome.Gap = r
+called r session sequence lines outcome.Noted = r
+
+-- what becomes of an entry
+abbrev pub outcome_at : Replica → Entry → Outcome
+outcome_at r (Calls session sequence position digest lines) = outcome_of (lookup (λ s. session == s) r.log.sessions) sequence
+outcome_at r (Settings form pid_max model) = outcome.Noted
+outcome_at r Opened = outcome.Noted
+outcome_at r (Ended session) = outcome.Noted
+outcome_at r Wanted = outcome.Noted
+outcome_at r (Announced position digest size sum key) = outcome.Noted
+
+-- the log begins; later settings mean nothing
+abbrev pub begins : Log → Entry → ℕ → Log
+begins log e form =
+    if log.begun then log else record log { begun = true; form = form; digest = sha256 (entry_text e) }
+
+-- what an entry makes
+abbrev pub entered : Replica → ℕ → Entry → Replica
+entered r position (Settings form pid_max model) = record r { log = begins r.log (Settings form pid_max model) form }
+entered r position Opened = record r { log = record r.log { sessions = used position 0 r.log.sessions } }
+entered r position (Ended session) = record r { log = record r.log { sessions = without session r.log.sessions } }
+entered r position (Calls session sequence place digest lines) =
+    called r session sequence lines (outcome_at r (Calls session sequence place digest lines))
+entered r position Wanted = r
+entered r position (Announced place digest size sum key) = r
+
+-- the replica behind the entry at the position
+abbrev pub at : ℕ → Replica → Replica
+at position r = record r { log = record r.log { position = position } }
+
+abbrev pub applied : Replica → ℕ → Entry → Replica
+applied r position e = at position (entered r position e)
+
+-- the answers to an entry
+abbrev pub made_answers : Replica → List (List ℕ) → Outcome → List ℕ
+made_answers r lines outcome.Made = answers_to r.table lines
+made_answers r lines outcome.Repeated = []
+made_answers r lines outcome.Gone = []
+made_answers r lines outcome.Gap = []
+made_answers r lines outcome.Noted = []
+
+abbrev pub lines_at : Entry → List (List ℕ)
+lines_at (Calls session sequence position digest lines) = lines
+lines_at (Settings form pid_max model) = []
+lines_at Opened = []
+lines_at (Ended session) = []
+lines_at Wanted = []
+lines_at (Announced position digest size sum key) = []
+
+abbrev pub answers_at : Replica → Entry → List ℕ
+answers_at r e = made_answers r (lines_at e) (outcome_at r e)
+
+-- the entry may come: the settings of this replica as the first one, and later what the form of the log has
+abbrev pub is_first : Log → Entry → Bool
+is_first log (Settings form pid_max model) = (form == 1 || form == 2) && (pid_max == log.pid_max && model == log.model)
+is_first log Opened = false
+is_first log (Ended session) = false
+is_first log (Calls session sequence position digest lines) = false
+is_first log Wanted = false
+is_first log (Announced position digest size sum key) = false
+
+abbrev pub is_later : Log → Entry → Bool
+is_later log Wanted = not (log.form == 1)
+is_later log (Announced position digest size sum key) = not (log.form == 1)
+is_later log (Settings form pid_max model) = true
+is_later log Opened = true
+is_later log (Ended session) = true
+is_later log (Calls session sequence position digest lines) = true
+
+abbrev pub may_come : Log → Entry → Bool
+may_come log e = if log.begun then is_later log e else is_first log e

@@ -1,0 +1,310 @@
+//! What a host knows of a log, and how an entry is applied.
+ghost use Rattle.std.specs.Prelude.{◌≡◌, ◌++◌, ◌==◌, Err, true, IfOk, IfErr, OnOk, OnErr, IsSome, if◌then◌else◌};
+ghost use Rattle.std.specs.Map.{lookup};
+ghost use Rattle.sha2.specs.Sha256.{sha256};
+ghost use Rattle.log_entries.specs.Entries.{entry_text};
+ghost use Rattle.log_entries.specs.Reading.{lines_in};
+ghost use Rattle.log_entries.specs.Told.{entry_of};
+ghost use Rattle.replica.specs.Replicas.{answers_to, called, made, made_answers, may_come, outcome_of};
+ghost use Rattle.replica.specs.Replicas.{replica_of, used};
+ghost use Rattle.replica.specs.Applied.{Enters, IsNew, IsStopped, Refuses};
+ghost use Rattle.replica.specs.Laws.{Applies};
+
+use crate::lines::digest_behind;
+use crate::outcome::{Outcome, ReplicaFault};
+use crate::sessions::Sessions;
+use log_entries::count_lines;
+use log_entries::entry::Entry;
+use log_entries::read::read_entry;
+use script_session::session::Table;
+use sha2::{Digest, Sha256};
+use std::alloc::{AllocError, Global};
+use std::marker::Model;
+
+/// What a host knows of a log: its settings, the position of the last entry, the open sessions, and the digest of all
+/// answers. The table stands beside it, and changes by [`Replica::apply`] alone.
+#[derive(Drop)]
+pub struct Replica {
+    form: u64,
+    pid_max: u64,
+    model: u64,
+    begun: bool,
+    position: u64,
+    sessions: Sessions,
+    digest: [u8; 32],
+    calls: u64,
+    torn: bool,
+}
+
+impl Model for Replica {
+    ghost use Rattle.replica.specs.Log.{Log};
+
+    ghost Value = { Log };
+
+    ghost view = { λ r. record {
+      form = r.form;
+      pid_max = r.pid_max;
+      model = r.model;
+      begun = r.begun;
+      position = r.position;
+      sessions = r.sessions;
+      digest = r.digest;
+      calls = r.calls;
+      torn = r.torn;
+    } };
+}
+
+/// What becomes of the entry with a number, behind the last one of its session.
+fn outcome_behind(last: Option<u64>, sequence: u64) -> Outcome
+    ensures { result ≡ outcome_of last sequence }
+{
+    let Some(last) = last else {
+        return Outcome::Gone;
+    };
+    if sequence <= last {
+        return Outcome::Repeated;
+    }
+    if sequence - last == 1 {
+        return Outcome::Made;
+    }
+    Outcome::Gap
+}
+
+impl Replica {
+    /// A replica of a log that has not begun, with the settings of this host. The error is want of memory.
+    pub fn new(alloc: Global, pid_max: u64, model: u64) -> Result<Replica, AllocError>
+        ensures { IfOk result (λ r. IsNew pid_max model r) }
+    {
+        Ok(Replica {
+            form: 0,
+            pid_max,
+            model,
+            begun: false,
+            position: 0,
+            sessions: Sessions::new(alloc)?,
+            digest: [0; 32],
+            calls: 0,
+            torn: false,
+        })
+    }
+
+    /// The position of the last entry that was applied; 0 before the first.
+    pub fn position(&self) -> u64
+        ensures { result ≡ self.now.position }
+    {
+        self.position
+    }
+
+    /// The digest of the settings, and of all lines and answers since. It has 32 bytes, which are 0 before the log has
+    /// begun.
+    pub fn digest(&self) -> &[u8]
+        ensures { result.now ≡ self.now.digest }
+    {
+        &self.digest
+    }
+
+    /// How many lines were made, up to 2^64 - 1.
+    pub fn calls(&self) -> u64
+        ensures { result ≡ self.now.calls }
+    {
+        self.calls
+    }
+
+    /// The last number of a session that is open. It does not depend on how many are open.
+    pub fn last_of(&self, session: u64) -> Option<u64>
+        ensures { result ≡ lookup (λ s. session == s) self.now.sessions }
+    {
+        self.sessions.last(session)
+    }
+
+    /// Whether the entry may come next.
+    fn admits(&self, entry: &Entry) -> bool
+        ensures { result ≡ may_come self.now (entry_of entry.now) }
+    {
+        match *entry {
+            Entry::Settings {
+                form,
+                pid_max,
+                model,
+            } => {
+                self.begun
+                    || ((form == 1 || form == 2)
+                        && (pid_max == self.pid_max && model == self.model))
+            }
+            Entry::Wanted => self.begun && self.form != 1,
+            Entry::Announced { .. } => self.begun && self.form != 1,
+            Entry::Opened => self.begun,
+            Entry::Ended { .. } => self.begun,
+            Entry::Calls { .. } => self.begun,
+        }
+    }
+
+    /// Takes settings. Where the log has begun, they mean nothing.
+    fn begin(&mut self, form: u64, bytes: &[u8])
+        ensures { self.new ≡ (if self.old.begun then self.old
+            else record self.old { begun = true; form = form; digest = sha256 bytes.now }) }
+    {
+        if self.begun {
+            return;
+        }
+        self.begun = true;
+        self.form = form;
+        self.digest = Sha256::digest(bytes);
+    }
+
+    /// Makes calls of a session that is open. The error is want of memory, after which the replica is torn.
+    fn make<T: Table>(
+        &mut self,
+        table: &mut T,
+        session: u64,
+        sequence: u64,
+        lines: &[u8],
+        answers: &mut Vec<u8>,
+    ) -> Result<(), AllocError>
+        requires { IsSome (lookup (λ s. session == s) self.old.sessions) }
+        ensures made { OnOk result (replica_of self.new (T.state table.new) (T.stamp table.new)
+            ≡ made (replica_of self.old (T.state table.old) (T.stamp table.old))
+            session sequence (lines_in lines.now)) }
+        ensures answers { OnOk result (answers.new.items ≡ answers.old.items
+            ++ answers_to (replica_of self.old (T.state table.old) (T.stamp table.old)).table (lines_in lines.now)) }
+        ensures torn { OnErr result (self.new.torn ≡ true) }
+    {
+        let Ok(digest) = digest_behind(table, answers, &self.digest, lines) else {
+            self.torn = true;
+            return Err(AllocError);
+        };
+        if self.sessions.put(session, sequence).is_err() {
+            unreachable!()
+        }
+        self.digest = digest;
+        self.calls = self.calls.saturating_add(count_lines(lines) as u64);
+        Ok(())
+    }
+
+    /// Makes the calls of an entry, if it is the next of its session. The error is `Torn`.
+    fn call<T: Table>(
+        &mut self,
+        table: &mut T,
+        session: u64,
+        sequence: u64,
+        lines: &[u8],
+        answers: &mut Vec<u8>,
+    ) -> Result<Outcome, ReplicaFault>
+        ensures outcome { IfOk result (λ what.
+            what ≡ outcome_of (lookup (λ s. session == s) self.old.sessions) sequence) }
+        ensures called { IfOk result (λ what. replica_of self.new (T.state table.new) (T.stamp table.new)
+            ≡ called (replica_of self.old (T.state table.old) (T.stamp table.old))
+            session sequence (lines_in lines.now) what) }
+        ensures answers { IfOk result (λ what. answers.new.items ≡ answers.old.items
+            ++ made_answers (replica_of self.old (T.state table.old) (T.stamp table.old)) (lines_in lines.now) what) }
+        ensures fault { IfErr result (λ fault. fault ≡ ReplicaFault.Torn) }
+        ensures torn { OnErr result (self.new.torn ≡ true) }
+    {
+        let outcome = outcome_behind(self.sessions.last(session), sequence);
+        if outcome != Outcome::Made {
+            return Ok(outcome);
+        }
+        match self.make(table, session, sequence, lines, answers) {
+            Ok(()) => Ok(Outcome::Made),
+            Err(_) => Err(ReplicaFault::Torn),
+        }
+    }
+
+    /// Opens the session whose number is the position. The error is `NoMemory`.
+    fn open(&mut self, position: u64) -> Result<Outcome, ReplicaFault>
+        ensures ok { IfOk result (λ what. (what ≡ Outcome.Noted)
+            × (self.new ≡ record self.old { sessions = used position 0 self.old.sessions })) }
+        ensures err { IfErr result (λ fault. (fault ≡ ReplicaFault.NoMemory) × (self.new ≡ self.old)) }
+    {
+        match self.sessions.put(position, 0) {
+            Ok(()) => Ok(Outcome::Noted),
+            Err(_) => Err(ReplicaFault::NoMemory),
+        }
+    }
+
+    /// Does what the entry says. The error is want of memory: `NoMemory` or `Torn`.
+    fn enter<T: Table>(
+        &mut self,
+        table: &mut T,
+        position: u64,
+        entry: &Entry,
+        bytes: &[u8],
+        answers: &mut Vec<u8>,
+    ) -> Result<Outcome, ReplicaFault>
+        requires { bytes.now ≡ entry_text (entry_of entry.now) }
+        ensures ok { IfOk result (λ what. Enters (entry_of entry.now) position
+            (replica_of self.old (T.state table.old) (T.stamp table.old)) answers.old.items
+            (replica_of self.new (T.state table.new) (T.stamp table.new)) what answers.new.items) }
+        ensures err { IfErr result (IsStopped
+            (replica_of self.old (T.state table.old) (T.stamp table.old)) answers.old.items
+            (replica_of self.new (T.state table.new) (T.stamp table.new)) answers.new.items) }
+    {
+        match *entry {
+            Entry::Settings { form, .. } => {
+                self.begin(form, bytes);
+                Ok(Outcome::Noted)
+            }
+            Entry::Opened => self.open(position),
+            Entry::Ended { session } => {
+                self.sessions.end(session);
+                Ok(Outcome::Noted)
+            }
+            Entry::Calls {
+                session,
+                sequence,
+                lines,
+                ..
+            } => self.call(table, session, sequence, lines, answers),
+            Entry::Wanted => Ok(Outcome::Noted),
+            Entry::Announced { .. } => Ok(Outcome::Noted),
+        }
+    }
+
+    /// Applies the next entry of the log to the table, and appends the answers of its calls, each with a newline behind
+    /// it. The result says what became of the entry.
+    ///
+    /// The calls of an entry are made if its session is open and its number is one more than that of the session's last
+    /// entry that was made. They are made in order, and a line that is none of the script language, or has more than
+    /// 200 bytes, is answered `bad line`. A call is answered `spent` where the table has no stamp left.
+    ///
+    /// - `Torn`: there was no memory amid the calls of this entry, or of one before. The table and the replica have to
+    ///   be made anew from the log.
+    /// - `NoMemory`: there was no memory for a session. Nothing has changed, and the entry may be applied again.
+    /// - `NotRising`: the position is not behind that of the last entry. Nothing has changed.
+    /// - `NoEntry`: the bytes are the text of no entry. Nothing has changed.
+    /// - `OtherSettings`: the first entry is not the settings of this replica in form 1 or 2, or a log of form 1 has an
+    ///   entry of snapshots. Nothing has changed.
+    ///
+    /// It costs the time to read the entry, and to make each call. How many sessions are open does not matter.
+    pub fn apply<T: Table>(
+        &mut self,
+        table: &mut T,
+        position: u64,
+        bytes: &[u8],
+        answers: &mut Vec<u8>,
+    ) -> Result<Outcome, ReplicaFault>
+        ensures ok { IfOk result (λ what. Applies position bytes.now
+            (replica_of self.old (T.state table.old) (T.stamp table.old)) answers.old.items
+            (replica_of self.new (T.state table.new) (T.stamp table.new)) what answers.new.items) }
+        ensures err { IfErr result (Refuses position bytes.now
+            (replica_of self.old (T.state table.old) (T.stamp table.old)) answers.old.items
+            (replica_of self.new (T.state table.new) (T.stamp table.new)) answers.new.items) }
+        ensures torn { self.old.torn ≡ true → result ≡ Err ReplicaFault.Torn }
+    {
+        if self.torn {
+            return Err(ReplicaFault::Torn);
+        }
+        if position <= self.position {
+            return Err(ReplicaFault::NotRising);
+        }
+        let Ok(entry) = read_entry(bytes) else {
+            return Err(ReplicaFault::NoEntry);
+        };
+        if !self.admits(&entry) {
+            return Err(ReplicaFault::OtherSettings);
+        }
+        let outcome = self.enter(table, position, &entry, bytes, answers)?;
+        self.position = position;
+        Ok(outcome)
+    }
+}

@@ -1,0 +1,70 @@
+//! Sessions that are open.
+ghost use Rattle.std.specs.Prelude.{◌≡◌, ◌==◌, OnOk, OnErr, IfOk, IsSome, IsOk, [], option_copied};
+ghost use Rattle.std.specs.Map.{lookup};
+ghost use Rattle.replica.specs.Replicas.{used, without};
+
+use lru::LruCache;
+use std::alloc::{AllocError, Global};
+use std::marker::Model;
+use std::num::NonZeroUsize;
+
+/// So many sessions are open at most.
+const MOST_SESSIONS: usize = 4096;
+
+/// The open sessions, each with the number of its last entry that counted. The one that was used the longest ago ends
+/// where one more opens. Each method takes a time that does not depend on how many there are.
+#[derive(Drop)]
+pub(crate) struct Sessions {
+    open: LruCache<u64, u64>,
+}
+
+impl Model for Sessions {
+    ghost use Rattle.std.specs.Prelude.{List, ℕ, ◌≡◌};
+
+    ghost Value = { List (ℕ × ℕ) };
+
+    ghost view = { λ s. s.open.entries };
+
+    ghost invariant = { λ s. s.open.cap ≡ 4096 };
+}
+
+impl Sessions {
+    /// None is open. The error is want of memory.
+    pub(crate) fn new(alloc: Global) -> Result<Sessions, AllocError>
+        ensures { IfOk result (λ s. s ≡ []) }
+    {
+        let Some(most) = NonZeroUsize::new(MOST_SESSIONS) else {
+            unreachable!()
+        };
+        Ok(Sessions {
+            open: LruCache::sparse(alloc, most)?,
+        })
+    }
+
+    /// The last number of a session.
+    pub(crate) fn last(&self, session: u64) -> Option<u64>
+        ensures { result ≡ lookup (λ s. session == s) self.now }
+    {
+        self.open.peek(&session).copied()
+    }
+
+    /// Gives a session its last number, and puts it before the others. The error is want of memory, for a session that
+    /// is not open; nothing has changed then.
+    pub(crate) fn put(&mut self, session: u64, number: u64) -> Result<(), AllocError>
+        ensures ok { OnOk result (self.new ≡ used session number self.old) }
+        ensures err { OnErr result (self.new ≡ self.old) }
+        ensures found { IsSome (lookup (λ s. session == s) self.old) → IsOk result }
+    {
+        let _count = self.open.len();
+        self.open.put(session, number)?;
+        Ok(())
+    }
+
+    /// Ends a session, if it is open.
+    pub(crate) fn end(&mut self, session: u64)
+        ensures { self.new ≡ without session self.old }
+    {
+        let _count = self.open.len();
+        self.open.pop(&session);
+    }
+}
