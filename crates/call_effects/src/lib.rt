@@ -1,5 +1,5 @@
-//! What a call does to others: who ended with a namespace, who has another parent, who is gone, and which process groups,
-//! sessions and namespaces end with that.
+//! What a call does to others: who ended with a namespace, who has another parent, who is gone, and which process
+//! groups, sessions and namespaces end with that.
 //!
 //! A reply tells what the caller asked for. An exit changes more than that: `_exit(2)` hands on the children, and the
 //! end of a namespace's init kills all that is in it (`pid_namespaces(7)`). [`Touched::before`] looks at those whom a

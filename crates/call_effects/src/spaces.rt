@@ -1,6 +1,7 @@
 //! The namespaces of tasks and of the names of their groups and sessions, and what became of them.
 
-ghost use Rattle.std.specs.Prelude.{◌≡◌, ◌+◌, ◌≤◌, ◌++◌, ℕ, flat_map, length, vec_len, vec_capacity, IfOk, IsTrue, OnOk};
+ghost use Rattle.std.specs.Prelude.{◌≡◌, ◌+◌, ◌≤◌, ◌++◌, ℕ, flat_map, length, vec_len, vec_capacity};
+ghost use Rattle.std.specs.Prelude.{IfOk, IsTrue, OnOk};
 ghost use Rattle.pid_types.specs.Membership.{IsIn};
 ghost use Rattle.translate.specs.Pages.{AreListed};
 ghost use Rattle.call_effects.specs.Effects.{is_space, stands};
@@ -50,8 +51,8 @@ fn add_path(table: &PidTable, id: u64, ids: &mut Vec<u64>) -> Result<(), AllocEr
     add_path(table, parent, ids)
 }
 
-/// The namespaces that may fall or go where the tasks are touched, each once, by rising ids: those of their names and all
-/// around these, but the root namespace. The error is want of memory.
+/// The namespaces that may fall or go where the tasks are touched, each once, by rising ids: those of their names and
+/// all around these, but the root namespace. The error is want of memory.
 pub(crate) fn list_spaces(table: &PidTable, tasks: &[Watched]) -> Result<Vec<u64>, AllocError>
     requires { (id : ℕ) → IsIn id (flat_map spaces_of tasks.now) → IsTrue (is_space table.now id) }
     ensures { IfOk result (λ r. (own : _) × AreListed (flat_map spaces_of tasks.now) 0 own

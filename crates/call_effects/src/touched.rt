@@ -125,7 +125,8 @@ impl Touched {
     /// nothing changes. The error is want of memory, and comes only of a call that may touch a task.
     ///
     /// It costs what [`PidTable::would`] costs; for an exit besides a search for each child, or where the caller is the
-    /// init of its namespace for each task in that; a search for each namespace around them, and the sorting of numbers.
+    /// init of its namespace for each task in that; a search for each namespace around them, and the sorting of
+    /// numbers.
     pub fn before(table: &PidTable, stamp: u64, call: Call) -> Result<Touched, AllocError>
         requires { IsBelow stamp table.now }
         ensures watches { IfOk result (Watches table.now (step table.now stamp call).state) }

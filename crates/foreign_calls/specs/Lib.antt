@@ -14,3 +14,4 @@ pub mod Inside
 pub mod Saved
 pub mod SavedBytes
 pub mod Effects
+pub mod Residents

@@ -38,6 +38,7 @@ mod read;
 mod record;
 mod record_calls;
 mod replay;
+mod residents;
 mod saved_bytes;
 mod saved_record;
 mod saved_table;
