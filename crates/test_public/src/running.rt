@@ -6,11 +6,12 @@ use pid_types::call::Call;
 use pid_types::config::Config;
 use pid_types::keys::Pid;
 use pid_types::plain::Plain;
-use pid_types::reply::Reply;
+use pid_types::reply::{Reply, ShortReply};
 use std::marker::Model;
 use std::process::Abort;
 use table_load::load::load;
 use table_text::dump::dump_text;
+use translate::residents::ControlPage;
 
 /// A table, and the stamp of its next call.
 #[derive(Drop)]
@@ -74,6 +75,11 @@ impl Running {
             Reply::Refused(_) => panic!(rt; "a refusal"),
             _ => 0,
         }
+    }
+
+    /// What a caller is told of the tasks of a control group. None is answered for want of memory.
+    pub fn control_tasks(&self, asked: &ControlPage, room: &mut [Pid]) -> Option<ShortReply> {
+        self.table.control_tasks(asked, room).ok()
     }
 
     /// What the table shows.
