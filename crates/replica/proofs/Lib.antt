@@ -5,3 +5,4 @@ pub mod Answered
 pub mod Used
 pub mod Turns
 pub mod Entered
+pub mod Checked

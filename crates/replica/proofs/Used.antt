@@ -11,11 +11,11 @@ use Rattle.replica.specs.Replicas.{without, used}
 use Rattle.replica.proofs.Found.{same_number}
 
 -- a session that is not there is not taken away
-absent : (s : ℕ) (es : List (ℕ × ℕ)) → AllByRecursion (λ k. eqb s k ≡ false) (keys_of es) → without s es ≡ es
+absent : {V : Type 0} (s : ℕ) (es : List (ℕ × V)) → AllByRecursion (λ k. eqb s k ≡ false) (keys_of es) → without s es ≡ es
 absent s [] all = refl
 absent s (e ∷ es) all = rw all.0 (ap (λ l. e ∷ l) (absent s es all.1))
 
-not_found : (s : ℕ) (es : List (ℕ × ℕ)) → lookup_entry (nat_eq s) es ≡ None → without s es ≡ es
+not_found : {V : Type 0} (s : ℕ) (es : List (ℕ × V)) → lookup_entry (nat_eq s) es ≡ None → without s es ≡ es
 not_found s [] none = refl
 not_found s (e ∷ es) none =
     by_test (eqb s e.0)
@@ -23,7 +23,7 @@ not_found s (e ∷ es) none =
     (λ differ. rw differ (ap (λ l. e ∷ l) (not_found s es (rw differ at none))))
 
 -- one that is there is there once
-pub remove_without : (s : ℕ) (es : List (ℕ × ℕ)) → IsDistinct nat_eq (keys_of es) → remove_entry (nat_eq s) es ≡ without s es
+pub remove_without : {V : Type 0} (s : ℕ) (es : List (ℕ × V)) → IsDistinct nat_eq (keys_of es) → remove_entry (nat_eq s) es ≡ without s es
 unfolding IsDistinct
 remove_without s [] distinct = refl
 remove_without s (e ∷ es) distinct =
@@ -33,18 +33,18 @@ remove_without s (e ∷ es) distinct =
     rw same (sym (absent s es others)))
     (λ differ. rw differ (ap (λ l. e ∷ l) (remove_without s es distinct.1)))
 
-found_key : (s : ℕ) (es : List (ℕ × ℕ)) (f : ℕ × ℕ) → lookup_entry (nat_eq s) es ≡ Some f → (f.0 ≡ s) × (length (remove_entry (nat_eq s) es) + 1 ≡ length es)
+found_key : {V : Type 0} (s : ℕ) (es : List (ℕ × V)) (f : ℕ × V) → lookup_entry (nat_eq s) es ≡ Some f → (f.0 ≡ s) × (length (remove_entry (nat_eq s) es) + 1 ≡ length es)
 found_key s [] f here = absurd (none-some f here)
 found_key s (e ∷ es) f here =
     by_test (eqb s e.0)
     (λ same. (ap (λ p. p.0) (sym (same_Some e f (rw same at here))) ∙ sym (same_number s e.0 same), rw same (omega arith)))
     (λ differ. let later = found_key s es f (rw differ at here) in (later.0, rw differ (omega (arith, later.1))))
 
-module _ (c : LruCache ℕ ℕ) (s n : ℕ) (valid : IsValid nat_eq c) (cap : c.cap ≡ 4096) where
-  abbrev after : Option (ℕ × ℕ) → List (ℕ × ℕ)
+module _ {V : Type 0} (c : LruCache ℕ V) (s : ℕ) (n : V) (valid : IsValid nat_eq c) (cap : c.cap ≡ 4096) where
+  abbrev after : Option (ℕ × V) → List (ℕ × V)
   after o = option_map_or (λ e. (e.0, n) ∷ remove_entry (nat_eq s) c.entries) o ((s, n) ∷ take (c.cap - 1) c.entries)
 
-  cases : (o : Option (ℕ × ℕ)) → lookup_entry (nat_eq s) c.entries ≡ o → after o ≡ used s n c.entries
+  cases : (o : Option (ℕ × V)) → lookup_entry (nat_eq s) c.entries ≡ o → after o ≡ used s n c.entries
   cases None none =
       let most : c.cap - 1 ≡ 4095 = omega (arith, cap) in
       rw most (ap (λ l. (s, n) ∷ take 4095 l) (sym (not_found s c.entries none)))

@@ -1,9 +1,9 @@
 -- Laws of a log, over all its entries.
-use Rattle.std.specs.Prelude.{ℕ, ◌≡◌, ◌+◌, ◌<◌, ◌==◌, true, List, [], ◌∷◌, ◌++◌, if◌then◌else◌}
+use Rattle.std.specs.Prelude.{ℕ, ◌≡◌, ◌+◌, ◌<◌, ◌==◌, true, Ok, List, [], ◌∷◌, ◌++◌, if◌then◌else◌}
 use Rattle.log_entries.specs.Entries.{Entry, Calls, IsGood, entry_text}
 use Rattle.replica.specs.declared.outcome.Outcome.{Outcome}
 use Rattle.replica.specs.declared.outcome.Outcome.TheVariants as outcome
-use Rattle.replica.specs.Replicas.{Replica, applied, outcome_at, answers_at, may_come, at}
+use Rattle.replica.specs.Replicas.{Replica, applied, outcome_at, answers_at, checked, may_come, at}
 
 -- the text at the position was applied: it is that of an entry that may come, behind the others. What it has made is there, with its
 -- outcome, and its answers are behind those before
@@ -14,6 +14,7 @@ pub record Applies (position : ℕ) (bytes : List ℕ) (old : Replica) (before :
   pub text : bytes ≡ entry_text entry
   pub rises : old.log.position < position
   pub comes : may_come old.log entry ≡ true
+  pub agrees : checked old.log entry ≡ Ok tt
   pub made : new ≡ applied old position entry
   pub outcome : what ≡ outcome_at old entry
   pub answers : after ≡ before ++ answers_at old entry
@@ -55,7 +56,7 @@ abbrev pub EachIsMadeOnce : Type 0
 EachIsMadeOnce =
     (r : Replica) (log : List (ℕ × Entry)) (session : ℕ) → r.log.sessions ≡ [] → Rises r.log.position log → Follow 0 (made_in session r log)
 
--- an entry that is put again is a repeat, and changes nothing but the position
+-- an entry that is put again is a repeat, and changes nothing but the position, at which the digest is kept
 abbrev pub RepeatsChangeNothing : Type 0
 RepeatsChangeNothing =
     (r : Replica) (position again : ℕ) (e : Entry) → outcome_at r e ≡ outcome.Made

@@ -1,6 +1,9 @@
 -- A replica, and what an entry of the log makes of it.
-use Rattle.std.specs.Prelude.{ℕ, ◌+◌, ◌^◌, ◌-◌, ◌==◌, ◌&&◌, ◌||◌, not, nat_le, min, Bool, true, false, List, [], ◌∷◌, ◌++◌, length, take, filter, codes, Option, Some, None, if◌then◌else◌}
+use Rattle.std.specs.Prelude.{ℕ, ◌+◌, ◌^◌, ◌-◌, ◌==◌, ◌&&◌, ◌||◌, not, nat_le, min, Bool, true, false, List, [], ◌∷◌, ◌++◌, length, take, filter, codes, nat_eq, nat_lt, Option, Some, None, Result, Ok, Err, if◌then◌else◌}
 use Rattle.std.specs.Map.{lookup}
+use Rattle.std.specs.List.{starts_with}
+use Rattle.hex.specs.Hex.{encode_lower}
+use Rattle.lru.specs.LruCache.{last_entry}
 use Rattle.sha2.specs.Sha256.{sha256}
 use Rattle.pid_types.specs.State.{State}
 use Rattle.pid_types.specs.Step.{step}
@@ -12,6 +15,8 @@ use Rattle.pid_script.specs.Script.{with_newline}
 use Rattle.log_entries.specs.Entries.{Entry, Settings, Opened, Ended, Calls, Wanted, Announced, entry_text}
 use Rattle.replica.specs.declared.outcome.Outcome.{Outcome}
 use Rattle.replica.specs.declared.outcome.Outcome.TheVariants as outcome
+use Rattle.replica.specs.declared.outcome.ReplicaFault.{ReplicaFault}
+use Rattle.replica.specs.declared.outcome.ReplicaFault.TheVariants as fault
 use Rattle.replica.specs.Log.{Log}
 
 -- a state, and the stamp of the next call on it
@@ -59,12 +64,13 @@ dialogue t [] = []
 dialogue t (line ∷ lines) =
     (with_newline line ++ with_newline (answer_to t (parsed line))) ++ dialogue (after_line t (parsed line)) lines
 
--- the sessions without one; and with one that was used just now and its last number, for which another may end
-abbrev pub without : ℕ → List (ℕ × ℕ) → List (ℕ × ℕ)
-without session = filter (λ e. not (session == e.0))
+-- pairs without that of a key; and with one that was used just now, for which the last may go: there are at most 4,096. The sessions
+-- are so, each with its last number, and the digests behind entries, each at its position
+abbrev pub without : {V : Type 0} → ℕ → List (ℕ × V) → List (ℕ × V)
+without key = filter (λ e. not (key == e.0))
 
-abbrev pub used : ℕ → ℕ → List (ℕ × ℕ) → List (ℕ × ℕ)
-used session number sessions = (session, number) ∷ take 4095 (without session sessions)
+abbrev pub used : {V : Type 0} → ℕ → V → List (ℕ × V) → List (ℕ × V)
+used key value pairs = (key, value) ∷ take 4095 (without key pairs)
 
 -- what becomes of the entry with a number, behind the last one of its session
 abbrev pub outcome_of : Option ℕ → ℕ → Outcome
@@ -115,9 +121,9 @@ entered r position (Calls session sequence place digest lines) =
 entered r position Wanted = r
 entered r position (Announced place digest size sum key) = r
 
--- the replica behind the entry at the position
+-- the replica behind the entry at the position, where it keeps the digest
 abbrev pub at : ℕ → Replica → Replica
-at position r = record r { log = record r.log { position = position } }
+at position r = record r { log = record r.log { position = position; kept = used position r.log.digest r.log.kept } }
 
 abbrev pub applied : Replica → ℕ → Entry → Replica
 applied r position e = at position (entered r position e)
@@ -160,3 +166,24 @@ is_later log (Calls session sequence position digest lines) = true
 
 abbrev pub may_come : Log → Entry → Bool
 may_come log e = if log.begun then is_later log e else is_first log e
+
+-- whether the position is before the oldest that is kept
+abbrev pub is_before : ℕ → Option (ℕ × List ℕ) → Bool
+is_before position None = true
+is_before position (Some oldest) = nat_lt position oldest.0
+
+-- digits of the digest that a writer had, by the one that is kept there, if there is one
+abbrev pub judged : Option (List ℕ) → Bool → List ℕ → Result Unit ReplicaFault
+judged None before digits = if before then Ok tt else Err fault.Missing
+judged (Some digest) before digits = if starts_with nat_eq (encode_lower digest) digits then Ok tt else Err fault.Diverged
+
+-- whether the writer of an entry had the digest that this replica had: that of calls at an entry that the log has, or had once; that of
+-- a snapshot where it is kept
+abbrev pub checked : Log → Entry → Result Unit ReplicaFault
+checked log (Calls session sequence position digest lines) =
+    judged (lookup (λ p. position == p) log.kept) (is_before position (last_entry log.kept)) digest
+checked log (Announced position digest size sum key) = judged (lookup (λ p. position == p) log.kept) true digest
+checked log (Settings form pid_max model) = Ok tt
+checked log Opened = Ok tt
+checked log (Ended session) = Ok tt
+checked log Wanted = Ok tt

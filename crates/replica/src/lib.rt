@@ -5,6 +5,7 @@
 #![tactic(auto)]
 
 mod answer;
+mod kept;
 pub mod laws;
 mod lines;
 pub mod outcome;

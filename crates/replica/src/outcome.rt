@@ -29,10 +29,17 @@ pub enum ReplicaFault {
     /// The log does not begin with the settings of this replica, or the entry is one of snapshots in a log of form 1.
     #[error("the entry does not fit the settings")]
     OtherSettings,
+    /// Its writer had a digest at a position at which the log has no entry.
+    #[error("an entry is missing")]
+    Missing,
+    /// Its writer had another digest at the same position: it has answered the same calls otherwise.
+    #[error("the digest of its writer is another one")]
+    Diverged,
     /// There was no memory for it, and nothing has changed.
     #[error("no memory")]
     NoMemory,
-    /// There was no memory amid its calls, or those of an entry before. The table is not that of the log any more.
+    /// There was no memory amid its calls or for its digest, or for those of an entry before. The table is not that of
+    /// the log any more.
     #[error("no memory amid calls")]
     Torn,
 }

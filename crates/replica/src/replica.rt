@@ -5,11 +5,12 @@ ghost use Rattle.sha2.specs.Sha256.{sha256};
 ghost use Rattle.log_entries.specs.Entries.{entry_text};
 ghost use Rattle.log_entries.specs.Reading.{lines_in};
 ghost use Rattle.log_entries.specs.Told.{entry_of};
-ghost use Rattle.replica.specs.Replicas.{answers_to, called, made, made_answers, may_come, outcome_of};
+ghost use Rattle.replica.specs.Replicas.{answers_to, called, made, made_answers, may_come, outcome_of, checked};
 ghost use Rattle.replica.specs.Replicas.{replica_of, used};
 ghost use Rattle.replica.specs.Applied.{Enters, IsNew, IsStopped, Refuses};
 ghost use Rattle.replica.specs.Laws.{Applies};
 
+use crate::kept::{Kept, judge};
 use crate::lines::digest_behind;
 use crate::outcome::{Outcome, ReplicaFault};
 use crate::sessions::Sessions;
@@ -32,6 +33,7 @@ pub struct Replica {
     position: u64,
     sessions: Sessions,
     digest: [u8; 32],
+    kept: Kept,
     calls: u64,
     torn: bool,
 }
@@ -49,6 +51,7 @@ impl Model for Replica {
       position = r.position;
       sessions = r.sessions;
       digest = r.digest;
+      kept = r.kept;
       calls = r.calls;
       torn = r.torn;
     } };
@@ -83,6 +86,7 @@ impl Replica {
             position: 0,
             sessions: Sessions::new(alloc)?,
             digest: [0; 32],
+            kept: Kept::new(alloc)?,
             calls: 0,
             torn: false,
         })
@@ -137,6 +141,47 @@ impl Replica {
             Entry::Ended { .. } => self.begun,
             Entry::Calls { .. } => self.begun,
         }
+    }
+
+    /// Compares the digest that the writer of the entry had with the one here. The error is `Missing` or `Diverged`.
+    fn check(&self, entry: &Entry) -> Result<(), ReplicaFault>
+        ensures { result ≡ checked self.now (entry_of entry.now) }
+    {
+        match *entry {
+            Entry::Calls {
+                position,
+                digest,
+                ..
+            } => judge(
+                self.kept.find(position),
+                self.kept.is_before(position),
+                digest,
+            ),
+            Entry::Announced {
+                position,
+                digest,
+                ..
+            } => judge(self.kept.find(position), true, digest),
+            Entry::Settings { .. } => Ok(()),
+            Entry::Opened => Ok(()),
+            Entry::Ended { .. } => Ok(()),
+            Entry::Wanted => Ok(()),
+        }
+    }
+
+    /// Keeps the digest behind the entry at the position, which is the last one then. The error is `Torn`.
+    fn keep(&mut self, position: u64) -> Result<(), ReplicaFault>
+        ensures ok { OnOk result (self.new
+            ≡ record self.old { position = position; kept = used position self.old.digest self.old.kept }) }
+        ensures fault { IfErr result (λ fault. fault ≡ ReplicaFault.Torn) }
+        ensures torn { OnErr result (self.new.torn ≡ true) }
+    {
+        if self.kept.put(position, self.digest).is_err() {
+            self.torn = true;
+            return Err(ReplicaFault::Torn);
+        }
+        self.position = position;
+        Ok(())
     }
 
     /// Takes settings. Where the log has begun, they mean nothing.
@@ -267,8 +312,12 @@ impl Replica {
     /// entry that was made. They are made in order, and a line that is none of the script language, or has more than
     /// 200 bytes, is answered `bad line`. A call is answered `spent` where the table has no stamp left.
     ///
-    /// - `Torn`: there was no memory amid the calls of this entry, or of one before. The table and the replica have to
-    ///   be made anew from the log.
+    /// - `Torn`: there was no memory amid the calls of this entry or for its digest, or for those of an entry before.
+    ///   The table and the replica have to be made anew from the log.
+    /// - `Missing`: the writer of calls had a digest at a position that is not before the oldest of the 4,096 that are
+    ///   kept, and has no entry here. Nothing has changed.
+    /// - `Diverged`: the writer of calls or of a snapshot had another digest than this replica at the same position.
+    ///   Nothing has changed.
     /// - `NoMemory`: there was no memory for a session. Nothing has changed, and the entry may be applied again.
     /// - `NotRising`: the position is not behind that of the last entry. Nothing has changed.
     /// - `NoEntry`: the bytes are the text of no entry. Nothing has changed.
@@ -303,8 +352,11 @@ impl Replica {
         if !self.admits(&entry) {
             return Err(ReplicaFault::OtherSettings);
         }
+        if let Err(fault) = self.check(&entry) {
+            return Err(fault);
+        }
         let outcome = self.enter(table, position, &entry, bytes, answers)?;
-        self.position = position;
+        self.keep(position)?;
         Ok(outcome)
     }
 }

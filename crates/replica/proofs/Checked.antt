@@ -1,0 +1,53 @@
+-- What is said of the digest of a writer.
+use Rattle.std.proofs.Common.{◌≡◌, ◌⊎◌, inl, inr, ℕ, Bool, true, false, eqb, nat_eq, List, Option, Some, None, Result, Err, refl, sym, ap, ◌∙◌, subst}
+use Rattle.std.specs.List.{starts_with}
+use Rattle.std.specs.Map.{lookup}
+use Rattle.hex.specs.Hex.{encode_lower}
+use Rattle.lru.specs.LruCache.{last_entry}
+use Rattle.pid_script.proofs.Cuts.{by_test}
+use Rattle.log_entries.specs.Entries.{Entry, Settings, Opened, Ended, Calls, Wanted, Announced, IsGood, entry_text}
+use Rattle.replica.specs.declared.outcome.ReplicaFault.{ReplicaFault}
+use Rattle.replica.specs.declared.outcome.ReplicaFault.TheVariants as fault
+use Rattle.replica.specs.Log.{Log}
+use Rattle.replica.specs.Replicas.{Replica, checked, is_before, judged, may_come}
+use Rattle.replica.specs.Applied.{Refuses}
+
+pub calls_checked : (log : Log) (s n q : ℕ) (d : List ℕ) (ls : List (List ℕ)) (kept : List (ℕ × List ℕ)) (found : Option (List ℕ)) (before : Bool) (r : Result Unit ReplicaFault)
+    → r ≡ judged found before d → found ≡ lookup (λ p. eqb q p) kept → before ≡ is_before q (last_entry kept) → kept ≡ log.kept → r ≡ checked log (Calls s n q d ls)
+calls_checked log s n q d ls kept found before r is here old same =
+    is ∙ (λ i. judged (here i) (old i) d) ∙ ap (λ k. judged (lookup (λ p. eqb q p) k) (is_before q (last_entry k)) d) same
+
+pub announced_checked : (log : Log) (q : ℕ) (d : List ℕ) (size : ℕ) (sum key : List ℕ) (kept : List (ℕ × List ℕ)) (found : Option (List ℕ)) (r : Result Unit ReplicaFault)
+    → r ≡ judged found true d → found ≡ lookup (λ p. eqb q p) kept → kept ≡ log.kept → r ≡ checked log (Announced q d size sum key)
+announced_checked log q d size sum key kept found r is here same =
+    is ∙ ap (λ o. judged o true d) here ∙ ap (λ k. judged (lookup (λ p. eqb q p) k) true d) same
+
+-- no other fault comes of it
+abbrev IsOne : ReplicaFault → Type 0
+IsOne e = (e ≡ fault.Missing) ⊎ (e ≡ fault.Diverged)
+
+judged_only : (o : Option (List ℕ)) (before : Bool) (d : List ℕ) (e : ReplicaFault) → judged o before d ≡ Err e → IsOne e
+judged_only None true d e is = cc is
+judged_only None false d e is = inl (cc is)
+judged_only (Some digest) before d e is =
+    by_test (starts_with nat_eq (encode_lower digest) d)
+    (λ same. let never = rw same at is in cc never)
+    (λ other. let err = rw other at is in inr (cc err))
+
+only : (log : Log) (entry : Entry) (e : ReplicaFault) → checked log entry ≡ Err e → IsOne e
+only log (Settings form pid_max model) e is = cc is
+only log Opened e is = cc is
+only log (Ended session) e is = cc is
+only log (Calls s n q d ls) e is = judged_only (lookup (λ p. eqb q p) log.kept) (is_before q (last_entry log.kept)) d e is
+only log Wanted e is = cc is
+only log (Announced q d size sum key) e is = judged_only (lookup (λ p. eqb q p) log.kept) true d e is
+
+pub at_odds : (position : ℕ) (bytes : List ℕ) (old : Replica) (before : List ℕ) (entry : Entry) (e : ReplicaFault) → IsGood entry → bytes ≡ entry_text entry
+    → may_come old.log entry ≡ true → checked old.log entry ≡ Err e → Refuses position bytes old before old before e
+at_odds position bytes old before entry e good text comes is =
+    elim (only old.log entry e is) [
+      | inl missing ↦ subst (Refuses position bytes old before old before) (sym missing)
+          ((entry, good, text, comes, is ∙ ap Err missing), record { replica = refl; answers = refl })
+      | inr diverged ↦ subst (Refuses position bytes old before old before) (sym diverged)
+          ((entry, good, text, comes, is ∙ ap Err diverged), record { replica = refl; answers = refl })
+    ]
