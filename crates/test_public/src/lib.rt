@@ -47,6 +47,8 @@ mod reads;
 #[cfg(test)]
 mod records;
 #[cfg(test)]
+mod replicas;
+#[cfg(test)]
 mod residents;
 #[cfg(test)]
 mod resumed;
