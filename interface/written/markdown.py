@@ -55,13 +55,20 @@ def faults_of(tables, part):
     return table(("Fault", "When"), [(f"`line {it.line}: {it.words}`", said(it.sentence if it.page == "-" else it.page)) for it in rows])
 
 
+def packages_of(row):
+    """What has the function in each package."""
+    return [row.cell(language) for language in ("python", "rust", "go", "javascript")]
+
+
 def functions(tables):
-    """The functions of C that two packages have, and what has them in each package."""
+    """The functions of C that two packages have, and what has them in each package. Those of a record that a table and all packages have too are left out."""
     rows = []
+    everywhere = {f"record_{it.functions}" for it in tables["functions"] if "-" not in packages_of(it)}
     for it in tables["functions"]:
         names = ", ".join(f"`pidtab_{name}`" for name in words_of(it.functions))
-        packages = [it.cell(language) for language in ("python", "rust", "go", "javascript")]
-        if packages.count("-") < 3:
+        packages = packages_of(it)
+        twin = words_of(it.functions)[0] in everywhere - {"record_open"} and "-" not in packages
+        if packages.count("-") < 3 and not twin:
             rows.append((it.sentence, names, *["" if cell == "-" else f"`{cell}`" for cell in packages]))
     return table(("What it does", "C", "Python", "Rust", "Go", "JavaScript"), rows)
 
