@@ -224,9 +224,9 @@ static OTHERS: [Row; 6] = [
     ),
 ];
 
-/// Opens sessions at the positions from 4 to the last one.
-fn open_sessions(rt: &(impl AllocGlobal + Abort), host: &mut Host, last: u64) {
-    for position in 4..last + 1 {
+/// Opens sessions at the positions from 4 on, below the end.
+fn open_sessions(rt: &(impl AllocGlobal + Abort), host: &mut Host, end: u64) {
+    for position in 4..end {
         expect_row(rt, host, &(position, b"open", Ok(Outcome::Noted), b"", b""));
     }
 }
@@ -268,7 +268,7 @@ static ENDS: [Row; 5] = [
 fn expect_ends(rt: &(impl AllocGlobal + Abort)) {
     let mut host = new_host(rt);
     expect_row(rt, &mut host, &LOG[0]);
-    open_sessions(rt, &mut host, 4099);
+    open_sessions(rt, &mut host, 4100);
     for row in &ENDS {
         expect_row(rt, &mut host, row);
     }
