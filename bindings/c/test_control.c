@@ -185,7 +185,7 @@ static uint64_t groups[GROUPS];
 static void make_random_call(void)
 {
 	static const uint32_t operations[] = { PIDTAB_FORK, PIDTAB_FORK, PIDTAB_FORK, PIDTAB_MOVE, PIDTAB_MOVE, PIDTAB_EXIT, PIDTAB_WAIT, PIDTAB_JOIN, PIDTAB_MK, PIDTAB_RM };
-	uint32_t operation = operations[random_below(sizeof operations / sizeof operations[0])], caller = random_task(), place = 1 + random_below(HELD_TASKS - 1);
+	uint32_t operation = operations[random_below(sizeof operations / sizeof operations[0])], caller = random_task();
 	struct pidtab_call call = { .operation = operation, .caller = caller, .id = groups[random_below(GROUPS)], .number = operation == PIDTAB_JOIN ? random_number(caller) : 0,
 		.choice = operation == PIDTAB_WAIT ? (uint32_t)PIDTAB_ANY : operation == PIDTAB_FORK && random_below(8) == 0 };
 	struct pidtab_reply reply;
@@ -193,14 +193,8 @@ static void make_random_call(void)
 	CHECK(pidtab_call(&table, &call, &reply) == PIDTAB_DONE);
 	if (reply.kind == PIDTAB_CONTROL)
 		groups[1 + random_below(GROUPS - 1)] = reply.first;
-	if (reply.kind != PIDTAB_FORKED)
-		return;
-	if (held[place] != 0)
-		pidtab_exit(&table, held[place], 0);
-	held[place] = (uint32_t)reply.second;
-	/* Most zombies are reaped by the root init at last. */
-	for (int i = 0; i < 2; i++)
-		pidtab_wait(&table, 1, PIDTAB_ANY, 0, NULL);
+	if (reply.kind == PIDTAB_FORKED)
+		hold_forked(&reply, 2);
 }
 
 /* What was met: several in one that is not the root, as a task of another namespace sees them, fewer than its count, cut short, and a group that is not there. */

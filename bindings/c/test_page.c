@@ -253,7 +253,7 @@ static void make_random_call(void)
 {
 	static const uint32_t operations[] = { PIDTAB_FORK, PIDTAB_FORK, PIDTAB_FORK, PIDTAB_FORK, PIDTAB_WAIT, PIDTAB_WAIT, PIDTAB_SETPGID, PIDTAB_SETPGID,
 		PIDTAB_SETPGID, PIDTAB_SETSID, PIDTAB_JOIN, PIDTAB_SUBREAPER };
-	uint32_t operation = operations[random_below(sizeof operations / sizeof operations[0])], caller = random_task(), place = 1 + random_below(HELD_TASKS - 1);
+	uint32_t operation = operations[random_below(sizeof operations / sizeof operations[0])], caller = random_task();
 	struct pidtab_call call = { .operation = operation, .caller = caller, .number = operation == PIDTAB_JOIN ? random_number(caller) : 0,
 		.choice = operation == PIDTAB_WAIT ? (uint32_t)PIDTAB_ANY : random_below(8) == 0, .pid = (int32_t)random_number(caller), .pgid = (int32_t)random_number(caller) };
 	struct pidtab_reply reply;
@@ -261,14 +261,8 @@ static void make_random_call(void)
 	CHECK(pidtab_call(&table, &call, &reply) == PIDTAB_DONE);
 	if (reply.kind == PIDTAB_REFUSED && reply.refusal == PIDTAB_SPACE_FALLEN)
 		goes_home(caller);
-	if (reply.kind != PIDTAB_FORKED)
-		return;
-	if (held[place] != 0)
-		pidtab_exit(&table, held[place], 0);
-	held[place] = (uint32_t)reply.second;
-	/* Most zombies are reaped by the root init at last. */
-	for (int i = 0; i < 3; i++)
-		pidtab_wait(&table, 1, PIDTAB_ANY, 0, NULL);
+	if (reply.kind == PIDTAB_FORKED)
+		hold_forked(&reply, 3);
 }
 
 /* What was met, so that the comparison is none of empty lists: those of several, from within a namespace, of what is not seen there, of a namespace

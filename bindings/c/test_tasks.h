@@ -26,3 +26,15 @@ static uint32_t random_number(uint32_t caller)
 	CHECK(pidtab_stat(&table, 1, caller, &own) == PIDTAB_DONE && pidtab_stat(&table, 1, random_task(), &other) == PIDTAB_DONE);
 	return random_below(4) == 0 || own.count == 0 || other.count < own.count ? 0 : other.levels[own.count - 1];
 }
+
+/* Holds the child that a fork has answered, in the place of another task, which ends. The root init then waits so often: it reaps most zombies at last. */
+static inline void hold_forked(const struct pidtab_reply *reply, int waits)
+{
+	uint32_t place = 1 + random_below(HELD_TASKS - 1);
+
+	if (held[place] != 0)
+		pidtab_exit(&table, held[place], 0);
+	held[place] = (uint32_t)reply->second;
+	for (int i = 0; i < waits; i++)
+		pidtab_wait(&table, 1, PIDTAB_ANY, 0, NULL);
+}

@@ -11,7 +11,7 @@ from pidtab.native import SHORT_PAGE, read_control_tasks
 from pidtab.raw import CLOSED, COUNTED, DONE, NO_MEMORY, PidtabReply
 from tests.test_ends import OTHERS, in_child
 from tests.test_interrupts import CallInterrupter
-from tests.ways import OnEachTable, need_library, read_beside_a_writer
+from tests.ways import OnEachTable, need_library, numbers_beside_a_writer
 
 FILES = {pidtab.native.__file__, pidtab.shared.__file__, pidtab.table.__file__}
 
@@ -148,12 +148,7 @@ class Others(unittest.TestCase):
             self.assertEqual([one.ask.control_tasks(1), two.ask(now=True).control_tasks(1, 2), two.ask(now=True).control_tasks(1)], [(1,), (2,), (1,)])
 
     def test_threads_beside_a_writer(self) -> None:
-        def read(shared: Shared, before: int) -> int:
-            told = shared.ask.control_tasks(1, start=2)
-            self.assertEqual(told, tuple(range(2, len(told) + 2)))
-            return len(told)
-
-        read_beside_a_writer(self, read)
+        numbers_beside_a_writer(self, lambda shared: shared.ask.control_tasks(1, start=2))
 
 
 class Reading(unittest.TestCase):

@@ -12,7 +12,7 @@ from pidtab.native import SHORT_PAGE, read_page
 from pidtab.raw import CHILDREN, CLOSED, COUNTED, DONE, NO_MEMORY, PidtabReply
 from tests.test_ends import OTHERS, in_child
 from tests.test_interrupts import CallInterrupter
-from tests.ways import OnEachTable, need_library, read_beside_a_writer
+from tests.ways import OnEachTable, need_library, numbers_beside_a_writer
 
 FILES = {pidtab.native.__file__, pidtab.shared.__file__, pidtab.table.__file__}
 
@@ -165,12 +165,7 @@ class Many(unittest.TestCase):
             self.assertEqual([one.ask.children(1), two.ask(now=True).children(1), two.ask(now=True).session_members(1)], [(2,), (2,), (1, 2)])
 
     def test_threads_beside_a_writer(self) -> None:
-        def read(shared: Shared, before: int) -> int:
-            told = shared.ask.children(1)
-            self.assertEqual(told, tuple(range(2, len(told) + 2)))
-            return len(told)
-
-        read_beside_a_writer(self, read)
+        numbers_beside_a_writer(self, lambda shared: shared.ask.children(1))
 
 
 class Reading(unittest.TestCase):

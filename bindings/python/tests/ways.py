@@ -4,7 +4,7 @@ import errno
 import importlib.util
 import threading
 import unittest
-from collections.abc import Callable
+from collections.abc import Callable, Sequence
 from types import SimpleNamespace
 from typing import TYPE_CHECKING
 from unittest import mock
@@ -149,6 +149,17 @@ def read_beside_a_writer(test: unittest.TestCase, read: Callable[[Shared, int], 
         for it in threads:
             it.join()
         test.assertEqual((faults, shared.counts().recorded), ([], FORKS))
+
+
+def numbers_beside_a_writer(test: unittest.TestCase, ask: Callable[[Shared], Sequence[int]]) -> None:
+    """Threads ask for the numbers of all that are forked, as `read_beside_a_writer` has it: they are those from 2 on, without a gap."""
+
+    def read(shared: Shared, before: int) -> int:
+        told = ask(shared)
+        test.assertEqual(told, tuple(range(2, len(told) + 2)))
+        return len(told)
+
+    read_beside_a_writer(test, read)
 
 
 class OnEachTable(unittest.TestCase):
