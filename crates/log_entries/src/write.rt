@@ -55,7 +55,8 @@ fn push_head(
     digest: &[u8],
 ) -> Result<(), AllocError>
     ensures { OnOk result (text.new.items ≡ text.old.items
-        ++ spaced (codes "calls" ∷ decimal session ∷ decimal sequence ∷ decimal count ∷ decimal position ∷ digest.now ∷ [])) }
+        ++ spaced (codes "calls"
+        ∷ decimal session ∷ decimal sequence ∷ decimal count ∷ decimal position ∷ digest.now ∷ [])) }
 {
     push_field(text, b"calls ", session)?;
     push_field(text, b" ", sequence)?;

@@ -12,7 +12,7 @@ use Rattle.replica.proofs.Found.{found, found_used}
 one_step : (position : ℕ) (bytes : List ℕ) (old : Replica) (before : List ℕ) (a b : Replica) (wa wb : Outcome) (after_a after_b : List ℕ)
     → Applies position bytes old before a wa after_a → Applies position bytes old before b wb after_b → (a ≡ b) × (after_a ≡ after_b)
 one_step position bytes old before a b wa wb after_a after_b x y =
-    let same : x.entry ≡ y.entry = texts_tell x.entry y.entry x.good y.good (sym x.text ∙ y.text) in (
+    let same : x.entry ≡ y.entry = texts_tell x.entry y.entry x.next.good y.next.good (sym x.next.text ∙ y.next.text) in (
       x.made ∙ ap (applied old position) same ∙ sym y.made,
       x.answers ∙ ap (λ e. before ++ answers_at old e) same ∙ sym y.answers,
     )

@@ -1,6 +1,6 @@
 -- What is made of the bytes of an entry.
-use Rattle.std.specs.Prelude.{ℕ, ◌≡◌, ◌≢◌, ◌≤◌, ◌++◌, true, false, Err, List, []}
-use Rattle.log_entries.specs.Entries.{Entry, IsGood, entry_text}
+use Rattle.std.specs.Prelude.{ℕ, ◌≡◌, ◌≢◌, ◌⊎◌, ◌<◌, ◌≤◌, ◌++◌, true, false, Ok, Err, List, []}
+use Rattle.log_entries.specs.Entries.{Entry, Opened, IsGood, entry_text}
 use Rattle.replica.specs.declared.outcome.Outcome.{Outcome}
 use Rattle.replica.specs.declared.outcome.ReplicaFault.{ReplicaFault}
 use Rattle.replica.specs.declared.outcome.ReplicaFault.TheVariants.{NotRising, NoEntry, OtherSettings, Missing, Diverged, NoMemory, Torn}
@@ -18,6 +18,15 @@ pub record IsNew (pid_max model : ℕ) (log : Log) : Type 0 where
   pub calls : log.calls ≡ 0
   pub whole : log.torn ≡ false
 
+-- the bytes are the text of the entry, which may be applied next: the position rises, the entry may come, and the digest of its writer
+-- is the one here
+pub record IsNext (position : ℕ) (bytes : List ℕ) (old : Replica) (entry : Entry) : Type 0 where
+  pub good : IsGood entry
+  pub text : bytes ≡ entry_text entry
+  pub rises : old.log.position < position
+  pub comes : may_come old.log entry ≡ true
+  pub agrees : checked old.log entry ≡ Ok tt
+
 -- the entry has made this, with its outcome, and its answers are behind those before
 pub record Enters (e : Entry) (position : ℕ) (old : Replica) (before : List ℕ) (new : Replica) (what : Outcome) (after : List ℕ)
     : Type 0 where
@@ -30,15 +39,15 @@ pub record IsSame (old : Replica) (before : List ℕ) (new : Replica) (after : L
   pub replica : new ≡ old
   pub answers : after ≡ before
 
--- there was no memory: nothing has changed, or the replica is torn
-abbrev pub IsStopped : Replica → List ℕ → Replica → List ℕ → ReplicaFault → Type 0
-IsStopped old before new after NoMemory = IsSame old before new after
-IsStopped old before new after Torn = new.log.torn ≡ true
-IsStopped old before new after NotRising = ⊥
-IsStopped old before new after NoEntry = ⊥
-IsStopped old before new after OtherSettings = ⊥
-IsStopped old before new after Missing = ⊥
-IsStopped old before new after Diverged = ⊥
+-- there was no memory: nothing has changed of a session that was to open, or the replica is torn
+abbrev pub IsStopped : Entry → Replica → List ℕ → Replica → List ℕ → ReplicaFault → Type 0
+IsStopped e old before new after NoMemory = (e ≡ Opened) × IsSame old before new after
+IsStopped e old before new after Torn = new.log.torn ≡ true
+IsStopped e old before new after NotRising = ⊥
+IsStopped e old before new after NoEntry = ⊥
+IsStopped e old before new after OtherSettings = ⊥
+IsStopped e old before new after Missing = ⊥
+IsStopped e old before new after Diverged = ⊥
 
 -- an entry that may come was not looked at, since the digest of its writer is at no entry of the log, or is another one
 abbrev pub IsAtOdds : List ℕ → Replica → ReplicaFault → Type 0
@@ -54,5 +63,6 @@ Refuses position bytes old before new after OtherSettings =
     (e : Entry) × IsGood e × (bytes ≡ entry_text e) × (may_come old.log e ≡ false) × IsSame old before new after
 Refuses position bytes old before new after Missing = IsAtOdds bytes old Missing × IsSame old before new after
 Refuses position bytes old before new after Diverged = IsAtOdds bytes old Diverged × IsSame old before new after
-Refuses position bytes old before new after NoMemory = IsSame old before new after
-Refuses position bytes old before new after Torn = new.log.torn ≡ true
+Refuses position bytes old before new after NoMemory = IsNext position bytes old Opened × IsSame old before new after
+Refuses position bytes old before new after Torn =
+    (new.log.torn ≡ true) × ((old.log.torn ≡ true) ⊎ ((e : Entry) × IsNext position bytes old e))

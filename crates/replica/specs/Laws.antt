@@ -1,20 +1,17 @@
 -- Laws of a log, over all its entries.
-use Rattle.std.specs.Prelude.{ℕ, ◌≡◌, ◌+◌, ◌<◌, ◌==◌, true, Ok, List, [], ◌∷◌, ◌++◌, if◌then◌else◌}
-use Rattle.log_entries.specs.Entries.{Entry, Calls, IsGood, entry_text}
+use Rattle.std.specs.Prelude.{ℕ, ◌≡◌, ◌+◌, ◌<◌, ◌==◌, List, [], ◌∷◌, ◌++◌, if◌then◌else◌}
+use Rattle.log_entries.specs.Entries.{Entry, Calls}
 use Rattle.replica.specs.declared.outcome.Outcome.{Outcome}
 use Rattle.replica.specs.declared.outcome.Outcome.TheVariants as outcome
-use Rattle.replica.specs.Replicas.{Replica, applied, outcome_at, answers_at, checked, may_come, at}
+use Rattle.replica.specs.Applied.{IsNext}
+use Rattle.replica.specs.Replicas.{Replica, applied, outcome_at, answers_at, at}
 
--- the text at the position was applied: it is that of an entry that may come, behind the others. What it has made is there, with its
--- outcome, and its answers are behind those before
+-- the text at the position was applied: it is that of the next entry. What that has made is there, with its outcome, and its answers are
+-- behind those before
 pub record Applies (position : ℕ) (bytes : List ℕ) (old : Replica) (before : List ℕ) (new : Replica) (what : Outcome) (after : List ℕ)
     : Type 0 where
   pub entry : Entry
-  pub good : IsGood entry
-  pub text : bytes ≡ entry_text entry
-  pub rises : old.log.position < position
-  pub comes : may_come old.log entry ≡ true
-  pub agrees : checked old.log entry ≡ Ok tt
+  pub next : IsNext position bytes old entry
   pub made : new ≡ applied old position entry
   pub outcome : what ≡ outcome_at old entry
   pub answers : after ≡ before ++ answers_at old entry

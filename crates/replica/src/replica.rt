@@ -280,7 +280,7 @@ impl Replica {
         ensures ok { IfOk result (λ what. Enters (entry_of entry.now) position
             (replica_of self.old (T.state table.old) (T.stamp table.old)) answers.old.items
             (replica_of self.new (T.state table.new) (T.stamp table.new)) what answers.new.items) }
-        ensures err { IfErr result (IsStopped
+        ensures err { IfErr result (IsStopped (entry_of entry.now)
             (replica_of self.old (T.state table.old) (T.stamp table.old)) answers.old.items
             (replica_of self.new (T.state table.new) (T.stamp table.new)) answers.new.items) }
     {
