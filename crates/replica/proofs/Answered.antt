@@ -10,7 +10,7 @@ use Rattle.pid_script.specs.declared.line.Line.TheVariants as says
 use Rattle.pid_script.specs.Answers.{answer_of}
 use Rattle.pid_script.proofs.Cuts.{same_eqb}
 use Rattle.script_session.specs.Session.{Acts}
-use Rattle.replica.specs.Replicas.{after_line, answer_to, stamped}
+use Rattle.replica.specs.Replicas.{after_line, answer_to}
 
 -- a call that was made or found no stamp was answered as the model does
 pub answered : (may : Call → Bool) (state : State) (stamp : ℕ) (call : Call) (r : Result Reply CallFault) (state' : State) (stamp' : ℕ)

@@ -5,7 +5,7 @@ use Rattle.std.specs.Map.{lookup}
 use Rattle.hex.specs.Hex.{encode_lower}
 use Rattle.lru.specs.LruCache.{last_entry}
 use Rattle.pid_script.proofs.Cuts.{by_test}
-use Rattle.log_entries.specs.Entries.{Entry, Settings, Opened, Ended, Calls, Wanted, Announced, IsGood, entry_text}
+use Rattle.replica.specs.Entries.{Entry, Settings, Opened, Ended, Calls, Wanted, Announced, IsGood, entry_text}
 use Rattle.replica.specs.declared.outcome.ReplicaFault.{ReplicaFault}
 use Rattle.replica.specs.declared.outcome.ReplicaFault.TheVariants as fault
 use Rattle.replica.specs.Log.{Log}

@@ -1,7 +1,7 @@
 -- An entry of calls, by what became of it.
 use Rattle.std.proofs.Common.{◌≡◌, ℕ, eqb, List, ◌++◌, Result, Ok, Err, IfOk, ap, ◌∙◌}
 use Rattle.std.specs.Map.{lookup}
-use Rattle.log_entries.specs.Entries.{Calls}
+use Rattle.replica.specs.Entries.{Calls}
 use Rattle.replica.specs.declared.outcome.Outcome.{Outcome}
 use Rattle.replica.specs.Replicas.{Replica, called, made_answers, outcome_of}
 use Rattle.replica.specs.Applied.{Enters}

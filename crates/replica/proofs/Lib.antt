@@ -6,3 +6,7 @@ pub mod Used
 pub mod Turns
 pub mod Entered
 pub mod Checked
+pub mod Lines
+pub mod Told
+pub mod Whole
+pub mod Written

@@ -2,7 +2,7 @@
 use Rattle.std.proofs.Common.{◌≡◌, ◌⊎◌, inl, inr, ℕ, ◌+◌, ◌≤◌, true, false, eqb, leb, List, [], ◌∷◌, Option, Some, None, refl, sym, ap, ◌∙◌, subst, arith}
 use Rattle.std.proofs.lemmas.Option.{none-some, same_Some}
 use Rattle.pid_script.proofs.Cuts.{by_test, same_eqb}
-use Rattle.log_entries.specs.Entries.{Entry, Settings, Opened, Ended, Calls, Wanted, Announced}
+use Rattle.replica.specs.Entries.{Entry, Settings, Opened, Ended, Calls, Wanted, Announced}
 use Rattle.replica.specs.declared.outcome.Outcome.{Outcome}
 use Rattle.replica.specs.declared.outcome.Outcome.TheVariants as outcome
 use Rattle.replica.specs.Replicas.{Replica, applied, called, begins, outcome_at, outcome_of, used, without}

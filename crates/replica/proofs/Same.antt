@@ -1,15 +1,15 @@
 -- One log makes one replica, and repeats change nothing.
 use Rattle.std.proofs.Common.{◌≡◌, ℕ, true, leb, List, [], ◌∷◌, ◌++◌, Option, Some, sym, ap, ◌∙◌, subst, arith}
-use Rattle.log_entries.specs.Entries.{Settings, Opened, Ended, Calls, Wanted, Announced}
-use Rattle.log_entries.proofs.Whole.{texts_tell}
-use Rattle.replica.specs.declared.outcome.Outcome.{Outcome}
+use Rattle.replica.specs.Entries.{Settings, Opened, Ended, Calls, Wanted, Announced}
+use Rattle.replica.proofs.Whole.{texts_tell}
+use Rattle.replica.specs.declared.outcome.Applied.{Applied}
 use Rattle.replica.specs.declared.outcome.Outcome.TheVariants as outcome
 use Rattle.replica.specs.Replicas.{Replica, applied, called, outcome_of, answers_at, at}
 use Rattle.replica.specs.Laws.{Applies, Runs, OneLogIsOneReplica, RepeatsChangeNothing}
 use Rattle.replica.proofs.Found.{found, found_used}
 
 -- what is applied at one position is one entry
-one_step : (position : ℕ) (bytes : List ℕ) (old : Replica) (before : List ℕ) (a b : Replica) (wa wb : Outcome) (after_a after_b : List ℕ)
+one_step : (position : ℕ) (bytes : List ℕ) (old : Replica) (before : List ℕ) (a b : Replica) (wa wb : Applied) (after_a after_b : List ℕ)
     → Applies position bytes old before a wa after_a → Applies position bytes old before b wb after_b → (a ≡ b) × (after_a ≡ after_b)
 one_step position bytes old before a b wa wb after_a after_b x y =
     let same : x.entry ≡ y.entry = texts_tell x.entry y.entry x.next.good y.next.good (sym x.next.text ∙ y.next.text) in (

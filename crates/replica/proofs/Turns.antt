@@ -2,8 +2,8 @@
 use Rattle.std.proofs.Common.{◌≡◌, ℕ, List, [], ◌∷◌, ◌++◌, Some, None, sym, ap, ◌∙◌, append_assoc, append-nil}
 use Rattle.pid_script.specs.Reading.{cut, parsed}
 use Rattle.pid_script.specs.Script.{with_newline}
-use Rattle.log_entries.specs.Reading.{lines_in}
-use Rattle.log_entries.proofs.Lines.{cut_lines, no_cut}
+use Rattle.replica.specs.Reading.{lines_in}
+use Rattle.replica.proofs.Lines.{cut_lines, no_cut}
 use Rattle.replica.specs.Replicas.{Stamped, after_line, after_lines, answer_to, answers_to, dialogue}
 
 -- a line with others behind it

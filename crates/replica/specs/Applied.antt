@@ -1,6 +1,6 @@
 -- What is made of the bytes of an entry.
 use Rattle.std.specs.Prelude.{ℕ, ◌≡◌, ◌≢◌, ◌⊎◌, ◌<◌, ◌≤◌, ◌++◌, true, false, Ok, Err, List, []}
-use Rattle.log_entries.specs.Entries.{Entry, Opened, IsGood, entry_text}
+use Rattle.replica.specs.Entries.{Entry, Opened, IsGood, entry_text}
 use Rattle.replica.specs.declared.outcome.Outcome.{Outcome}
 use Rattle.replica.specs.declared.outcome.ReplicaFault.{ReplicaFault}
 use Rattle.replica.specs.declared.outcome.ReplicaFault.TheVariants.{NotRising, NoEntry, OtherSettings, Missing, Diverged, NoMemory, Torn}

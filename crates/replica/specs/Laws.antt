@@ -1,26 +1,27 @@
 -- Laws of a log, over all its entries.
 use Rattle.std.specs.Prelude.{ℕ, ◌≡◌, ◌+◌, ◌<◌, ◌==◌, List, [], ◌∷◌, ◌++◌, if◌then◌else◌}
-use Rattle.log_entries.specs.Entries.{Entry, Calls}
+use Rattle.replica.specs.Entries.{Entry, Calls}
+use Rattle.replica.specs.declared.outcome.Applied.{Applied}
 use Rattle.replica.specs.declared.outcome.Outcome.{Outcome}
 use Rattle.replica.specs.declared.outcome.Outcome.TheVariants as outcome
 use Rattle.replica.specs.Applied.{IsNext}
-use Rattle.replica.specs.Replicas.{Replica, applied, outcome_at, answers_at, at}
+use Rattle.replica.specs.Replicas.{Replica, applied, outcome_at, said_of, answers_at, at}
 
--- the text at the position was applied: it is that of the next entry. What that has made is there, with its outcome, and its answers are
--- behind those before
-pub record Applies (position : ℕ) (bytes : List ℕ) (old : Replica) (before : List ℕ) (new : Replica) (what : Outcome) (after : List ℕ)
+-- the text at the position was applied: it is that of the next entry. What that has made is there, it is said what became of it, and its
+-- answers are behind those before
+pub record Applies (position : ℕ) (bytes : List ℕ) (old : Replica) (before : List ℕ) (new : Replica) (what : Applied) (after : List ℕ)
     : Type 0 where
   pub entry : Entry
   pub next : IsNext position bytes old entry
   pub made : new ≡ applied old position entry
-  pub outcome : what ≡ outcome_at old entry
+  pub said : what ≡ said_of old entry
   pub answers : after ≡ before ++ answers_at old entry
 
 -- the texts of a log were applied, one after the other
 abbrev pub Runs : List (ℕ × List ℕ) → Replica → List ℕ → Replica → List ℕ → Type 0
 Runs [] old before new after = (new ≡ old) × (after ≡ before)
 Runs (one ∷ log) old before new after =
-    (next : Replica) × (what : Outcome) × (answers : List ℕ)
+    (next : Replica) × (what : Applied) × (answers : List ℕ)
     × Applies one.0 one.1 old before next what answers × Runs log next answers new after
 
 -- two replicas that were given one log are one, and have given the same answers

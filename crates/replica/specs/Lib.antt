@@ -1,4 +1,7 @@
 pub mod Applied
+pub mod Entries
 pub mod Laws
 pub mod Log
+pub mod Reading
 pub mod Replicas
+pub mod Told

@@ -5,35 +5,27 @@ use Rattle.std.specs.List.{starts_with}
 use Rattle.hex.specs.Hex.{encode_lower}
 use Rattle.lru.specs.LruCache.{last_entry}
 use Rattle.sha2.specs.Sha256.{sha256}
-use Rattle.pid_types.specs.State.{State}
-use Rattle.pid_types.specs.Step.{step}
+use Rattle.stamped_table.specs.Stamped.{Stamped, after_call, reply_to}
 use Rattle.pid_script.specs.declared.line.Line.{Line}
 use Rattle.pid_script.specs.declared.line.Line.TheVariants as says
 use Rattle.pid_script.specs.Answers.{reply_text}
 use Rattle.pid_script.specs.Reading.{parsed}
 use Rattle.pid_script.specs.Script.{with_newline}
-use Rattle.log_entries.specs.Entries.{Entry, Settings, Opened, Ended, Calls, Wanted, Announced, entry_text}
+use Rattle.replica.specs.Entries.{Entry, Settings, Opened, Ended, Calls, Wanted, Announced, entry_text}
 use Rattle.replica.specs.declared.outcome.Outcome.{Outcome}
 use Rattle.replica.specs.declared.outcome.Outcome.TheVariants as outcome
+use Rattle.replica.specs.declared.outcome.Applied.{Applied}
 use Rattle.replica.specs.declared.outcome.ReplicaFault.{ReplicaFault}
 use Rattle.replica.specs.declared.outcome.ReplicaFault.TheVariants as fault
 use Rattle.replica.specs.Log.{Log}
-
--- a state, and the stamp of the next call on it
-pub record Stamped : Type 0 where
-  pub state : State
-  pub stamp : ℕ
 
 -- a replica: what it knows of its log, and its table
 pub record Replica : Type 0 where
   pub log : Log
   pub table : Stamped
 
-abbrev pub stamped : State → ℕ → Stamped
-stamped state stamp = record { state = state; stamp = stamp }
-
-abbrev pub replica_of : Log → State → ℕ → Replica
-replica_of log state stamp = record { log = log; table = stamped state stamp }
+abbrev pub replica_of : Log → Stamped → Replica
+replica_of log table = record { log = log; table = table }
 
 -- no stamp is left
 abbrev pub is_spent : Stamped → Bool
@@ -43,12 +35,12 @@ is_spent t = t.stamp == 2 ^ 64 - 1
 abbrev pub answer_to : Stamped → Line → List ℕ
 answer_to t says.Empty = []
 answer_to t says.Bad = codes "bad line"
-answer_to t (says.Call call) = if is_spent t then codes "spent" else reply_text (step t.state t.stamp call).reply
+answer_to t (says.Call call) = if is_spent t then codes "spent" else reply_text (reply_to t call)
 
 abbrev pub after_line : Stamped → Line → Stamped
 after_line t says.Empty = t
 after_line t says.Bad = t
-after_line t (says.Call call) = if is_spent t then t else record { state = (step t.state t.stamp call).state; stamp = t.stamp + 1 }
+after_line t (says.Call call) = if is_spent t then t else after_call t call
 
 -- what lines leave, one made after the other; their answers; and the lines with their answers. A newline is behind each
 abbrev pub after_lines : Stamped → List (List ℕ) → Stamped
@@ -143,6 +135,27 @@ lines_at Opened = []
 lines_at (Ended session) = []
 lines_at Wanted = []
 lines_at (Announced position digest size sum key) = []
+
+-- the session of calls, and their number in it; of another entry there are none
+abbrev pub session_of : Entry → ℕ
+session_of (Calls session sequence position digest lines) = session
+session_of (Settings form pid_max model) = 0
+session_of Opened = 0
+session_of (Ended session) = 0
+session_of Wanted = 0
+session_of (Announced position digest size sum key) = 0
+
+abbrev pub sequence_of : Entry → ℕ
+sequence_of (Calls session sequence position digest lines) = sequence
+sequence_of (Settings form pid_max model) = 0
+sequence_of Opened = 0
+sequence_of (Ended session) = 0
+sequence_of Wanted = 0
+sequence_of (Announced position digest size sum key) = 0
+
+-- what is said of an entry
+abbrev pub said_of : Replica → Entry → Applied
+said_of r e = record { outcome = outcome_at r e; session = session_of e; sequence = sequence_of e }
 
 abbrev pub answers_at : Replica → Entry → List ℕ
 answers_at r e = made_answers r (lines_at e) (outcome_at r e)

@@ -1,36 +1,23 @@
 //! The answer to one line.
-ghost use Rattle.std.specs.Prelude.{◌≡◌, ◌++◌, ◌∷◌, [], codes, IfOk, OnOk, Some, option_copied, IsSome};
-ghost use Rattle.pid_script.specs.Answers.{answer_of, lent, replied};
+ghost use Rattle.std.specs.Prelude.{◌≡◌, codes, IfOk, OnOk};
+ghost use Rattle.pid_script.specs.Answers.{answer_of, lent};
 ghost use Rattle.pid_script.specs.Reading.{parsed};
-ghost use Rattle.replica.specs.Replicas.{after_line, answer_to, stamped};
+ghost use Rattle.replica.specs.Replicas.{after_line, answer_to};
 
 use arrayvec::ArrayVec;
 use pid_script::answer::{LONGEST_ANSWER, push_answer};
 use pid_script::line::{Line, parse_line};
 use pid_types::call::Call;
 use pid_types::reply::{CallFault, Reply};
-use script_session::session::Table;
+use stamped_table::StampedTable;
 use std::alloc::AllocError;
 
-/// The answer to the call that was made last: the reply that the table holds.
-fn answer_held<T: Table>(table: &T, made: Result<(), CallFault>) -> Result<&Reply, CallFault>
-    requires { OnOk made (IsSome (T.held table.now)) }
-    ensures { lent result ≡ replied made (T.held table.now) }
-{
-    made?;
-    let Some(reply) = table.reply() else {
-        unreachable!()
-    };
-    Ok(reply)
-}
-
-/// The text of that answer.
-fn text_held<T: Table>(table: &T, made: Result<(), CallFault>) -> ArrayVec<u8, LONGEST_ANSWER>
-    requires { OnOk made (IsSome (T.held table.now)) }
-    ensures { result.items ≡ answer_of (replied made (T.held table.now)) }
+/// The text of an answer.
+fn text_of(answer: Result<&Reply, CallFault>) -> ArrayVec<u8, LONGEST_ANSWER>
+    ensures { result.items ≡ answer_of (lent answer.entry) }
 {
     let mut text = ArrayVec::new();
-    push_answer(&mut text, answer_held(table, made));
+    push_answer(&mut text, answer);
     text
 }
 
@@ -46,31 +33,28 @@ fn bad_line() -> ArrayVec<u8, LONGEST_ANSWER>
 }
 
 /// Makes a call, and answers it. The error is want of memory; the table is as it was then.
-fn answer_call<T: Table>(
-    table: &mut T,
+fn answer_call(
+    table: &mut StampedTable,
     call: Call,
 ) -> Result<ArrayVec<u8, LONGEST_ANSWER>, AllocError>
-    ensures answer { IfOk result (λ text.
-        text.items ≡ answer_to (stamped (T.state table.old) (T.stamp table.old)) (Line.Call call)) }
-    ensures after { OnOk result (stamped (T.state table.new) (T.stamp table.new)
-        ≡ after_line (stamped (T.state table.old) (T.stamp table.old)) (Line.Call call)) }
+    ensures answer { IfOk result (λ text. text.items ≡ answer_to table.old (Line.Call call)) }
+    ensures after { OnOk result (table.new ≡ after_line table.old (Line.Call call)) }
 {
-    let made = table.act(call);
-    if let Err(CallFault::NoMemory) = made {
-        return Err(AllocError);
+    let mut reply = Reply::Done;
+    match table.make(call, &mut reply) {
+        Ok(()) => Ok(text_of(Ok(&reply))),
+        Err(CallFault::Spent) => Ok(text_of(Err(CallFault::Spent))),
+        Err(CallFault::NoMemory) => Err(AllocError),
     }
-    Ok(text_held(table, made))
 }
 
 /// Answers a line. The error is want of memory; the table is as it was then.
-pub(crate) fn answer_line<T: Table>(
-    table: &mut T,
+pub(crate) fn answer_line(
+    table: &mut StampedTable,
     line: &[u8],
 ) -> Result<ArrayVec<u8, LONGEST_ANSWER>, AllocError>
-    ensures answer { IfOk result (λ text.
-        text.items ≡ answer_to (stamped (T.state table.old) (T.stamp table.old)) (parsed line.now)) }
-    ensures after { OnOk result (stamped (T.state table.new) (T.stamp table.new)
-        ≡ after_line (stamped (T.state table.old) (T.stamp table.old)) (parsed line.now)) }
+    ensures answer { IfOk result (λ text. text.items ≡ answer_to table.old (parsed line.now)) }
+    ensures after { OnOk result (table.new ≡ after_line table.old (parsed line.now)) }
 {
     match parse_line(line) {
         Line::Empty => Ok(ArrayVec::new()),

@@ -4,13 +4,13 @@ ghost use Rattle.sha2.specs.Hashers.{Holds256};
 ghost use Rattle.sha2.specs.Sha256.{sha256};
 ghost use Rattle.pid_script.specs.Reading.{parsed};
 ghost use Rattle.pid_script.specs.Script.{with_newline};
-ghost use Rattle.log_entries.specs.Reading.{lines_in};
-ghost use Rattle.replica.specs.Replicas.{after_line, after_lines, answer_to, answers_to, dialogue, stamped};
+ghost use Rattle.replica.specs.Reading.{lines_in};
+ghost use Rattle.replica.specs.Replicas.{after_line, after_lines, answer_to, answers_to, dialogue};
 
 use crate::answer::answer_line;
 use pid_script::bytes::split_line;
-use script_session::session::Table;
 use sha2::{Digest, Sha256};
+use stamped_table::StampedTable;
 use std::alloc::AllocError;
 
 /// Adds a line and a newline to what is hashed.
@@ -31,19 +31,17 @@ fn push_line(text: &mut Vec<u8>, line: &[u8]) -> Result<(), AllocError>
 }
 
 /// Makes a line: appends its answer, and hashes both. The error is want of memory.
-fn make_line<T: Table>(
-    table: &mut T,
+fn make_line(
+    table: &mut StampedTable,
     hasher: &mut Sha256,
     answers: &mut Vec<u8>,
     line: &[u8],
 ) -> Result<(), AllocError>
-    ensures after { OnOk result (stamped (T.state table.new) (T.stamp table.new)
-        ≡ after_line (stamped (T.state table.old) (T.stamp table.old)) (parsed line.now)) }
-    ensures answer { OnOk result (answers.new.items ≡ answers.old.items
-        ++ with_newline (answer_to (stamped (T.state table.old) (T.stamp table.old)) (parsed line.now))) }
+    ensures after { OnOk result (table.new ≡ after_line table.old (parsed line.now)) }
+    ensures answer { OnOk result (answers.new.items ≡ answers.old.items ++ with_newline (answer_to table.old (parsed line.now))) }
     ensures hashed { OnOk result ((m : List ℕ) → Holds256 hasher.old m
         → Holds256 hasher.new ((m ++ with_newline line.now)
-        ++ with_newline (answer_to (stamped (T.state table.old) (T.stamp table.old)) (parsed line.now)))) }
+        ++ with_newline (answer_to table.old (parsed line.now)))) }
 {
     let answer = answer_line(table, line)?;
     hash_line(hasher, line);
@@ -52,18 +50,16 @@ fn make_line<T: Table>(
 }
 
 /// Makes lines, one after the other. After an `Err`, which is want of memory, some of them were made.
-pub(crate) fn make_lines<T: Table>(
-    table: &mut T,
+pub(crate) fn make_lines(
+    table: &mut StampedTable,
     hasher: &mut Sha256,
     answers: &mut Vec<u8>,
     lines: &[u8],
 ) -> Result<(), AllocError>
-    ensures after { OnOk result (stamped (T.state table.new) (T.stamp table.new)
-        ≡ after_lines (stamped (T.state table.old) (T.stamp table.old)) (lines_in lines.now)) }
-    ensures answer { OnOk result (answers.new.items ≡ answers.old.items
-        ++ answers_to (stamped (T.state table.old) (T.stamp table.old)) (lines_in lines.now)) }
+    ensures after { OnOk result (table.new ≡ after_lines table.old (lines_in lines.now)) }
+    ensures answer { OnOk result (answers.new.items ≡ answers.old.items ++ answers_to table.old (lines_in lines.now)) }
     ensures hashed { OnOk result ((m : List ℕ) → Holds256 hasher.old m
-        → Holds256 hasher.new (m ++ dialogue (stamped (T.state table.old) (T.stamp table.old)) (lines_in lines.now))) }
+        → Holds256 hasher.new (m ++ dialogue table.old (lines_in lines.now))) }
 {
     let mut rest = lines;
     while let Some((line, after)) = split_line(rest) {
@@ -74,18 +70,15 @@ pub(crate) fn make_lines<T: Table>(
 }
 
 /// Makes lines, and answers the digest behind them. After an `Err`, which is want of memory, some of them were made.
-pub(crate) fn digest_behind<T: Table>(
-    table: &mut T,
+pub(crate) fn digest_behind(
+    table: &mut StampedTable,
     answers: &mut Vec<u8>,
     before: &[u8],
     lines: &[u8],
 ) -> Result<[u8; 32], AllocError>
-    ensures after { OnOk result (stamped (T.state table.new) (T.stamp table.new)
-        ≡ after_lines (stamped (T.state table.old) (T.stamp table.old)) (lines_in lines.now)) }
-    ensures answer { OnOk result (answers.new.items ≡ answers.old.items
-        ++ answers_to (stamped (T.state table.old) (T.stamp table.old)) (lines_in lines.now)) }
-    ensures digest { IfOk result (λ digest. digest
-        ≡ sha256 (before.now ++ dialogue (stamped (T.state table.old) (T.stamp table.old)) (lines_in lines.now))) }
+    ensures after { OnOk result (table.new ≡ after_lines table.old (lines_in lines.now)) }
+    ensures answer { OnOk result (answers.new.items ≡ answers.old.items ++ answers_to table.old (lines_in lines.now)) }
+    ensures digest { IfOk result (λ digest. digest ≡ sha256 (before.now ++ dialogue table.old (lines_in lines.now))) }
 {
     let mut hasher = Sha256::new();
     hasher.update(before);

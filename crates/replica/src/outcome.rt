@@ -17,6 +17,16 @@ pub enum Outcome {
     Noted,
 }
 
+/// What is said of an entry that was applied.
+#[derive(Clone, Copy, Debug, PartialEq, Eq)]
+pub struct Applied {
+    pub outcome: Outcome,
+    /// The session of calls; 0 for another entry.
+    pub session: u64,
+    /// The sequence number of calls in their session; 0 for another entry.
+    pub sequence: u64,
+}
+
 /// Why an entry is not applied.
 #[derive(Clone, Copy, Debug, PartialEq, Eq, Error)]
 pub enum ReplicaFault {

@@ -2,23 +2,23 @@
 ghost use Rattle.std.specs.Prelude.{◌≡◌, ◌++◌, ◌==◌, Err, true, IfOk, IfErr, OnOk, OnErr, IsSome, if◌then◌else◌};
 ghost use Rattle.std.specs.Map.{lookup};
 ghost use Rattle.sha2.specs.Sha256.{sha256};
-ghost use Rattle.log_entries.specs.Entries.{entry_text};
-ghost use Rattle.log_entries.specs.Reading.{lines_in};
-ghost use Rattle.log_entries.specs.Told.{entry_of};
-ghost use Rattle.replica.specs.Replicas.{answers_to, called, made, made_answers, may_come, outcome_of, checked};
-ghost use Rattle.replica.specs.Replicas.{replica_of, used};
+ghost use Rattle.replica.specs.Entries.{entry_text};
+ghost use Rattle.replica.specs.Reading.{lines_in};
+ghost use Rattle.replica.specs.Told.{entry_of};
+ghost use Rattle.replica.specs.Replicas.{answers_to, called, checked, made, made_answers, may_come, outcome_of};
+ghost use Rattle.replica.specs.Replicas.{replica_of, sequence_of, session_of, used};
 ghost use Rattle.replica.specs.Applied.{Enters, IsNew, IsStopped, Refuses};
 ghost use Rattle.replica.specs.Laws.{Applies};
 
 use crate::kept::{Kept, judge};
 use crate::lines::digest_behind;
-use crate::outcome::{Outcome, ReplicaFault};
+use crate::outcome::{Applied, Outcome, ReplicaFault};
 use crate::sessions::Sessions;
-use log_entries::count_lines;
-use log_entries::entry::Entry;
-use log_entries::read::read_entry;
-use script_session::session::Table;
+use crate::words::count_lines;
+use crate::entry::Entry;
+use crate::read::read_entry;
 use sha2::{Digest, Sha256};
+use stamped_table::StampedTable;
 use std::alloc::{AllocError, Global};
 use std::marker::Model;
 
@@ -71,6 +71,43 @@ fn outcome_behind(last: Option<u64>, sequence: u64) -> Outcome
         return Outcome::Made;
     }
     Outcome::Gap
+}
+
+/// What is said of an entry, by its outcome.
+fn applied_of(entry: &Entry, outcome: Outcome) -> Applied
+    ensures { result ≡ record {
+      outcome = outcome;
+      session = session_of (entry_of entry.now);
+      sequence = sequence_of (entry_of entry.now);
+    } }
+{
+    match *entry {
+        Entry::Calls {
+            session,
+            sequence,
+            ..
+        } => Applied {
+            outcome,
+            session,
+            sequence,
+        },
+        Entry::Settings { .. } => noted(outcome),
+        Entry::Opened => noted(outcome),
+        Entry::Ended { .. } => noted(outcome),
+        Entry::Wanted => noted(outcome),
+        Entry::Announced { .. } => noted(outcome),
+    }
+}
+
+/// What is said of an entry without calls.
+fn noted(outcome: Outcome) -> Applied
+    ensures { result ≡ record { outcome = outcome; session = 0; sequence = 0 } }
+{
+    Applied {
+        outcome,
+        session: 0,
+        sequence: 0,
+    }
 }
 
 impl Replica {
@@ -198,20 +235,20 @@ impl Replica {
     }
 
     /// Makes calls of a session that is open. The error is want of memory, after which the replica is torn.
-    fn make<T: Table>(
+    fn make(
         &mut self,
-        table: &mut T,
+        table: &mut StampedTable,
         session: u64,
         sequence: u64,
         lines: &[u8],
         answers: &mut Vec<u8>,
     ) -> Result<(), AllocError>
         requires { IsSome (lookup (λ s. session == s) self.old.sessions) }
-        ensures made { OnOk result (replica_of self.new (T.state table.new) (T.stamp table.new)
-            ≡ made (replica_of self.old (T.state table.old) (T.stamp table.old))
+        ensures made { OnOk result (replica_of self.new table.new
+            ≡ made (replica_of self.old table.old)
             session sequence (lines_in lines.now)) }
         ensures answers { OnOk result (answers.new.items ≡ answers.old.items
-            ++ answers_to (replica_of self.old (T.state table.old) (T.stamp table.old)).table (lines_in lines.now)) }
+            ++ answers_to (replica_of self.old table.old).table (lines_in lines.now)) }
         ensures torn { OnErr result (self.new.torn ≡ true) }
     {
         let Ok(digest) = digest_behind(table, answers, &self.digest, lines) else {
@@ -227,9 +264,9 @@ impl Replica {
     }
 
     /// Makes the calls of an entry, if it is the next of its session. The error is `Torn`.
-    fn call<T: Table>(
+    fn call(
         &mut self,
-        table: &mut T,
+        table: &mut StampedTable,
         session: u64,
         sequence: u64,
         lines: &[u8],
@@ -237,11 +274,11 @@ impl Replica {
     ) -> Result<Outcome, ReplicaFault>
         ensures outcome { IfOk result (λ what.
             what ≡ outcome_of (lookup (λ s. session == s) self.old.sessions) sequence) }
-        ensures called { IfOk result (λ what. replica_of self.new (T.state table.new) (T.stamp table.new)
-            ≡ called (replica_of self.old (T.state table.old) (T.stamp table.old))
+        ensures called { IfOk result (λ what. replica_of self.new table.new
+            ≡ called (replica_of self.old table.old)
             session sequence (lines_in lines.now) what) }
         ensures answers { IfOk result (λ what. answers.new.items ≡ answers.old.items
-            ++ made_answers (replica_of self.old (T.state table.old) (T.stamp table.old)) (lines_in lines.now) what) }
+            ++ made_answers (replica_of self.old table.old) (lines_in lines.now) what) }
         ensures fault { IfErr result (λ fault. fault ≡ ReplicaFault.Torn) }
         ensures torn { OnErr result (self.new.torn ≡ true) }
     {
@@ -268,9 +305,9 @@ impl Replica {
     }
 
     /// Does what the entry says. The error is want of memory: `NoMemory` or `Torn`.
-    fn enter<T: Table>(
+    fn enter(
         &mut self,
-        table: &mut T,
+        table: &mut StampedTable,
         position: u64,
         entry: &Entry,
         bytes: &[u8],
@@ -278,11 +315,11 @@ impl Replica {
     ) -> Result<Outcome, ReplicaFault>
         requires { bytes.now ≡ entry_text (entry_of entry.now) }
         ensures ok { IfOk result (λ what. Enters (entry_of entry.now) position
-            (replica_of self.old (T.state table.old) (T.stamp table.old)) answers.old.items
-            (replica_of self.new (T.state table.new) (T.stamp table.new)) what answers.new.items) }
+            (replica_of self.old table.old) answers.old.items
+            (replica_of self.new table.new) what answers.new.items) }
         ensures err { IfErr result (IsStopped (entry_of entry.now)
-            (replica_of self.old (T.state table.old) (T.stamp table.old)) answers.old.items
-            (replica_of self.new (T.state table.new) (T.stamp table.new)) answers.new.items) }
+            (replica_of self.old table.old) answers.old.items
+            (replica_of self.new table.new) answers.new.items) }
     {
         match *entry {
             Entry::Settings { form, .. } => {
@@ -325,19 +362,19 @@ impl Replica {
     ///   entry of snapshots. Nothing has changed.
     ///
     /// It costs the time to read the entry, and to make each call. How many sessions are open does not matter.
-    pub fn apply<T: Table>(
+    pub fn apply(
         &mut self,
-        table: &mut T,
+        table: &mut StampedTable,
         position: u64,
         bytes: &[u8],
         answers: &mut Vec<u8>,
-    ) -> Result<Outcome, ReplicaFault>
+    ) -> Result<Applied, ReplicaFault>
         ensures ok { IfOk result (λ what. Applies position bytes.now
-            (replica_of self.old (T.state table.old) (T.stamp table.old)) answers.old.items
-            (replica_of self.new (T.state table.new) (T.stamp table.new)) what answers.new.items) }
+            (replica_of self.old table.old) answers.old.items
+            (replica_of self.new table.new) what answers.new.items) }
         ensures err { IfErr result (Refuses position bytes.now
-            (replica_of self.old (T.state table.old) (T.stamp table.old)) answers.old.items
-            (replica_of self.new (T.state table.new) (T.stamp table.new)) answers.new.items) }
+            (replica_of self.old table.old) answers.old.items
+            (replica_of self.new table.new) answers.new.items) }
         ensures torn { self.old.torn ≡ true → result ≡ Err ReplicaFault.Torn }
     {
         if self.torn {
@@ -357,6 +394,6 @@ impl Replica {
         }
         let outcome = self.enter(table, position, &entry, bytes, answers)?;
         self.keep(position)?;
-        Ok(outcome)
+        Ok(applied_of(&entry, outcome))
     }
 }

@@ -1,14 +1,14 @@
 use Rattle.std.proofs.Common.{◌≡◌, ◌++◌, List, ℕ, length}
 use Rattle.sha2.specs.Hashers.{Holds256}
-use Rattle.log_entries.specs.Reading.{lines_in}
-use Rattle.replica.specs.Replicas.{after_lines, answers_to, dialogue, stamped}
+use Rattle.replica.specs.Reading.{lines_in}
+use Rattle.replica.specs.Replicas.{after_lines, answers_to, dialogue}
 use Rattle.replica.proofs.lines.make_lines.Given as goal
 
 -- what is left to make, behind what was made, comes to what there was to make
 abbrev pub invariant-loop-line : goal.invariant-loop-line
-invariant-loop-line g l =
-    let start = stamped (g.T.Table.state l.initial.table) (g.T.Table.stamp l.initial.table) in
-    let now = stamped (g.T.Table.state l.table) (g.T.Table.stamp l.table) in
+invariant-loop-line l =
+    let start = l.initial.table in
+    let now = l.table in
     record {
       after : after_lines now (lines_in l.rest) ≡ after_lines start (lines_in l.lines);
       answer : l.answers.items ++ answers_to now (lines_in l.rest) ≡ l.initial.answers.items ++ answers_to start (lines_in l.lines);
@@ -17,4 +17,4 @@ invariant-loop-line g l =
     }
 
 abbrev pub decreases-loop-line : goal.decreases-loop-line
-decreases-loop-line g l = length l.rest
+decreases-loop-line l = length l.rest

@@ -1,12 +1,12 @@
 use Rattle.std.proofs.Common.{sym, ◌∙◌}
-use Rattle.log_entries.specs.Told.{entry_of}
+use Rattle.replica.specs.Told.{entry_of}
 use Rattle.replica.specs.Replicas.{replica_of}
 use Rattle.replica.proofs.Checked.{at_odds}
 use Rattle.replica.proofs.replica.Replica.apply.Goals as goal
 
 pub returns-in-Err-clause-err : goal.returns-in-Err-clause-err
-returns-in-Err-clause-err g c =
-    let old = replica_of c.args.self.now (g.T.Table.state c.args.table.now) (g.T.Table.stamp c.args.table.now) in
+returns-in-Err-clause-err c =
+    let old = replica_of c.args.self.now c.args.table.now in
     let read = c.in-Ok.ensures.ok in
     at_odds c.args.position c.args.bytes.now old c.args.answers.now.items (entry_of c.in-Ok.entry) c.in-Err.fault read.0 read.1 (sym c.if-not-admits.ensures)
     (sym c.check.ensures ∙ c.in-Err.is)

@@ -1,5 +1,5 @@
 use Rattle.std.proofs.Common.{ap}
-use Rattle.log_entries.specs.Reading.{lines_in}
+use Rattle.replica.specs.Reading.{lines_in}
 use Rattle.replica.specs.Log.{Log}
 use Rattle.replica.proofs.Checked.{calls_checked, announced_checked}
 use Rattle.replica.proofs.replica.Replica.check.Goals as goal

@@ -1,7 +1,7 @@
 //! Laws of the entries.
 ghost use Rattle.std.specs.Prelude.{◌≡◌};
-ghost use Rattle.log_entries.specs.Entries.{Entry as LogEntry, IsGood, entry_text};
-ghost use Rattle.log_entries.specs.Told.{entry_of};
+ghost use Rattle.replica.specs.Entries.{Entry as LogEntry, IsGood, entry_text};
+ghost use Rattle.replica.specs.Told.{entry_of};
 
 use crate::entry::Entry;
 use crate::read::read_entry;

@@ -1,6 +1,6 @@
 use Rattle.std.proofs.Common.{◌≡◌, length}
-use Rattle.log_entries.specs.Reading.{are_full, lines_in}
-use Rattle.log_entries.proofs.words.are_lines_full.Given as goal
+use Rattle.replica.specs.Reading.{are_full, lines_in}
+use Rattle.replica.proofs.words.are_lines_full.Given as goal
 
 abbrev pub invariant-loop-line : goal.invariant-loop-line
 invariant-loop-line l = are_full (lines_in l.rest) ≡ are_full (lines_in l.lines)

@@ -1,8 +1,8 @@
 //! Entries to bytes.
 ghost use Rattle.std.specs.Prelude.{◌≡◌, ◌++◌, ◌∷◌, [], OnOk, IfOk, codes, decimal};
-ghost use Rattle.log_entries.specs.Entries.{Settings, Calls, Announced, entry_text, spaced};
-ghost use Rattle.log_entries.specs.Reading.{lines_in};
-ghost use Rattle.log_entries.specs.Told.{entry_of};
+ghost use Rattle.replica.specs.Entries.{Settings, Calls, Announced, entry_text, spaced};
+ghost use Rattle.replica.specs.Reading.{lines_in};
+ghost use Rattle.replica.specs.Told.{entry_of};
 
 use crate::entry::Entry;
 use crate::words::count_lines;

@@ -4,8 +4,8 @@ use Rattle.std.specs.List.{AllByRecursion, join_with_byte, onto_first}
 use Rattle.std.proofs.lemmas.Option.{none-some, same_Some}
 use Rattle.pid_script.specs.Reading.{cut}
 use Rattle.pid_script.proofs.Cuts.{by_test, option_map_some, cut-Some}
-use Rattle.log_entries.specs.Entries.{Lacks, IsLine}
-use Rattle.log_entries.specs.Reading.{lines_in, is_full, are_full}
+use Rattle.replica.specs.Entries.{Lacks, IsLine}
+use Rattle.replica.specs.Reading.{lines_in, is_full, are_full}
 
 -- there is a line
 onto_some : (b : ℕ) (ls : List (List ℕ)) → 0 < length (onto_first b ls)

@@ -1,8 +1,8 @@
 -- The text of an entry of calls, as it is written.
 use Rattle.std.proofs.Common.{◌≡◌, ℕ, List, [], ◌∷◌, ◌++◌, length, Result, Ok, Err, OnOk, codes, decimal, sym, ap, ◌∙◌, append_assoc}
-use Rattle.log_entries.specs.Entries.{Calls, entry_text, spaced}
-use Rattle.log_entries.specs.Reading.{lines_in}
-use Rattle.log_entries.proofs.Lines.{join-lines_in}
+use Rattle.replica.specs.Entries.{Calls, entry_text, spaced}
+use Rattle.replica.specs.Reading.{lines_in}
+use Rattle.replica.proofs.Lines.{join-lines_in}
 
 -- what follows from what is true of a result that is `Ok`
 pub on_ok : {A E P Q : Type 0} (r : Result A E) → (P → Q) → OnOk r P → OnOk r Q

@@ -9,8 +9,8 @@ use Rattle.pid_script.specs.Reading.{is_word}
 use Rattle.pid_script.proofs.Cuts.{by_test}
 use Rattle.pid_script.proofs.Numbers.{numerals, AllDigits, digits_decimal, digit_from_value}
 use Rattle.pid_script.proofs.Words.{Reads, both, control, lacks_decimal}
-use Rattle.log_entries.specs.Entries.{Lacks, is_digit, is_hex, is_key}
-use Rattle.log_entries.specs.Reading.{passed, settings_in, head_in, announced_in}
+use Rattle.replica.specs.Entries.{Lacks, is_digit, is_hex, is_key}
+use Rattle.replica.specs.Reading.{passed, settings_in, head_in, announced_in}
 
 pub both_true : (a b : Bool) → (a && b) ≡ true → (a ≡ true) × (b ≡ true)
 both_true true b is = (refl, is)

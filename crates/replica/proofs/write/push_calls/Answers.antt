@@ -1,5 +1,5 @@
-use Rattle.log_entries.proofs.Written.{on_ok, calls_written}
-use Rattle.log_entries.proofs.write.push_calls.Goals as goal
+use Rattle.replica.proofs.Written.{on_ok, calls_written}
+use Rattle.replica.proofs.write.push_calls.Goals as goal
 
 pub returns : goal.returns
 returns c =

@@ -1,10 +1,10 @@
 -- The entry that a value of the program is.
-use Rattle.log_entries.specs.Entries as log
-use Rattle.log_entries.specs.Reading.{lines_in}
-use Rattle.log_entries.specs.declared.entry.Entry.{Entry}
-use Rattle.log_entries.specs.declared.entry.Entry.TheVariants as says
+use Rattle.replica.specs.Entries as log
+use Rattle.replica.specs.Reading.{lines_in}
+use Rattle.replica.specs.declared.entry.Entry.{Entry}
+use Rattle.replica.specs.declared.entry.Entry.TheVariants as says
 use Rattle.std.specs.Prelude.{ℕ, List}
-use Rattle.log_entries.specs.declared.read.Head.{Head}
+use Rattle.replica.specs.declared.read.Head.{Head}
 
 abbrev pub entry_of : Entry → log.Entry
 entry_of (says.Settings form pid_max model) = log.Settings form pid_max model

@@ -3,7 +3,7 @@ use Rattle.std.specs.Prelude.{ℕ, ◌==◌, ◌&&◌, Bool, true, false, List, 
 use Rattle.std.specs.List.{list_all, onto_first}
 use Rattle.std.specs.Option.{option_map}
 use Rattle.pid_script.specs.Reading.{◌>>=◌, cut, is_word, control_of, pair}
-use Rattle.log_entries.specs.Entries.{Entry, Settings, Opened, Ended, Calls, Wanted, Announced, is_hex, is_key}
+use Rattle.replica.specs.Entries.{Entry, Settings, Opened, Ended, Calls, Wanted, Announced, is_hex, is_key}
 
 -- the lines that newlines part, of which there is one more than newlines
 abbrev pub lines_in : List ℕ → List (List ℕ)

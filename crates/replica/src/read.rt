@@ -2,11 +2,11 @@
 ghost use Rattle.std.specs.Prelude.{◌≡◌, length, codes, Some, IfOk, OnErr, ◌≢◌};
 ghost use Rattle.std.specs.Option.{option_map};
 ghost use Rattle.pid_script.specs.Reading.{is_word, before, control_of};
-ghost use Rattle.log_entries.specs.Entries.{Entry as LogEntry, Ended, IsGood, entry_text, is_hex};
-ghost use Rattle.log_entries.specs.Reading.{announced_of, announced_in, settings_of, settings_in, rest_in};
-ghost use Rattle.log_entries.specs.Reading.{word_in, line_in};
-ghost use Rattle.log_entries.specs.Reading.{head_in, calls_in, entry_in, lines_in, lines_of, passed};
-ghost use Rattle.log_entries.specs.Told.{entry_of, words_of};
+ghost use Rattle.replica.specs.Entries.{Entry as LogEntry, Ended, IsGood, entry_text, is_hex};
+ghost use Rattle.replica.specs.Reading.{announced_of, announced_in, settings_of, settings_in, rest_in};
+ghost use Rattle.replica.specs.Reading.{word_in, line_in};
+ghost use Rattle.replica.specs.Reading.{head_in, calls_in, entry_in, lines_in, lines_of, passed};
+ghost use Rattle.replica.specs.Told.{entry_of, words_of};
 
 use crate::entry::{Entry, EntryFault};
 use crate::words::{

@@ -1,7 +1,7 @@
 use Rattle.std.proofs.Common.{sym, ◌∙◌}
-use Rattle.log_entries.specs.Told.{entry_of}
-use Rattle.log_entries.proofs.Whole.{texts_tell}
-use Rattle.log_entries.proofs.laws.what_is_written_is_read.Goals as goal
+use Rattle.replica.specs.Told.{entry_of}
+use Rattle.replica.proofs.Whole.{texts_tell}
+use Rattle.replica.proofs.entry_laws.what_is_written_is_read.Goals as goal
 
 pub returns : goal.returns
 returns c =

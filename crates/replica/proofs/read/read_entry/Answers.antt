@@ -1,7 +1,7 @@
 use Rattle.std.proofs.Common.{sym}
-use Rattle.log_entries.specs.Told.{entry_of}
-use Rattle.log_entries.proofs.Whole.{entry_says, none_told}
-use Rattle.log_entries.proofs.read.read_entry.Goals as goal
+use Rattle.replica.specs.Told.{entry_of}
+use Rattle.replica.proofs.Whole.{entry_says, none_told}
+use Rattle.replica.proofs.read.read_entry.Goals as goal
 
 pub returns-in-Some-clause-ok : goal.returns-in-Some-clause-ok
 returns-in-Some-clause-ok c =

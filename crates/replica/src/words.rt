@@ -3,8 +3,8 @@ ghost use Rattle.std.specs.Prelude.{◌≡◌, ◌^◌, length};
 ghost use Rattle.std.specs.List.{list_all};
 ghost use Rattle.std.specs.Option.{option_map};
 ghost use Rattle.pid_script.specs.Reading.{before, number_then};
-ghost use Rattle.log_entries.specs.Entries.{is_digit, is_hex, is_key};
-ghost use Rattle.log_entries.specs.Reading.{are_full, lines_in, passed};
+ghost use Rattle.replica.specs.Entries.{is_digit, is_hex, is_key};
+ghost use Rattle.replica.specs.Reading.{are_full, lines_in, passed};
 
 use pid_script::bytes::{split_line, split_word};
 use pid_script::number::read_u64;

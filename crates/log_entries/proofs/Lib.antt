@@ -1,4 +1,0 @@
-pub mod Lines
-pub mod Told
-pub mod Whole
-pub mod Written
