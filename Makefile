@@ -120,7 +120,7 @@ PROGRAMS = pidtab-tree pidtab-check pidtab-play pidtab-replay pidtab-keep pidtab
 # The functions that a manual page names at its head, each of which has a manual page by its name.
 NAMED = sed -n 's/^\.Nm \(pidtab_[a-z_]*\).*/\1/p'
 FUNCTIONS = $(shell $(NAMED) man/*.3)
-HEADERS = pidtab.h pidtab_shared.h pidtab_saved.h
+HEADERS = pidtab.h pidtab_shared.h pidtab_saved.h pidtab_replica.h
 MANUALS = $(foreach page,$(wildcard man/*.$(1)),'$(DESTDIR)$(MANDIR)/man$(1)/$(notdir $(page))')
 BINARIES = $(DESTDIR)$(PREFIX)/bin
 SHARED_FILES = $(DESTDIR)$(PREFIX)/share/pidtab
@@ -216,12 +216,12 @@ lib: ## * proves and builds the library for C, with its header, in out/ (some 40
 	@$(describe) > out/pidtab.pc
 	@tools/report out/library.txt out/libpidtab.a out/libpidtab.so.1
 
-# The proved functions by other names, under which guard.c and guard_record.c call them.
+# The proved functions by other names, under which guard.c, guard_record.c and guard_replica.c call them.
 $(OUT)/proved.a: $(LIBRARY) bindings/c/renamed.syms
 	$(OBJCOPY) --redefine-syms=bindings/c/renamed.syms $(LIBRARY) $@
 
 # One object, of whose symbols only pidtab_.. are seen.
-AROUND = heap guard guard_record shared saved_file
+AROUND = heap guard guard_record guard_replica shared saved_file
 $(OUT)/pidtab.o: $(OUT)/proved.a $(AROUND:%=bindings/c/%.c) $(HEADERS:%=bindings/c/%)
 	for it in $(AROUND); do $(CC) -std=c11 -O2 -Wall -Wextra -Werror -fPIC -pthread -c -o $(OUT)/$$it.o bindings/c/$$it.c || exit 1; done
 	$(LD) -r -o $@ --whole-archive $(OUT)/proved.a --no-whole-archive $(AROUND:%=$(OUT)/%.o)
@@ -285,6 +285,7 @@ repository: ## tests the pages with their examples, the tools, the Makefile and 
 HELD = -Dmalloc=test_malloc -Drealloc=test_realloc
 CASES_TEST = test_cases shared guard guard_record heap
 RECORD_TEST = test_record guard guard_record
+REPLICA_TEST = test_replica guard guard_replica
 DUMP_TEST = test_dump guard
 DUMP_SEEDS_TEST = test_dump_seeds guard heap
 DUMP_RECORD_TEST = test_dump_record shared guard guard_record
@@ -314,6 +315,7 @@ bindings-c:
 		$(CC) $(CHECKED) -o $(OUT)/test bindings/c/test.c bindings/c/guard.c $(OUT)/test_heap.o $(OUT)/proved.a && $(RUN) $(OUT)/test && \
 		$(CC) $(CHECKED) -o $(OUT)/test_cases $(CASES_TEST:%=bindings/c/%.c) $(OUT)/proved.a && $(RUN) $(OUT)/test_cases interface/cases/*.cases && \
 		$(CC) $(CHECKED) -o $(OUT)/test_record $(RECORD_TEST:%=bindings/c/%.c) $(OUT)/test_heap.o $(OUT)/proved.a && $(RUN) $(OUT)/test_record && \
+		$(CC) $(CHECKED) -o $(OUT)/test_replica $(REPLICA_TEST:%=bindings/c/%.c) $(OUT)/test_heap.o $(OUT)/proved.a && $(RUN) $(OUT)/test_replica && \
 		$(CC) $(CHECKED) -o $(OUT)/test_dump $(DUMP_TEST:%=bindings/c/%.c) $(OUT)/test_heap.o $(OUT)/proved.a && $(RUN) $(OUT)/test_dump && \
 		$(CC) $(CHECKED) -o $(OUT)/test_dump_seeds $(DUMP_SEEDS_TEST:%=bindings/c/%.c) $(OUT)/proved.a && $(RUN) $(OUT)/test_dump_seeds && \
 		$(CC) $(CHECKED) -o $(OUT)/test_effects_seeds $(EFFECTS_SEEDS_TEST:%=bindings/c/%.c) $(OUT)/proved.a && $(RUN) $(OUT)/test_effects_seeds && \

@@ -37,6 +37,28 @@ enum pidtab_replica_status {
 	PIDTAB_NOT_RISING = 116,     /* ESTALE: the position is not behind that of the last entry */
 	PIDTAB_NOT_RECOVERABLE = 131 /* ENOTRECOVERABLE: there was no memory amid an entry, so the table is not that of the log any more */
 };
+
+/* What a status says, as a sentence; also one of pidtab.h. */
+static inline const char *pidtab_replica_text(uint32_t status)
+{
+	switch (status) {
+	case PIDTAB_NO_SESSION:
+		return "no open session has the number";
+	case PIDTAB_NO_ENTRY:
+		return "the bytes are no entry of a log";
+	case PIDTAB_MISSING:
+		return "the log has an entry no more";
+	case PIDTAB_DIVERGED:
+		return "another host has answered the same calls otherwise";
+	case PIDTAB_OTHER_SETTINGS:
+		return "the log has other settings";
+	case PIDTAB_NOT_RISING:
+		return "the position is not behind that of the last entry";
+	case PIDTAB_NOT_RECOVERABLE:
+		return "there was no memory amid an entry";
+	}
+	return pidtab_text(status);
+}
 /* The end of statuses. */
 
 /* Written by tools/interface: choices. */

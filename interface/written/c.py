@@ -4,6 +4,7 @@ from names import capitals, columns, strings, takes, with_id, wrapped
 
 HEADER = "bindings/c/pidtab.h"
 SAVED = "bindings/c/pidtab_saved.h"
+REPLICA = "bindings/c/pidtab_replica.h"
 SHARED = "bindings/c/shared.c"
 
 
@@ -58,7 +59,7 @@ def statuses(tables):
         "/* What the functions of a record answer besides. Any status but PIDTAB_DONE says that the record is as it was, but of",
         " * pidtab_record_replay, and of pidtab_record_calls as it says. */",
         *enum("pidtab_record_status", status_enum(tables, "record")), "", "/* What a status says, as a sentence. */",
-        *status_text("pidtab_text", [it for it in tables["statuses"] if it.of != "saved"], '"no such status"'),
+        *status_text("pidtab_text", [it for it in tables["statuses"] if it.of in ("table", "record")], '"no such status"'),
     ]  # fmt: skip
 
 
@@ -69,6 +70,22 @@ def saved_statuses(tables):
         "/* What a status says, as a sentence; also one of pidtab.h. */",
         *status_text("pidtab_saved_text", [it for it in tables["statuses"] if it.of == "saved"], "pidtab_text(status)"),
     ]  # fmt: skip
+
+
+def replica_statuses(tables):
+    """What the functions of a replica answer."""
+    return [
+        "/* What these functions answer besides. Any status but PIDTAB_DONE says that the replica and the table are as they were, but",
+        " * PIDTAB_NOT_RECOVERABLE. */",
+        *enum("pidtab_replica_status", status_enum(tables, "replica")), "",
+        "/* What a status says, as a sentence; also one of pidtab.h. */",
+        *status_text("pidtab_replica_text", [it for it in tables["statuses"] if it.of == "replica"], "pidtab_text(status)"),
+    ]  # fmt: skip
+
+
+def outcomes(tables):
+    """What became of an entry of a log."""
+    return enum("pidtab_outcome", [(f"PIDTAB_{it.name}", it.number, it.tells) for it in tables["kinds"] if it.of == "outcome"])
 
 
 def faults(tables):
@@ -145,4 +162,6 @@ PARTS = {
     (HEADER, "statuses"): statuses,
     (HEADER, "faults"): faults,
     (SAVED, "statuses"): saved_statuses,
+    (REPLICA, "statuses"): replica_statuses,
+    (REPLICA, "choices"): outcomes,
 }

@@ -63,7 +63,7 @@ NO_ERRORS = ("NO_ROOM", "BAD_TEXT", "DEVICE", "NOT_EMPTY")
 
 def errors(tables):
     """The error of each status."""
-    rows = [it for it in tables["statuses"] if it.name not in NO_ERRORS]
+    rows = [it for it in tables["statuses"] if it.name not in NO_ERRORS and it.of != "replica"]
     return [line for it in rows for line in (f"\tcase C.PIDTAB_{it.name}:", f"\t\treturn {OTHER_ERRORS.get(it.name, 'Err' + camel(it.name))}")]
 
 
@@ -80,7 +80,7 @@ def errnos(tables):
 
 def names(tables):
     """The names of statuses, and the queries, in the test of the cases."""
-    rows = [it for it in tables["statuses"] if it.name not in NO_ERRORS and it.of != "saved"]
+    rows = [it for it in tables["statuses"] if it.name not in NO_ERRORS and it.of in ("table", "record")]
     return [
         "", "// The names of statuses, in the tables of the interface.", "var statusNames = map[error]string{",
         *columns([(f"\t{OTHER_ERRORS.get(it.name, 'Err' + camel(it.name))}:", f'"{it.name}",') for it in rows]), "}", "",

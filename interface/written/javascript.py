@@ -31,7 +31,7 @@ def refusals(tables):
 def statuses(tables):
     """What the functions of a table and a record answer."""
     values = {it.name: it.value for it in tables["errnos"]}
-    rows = [f"{it.name}: {values.get(it.error, 0)}" for it in tables["statuses"] if it.of != "saved"]
+    rows = [f"{it.name}: {values.get(it.error, 0)}" for it in tables["statuses"] if it.of in ("table", "record")]
     return ["export const STATUS = {", *wrapped(", ".join(rows) + ",", "  ", 140), "};"]
 
 

@@ -27,7 +27,7 @@ def refusals(tables):
 def statuses(tables):
     """What the functions answer."""
     values = {it.name: it.value for it in tables["errnos"]}
-    heads = {"table": [], "record": ["", "# Of a history besides."], "saved": ["", "# Of a saved history besides."]}
+    heads = {"table": [], "record": ["", "# Of a history besides."], "saved": ["", "# Of a saved history besides."], "replica": ["", "# Of a replica besides."]}
     lines = []
     for owner, head in heads.items():
         lines += [*head, *[f"{it.name} = {values.get(it.error, 0)}" for it in tables["statuses"] if it.of == owner]]
@@ -42,7 +42,7 @@ def faults(tables):
 def kinds(tables):
     """What a choice says, and the kinds of a reply."""
     lines = []
-    for name in ("which", "use", "whom", "tree", "what", "reply"):
+    for name in ("which", "use", "whom", "tree", "what", "outcome", "reply"):
         names = [it.name for it in tables["kinds"] if it.of == name]
         lines += ["", f"{', '.join(names)} = range({len(names)})"]
     return lines[1:]

@@ -23,11 +23,12 @@ def operations(tables):
 
 
 def choices(tables):
-    """What a wait selects, what a next looks for, what pages list, and what an effect is."""
+    """What a wait selects, what a next looks for, what pages list, what an effect is, and what became of an entry."""
     listed = [(it.name, it.number, sentence(it.tells)) for name in ("which", "use", "whom", "tree") for it in of(tables, name)]
     # The crates have a name of each enum. In C all names are in one, where ENDED is a status.
     effects = [(snake(it.model).upper(), it.number, sentence(it.tells.format(killed="[`crate::kinds::KILLED`]"))) for it in of(tables, "what")]
-    return constants(listed + effects)
+    outcomes = [(it.name, it.number, sentence(it.tells)) for it in of(tables, "outcome")]
+    return constants(listed + effects + outcomes)
 
 
 def kinds(tables):

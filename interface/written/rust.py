@@ -65,7 +65,7 @@ def numbers(name, comment, rows):
 def statuses(tables):
     """What the functions answer."""
     values = {it.name: it.value for it in tables["errnos"]}
-    return numbers("statuses", "What the functions answer.", [(it.name, "u32", values.get(it.error, 0)) for it in tables["statuses"]])
+    return numbers("statuses", "What the functions answer.", [(it.name, "u32", values.get(it.error, 0)) for it in tables["statuses"] if it.of != "replica"])
 
 
 def faults(tables):
@@ -85,7 +85,7 @@ def faults(tables):
 
 def kinds(tables):
     """The kinds of a reply, and what a choice says."""
-    return numbers("kinds", "The kinds of a reply, and what a choice says.", [(it.name, "u32", it.number) for it in tables["kinds"]])
+    return numbers("kinds", "The kinds of a reply, and what a choice says.", [(it.name, "u32", it.number) for it in tables["kinds"] if it.of != "outcome"])
 
 
 def bounds(tables):

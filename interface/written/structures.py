@@ -3,6 +3,9 @@
 from tables import words_of
 from written.foreign import STRUCTS
 
+# The structs of pidtab_replica.h, which the package for Python has besides.
+OF_REPLICA = ("replica", "applied", "log", "digest")
+
 PYTHON = "bindings/python/pidtab/raw.py"
 SCRIPT = "bindings/js/src/header.js"
 
@@ -22,20 +25,25 @@ def python_name(struct):
 def field_type(field):
     """The type of ctypes for a field."""
     kind = f"ctypes.{CTYPES[field.kind]}" if field.kind in CTYPES else python_name(field.kind.replace("struct ", ""))
-    return f"{kind} * LEVELS_MAX" if field.many else kind
+    return f"{kind} * {many(field)}" if field.many else kind
+
+
+def many(field):
+    """How many there are of a field, as Python has it."""
+    return field.many.strip("[]").replace("PIDTAB_", "")
 
 
 def told_type(field):
     """The type that a field has when it is read."""
     if field.many:
-        return '"ctypes.Array[ctypes.c_uint32]"'
+        return f'"ctypes.Array[ctypes.{CTYPES[field.kind]}]"'
     return {"bool": "bool", "void *": "int | None"}.get(field.kind) or (python_name(field.kind.split(" ")[1]) if " " in field.kind else "int")
 
 
 def python_structs(tables):
     """The structs as classes of ctypes."""
     lines = []
-    for name in ("pidtab", *[f"pidtab_{it}" for it in (*STRUCTS, "saved")]):
+    for name in ("pidtab", *[f"pidtab_{it}" for it in (*STRUCTS, "saved", *OF_REPLICA)]):
         fields = tables["headers"].structs[name]
         lines += ["", "", f"class {python_name(name)}(ctypes.Structure):", f'    """`struct {name}`."""', ""]
         lines += [f"    {it.name}: {told_type(it)}" for it in fields] + ["", "    _fields_ = ["]
@@ -53,6 +61,7 @@ def python_functions(tables):
     since = {name: it.since for it in tables["functions"] for name in words_of(it.functions)}
     found = [it for it in tables["headers"].functions if not it.is_inline and it.name not in OTHERS and not it.name.startswith("record_") and it.name != "version"]
     tables_of, shared_of, saved_of = [[it for it in found if it.header.endswith(f"/{name}.h")] for name in ("pidtab", "pidtab_shared", "pidtab_saved")]
+    replica_of = tables["headers"].of("pidtab_replica.h")
     first = [it for it in tables_of if since.get(it.name) == "0.1.0"]
     groups = (
         ("FUNCTIONS", "The functions on a table that each library of the interface has.", first, True),
@@ -60,6 +69,7 @@ def python_functions(tables):
         ("SHARED_FUNCTIONS", "Those on a table behind a lock.", [it for it in shared_of if it.name not in ADDED], False),
         ("LATER_SHARED_FUNCTIONS", "Those of these that an earlier library may lack.", [it for it in shared_of if it.name in ADDED], False),
         ("SAVED_FUNCTIONS", "Those on the file of its saved history.", saved_of, False),
+        ("REPLICA_FUNCTIONS", "Those on a replica of a log, which an earlier library may lack.", replica_of, False),
     )
     lines = []
     for name, comment, those, with_version in groups:

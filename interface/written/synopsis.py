@@ -10,10 +10,10 @@ from written.c_calls import prototype
 # The pages, each with its header, how its functions begin, and what is a table there.
 PAGES = {
     "man/pidtab.3": ("pidtab.h", ""), "man/pidtab_record.3": ("pidtab.h", "record_"), "man/pidtab_shared.3": ("pidtab_shared.h", "shared_"),
-    "man/pidtab_saved.3": ("pidtab_saved.h", "saved_"),
+    "man/pidtab_saved.3": ("pidtab_saved.h", "saved_"), "man/pidtab_replica.3": ("pidtab_replica.h", "replica_"),
 }  # fmt: skip
 # The functions of a page that tell words of numbers. They are inline.
-WORDS = {"man/pidtab.3": ("word", "text", "fault_text"), "man/pidtab_saved.3": ("saved_text",)}
+WORDS = {"man/pidtab.3": ("word", "text", "fault_text"), "man/pidtab_saved.3": ("saved_text",), "man/pidtab_replica.3": ("replica_text",)}
 
 
 def functions_of(tables, path):
@@ -83,7 +83,7 @@ def statuses(tables, function):
     """The statuses of a function, in the order in which they are looked for. A shared table waits where a record is busy."""
     row = next(it for it in tables["functions"] if function in words_of(it.functions))
     owner, _, ending = function.partition("_")
-    name = function if owner == "saved" else ending
+    name = function if owner in ("saved", "replica") else ending
     waits = owner == "shared" and f"record_{ending}" in words_of(row.functions)
     found = [it for it in words_of(row.statuses) if not (waits and it == "BUSY")]
     lines = [".Bl -tag -width PIDTAB_OUT_OF_RANGE -compact"]
@@ -93,7 +93,8 @@ def statuses(tables, function):
 
 
 # Whose statuses a page has together, and what it calls a table.
-OWNERS = {"man/pidtab.3": (("table",), "table"), "man/pidtab_record.3": (("table", "record"), "record"), "man/pidtab_saved.3": (("saved",), "record")}
+OWNERS = {"man/pidtab.3": (("table",), "table"), "man/pidtab_record.3": (("table", "record"), "record"), "man/pidtab_saved.3": (("saved",), "record"),
+          "man/pidtab_replica.3": (("replica",), "table")}
 
 
 def errors(tables, path):
@@ -118,9 +119,12 @@ def parts_of(tables):
     parts = {("man/pidtab.3", "prototypes"): prototypes}
     parts |= {("man/pidtab.3", f"struct {name}"): part(struct, f"pidtab_{name}") for name in ("call", "reply", "task", "space", "effect")}
     parts |= {("man/pidtab_saved.3", "struct saved_head"): part(struct, "pidtab_saved_head")}
+    parts |= {("man/pidtab_replica.3", f"struct {name}"): part(struct, f"pidtab_{name}") for name in ("applied", "log", "digest")}
     parts |= {(path, "statuses"): part(errors, path) for path in OWNERS}
     for path in PAGES:
         parts |= {(path, "names"): part(names, path), (path, "synopsis"): part(synopsis, path)}
     known = {name: it.statuses for it in tables["functions"] for name in words_of(it.functions)}
     of_saved = [it.name for it in functions_of(tables, "man/pidtab_saved.3") if known.get(it.name, "-") != "-" and not it.name.endswith("_shared")]
-    return parts | {("man/pidtab_saved.3", f"statuses of {name}"): part(statuses, name) for name in of_saved}
+    parts |= {("man/pidtab_saved.3", f"statuses of {name}"): part(statuses, name) for name in of_saved}
+    of_replica = [it.name for it in functions_of(tables, "man/pidtab_replica.3")]
+    return parts | {("man/pidtab_replica.3", f"statuses of {name}"): part(statuses, name) for name in of_replica}

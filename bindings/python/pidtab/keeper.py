@@ -14,7 +14,8 @@ from pidtab.calls import Calls
 from pidtab.faults import LogFault
 from pidtab.log import CutLog, Following, Progress
 from pidtab.log_form import FORM, MODEL, SNAP, Announced, Settings, read_announced, read_entry
-from pidtab.machine import Machine, table_of, text_of
+from pidtab.machine import table_of, text_of
+from pidtab.machines import AnyMachine, open_machine
 from pidtab.snapshot import pack, read_snapshot, sum_of
 from pidtab.snapshots import (
     SUMS_KEPT,
@@ -80,7 +81,7 @@ class Keeper:
         self.wishes = wishes
         self.archive = archive
         self.say = say
-        self.machine: Machine | None = None
+        self.machine: AnyMachine | None = None
         self.following: Following | None = None
         # The position up to which the log was read, and where it ended when this host began: it checks what is asked for from then on.
         self.seen = 0
@@ -230,7 +231,7 @@ class Keeper:
         elif data.startswith(ANNOUNCES):
             self.judge(read_announced(data))
 
-    def begin(self, settings: Settings) -> Machine:
+    def begin(self, settings: Settings) -> AnyMachine:
         """Opens a table for the log, whatever its settings are, if they may have snapshots."""
         if settings.form < FORM:
             raise LogFault(f"the log has form {settings.form}, and goes on without snapshots: begin a log of another name for those")
@@ -238,10 +239,10 @@ class Keeper:
             pid_max = check_pid_max(settings.pid_max)
         except ValueError as fault:
             raise LogFault(f"the log has {settings}: {fault}") from None
-        self.machine = Machine(lambda: self.open_table(pid_max), Settings(FORM, pid_max, MODEL))
+        self.machine = open_machine(lambda: self.open_table(pid_max), Settings(FORM, pid_max, MODEL))
         return self.machine
 
-    def make(self, machine: Machine, position: int) -> None:
+    def make(self, machine: AnyMachine, position: int) -> None:
         """Makes the text of the table where a snapshot is asked for, if that is not long ago."""
         self.totals = {**dict(list(self.totals.items())[1 - SUMS_KEPT :]), position: self.total}
         if self.began_at is None or position <= self.began_at:

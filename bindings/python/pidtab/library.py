@@ -13,6 +13,7 @@ from pidtab.raw import (
     FUNCTIONS,
     LATER_FUNCTIONS,
     LATER_SHARED_FUNCTIONS,
+    REPLICA_FUNCTIONS,
     SAVED_FUNCTIONS,
     SHARED_FUNCTIONS,
     VERSION,
@@ -55,7 +56,7 @@ def load_library(path: str) -> ctypes.PyDLL:
     if not has_lock():
         raise LibraryFault("an interpreter without its lock would let two threads into one table: pidtab.Shared has a lock of its own")
     library = load(ctypes.PyDLL, path, FUNCTIONS)
-    declare_those_there(library, LATER_FUNCTIONS, path)
+    declare_those_there(library, LATER_FUNCTIONS | REPLICA_FUNCTIONS, path)
     return library
 
 

@@ -1,4 +1,4 @@
-"""A table as a function of a log: who has the same entries has the same table, and has answered the same."""
+"""A table as a function of a log: who has the same entries has the same table, and has answered the same. For tables that the library does not hold."""
 
 import gc
 import hashlib
@@ -8,7 +8,19 @@ from collections.abc import Callable, Sequence
 from typing import Literal, NamedTuple
 
 from pidtab.calls import Calls
-from pidtab.faults import Diverged, LibraryFault, LogFault
+from pidtab.faults import LibraryFault
+from pidtab.log_faults import (
+    bad_snapshot,
+    diverged,
+    diverged_snapshot,
+    late_snapshot,
+    missing,
+    no_settings,
+    no_snapshots,
+    not_rising,
+    other_settings,
+    unreadable,
+)
 from pidtab.log_form import (
     DIGESTS_KEPT,
     FORM,
@@ -111,10 +123,10 @@ def table_of(text: bytes, like: Calls) -> Calls:
 class Machine:
     """The table of one replica, with the sessions of the log and the digest of all answers."""
 
-    def __init__(self, open_table: Callable[[], Calls], settings: Settings) -> None:
+    def __init__(self, table: Calls, settings: Settings) -> None:
         # Once the log has begun, those of the log.
         self.settings = settings
-        self.table = open_table()
+        self.table = table
         # Whether the log has its settings.
         self.begun = False
         self.position = 0
@@ -127,11 +139,11 @@ class Machine:
     def apply(self, position: int, data: bytes) -> Outcome | None:
         """Applies the next entry. What became of it, if it has calls."""
         if position <= self.position:
-            raise LogFault(f"the log has given entry {position} behind entry {self.position}")
+            raise not_rising(position, self.position)
         try:
             entry = read_entry(data)
         except ValueError as fault:
-            raise LogFault(f"entry {position} of the log cannot be read: {fault}") from None
+            raise unreadable(position, fault) from None
         outcome = self._apply(position, entry)
         self.position = position
         self._digests[position] = self.digest
@@ -146,7 +158,7 @@ class Machine:
     def load(self, position: int, text: bytes) -> None:
         """Takes what a snapshot has in the place of what is here, which is behind it."""
         if position <= self.position:
-            raise LogFault(f"the log has given the snapshot of entry {position} behind entry {self.position}")
+            raise late_snapshot(position, self.position)
         try:
             found = read_snapshot(text)
             if found.position != position:
@@ -154,7 +166,7 @@ class Machine:
             self._check_settings(found.settings)
             table = table_of(found.table, self.table)
         except ValueError as fault:
-            raise LogFault(f"the snapshot of entry {position} cannot be read: {fault}") from None
+            raise bad_snapshot(position, fault) from None
         self.table, before = table, self.table
         before.close()
         self.settings, self.begun = found.settings, True
@@ -188,7 +200,7 @@ class Machine:
     def _begin(self, entry: Entry) -> None:
         """Takes the first entry."""
         if not isinstance(entry, Settings):
-            raise LogFault("the log does not begin with its settings: it was trimmed, its snapshots are lost, or it is none of pidtab's")
+            raise no_settings()
         self._check_settings(entry)
         self.settings, self.begun = entry, True
         self.digest = hashlib.sha256(write_settings(entry)).hexdigest()
@@ -196,14 +208,14 @@ class Machine:
     def _check_settings(self, found: Settings) -> None:
         """Sees to it that the log has the settings of this replica. It may have an earlier form, and goes on with that."""
         if found.form not in FORMS or found[1:] != self.settings[1:]:
-            raise LogFault(f"the log has {found}, and this replica {self.settings}")
+            raise other_settings(found, self.settings)
 
     def _check_snapshot(self, position: int, entry: Wanted | Announced) -> None:
         """Sees to it that a log has snapshots, and that one has the digest that this host had."""
         if self.settings.form < FORM:
-            raise LogFault(f"entry {position} of the log cannot be read: form {self.settings.form} has no snapshots")
+            raise no_snapshots(position, self.settings.form)
         if isinstance(entry, Announced) and self._digests.get(entry.position, entry.digest) != entry.digest:
-            raise Diverged(f"behind entry {entry.position} the digest is not the one here in the snapshot that entry {position} announces")
+            raise diverged_snapshot(position, entry)
 
     def _open(self, position: int) -> None:
         """Opens a session, for which the one that was used the longest ago may end."""
@@ -216,11 +228,9 @@ class Machine:
         mine = self._digests.get(asked.position)
         if mine is None:
             if asked.position >= next(iter(self._digests)):
-                raise LogFault(f"the writer of entry {position} had an entry {asked.position}, which the log has no more")
+                raise missing(position, asked)
         elif mine[:SHORT_DIGEST] != asked.digest:
-            raise Diverged(
-                f"behind entry {asked.position} the digest is {mine[:SHORT_DIGEST]} here, and {asked.digest} with the writer of entry {position}"
-            )
+            raise diverged(position, asked, mine)
 
     def _ask(self, asked: Asked) -> Outcome:
         """Makes the calls of an entry, if it is the next of its session."""

@@ -1,4 +1,4 @@
-"""`bindings/c/pidtab.h`, `pidtab_shared.h` and `pidtab_saved.h`: their numbers, structs and functions."""
+"""`bindings/c/pidtab.h`, `pidtab_shared.h`, `pidtab_saved.h` and `pidtab_replica.h`: their numbers, structs and functions."""
 
 import ctypes
 import struct
@@ -28,6 +28,15 @@ ENDED = 32
 TORN = 42
 WRONG_BYTE = 84
 OTHER_VERSION = 93
+
+# Of a replica besides.
+NO_SESSION = 3
+NO_ENTRY = 53
+MISSING = 67
+DIVERGED = 78
+OTHER_SETTINGS = 92
+NOT_RISING = 116
+NOT_RECOVERABLE = 131
 # The end of statuses.
 
 # Written by tools/interface: bounds.
@@ -54,6 +63,8 @@ CHILDREN, GROUP_MEMBERS, SESSION_MEMBERS, NAMESPACE_MEMBERS, NAMESPACE_OWN = ran
 SPACES, CONTROLS = range(2)
 
 TASK_ENDED, TASK_ADOPTED, TASK_GONE, GROUP_GONE, SESSION_GONE, SPACE_FELL, SPACE_GONE = range(7)
+
+ENTRY_NOTED, ENTRY_MADE, ENTRY_REPEATED, ENTRY_GONE, ENTRY_GAP = range(5)
 
 FORKED, OK, NUMBER, LEVELS, REAPED, NONE_YET, COUNTED, CONTROL, END, REFUSED = range(10)
 # The end of kinds.
@@ -251,6 +262,68 @@ class PidtabSaved(ctypes.Structure):
         ("file", ctypes.c_int),
         ("error", ctypes.c_int),
     ]
+
+
+class PidtabReplica(ctypes.Structure):
+    """`struct pidtab_replica`."""
+
+    at: int | None
+    is_open: bool
+    in_use: int
+
+    _fields_ = [
+        ("at", ctypes.c_void_p),
+        ("is_open", ctypes.c_bool),
+        ("in_use", ctypes.c_uint8),
+    ]
+
+
+class PidtabApplied(ctypes.Structure):
+    """`struct pidtab_applied`."""
+
+    outcome: int
+    session: int
+    sequence: int
+    size: int
+
+    _fields_ = [
+        ("outcome", ctypes.c_uint32),
+        ("session", ctypes.c_uint64),
+        ("sequence", ctypes.c_uint64),
+        ("size", ctypes.c_uint64),
+    ]
+
+
+class PidtabLog(ctypes.Structure):
+    """`struct pidtab_log`."""
+
+    form: int
+    pid_max: int
+    model: int
+    position: int
+    calls: int
+    begun: int
+    lost: int
+
+    _fields_ = [
+        ("form", ctypes.c_uint64),
+        ("pid_max", ctypes.c_uint64),
+        ("model", ctypes.c_uint64),
+        ("position", ctypes.c_uint64),
+        ("calls", ctypes.c_uint64),
+        ("begun", ctypes.c_uint32),
+        ("lost", ctypes.c_uint32),
+    ]
+
+
+class PidtabDigest(ctypes.Structure):
+    """`struct pidtab_digest`."""
+
+    bytes: "ctypes.Array[ctypes.c_uint8]"
+
+    _fields_ = [
+        ("bytes", ctypes.c_uint8 * 32),
+    ]
 # The end of structs.
 
 
@@ -280,6 +353,10 @@ SPACE = ctypes.POINTER(PidtabSpace)
 EFFECTS = ctypes.POINTER(PidtabEffect)
 FAULT = ctypes.POINTER(PidtabFault)
 ENTRIES = ctypes.POINTER(PidtabEntry)
+REPLICA = ctypes.POINTER(PidtabReplica)
+APPLIED = ctypes.POINTER(PidtabApplied)
+LOG = ctypes.POINTER(PidtabLog)
+DIGEST = ctypes.POINTER(PidtabDigest)
 BYTES = ctypes.POINTER(ctypes.c_char)
 NUMBER_32 = ctypes.POINTER(U32)
 NUMBER_64 = ctypes.POINTER(U64)
@@ -366,5 +443,18 @@ SAVED_FUNCTIONS: dict[str, Function] = {
     "pidtab_saved_load_shared": (U32, [SAVED, ctypes.c_int, SHARED, U64]),
     "pidtab_saved_trim": (U32, [SAVED]),
     "pidtab_saved_resume_shared": (U32, [SAVED, ctypes.c_int, SAVED_HEAD, SHARED, U64]),
+}
+
+# Those on a replica of a log, which an earlier library may lack.
+REPLICA_FUNCTIONS: dict[str, Function] = {
+    "pidtab_replica_open": (U32, [REPLICA, U64, U64]),
+    "pidtab_replica_close": (U32, [REPLICA]),
+    "pidtab_replica_apply": (U32, [REPLICA, TABLE, U64, ctypes.c_char_p, SIZE_T, APPLIED]),
+    "pidtab_replica_answers": (U32, [REPLICA, BYTES, SIZE_T, SIZE]),
+    "pidtab_replica_log": (U32, [REPLICA, LOG]),
+    "pidtab_replica_digest": (U32, [REPLICA, U64, DIGEST]),
+    "pidtab_replica_last": (U32, [REPLICA, U64, NUMBER_64]),
+    "pidtab_replica_write": (U32, [REPLICA, BYTES, SIZE_T, SIZE]),
+    "pidtab_replica_read": (U32, [REPLICA, ctypes.c_char_p, SIZE_T, SIZE]),
 }
 # The end of functions.

@@ -15,7 +15,8 @@ from pidtab.changed import Changed
 from pidtab.faults import Diverged, LogFault, NotKnown, ProgramFault, TableClosed
 from pidtab.log import CutLog, Following, Log, Progress
 from pidtab.log_form import FORM, MODEL, MOST_BYTES, OPEN, SHORT_DIGEST, Announced, Asked, Settings, Wanted, read_entry, write_calls, write_end, write_settings
-from pidtab.machine import Machine, NoMemory, Outcome, text_of
+from pidtab.machine import NoMemory, Outcome, text_of
+from pidtab.machines import open_machine
 from pidtab.snapshots import Checker
 from pidtab.submitted import Part, Receipt, Submitted, deadline_behind
 
@@ -101,7 +102,7 @@ class Replica:
         self.table_lock = threading.Lock()
         # Its sums, if this host checks snapshots.
         self.checker = Checker() if checks else None
-        self.machine = Machine(open_table, self.settings)
+        self.machine = open_machine(open_table, self.settings)
         if checks:
             # A table that has no text says so before it is needed.
             text_of(self.machine.table)
@@ -421,7 +422,7 @@ class Replica:
             if self.stopped:
                 return
             self.machine.table.close()
-            self.machine = Machine(self.open_table, self.settings)
+            self.machine = open_machine(self.open_table, self.settings)
             self.lost = None
         with self.changed:
             self.seen = 0

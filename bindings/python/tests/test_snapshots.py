@@ -678,7 +678,7 @@ class Texts(unittest.TestCase):
 
 def machine_of(log: MemoryLog, table: Callable[..., Calls], to: int = 10**9) -> Machine:
     """What the entries of a log make, up to a position."""
-    machine = Machine(lambda: table(pid_max=32768), Settings(2, 32768, 1))
+    machine = Machine(table(pid_max=32768), Settings(2, 32768, 1))
     for position, data in log.entries:
         if position <= to:
             machine.apply(position, data)
@@ -711,7 +711,7 @@ def check_restored(case: unittest.TestCase, log: MemoryLog, table: Callable[...,
     for to in range(2, whole.position, 7):
         before = machine_of(log, table, to)
         text = before.write()
-        again = Machine(lambda: table(pid_max=32768), Settings(2, 32768, 1))
+        again = Machine(table(pid_max=32768), Settings(2, 32768, 1))
         again.load(to, text)
         case.assertEqual(again.write(), text)
         for position, data in entries:

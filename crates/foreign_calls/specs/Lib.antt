@@ -15,3 +15,4 @@ pub mod Saved
 pub mod SavedBytes
 pub mod Effects
 pub mod Residents
+pub mod Replicas

@@ -1,2 +1,3 @@
 pub mod Words
 pub mod RecordWords
+pub mod ReplicaWords

@@ -1,3 +1,4 @@
 pub mod Owned
 pub mod Lending
 pub mod RecordLending
+pub mod ReplicaLending

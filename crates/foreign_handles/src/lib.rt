@@ -1,4 +1,4 @@
-//! Handles that cross to C: the address of a table or of a record on the heap, which the handle owns.
+//! Handles that cross to C: the address of a table, of a record or of a replica on the heap, which the handle owns.
 //!
 //! What is held is lent in place, so nothing is taken out of a handle but to free it. Each proof about an address is
 //! here, by hand.
@@ -7,3 +7,4 @@
 pub mod handle;
 pub mod loose;
 pub mod record_handle;
+pub mod replica_handle;

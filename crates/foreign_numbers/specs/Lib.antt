@@ -5,3 +5,4 @@ pub mod Spaces
 pub mod Replies
 pub mod Whom
 pub mod Effects
+pub mod Replicas

@@ -1,4 +1,4 @@
-//! The choices of a wait, of a next and of pages, and what an effect is, by their names.
+//! The choices of a wait, of a next and of pages, what an effect is, and what became of an entry, by their names.
 
 // Written by tools/interface: choices.
 /// Any child.
@@ -63,4 +63,19 @@ pub const SPACE_FELL: u32 = 5;
 
 /// The namespace whose id is value is there no more, as nothing has a number in it; number is 0.
 pub const SPACE_GONE: u32 = 6;
+
+/// It has no calls.
+pub const ENTRY_NOTED: u32 = 0;
+
+/// Its calls were made.
+pub const ENTRY_MADE: u32 = 1;
+
+/// They were made before: its session has had an entry with this number.
+pub const ENTRY_REPEATED: u32 = 2;
+
+/// Its session is not open, so they were not made.
+pub const ENTRY_GONE: u32 = 3;
+
+/// The session has had no entry with the number before, so they were not made.
+pub const ENTRY_GAP: u32 = 4;
 // The end of choices.

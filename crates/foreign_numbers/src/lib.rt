@@ -10,6 +10,7 @@ pub mod effects;
 pub mod kinds;
 pub mod numbers;
 pub mod operations;
+pub mod replica;
 pub mod replies;
 pub mod space;
 pub mod status;

@@ -11,6 +11,9 @@ pub const DONE: u32 = 0;
 /// `ENOENT`: the entry was cut away, or is not reached yet.
 pub const NOT_KEPT: u32 = 2;
 
+/// `ESRCH`: no open session has the number.
+pub const NO_SESSION: u32 = 3;
+
 /// `ENOEXEC`: the bytes are no saved history.
 pub const NOT_SAVED: u32 = 8;
 
@@ -35,8 +38,14 @@ pub const NO_ROOM: u32 = 34;
 /// `ENOMSG`: the bytes end before the head, or the entry, does.
 pub const TORN: u32 = 42;
 
+/// `EBADR`: the bytes are no entry of a log.
+pub const NO_ENTRY: u32 = 53;
+
 /// `ENODATA`: a line of 0 bytes has no answer.
 pub const EMPTY_LINE: u32 = 61;
+
+/// `ENOLINK`: the writer of the entry had an entry that the log has no more.
+pub const MISSING: u32 = 67;
 
 /// `EPROTO`: the line is none of the script language.
 pub const BAD_LINE: u32 = 71;
@@ -47,14 +56,26 @@ pub const DIFFERS: u32 = 74;
 /// `EOVERFLOW`: after 2^64 - 2 calls.
 pub const SPENT: u32 = 75;
 
+/// `EREMCHG`: the writer of the entry has answered the same calls otherwise.
+pub const DIVERGED: u32 = 78;
+
 /// `EILSEQ`: a byte is not the one that was written.
 pub const WRONG_BYTE: u32 = 84;
+
+/// `ENOPROTOOPT`: the log has other settings than the replica, or another form.
+pub const OTHER_SETTINGS: u32 = 92;
 
 /// `EPROTONOSUPPORT`: the form is of a version that this library does not know.
 pub const OTHER_VERSION: u32 = 93;
 
+/// `ESTALE`: the position is not behind that of the last entry.
+pub const NOT_RISING: u32 = 116;
+
 /// `EUCLEAN`: the text is that of no table; the fault says why.
 pub const BAD_TEXT: u32 = 117;
+
+/// `ENOTRECOVERABLE`: there was no memory amid an entry, so the table is not that of the log any more.
+pub const NOT_RECOVERABLE: u32 = 131;
 // The end of statuses.
 
 /// The status of a call that has no reply.

@@ -1,12 +1,11 @@
 pub mod Once
 pub mod Same
 pub mod Found
-pub mod Answered
 pub mod Used
 pub mod Turns
 pub mod Entered
 pub mod Checked
-pub mod Lines
+pub mod Parted
 pub mod Told
 pub mod Whole
 pub mod Written

@@ -3,8 +3,9 @@ use Rattle.std.proofs.Common.{◌≡◌, ℕ, List, [], ◌∷◌, ◌++◌, Som
 use Rattle.pid_script.specs.Reading.{cut, parsed}
 use Rattle.pid_script.specs.Script.{with_newline}
 use Rattle.replica.specs.Reading.{lines_in}
-use Rattle.replica.proofs.Lines.{cut_lines, no_cut}
-use Rattle.replica.specs.Replicas.{Stamped, after_line, after_lines, answer_to, answers_to, dialogue}
+use Rattle.replica.proofs.Parted.{cut_lines, no_cut}
+use Rattle.stamped_table.specs.Stamped.{Stamped}
+use Rattle.replica.specs.Replicas.{after_line, after_lines, answer_to, answers_to, dialogue}
 
 -- a line with others behind it
 module _ (now next : Stamped) (bs line after : List ℕ) (step : next ≡ after_line now (parsed line)) (cuts : Some (line, after) ≡ cut 10 bs) where

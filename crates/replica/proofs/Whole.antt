@@ -8,7 +8,7 @@ use Rattle.pid_script.proofs.Cuts.{by_test, option_map_some, cut-append, cut-lac
 use Rattle.pid_script.proofs.Words.{control}
 use Rattle.replica.specs.Entries.{Entry, Settings, Opened, Ended, Calls, Wanted, Announced, spaced, entry_text, IsGood, Lacks}
 use Rattle.replica.specs.Reading.{lines_in, are_full, settings_in, head_in, announced_in, settings_of, announced_of, rest_in, word_in, line_by, line_in, lines_of, calls_in, read_by, entry_in}
-use Rattle.replica.proofs.Lines.{lines_in-join, join-lines_in, lines_some, are_good, good_full}
+use Rattle.replica.proofs.Parted.{lines_in-join, join-lines_in, lines_some, are_good, good_full}
 use Rattle.replica.proofs.Told.{both_true, same_number, lacks_hex, Lacks-append, lacks_number, lacks_key, settings_read, head_words, head_read, announced_read}
 
 abbrev Writes : List ℕ → Entry → Type 0

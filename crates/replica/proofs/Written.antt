@@ -2,7 +2,7 @@
 use Rattle.std.proofs.Common.{◌≡◌, ℕ, List, [], ◌∷◌, ◌++◌, length, Result, Ok, Err, OnOk, codes, decimal, sym, ap, ◌∙◌, append_assoc}
 use Rattle.replica.specs.Entries.{Calls, entry_text, spaced}
 use Rattle.replica.specs.Reading.{lines_in}
-use Rattle.replica.proofs.Lines.{join-lines_in}
+use Rattle.replica.proofs.Parted.{join-lines_in}
 
 -- what follows from what is true of a result that is `Ok`
 pub on_ok : {A E P Q : Type 0} (r : Result A E) → (P → Q) → OnOk r P → OnOk r Q

@@ -16,3 +16,8 @@ pub record Log : Type 0 where
   pub kept : List (ℕ × List ℕ)
   pub calls : ℕ
   pub torn : Bool
+
+-- what is known of a log, and the answers to the entry that was applied last
+pub record Hosted : Type 0 where
+  pub log : Log
+  pub answers : List ℕ

@@ -10,13 +10,13 @@ ghost use Rattle.replica.specs.Replicas.{replica_of, sequence_of, session_of, us
 ghost use Rattle.replica.specs.Applied.{Enters, IsNew, IsStopped, Refuses};
 ghost use Rattle.replica.specs.Laws.{Applies};
 
+use crate::entry::Entry;
 use crate::kept::{Kept, judge};
 use crate::lines::digest_behind;
 use crate::outcome::{Applied, Outcome, ReplicaFault};
+use crate::read::read_entry;
 use crate::sessions::Sessions;
 use crate::words::count_lines;
-use crate::entry::Entry;
-use crate::read::read_entry;
 use sha2::{Digest, Sha256};
 use stamped_table::StampedTable;
 use std::alloc::{AllocError, Global};
@@ -142,6 +142,48 @@ impl Replica {
         ensures { result.now ≡ self.now.digest }
     {
         &self.digest
+    }
+
+    /// The form of the log's settings: 1 or 2, and 0 before the log has begun.
+    pub fn form(&self) -> u64
+        ensures { result ≡ self.now.form }
+    {
+        self.form
+    }
+
+    /// The bound of all numbers of the table.
+    pub fn pid_max(&self) -> u64
+        ensures { result ≡ self.now.pid_max }
+    {
+        self.pid_max
+    }
+
+    /// The model by which lines are answered.
+    pub fn model(&self) -> u64
+        ensures { result ≡ self.now.model }
+    {
+        self.model
+    }
+
+    /// Whether the log has its settings.
+    pub fn is_begun(&self) -> bool
+        ensures { result ≡ self.now.begun }
+    {
+        self.begun
+    }
+
+    /// Whether there was no memory amid an entry, after which each entry is `Torn`.
+    pub fn is_torn(&self) -> bool
+        ensures { result ≡ self.now.torn }
+    {
+        self.torn
+    }
+
+    /// The digest behind the entry at the position, if that is one of the last 4,096. It takes the same time for each.
+    pub fn digest_at(&self, position: u64) -> Option<[u8; 32]>
+        ensures { result ≡ lookup (λ p. position == p) self.now.kept }
+    {
+        self.kept.find(position)
     }
 
     /// How many lines were made, up to 2^64 - 1.

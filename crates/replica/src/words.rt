@@ -60,7 +60,7 @@ pub(crate) fn read_hex_then(words: &[u8], digits: usize) -> Option<(&[u8], &[u8]
 }
 
 /// How many lines there are: one more than newlines.
-#[tactic(auto, using(crate::proofs::Lines::cuts))]
+#[tactic(auto, using(crate::proofs::Parted::cuts))]
 pub fn count_lines(lines: &[u8]) -> usize
     ensures { result ≡ length (lines_in lines.now) }
 {
@@ -74,7 +74,7 @@ pub fn count_lines(lines: &[u8]) -> usize
 }
 
 /// Whether each line has a byte.
-#[tactic(auto, using(crate::proofs::Lines::cuts))]
+#[tactic(auto, using(crate::proofs::Parted::cuts))]
 pub(crate) fn are_lines_full(lines: &[u8]) -> bool
     ensures { result ≡ are_full (lines_in lines.now) }
 {

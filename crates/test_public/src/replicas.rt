@@ -2,52 +2,15 @@
 //! with the answers that the script language has.
 
 use hex::encode;
-use log_entries::read::read_entry;
-use log_entries::write::write_entry;
-use pid_types::call::Call;
 use pid_types::config::Config;
-use pid_types::reply::{CallFault, Reply};
-use replica::outcome::{Outcome, ReplicaFault};
+use replica::host::Host;
+use replica::outcome::{Applied, Outcome, ReplicaFault};
+use replica::read::read_entry;
 use replica::replica::Replica;
-use script_session::session::Table;
+use replica::write::write_entry;
 use stamped_table::StampedTable;
 use std::alloc::Global;
 use std::process::Abort;
-
-/// A table, and the reply to its last call.
-#[derive(Drop)]
-struct Lone {
-    table: StampedTable,
-    reply: Reply,
-}
-
-impl Table for Lone {
-    ghost use Rattle.std.specs.Prelude.{⊤, Some};
-    ghost use Rattle.pid_types.specs.Step.{may_grow};
-
-    ghost state = { λ t. t.table.state };
-
-    ghost stamp = { λ t. t.table.stamp };
-
-    ghost held = { λ t. Some t.reply };
-
-    // Its calls are not told.
-    ghost did = { λ _ _ _. ⊤ };
-
-    ghost may_starve = { may_grow };
-
-    ghost nothing = { λ _. tt };
-
-    ghost more = { λ _ _ _ _ _ _ _. tt };
-
-    fn act(&mut self, call: Call) -> Result<(), CallFault> {
-        self.table.make(call, &mut self.reply)
-    }
-
-    fn reply(&self) -> Option<&Reply> {
-        Some(&self.reply)
-    }
-}
 
 /// An entry at its position, what becomes of it, its answers, and the first digits of the digest behind it.
 type Row = (
@@ -58,22 +21,19 @@ type Row = (
     &'static [u8],
 );
 
-/// A table with its replica.
+/// A host with its table.
 #[derive(Drop)]
-struct Host {
-    table: Lone,
-    replica: Replica,
+struct Hosted {
+    table: StampedTable,
+    host: Host,
 }
 
 /// A host whose log has not begun.
-fn new_host(rt: &(impl AllocGlobal + Abort)) -> Host {
+fn new_host(rt: &(impl AllocGlobal + Abort)) -> Hosted {
     let config = Config::new(4_194_304, 1).expect(rt, "good settings");
-    Host {
-        table: Lone {
-            table: StampedTable::new(rt.alloc(), &config).expect(rt, "no memory"),
-            reply: Reply::Done,
-        },
-        replica: Replica::new(rt.alloc(), 4_194_304, 1).expect(rt, "no memory"),
+    Hosted {
+        table: StampedTable::new(rt.alloc(), &config).expect(rt, "no memory"),
+        host: Host::new(rt.alloc(), 4_194_304, 1).expect(rt, "no memory"),
     }
 }
 
@@ -83,22 +43,35 @@ fn has_digest(rt: &(impl AllocGlobal + Abort), replica: &Replica, digits: &[u8])
     text.as_bytes().starts_with(digits)
 }
 
-/// The entry of a row does what the row says.
-fn expect_row(rt: &(impl AllocGlobal + Abort), host: &mut Host, row: &Row) {
-    let mut answers = Vec::new(rt.alloc());
-    let what = host
-        .replica
-        .apply(&mut host.table, row.0, row.1, &mut answers);
-    assert!(rt; what == row.2);
-    assert!(rt; answers.as_slice() == row.3);
-    assert!(rt; has_digest(rt, &host.replica, row.4));
+/// What is said of calls, or of an entry without any, with this outcome.
+fn is_said(said: &Applied, outcome: Outcome, entry: &[u8]) -> bool {
+    said.outcome == outcome && (said.sequence > 0) == entry.starts_with(b"calls")
+}
+
+/// Whether the entry has come to what the row says.
+fn came_to(what: Result<Applied, ReplicaFault>, row: &Row) -> bool {
+    match (what, row.2) {
+        (Ok(said), Ok(outcome)) => is_said(&said, outcome, row.1),
+        (Err(fault), Err(wanted)) => fault == wanted,
+        _ => false,
+    }
+}
+
+/// The entry of a row does what the row says. Where it is refused, the answers before it stay.
+fn expect_row(rt: &(impl AllocGlobal + Abort), hosted: &mut Hosted, row: &Row) {
+    let before = hosted.host.answers().len();
+    let what = hosted.host.apply(&mut hosted.table, row.0, row.1);
+    assert!(rt; came_to(what, row));
+    let answers = hosted.host.answers();
+    assert!(rt; if row.2.is_ok() { answers == row.3 } else { answers.len() == before });
+    assert!(rt; has_digest(rt, hosted.host.replica(), row.4));
 }
 
 /// One log after the other does what its rows say.
 fn expect_rows(rt: &(impl AllocGlobal + Abort), rows: &[Row]) {
-    let mut host = new_host(rt);
+    let mut hosted = new_host(rt);
     for row in rows {
-        expect_row(rt, &mut host, row);
+        expect_row(rt, &mut hosted, row);
     }
 }
 
@@ -225,9 +198,9 @@ static OTHERS: [Row; 6] = [
 ];
 
 /// Opens sessions at the positions from 4 on, below the end.
-fn open_sessions(rt: &(impl AllocGlobal + Abort), host: &mut Host, end: u64) {
+fn open_sessions(rt: &(impl AllocGlobal + Abort), hosted: &mut Hosted, end: u64) {
     for position in 4..end {
-        expect_row(rt, host, &(position, b"open", Ok(Outcome::Noted), b"", b""));
+        expect_row(rt, hosted, &(position, b"open", Ok(Outcome::Noted), b"", b""));
     }
 }
 
@@ -266,11 +239,11 @@ static ENDS: [Row; 5] = [
 
 /// Where one session more than 4,096 opens, the one that was used the longest ago ends.
 fn expect_ends(rt: &(impl AllocGlobal + Abort)) {
-    let mut host = new_host(rt);
-    expect_row(rt, &mut host, &LOG[0]);
-    open_sessions(rt, &mut host, 4100);
+    let mut hosted = new_host(rt);
+    expect_row(rt, &mut hosted, &LOG[0]);
+    open_sessions(rt, &mut hosted, 4100);
     for row in &ENDS {
-        expect_row(rt, &mut host, row);
+        expect_row(rt, &mut hosted, row);
     }
 }
 

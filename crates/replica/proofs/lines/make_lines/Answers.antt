@@ -2,7 +2,7 @@ use Rattle.std.proofs.Common.{◌≡◌, ◌++◌, ◌∙◌, None, rules, subst
 use Rattle.sha2.specs.Hashers.{Holds256}
 use Rattle.pid_script.specs.Reading.{cut, parsed}
 use Rattle.pid_script.specs.Script.{with_newline}
-use Rattle.replica.proofs.Lines.{shorter}
+use Rattle.replica.proofs.Parted.{shorter}
 use Rattle.replica.proofs.Written.{on_ok}
 use Rattle.replica.specs.Replicas.{answer_to}
 use Rattle.replica.proofs.Turns.{after_more, answers_more, dialogue_more, after_last, answers_last, dialogue_last}

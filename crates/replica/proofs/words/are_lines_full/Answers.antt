@@ -1,6 +1,6 @@
 use Rattle.std.proofs.Common.{◌≡◌, ◌<◌, ◌&&◌, arith, ap, length, rules, sym, ◌∙◌}
 use Rattle.replica.specs.Reading.{are_full, lines_in}
-use Rattle.replica.proofs.Lines.{empty_line, full_line, full_more}
+use Rattle.replica.proofs.Parted.{empty_line, full_line, full_more}
 use Rattle.replica.proofs.words.are_lines_full.Goals as goal
 
 pub returns-then-is_empty : goal.returns-then-is_empty

@@ -1,0 +1,177 @@
+/* The functions of pidtab_replica.h, with the mark of guard.c around each. Written by tools/guard. */
+#include "pidtab_replica.h"
+
+uint32_t proved_replica_open(struct pidtab_replica *replica, uint64_t pid_max, uint64_t model);
+void proved_replica_close(struct pidtab_replica *replica);
+uint32_t proved_replica_apply(struct pidtab_replica *replica, struct pidtab *table, uint64_t position, const void *entry, size_t length, struct pidtab_applied *applied);
+uint32_t proved_replica_answers(struct pidtab_replica *replica, void *bytes, size_t room, size_t *size);
+uint32_t proved_replica_log(struct pidtab_replica *replica, struct pidtab_log *log);
+uint32_t proved_replica_digest(struct pidtab_replica *replica, uint64_t position, struct pidtab_digest *digest);
+uint32_t proved_replica_last(struct pidtab_replica *replica, uint64_t session, uint64_t *sequence);
+uint32_t proved_replica_write(struct pidtab_replica *replica, void *bytes, size_t room, size_t *size);
+uint32_t proved_replica_read(struct pidtab_replica *replica, const void *text, size_t length, size_t *used);
+
+/* The mark is ALONE in a call, and else the number of queries. One more than the most waits until one ends. */
+#define ALONE UINT8_MAX
+#ifndef PIDTAB_MOST_QUERIES
+#define PIDTAB_MOST_QUERIES (ALONE - 1)
+#endif
+
+/* What the proved function works on is taken out: it may write each byte of that, and would clear the mark. */
+static struct pidtab_replica held_by(const struct pidtab_replica *replica)
+{
+	return (struct pidtab_replica){ replica->at, replica->is_open, 0 };
+}
+
+/* Marks the replica for a call. */
+static bool enter(struct pidtab_replica *replica, struct pidtab_replica *held)
+{
+	uint8_t unused = 0;
+
+	if (!__atomic_compare_exchange_n(&replica->in_use, &unused, ALONE, false, __ATOMIC_ACQUIRE, __ATOMIC_RELAXED))
+		return false;
+	*held = held_by(replica);
+	return true;
+}
+
+/* Puts it back, and takes the mark away. */
+static uint32_t leave(struct pidtab_replica *replica, const struct pidtab_replica *held, uint32_t status)
+{
+	replica->at = held->at;
+	replica->is_open = held->is_open;
+	__atomic_store_n(&replica->in_use, 0, __ATOMIC_RELEASE);
+	return status;
+}
+
+/* What the proved function works on is taken out: it may write each byte of that, and would clear the mark. */
+static struct pidtab held_by_table(const struct pidtab *table)
+{
+	return (struct pidtab){ table->at, table->is_open, 0 };
+}
+
+/* Marks the table for a call. */
+static bool enter_table(struct pidtab *table, struct pidtab *held)
+{
+	uint8_t unused = 0;
+
+	if (!__atomic_compare_exchange_n(&table->in_use, &unused, ALONE, false, __ATOMIC_ACQUIRE, __ATOMIC_RELAXED))
+		return false;
+	*held = held_by_table(table);
+	return true;
+}
+
+/* Puts it back, and takes the mark away. */
+static uint32_t leave_table(struct pidtab *table, const struct pidtab *held, uint32_t status)
+{
+	table->at = held->at;
+	table->is_open = held->is_open;
+	__atomic_store_n(&table->in_use, 0, __ATOMIC_RELEASE);
+	return status;
+}
+
+/* Counts one query more. The mark is all that a query changes. */
+static bool enter_query(const struct pidtab_replica *replica, struct pidtab_replica *held)
+{
+	uint8_t *in_use = (uint8_t *)&replica->in_use, count;
+
+	do {
+		count = __atomic_load_n(in_use, __ATOMIC_RELAXED);
+		if (count == ALONE)
+			return false;
+	} while (count == PIDTAB_MOST_QUERIES || !__atomic_compare_exchange_n(in_use, &count, count + 1, false, __ATOMIC_ACQUIRE, __ATOMIC_RELAXED));
+	*held = held_by(replica);
+	return true;
+}
+
+static uint32_t leave_query(const struct pidtab_replica *replica, uint32_t status)
+{
+	__atomic_sub_fetch((uint8_t *)&replica->in_use, 1, __ATOMIC_RELEASE);
+	return status;
+}
+
+uint32_t pidtab_replica_open(struct pidtab_replica *replica, uint64_t pid_max, uint64_t model)
+{
+	struct pidtab_replica held;
+
+	if (!enter(replica, &held))
+		return PIDTAB_BUSY;
+	return leave(replica, &held, proved_replica_open(&held, pid_max, model));
+}
+
+uint32_t pidtab_replica_close(struct pidtab_replica *replica)
+{
+	struct pidtab_replica held;
+
+	if (!enter(replica, &held))
+		return PIDTAB_BUSY;
+	proved_replica_close(&held);
+	return leave(replica, &held, PIDTAB_DONE);
+}
+
+uint32_t pidtab_replica_apply(struct pidtab_replica *replica, struct pidtab *table, uint64_t position, const void *entry, size_t length, struct pidtab_applied *applied)
+{
+	struct pidtab_replica held;
+	struct pidtab held_table;
+	uint32_t status;
+
+	if (!enter(replica, &held))
+		return PIDTAB_BUSY;
+	if (!enter_table(table, &held_table))
+		return leave(replica, &held, PIDTAB_BUSY);
+	status = leave_table(table, &held_table, proved_replica_apply(&held, &held_table, position, entry, length, applied));
+	return leave(replica, &held, status);
+}
+
+uint32_t pidtab_replica_answers(const struct pidtab_replica *replica, void *bytes, size_t room, size_t *size)
+{
+	struct pidtab_replica held;
+
+	if (!enter_query(replica, &held))
+		return PIDTAB_BUSY;
+	return leave_query(replica, proved_replica_answers(&held, bytes, room, size));
+}
+
+uint32_t pidtab_replica_log(const struct pidtab_replica *replica, struct pidtab_log *log)
+{
+	struct pidtab_replica held;
+
+	if (!enter_query(replica, &held))
+		return PIDTAB_BUSY;
+	return leave_query(replica, proved_replica_log(&held, log));
+}
+
+uint32_t pidtab_replica_digest(const struct pidtab_replica *replica, uint64_t position, struct pidtab_digest *digest)
+{
+	struct pidtab_replica held;
+
+	if (!enter_query(replica, &held))
+		return PIDTAB_BUSY;
+	return leave_query(replica, proved_replica_digest(&held, position, digest));
+}
+
+uint32_t pidtab_replica_last(const struct pidtab_replica *replica, uint64_t session, uint64_t *sequence)
+{
+	struct pidtab_replica held;
+
+	if (!enter_query(replica, &held))
+		return PIDTAB_BUSY;
+	return leave_query(replica, proved_replica_last(&held, session, sequence));
+}
+
+uint32_t pidtab_replica_write(const struct pidtab_replica *replica, void *bytes, size_t room, size_t *size)
+{
+	struct pidtab_replica held;
+
+	if (!enter_query(replica, &held))
+		return PIDTAB_BUSY;
+	return leave_query(replica, proved_replica_write(&held, bytes, room, size));
+}
+
+uint32_t pidtab_replica_read(struct pidtab_replica *replica, const void *text, size_t length, size_t *used)
+{
+	struct pidtab_replica held;
+
+	if (!enter(replica, &held))
+		return PIDTAB_BUSY;
+	return leave(replica, &held, proved_replica_read(&held, text, length, used));
+}

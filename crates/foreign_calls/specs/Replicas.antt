@@ -1,0 +1,42 @@
+-- What C's functions find and leave of a replica and its table.
+use Rattle.std.specs.Prelude.{◌≡◌, ◌≢◌, ◌↔◌, ◌⊎◌, ◌==◌, ℕ, List, [], ◌∷◌, length, Option, Some, None}
+use Rattle.std.specs.Map.{lookup}
+use Rattle.replica.specs.Applied.{Refuses}
+use Rattle.replica.specs.Laws.{Applies}
+use Rattle.replica.specs.Log.{Hosted}
+use Rattle.replica.specs.Replicas.{replica_of}
+use Rattle.replica.specs.declared.outcome.Applied.{Applied}
+use Rattle.replica.specs.declared.outcome.ReplicaFault.{ReplicaFault}
+use Rattle.stamped_table.specs.Stamped.{Stamped}
+use Rattle.foreign_numbers.specs.Replicas.{applied_numbers, fault_status}
+use Rattle.foreign_numbers.specs.declared.replica.AppliedNumbers.{AppliedNumbers}
+use Rattle.foreign_numbers.specs.declared.status.TheConstants.{DONE, CLOSED, NOT_RISING, NO_ENTRY, OTHER_SETTINGS, MISSING, DIVERGED, NO_MEMORY, NOT_RECOVERABLE}
+use Rattle.foreign_calls.specs.Held.{IsDoneOr}
+use Rattle.foreign_calls.specs.Records.{Has}
+
+-- the entry was applied, and is told so
+record IsApplied (position : ℕ) (bytes : List ℕ) (h : Hosted) (t : Stamped) (h' : Hosted) (t' : Stamped) (told : AppliedNumbers) : Type 0 where
+  pub what : Applied
+  pub applies : Applies position bytes (replica_of h.log t) [] (replica_of h'.log t') what h'.answers
+  pub told : told ≡ applied_numbers what (length h'.answers)
+
+-- the entry was refused for this reason, which has its status
+record IsRefused (position : ℕ) (bytes : List ℕ) (h : Hosted) (t : Stamped) (h' : Hosted) (t' : Stamped) (status : ℕ) : Type 0 where
+  pub fault : ReplicaFault
+  pub status_is : status ≡ fault_status fault
+  pub refuses : Refuses position bytes (replica_of h.log t) h.answers (replica_of h'.log t') h'.answers fault
+
+-- the next entry of a log was applied to a replica and its table, or the status says why not
+pub record AppliesEntry (position : ℕ) (bytes : List ℕ) (h : Hosted) (t : Stamped) (h' : Hosted) (t' : Stamped) (before after : AppliedNumbers) (status : ℕ)
+    : Type 0 where
+  pub done : status ≡ DONE → IsApplied position bytes h t h' t' after
+  pub refused : status ≢ DONE → IsRefused position bytes h t h' t' status
+  pub not_done : status ≢ DONE → after ≡ before
+
+-- the same of what is held
+pub record AppliesHeld (position : ℕ) (bytes : List ℕ) (host : Option Hosted) (table : Option Stamped) (host' : Option Hosted) (table' : Option Stamped)
+    (before after : AppliedNumbers) (status : ℕ) : Type 0 where
+  pub open : status ≢ CLOSED → Has host (λ h. Has table (λ t. Has host' (λ h'. Has table' (λ t'. AppliesEntry position bytes h t h' t' before after status))))
+  pub closed : (status ≡ CLOSED) ↔ (host ≡ None) ⊎ (table ≡ None)
+  pub same : status ≡ CLOSED → (host' ≡ host) × (table' ≡ table) × (after ≡ before)
+  pub statuses : IsDoneOr status (CLOSED ∷ NOT_RECOVERABLE ∷ NOT_RISING ∷ NO_ENTRY ∷ OTHER_SETTINGS ∷ MISSING ∷ DIVERGED ∷ NO_MEMORY ∷ [])

@@ -1,0 +1,122 @@
+//! A replica of a log, which a caller holds beside its table.
+ghost use Rattle.std.specs.Prelude.{◌≡◌, ◌≢◌, ◌↔◌, ◌==◌, [], ◌∷◌, Some, None, IfOk, is_some};
+ghost use Rattle.std.specs.Map.{lookup};
+ghost use Rattle.replica.specs.Applied.{IsNew};
+ghost use Rattle.foreign_calls.specs.Held.{IsDoneOr, Takes};
+ghost use Rattle.foreign_calls.specs.Replicas.{AppliesEntry};
+
+use foreign_handles::handle::null;
+use foreign_handles::loose::Loose;
+use foreign_handles::replica_handle::ReplicaHandle;
+use foreign_numbers::replica::{AppliedNumbers, DigestBytes, status_of_entry, tell_applied};
+use foreign_numbers::status::{DONE, NO_SESSION, NOT_KEPT};
+use replica::host::Host;
+use replica::replica::Replica;
+use stamped_table::StampedTable;
+use std::alloc::{AllocError, Global};
+use std::mem;
+
+/// A replica for C, or none: zeroes are none.
+#[repr(C)]
+#[derive(Drop)]
+pub struct PidtabReplica {
+    pub handle: ReplicaHandle,
+    pub is_open: bool,
+    ghost linked: { is_some handle.held ≡ is_open },
+}
+
+impl PidtabReplica {
+    /// What is held, which the handle has no more.
+    pub fn take(&mut self, alloc: Global) -> Option<Box<Host>>
+        ensures { Takes result (λ held. held.value) self.old.handle.held self.new.handle.held }
+    {
+        let PidtabReplica { handle, is_open } = mem::replace(
+            self,
+            PidtabReplica {
+                handle: ReplicaHandle::empty(alloc, null()),
+                is_open: false,
+            },
+        );
+        if is_open {
+            Some(handle.into_loose(alloc).into_box())
+        } else {
+            None
+        }
+    }
+
+    /// Holds the replica.
+    pub fn put(&mut self, held: Box<Host>)
+        ensures { self.new.handle.held ≡ Some held.value }
+    {
+        *self = PidtabReplica {
+            handle: ReplicaHandle::of(Loose::of(held)),
+            is_open: true,
+        };
+    }
+
+    /// Frees the replica, if there is one, and leaves zeroes.
+    pub fn close(&mut self, alloc: Global)
+        ensures { self.new.handle.held ≡ None }
+    {
+        let _held = self.take(alloc);
+    }
+}
+
+/// A new replica on the heap, of a log that has not begun. The error is want of memory.
+pub fn boxed_host(alloc: Global, pid_max: u64, model: u64) -> Result<Box<Host>, AllocError>
+    ensures new { IfOk result (λ held. IsNew pid_max model held.value.log) }
+    ensures answers { IfOk result (λ held. held.value.answers ≡ []) }
+{
+    let held = Host::new(alloc, pid_max, model)?;
+    match Box::new(alloc, held) {
+        Ok(held) => Ok(held),
+        Err(_) => Err(AllocError),
+    }
+}
+
+/// Applies the next entry of a log to a replica and its table, and tells what became of it. The result is the status.
+pub fn apply_entry(
+    host: &mut Host,
+    table: &mut StampedTable,
+    position: u64,
+    entry: &[u8],
+    applied: &mut AppliedNumbers,
+) -> u32
+    ensures { AppliesEntry position entry.now host.old table.old host.new table.new applied.old applied.new result }
+{
+    match host.apply(table, position, entry) {
+        Ok(what) => {
+            *applied = tell_applied(&what, host.answers().len());
+            DONE
+        }
+        Err(fault) => status_of_entry(fault),
+    }
+}
+
+/// Tells the digest behind the entry at the position, if it is kept. The result is the status.
+pub fn tell_digest(replica: &Replica, position: u64, digest: &mut DigestBytes) -> u32
+    ensures done { result ≡ DONE → lookup (λ p. position == p) replica.now.kept ≡ Some digest.new.bytes }
+    ensures not_done { result ≢ DONE → digest.new ≡ digest.old }
+    ensures not_kept { (result ≡ NOT_KEPT) ↔ (lookup (λ p. position == p) replica.now.kept ≡ None) }
+    ensures statuses { IsDoneOr result (NOT_KEPT ∷ []) }
+{
+    let Some(bytes) = replica.digest_at(position) else {
+        return NOT_KEPT;
+    };
+    digest.bytes = bytes;
+    DONE
+}
+
+/// Tells the last number of a session, if it is open. The result is the status.
+pub fn tell_last(replica: &Replica, session: u64, sequence: &mut u64) -> u32
+    ensures done { result ≡ DONE → lookup (λ s. session == s) replica.now.sessions ≡ Some sequence.new }
+    ensures not_done { result ≢ DONE → sequence.new ≡ sequence.old }
+    ensures no_session { (result ≡ NO_SESSION) ↔ (lookup (λ s. session == s) replica.now.sessions ≡ None) }
+    ensures statuses { IsDoneOr result (NO_SESSION ∷ []) }
+{
+    let Some(last) = replica.last_of(session) else {
+        return NO_SESSION;
+    };
+    *sequence = last;
+    DONE
+}
