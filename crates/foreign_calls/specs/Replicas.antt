@@ -3,7 +3,7 @@ use Rattle.std.specs.Prelude.{◌≡◌, ◌≢◌, ◌↔◌, ◌⊎◌, ◌==�
 use Rattle.std.specs.Map.{lookup}
 use Rattle.replica.specs.Applied.{Refuses}
 use Rattle.replica.specs.Laws.{Applies}
-use Rattle.replica.specs.Log.{Hosted}
+use Rattle.replica.specs.Log.{Log, Hosted}
 use Rattle.replica.specs.Replicas.{replica_of}
 use Rattle.replica.specs.declared.outcome.Applied.{Applied}
 use Rattle.replica.specs.declared.outcome.ReplicaFault.{ReplicaFault}
@@ -15,13 +15,13 @@ use Rattle.foreign_calls.specs.Held.{IsDoneOr}
 use Rattle.foreign_calls.specs.Records.{Has}
 
 -- the entry was applied, and is told so
-record IsApplied (position : ℕ) (bytes : List ℕ) (h : Hosted) (t : Stamped) (h' : Hosted) (t' : Stamped) (told : AppliedNumbers) : Type 0 where
+pub record IsApplied (position : ℕ) (bytes : List ℕ) (h : Hosted) (t : Stamped) (h' : Hosted) (t' : Stamped) (told : AppliedNumbers) : Type 0 where
   pub what : Applied
   pub applies : Applies position bytes (replica_of h.log t) [] (replica_of h'.log t') what h'.answers
-  pub told : told ≡ applied_numbers what (length h'.answers)
+  pub numbers : told ≡ applied_numbers what (length h'.answers)
 
 -- the entry was refused for this reason, which has its status
-record IsRefused (position : ℕ) (bytes : List ℕ) (h : Hosted) (t : Stamped) (h' : Hosted) (t' : Stamped) (status : ℕ) : Type 0 where
+pub record IsRefused (position : ℕ) (bytes : List ℕ) (h : Hosted) (t : Stamped) (h' : Hosted) (t' : Stamped) (status : ℕ) : Type 0 where
   pub fault : ReplicaFault
   pub status_is : status ≡ fault_status fault
   pub refuses : Refuses position bytes (replica_of h.log t) h.answers (replica_of h'.log t') h'.answers fault
@@ -36,7 +36,25 @@ pub record AppliesEntry (position : ℕ) (bytes : List ℕ) (h : Hosted) (t : St
 -- the same of what is held
 pub record AppliesHeld (position : ℕ) (bytes : List ℕ) (host : Option Hosted) (table : Option Stamped) (host' : Option Hosted) (table' : Option Stamped)
     (before after : AppliedNumbers) (status : ℕ) : Type 0 where
-  pub open : status ≢ CLOSED → Has host (λ h. Has table (λ t. Has host' (λ h'. Has table' (λ t'. AppliesEntry position bytes h t h' t' before after status))))
+  pub applies : status ≢ CLOSED → Has host (λ h. Has table (λ t. Has host' (λ h'. Has table' (λ t'. AppliesEntry position bytes h t h' t' before after status))))
   pub closed : (status ≡ CLOSED) ↔ (host ≡ None) ⊎ (table ≡ None)
   pub same : status ≡ CLOSED → (host' ≡ host) × (table' ≡ table) × (after ≡ before)
   pub statuses : IsDoneOr status (CLOSED ∷ NOT_RECOVERABLE ∷ NOT_RISING ∷ NO_ENTRY ∷ OTHER_SETTINGS ∷ MISSING ∷ DIVERGED ∷ NO_MEMORY ∷ [])
+
+-- the digest behind the entry at a position, if it is kept; and the last number of a session, if it is open
+abbrev pub digest_at : ℕ → Log → Option (List ℕ)
+digest_at position log = lookup (λ p. position == p) log.kept
+
+abbrev pub last_of : ℕ → Log → Option ℕ
+last_of session log = lookup (λ s. session == s) log.sessions
+
+-- what is there is told, or the status says that there is none
+pub record TellsFound {X : Type 0} (found : Option X) (before after : X) (none status : ℕ) : Type 0 where
+  pub done : status ≡ DONE → found ≡ Some after
+  pub not_there : (status ≡ none) ↔ (found ≡ None)
+  pub not_done : status ≢ DONE → after ≡ before
+
+-- the same of what is held
+pub record TellsOf {X : Type 0} (held : Option Hosted) (part : Log → Option X) (before after : X) (none status : ℕ) : Type 0 where
+  pub told : status ≢ CLOSED → Has held (λ h. TellsFound (part h.log) before after none status)
+  pub closed : status ≡ CLOSED → after ≡ before

@@ -1,9 +1,8 @@
 //! A replica of a log, which a caller holds beside its table.
-ghost use Rattle.std.specs.Prelude.{◌≡◌, ◌≢◌, ◌↔◌, ◌==◌, [], ◌∷◌, Some, None, IfOk, is_some};
-ghost use Rattle.std.specs.Map.{lookup};
+ghost use Rattle.std.specs.Prelude.{◌≡◌, [], ◌∷◌, Some, None, IfOk, is_some};
 ghost use Rattle.replica.specs.Applied.{IsNew};
 ghost use Rattle.foreign_calls.specs.Held.{IsDoneOr, Takes};
-ghost use Rattle.foreign_calls.specs.Replicas.{AppliesEntry};
+ghost use Rattle.foreign_calls.specs.Replicas.{AppliesEntry, TellsFound, digest_at, last_of};
 
 use foreign_handles::handle::null;
 use foreign_handles::loose::Loose;
@@ -95,9 +94,7 @@ pub fn apply_entry(
 
 /// Tells the digest behind the entry at the position, if it is kept. The result is the status.
 pub fn tell_digest(replica: &Replica, position: u64, digest: &mut DigestBytes) -> u32
-    ensures done { result ≡ DONE → lookup (λ p. position == p) replica.now.kept ≡ Some digest.new.bytes }
-    ensures not_done { result ≢ DONE → digest.new ≡ digest.old }
-    ensures not_kept { (result ≡ NOT_KEPT) ↔ (lookup (λ p. position == p) replica.now.kept ≡ None) }
+    ensures told { TellsFound (digest_at position replica.now) digest.old.bytes digest.new.bytes NOT_KEPT result }
     ensures statuses { IsDoneOr result (NOT_KEPT ∷ []) }
 {
     let Some(bytes) = replica.digest_at(position) else {
@@ -109,9 +106,7 @@ pub fn tell_digest(replica: &Replica, position: u64, digest: &mut DigestBytes) -
 
 /// Tells the last number of a session, if it is open. The result is the status.
 pub fn tell_last(replica: &Replica, session: u64, sequence: &mut u64) -> u32
-    ensures done { result ≡ DONE → lookup (λ s. session == s) replica.now.sessions ≡ Some sequence.new }
-    ensures not_done { result ≢ DONE → sequence.new ≡ sequence.old }
-    ensures no_session { (result ≡ NO_SESSION) ↔ (lookup (λ s. session == s) replica.now.sessions ≡ None) }
+    ensures told { TellsFound (last_of session replica.now) sequence.old sequence.new NO_SESSION result }
     ensures statuses { IsDoneOr result (NO_SESSION ∷ []) }
 {
     let Some(last) = replica.last_of(session) else {

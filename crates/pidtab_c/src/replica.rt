@@ -2,13 +2,12 @@
 //!
 //! The table of a replica is a [`Pidtab`] beside it, which changes by [`pidtab_replica_apply`] alone. C keeps the lock:
 //! one function at a time works on a replica and its table.
-ghost use Rattle.std.specs.Prelude.{◌≡◌, ◌≢◌, ◌↔◌, ◌==◌, [], ◌∷◌, Some, None};
-ghost use Rattle.std.specs.Map.{lookup};
+ghost use Rattle.std.specs.Prelude.{◌≡◌, ◌≢◌, [], ◌∷◌, None};
 ghost use Rattle.replica.specs.Applied.{IsNew};
 ghost use Rattle.foreign_numbers.specs.Replicas.{log_numbers};
 ghost use Rattle.foreign_calls.specs.Held.{OnlyReads, Opens};
 ghost use Rattle.foreign_calls.specs.Records.{Has};
-ghost use Rattle.foreign_calls.specs.Replicas.{AppliesHeld};
+ghost use Rattle.foreign_calls.specs.Replicas.{AppliesHeld, TellsOf, digest_at, last_of};
 ghost use Rattle.foreign_calls.specs.Rooms.{PutsText};
 
 use foreign_calls::replica::{PidtabReplica, apply_entry, boxed_host, tell_digest, tell_last};
@@ -130,11 +129,8 @@ pub extern "C" fn pidtab_replica_digest(
     digest: &mut DigestBytes,
 ) -> u32
     ensures reads { OnlyReads replica.old.handle.held replica.new.handle.held result (NOT_KEPT ∷ []) }
-    ensures done { result ≡ DONE → Has replica.old.handle.held (λ h.
-        lookup (λ p. position == p) h.log.kept ≡ Some digest.new.bytes) }
-    ensures not_done { result ≢ DONE → digest.new ≡ digest.old }
-    ensures not_kept { (result ≡ NOT_KEPT) ↔ Has replica.old.handle.held (λ h.
-        lookup (λ p. position == p) h.log.kept ≡ None) }
+    ensures told { TellsOf replica.old.handle.held (digest_at position)
+        digest.old.bytes digest.new.bytes NOT_KEPT result }
 {
     if !replica.is_open {
         return CLOSED;
@@ -153,11 +149,8 @@ pub extern "C" fn pidtab_replica_last(
     sequence: &mut u64,
 ) -> u32
     ensures reads { OnlyReads replica.old.handle.held replica.new.handle.held result (NO_SESSION ∷ []) }
-    ensures done { result ≡ DONE → Has replica.old.handle.held (λ h.
-        lookup (λ s. session == s) h.log.sessions ≡ Some sequence.new) }
-    ensures not_done { result ≢ DONE → sequence.new ≡ sequence.old }
-    ensures no_session { (result ≡ NO_SESSION) ↔ Has replica.old.handle.held (λ h.
-        lookup (λ s. session == s) h.log.sessions ≡ None) }
+    ensures told { TellsOf replica.old.handle.held (last_of session)
+        sequence.old sequence.new NO_SESSION result }
 {
     if !replica.is_open {
         return CLOSED;
