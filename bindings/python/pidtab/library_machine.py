@@ -131,6 +131,7 @@ class LibraryMachine:
             raise bad_snapshot(position, fault) from None
         self.table, before = table, self.table
         before.close()
+        self._call(self._replica, "close")
         self._replica, self.position = replica, position
         self._begin()
 
@@ -199,9 +200,10 @@ class LibraryMachine:
 def why_no_entry(data: bytes) -> object:
     """Why bytes are no entry."""
     try:
-        return f"a number of it is above {2**64 - 1}: {read_entry(data)!r:.40}"
+        read_entry(data)
     except ValueError as fault:
         return fault
+    raise LibraryFault("the library calls an entry none")
 
 
 def other_log(head: bytes, own: Settings) -> Exception:

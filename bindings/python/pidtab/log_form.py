@@ -28,6 +28,7 @@ SHORT_DIGEST = 16
 LONGEST_LINE = 200
 
 NUMBER = rb"(0|[1-9][0-9]{0,19})"
+GREATEST = 2**64 - 1
 SETTINGS = re.compile(rb"pidtab-log %s pid_max %s model %s" % (NUMBER, NUMBER, NUMBER))
 END = re.compile(rb"end %s" % NUMBER)
 CALLS = re.compile(rb"calls %s %s %s %s ([0-9a-f]{%d})" % (NUMBER, NUMBER, NUMBER, NUMBER, SHORT_DIGEST))
@@ -107,19 +108,27 @@ def write_announced(it: Announced) -> bytes:
     return b"snapshot %d %s %d %s %s" % (it.position, it.digest.encode(), it.size, it.sum.encode(), it.key.encode())
 
 
+def read_number(digits: bytes) -> int:
+    """The number; one of more than 64 bits is a ValueError."""
+    number = int(digits)
+    if number > GREATEST:
+        raise ValueError(f"{number} is above {GREATEST}")
+    return number
+
+
 def read_announced(data: bytes) -> Announced:
     """What announces a snapshot; any other bytes are a ValueError."""
     found = SNAPSHOT.fullmatch(data)
     if not found:
         raise ValueError(f"it announces no snapshot: {data[:40]!r}")
-    return Announced(int(found[1]), found[2].decode(), int(found[3]), found[4].decode(), found[5].decode())
+    return Announced(read_number(found[1]), found[2].decode(), read_number(found[3]), found[4].decode(), found[5].decode())
 
 
 def read_entry(data: bytes) -> Entry:
     """What an entry is; any other bytes are a ValueError."""
     head, *lines = data.split(b"\n")
     if found := CALLS.fullmatch(head):
-        session, sequence, count, position = map(int, found.groups()[:4])
+        session, sequence, count, position = map(read_number, found.groups()[:4])
         if not lines or count != len(lines) or b"" in lines:
             raise ValueError(f"{len(lines)} lines in the place of {count}, or an empty one")
         return Asked(session, sequence, position, found[5].decode(), lines)
@@ -135,9 +144,9 @@ def read_line(data: bytes) -> Entry:
     if data == SNAP:
         return Wanted()
     if found := END.fullmatch(data):
-        return Ended(int(found[1]))
+        return Ended(read_number(found[1]))
     if found := SETTINGS.fullmatch(data):
-        return Settings(*map(int, found.groups()))
+        return Settings(*map(read_number, found.groups()))
     if SNAPSHOT.fullmatch(data):
         return read_announced(data)
     raise ValueError(f"it begins with {data[:40]!r}")

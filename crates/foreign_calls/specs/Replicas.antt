@@ -6,11 +6,13 @@ use Rattle.replica.specs.Laws.{Applies}
 use Rattle.replica.specs.Log.{Log, Hosted}
 use Rattle.replica.specs.Replicas.{replica_of}
 use Rattle.replica.specs.declared.outcome.Applied.{Applied}
+use Rattle.replica.specs.Snapshots.{IsSnapshot, Restores, Fails, head_text}
 use Rattle.replica.specs.declared.outcome.ReplicaFault.{ReplicaFault}
+use Rattle.replica.specs.declared.snapshot.HeadFault.{HeadFault}
 use Rattle.stamped_table.specs.Stamped.{Stamped}
-use Rattle.foreign_numbers.specs.Replicas.{applied_numbers, fault_status}
+use Rattle.foreign_numbers.specs.Replicas.{applied_numbers, fault_status, head_status}
 use Rattle.foreign_numbers.specs.declared.replica.AppliedNumbers.{AppliedNumbers}
-use Rattle.foreign_numbers.specs.declared.status.TheConstants.{DONE, CLOSED, NOT_RISING, NO_ENTRY, OTHER_SETTINGS, MISSING, DIVERGED, NO_MEMORY, NOT_RECOVERABLE}
+use Rattle.foreign_numbers.specs.declared.status.TheConstants.{DONE, CLOSED, BAD_TEXT, NOT_RISING, NO_ENTRY, OTHER_SETTINGS, MISSING, DIVERGED, NO_MEMORY, NOT_RECOVERABLE}
 use Rattle.foreign_calls.specs.Held.{IsDoneOr}
 use Rattle.foreign_calls.specs.Records.{Has}
 
@@ -58,3 +60,27 @@ pub record TellsFound {X : Type 0} (found : Option X) (before after : X) (none s
 pub record TellsOf {X : Type 0} (held : Option Hosted) (part : Log → Option X) (before after : X) (none status : ℕ) : Type 0 where
   pub told : status ≢ CLOSED → Has held (λ h. TellsFound (part h.log) before after none status)
   pub closed : status ≡ CLOSED → after ≡ before
+
+-- a log was restored of the head at the front of the text, with the settings of before and no answers
+pub record IsRestored (text : List ℕ) (h h' : Hosted) (used : ℕ) : Type 0 where
+  pub restores : Restores text h.log.pid_max h.log.model h'.log used
+  pub answers : h'.answers ≡ []
+
+-- the head was refused for this reason, which has its status
+pub record IsUnread (text : List ℕ) (h : Hosted) (status : ℕ) : Type 0 where
+  pub fault : HeadFault
+  pub status_is : status ≡ head_status fault
+  pub fails : Fails text h.log.pid_max h.log.model fault
+
+-- a replica got what the head of a snapshot says, or the status says why not
+pub record ReadsHead (text : List ℕ) (h h' : Hosted) (before used status : ℕ) : Type 0 where
+  pub done : status ≡ DONE → IsRestored text h h' used
+  pub unread : status ≢ DONE → IsUnread text h status
+  pub same : status ≢ DONE → (h' ≡ h) × (used ≡ before)
+
+-- the same of what is held
+pub record ReadsHeld (text : List ℕ) (host host' : Option Hosted) (before used status : ℕ) : Type 0 where
+  pub reads : status ≢ CLOSED → Has host (λ h. Has host' (λ h'. ReadsHead text h h' before used status))
+  pub closed : (status ≡ CLOSED) ↔ (host ≡ None)
+  pub same : status ≡ CLOSED → (host' ≡ host) × (used ≡ before)
+  pub statuses : IsDoneOr status (CLOSED ∷ BAD_TEXT ∷ OTHER_SETTINGS ∷ NO_MEMORY ∷ [])

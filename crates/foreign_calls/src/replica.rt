@@ -1,14 +1,17 @@
 //! A replica of a log, which a caller holds beside its table.
-ghost use Rattle.std.specs.Prelude.{◌≡◌, [], ◌∷◌, Some, None, IfOk, is_some};
+ghost use Rattle.std.specs.Prelude.{◌≡◌, ◌↔◌, ◌⊎◌, [], ◌∷◌, Some, None, Err, IfOk, IfErr, OnOk, false, is_some};
 ghost use Rattle.replica.specs.Applied.{IsNew};
 ghost use Rattle.foreign_calls.specs.Held.{IsDoneOr, Takes};
-ghost use Rattle.foreign_calls.specs.Replicas.{AppliesEntry, TellsFound, digest_at, last_of};
+ghost use Rattle.replica.specs.Snapshots.{IsSnapshot, head_text};
+ghost use Rattle.foreign_calls.specs.Replicas.{AppliesEntry, ReadsHead, TellsFound, digest_at, last_of};
 
 use foreign_handles::handle::null;
 use foreign_handles::loose::Loose;
 use foreign_handles::replica_handle::ReplicaHandle;
-use foreign_numbers::replica::{AppliedNumbers, DigestBytes, status_of_entry, tell_applied};
-use foreign_numbers::status::{DONE, NO_SESSION, NOT_KEPT};
+use foreign_numbers::replica::{
+    AppliedNumbers, DigestBytes, status_of_entry, status_of_head, tell_applied,
+};
+use foreign_numbers::status::{DONE, NO_MEMORY, NO_SESSION, NOT_KEPT, OTHER_SETTINGS};
 use replica::host::Host;
 use replica::replica::Replica;
 use stamped_table::StampedTable;
@@ -114,4 +117,36 @@ pub fn tell_last(replica: &Replica, session: u64, sequence: &mut u64) -> u32
     };
     *sequence = last;
     DONE
+}
+
+/// The head of a snapshot of the log, if that has begun. The error is the status.
+pub fn head_of(alloc: Global, replica: &Replica) -> Result<Vec<u8>, u32>
+    ensures text { IfOk result (λ text. text.items ≡ head_text replica.now) }
+    ensures good { OnOk result (IsSnapshot replica.now) }
+    ensures not_begun { (result ≡ Err OTHER_SETTINGS) ↔ (replica.now.begun ≡ false) }
+    ensures err { IfErr result (λ status. (status ≡ OTHER_SETTINGS) ⊎ (status ≡ NO_MEMORY)) }
+{
+    if !replica.is_begun() {
+        return Err(OTHER_SETTINGS);
+    }
+    match replica.write_head(alloc) {
+        Ok(text) => Ok(text),
+        Err(_) => Err(NO_MEMORY),
+    }
+}
+
+/// Gives a replica what the head of a snapshot at the front of a text says, in the place of all that it knows. The
+/// result is the status.
+pub fn read_head(alloc: Global, host: &mut Host, text: &[u8], used: &mut usize) -> u32
+    ensures { ReadsHead text.now host.old host.new used.old used.new result }
+{
+    let settings = host.replica();
+    match Replica::read_head(alloc, text, settings.pid_max(), settings.model()) {
+        Ok((replica, length)) => {
+            *host = Host::of(alloc, replica);
+            *used = length;
+            DONE
+        }
+        Err(fault) => status_of_head(fault),
+    }
 }

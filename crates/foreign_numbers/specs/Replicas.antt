@@ -6,10 +6,12 @@ use Rattle.replica.specs.declared.outcome.Outcome.{Outcome}
 use Rattle.replica.specs.declared.outcome.Outcome.TheVariants.{Made, Repeated, Gone, Gap, Noted}
 use Rattle.replica.specs.declared.outcome.ReplicaFault.{ReplicaFault}
 use Rattle.replica.specs.declared.outcome.ReplicaFault.TheVariants.{NotRising, NoEntry, OtherSettings, Missing, Diverged, NoMemory, Torn}
+use Rattle.replica.specs.declared.snapshot.HeadFault.{HeadFault}
+use Rattle.replica.specs.declared.snapshot.HeadFault.TheVariants as head
 use Rattle.foreign_numbers.specs.declared.replica.AppliedNumbers.{AppliedNumbers}
 use Rattle.foreign_numbers.specs.declared.replica.LogNumbers.{LogNumbers}
 use Rattle.foreign_numbers.specs.CallNumbers.{switch_number}
-use Rattle.foreign_numbers.specs.declared.status.TheConstants.{NOT_RISING, NO_ENTRY, OTHER_SETTINGS, MISSING, DIVERGED, NO_MEMORY, NOT_RECOVERABLE}
+use Rattle.foreign_numbers.specs.declared.status.TheConstants.{BAD_TEXT, NOT_RISING, NO_ENTRY, OTHER_SETTINGS, MISSING, DIVERGED, NO_MEMORY, NOT_RECOVERABLE}
 
 -- what became of an entry
 abbrev pub outcome_number : Outcome → ℕ
@@ -45,3 +47,9 @@ fault_status Missing = MISSING
 fault_status Diverged = DIVERGED
 fault_status NoMemory = NO_MEMORY
 fault_status Torn = NOT_RECOVERABLE
+
+-- the status of a head that is not read
+abbrev pub head_status : HeadFault → ℕ
+head_status head.NoSnapshot = BAD_TEXT
+head_status head.OtherSettings = OTHER_SETTINGS
+head_status head.NoMemory = NO_MEMORY

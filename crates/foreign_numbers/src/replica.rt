@@ -1,13 +1,15 @@
 //! What is told of a replica and of its log, each in one struct.
 ghost use Rattle.std.specs.Prelude.{◌≡◌};
-ghost use Rattle.foreign_numbers.specs.Replicas.{applied_numbers, fault_status, log_numbers, outcome_number};
+ghost use Rattle.foreign_numbers.specs.Replicas.{applied_numbers, fault_status, head_status, log_numbers};
+ghost use Rattle.foreign_numbers.specs.Replicas.{outcome_number};
 
 use crate::choices::{ENTRY_GAP, ENTRY_GONE, ENTRY_MADE, ENTRY_NOTED, ENTRY_REPEATED};
 use crate::status::{
-    DIVERGED, MISSING, NO_ENTRY, NO_MEMORY, NOT_RECOVERABLE, NOT_RISING, OTHER_SETTINGS,
+    BAD_TEXT, DIVERGED, MISSING, NO_ENTRY, NO_MEMORY, NOT_RECOVERABLE, NOT_RISING, OTHER_SETTINGS,
 };
 use replica::outcome::{Applied, Outcome, ReplicaFault};
 use replica::replica::Replica;
+use replica::snapshot::HeadFault;
 
 /// What became of an entry of a log.
 ///
@@ -108,5 +110,16 @@ pub fn status_of_entry(fault: ReplicaFault) -> u32
         ReplicaFault::Diverged => DIVERGED,
         ReplicaFault::NoMemory => NO_MEMORY,
         ReplicaFault::Torn => NOT_RECOVERABLE,
+    }
+}
+
+/// The status of the head of a snapshot that is not read.
+pub fn status_of_head(fault: HeadFault) -> u32
+    ensures { result ≡ head_status fault }
+{
+    match fault {
+        HeadFault::NoSnapshot => BAD_TEXT,
+        HeadFault::OtherSettings => OTHER_SETTINGS,
+        HeadFault::NoMemory => NO_MEMORY,
     }
 }

@@ -2,19 +2,24 @@
 //!
 //! The table of a replica is a [`Pidtab`] beside it, which changes by [`pidtab_replica_apply`] alone. C keeps the lock:
 //! one function at a time works on a replica and its table.
-ghost use Rattle.std.specs.Prelude.{◌≡◌, ◌≢◌, [], ◌∷◌, None};
+ghost use Rattle.std.specs.Prelude.{◌≡◌, ◌≢◌, ◌↔◌, [], ◌∷◌, None, false};
 ghost use Rattle.replica.specs.Applied.{IsNew};
+ghost use Rattle.replica.specs.Snapshots.{IsSnapshot, head_text};
 ghost use Rattle.foreign_numbers.specs.Replicas.{log_numbers};
 ghost use Rattle.foreign_calls.specs.Held.{OnlyReads, Opens};
 ghost use Rattle.foreign_calls.specs.Records.{Has};
-ghost use Rattle.foreign_calls.specs.Replicas.{AppliesHeld, TellsOf, digest_at, last_of};
+ghost use Rattle.foreign_calls.specs.Replicas.{AppliesHeld, ReadsHeld, TellsOf, digest_at, last_of};
 ghost use Rattle.foreign_calls.specs.Rooms.{PutsText};
 
-use foreign_calls::replica::{PidtabReplica, apply_entry, boxed_host, tell_digest, tell_last};
+use foreign_calls::replica::{
+    PidtabReplica, apply_entry, boxed_host, head_of, read_head, tell_digest, tell_last,
+};
 use foreign_calls::table::Pidtab;
 use foreign_calls::texts::write_text;
 use foreign_numbers::replica::{AppliedNumbers, DigestBytes, LogNumbers, tell_log};
-use foreign_numbers::status::{BUSY, CLOSED, DONE, NO_MEMORY, NO_ROOM, NO_SESSION, NOT_KEPT};
+use foreign_numbers::status::{
+    BUSY, CLOSED, DONE, NO_MEMORY, NO_ROOM, NO_SESSION, NOT_KEPT, OTHER_SETTINGS,
+};
 use std::alloc::Global;
 
 /// Opens a replica of a log that has not begun, whose settings have this `pid_max` and this model. The table beside it
@@ -156,4 +161,53 @@ pub extern "C" fn pidtab_replica_last(
         return CLOSED;
     }
     tell_last(replica.handle.look().replica(), session, sequence)
+}
+
+/// Puts the head of a snapshot at the front of the room: what the replica knows of its log. `size` is the head's
+/// length. The text of the table stands behind it in a snapshot.
+///
+/// `CLOSED` where there is no open replica; then `OTHER_SETTINGS` where the log has not begun; `NO_MEMORY`; `NO_ROOM`
+/// where the head is longer than the room, and then too `size` is its length. It costs the sessions that are open.
+#[unsafe(no_mangle)]
+pub extern "C" fn pidtab_replica_write(
+    alloc: Global,
+    replica: &mut PidtabReplica,
+    room: &mut [u8],
+    size: &mut usize,
+) -> u32
+    ensures reads { OnlyReads replica.old.handle.held replica.new.handle.held result
+        (OTHER_SETTINGS ∷ NO_ROOM ∷ NO_MEMORY ∷ []) }
+    ensures text { PutsText replica.old.handle.held (λ h. head_text h.log)
+        room.old room.new size.old size.new result }
+    ensures good { result ≡ DONE → Has replica.old.handle.held (λ h. IsSnapshot h.log) }
+    ensures not_begun { (result ≡ OTHER_SETTINGS) ↔ Has replica.old.handle.held (λ h. h.log.begun ≡ false) }
+    ensures same_size { result ≡ OTHER_SETTINGS → size.new ≡ size.old }
+{
+    if !replica.is_open {
+        return CLOSED;
+    }
+    match head_of(alloc, replica.handle.look().replica()) {
+        Ok(text) => write_text(text.as_slice(), room, size),
+        Err(status) => status,
+    }
+}
+
+/// Gives the replica what the head of a snapshot at the front of the text says, in the place of all that it knows, and
+/// tells how many bytes the head has. The text of the table stands behind it.
+///
+/// `CLOSED` where there is no open replica; then `BAD_TEXT` where the text begins with no such head; `OTHER_SETTINGS`
+/// where the head is that of another log; `NO_MEMORY`. It costs the head, whatever stands behind it.
+#[unsafe(no_mangle)]
+pub extern "C" fn pidtab_replica_read(
+    alloc: Global,
+    replica: &mut PidtabReplica,
+    text: &[u8],
+    used: &mut usize,
+) -> u32
+    ensures { ReadsHeld text.now replica.old.handle.held replica.new.handle.held used.old used.new result }
+{
+    if !replica.is_open {
+        return CLOSED;
+    }
+    read_head(alloc, replica.handle.lend(), text, used)
 }

@@ -57,13 +57,20 @@ fn came_to(what: Result<Applied, ReplicaFault>, row: &Row) -> bool {
     }
 }
 
-/// The entry of a row does what the row says. Where it is refused, the answers before it stay.
+/// Whether the answers are those of the row; where it is refused, as many bytes as before.
+fn has_answers(host: &Host, row: &Row, before: usize) -> bool {
+    match row.2 {
+        Ok(_) => host.answers() == row.3,
+        Err(_) => host.answers().len() == before,
+    }
+}
+
+/// The entry of a row does what the row says.
 fn expect_row(rt: &(impl AllocGlobal + Abort), hosted: &mut Hosted, row: &Row) {
     let before = hosted.host.answers().len();
     let what = hosted.host.apply(&mut hosted.table, row.0, row.1);
     assert!(rt; came_to(what, row));
-    let answers = hosted.host.answers();
-    assert!(rt; if row.2.is_ok() { answers == row.3 } else { answers.len() == before });
+    assert!(rt; has_answers(&hosted.host, row, before));
     assert!(rt; has_digest(rt, hosted.host.replica(), row.4));
 }
 
