@@ -9,8 +9,14 @@ ghost use Rattle.replica.specs.Replicas.{answers_to, called, checked, made, made
 ghost use Rattle.replica.specs.Replicas.{replica_of, sequence_of, session_of, used};
 ghost use Rattle.replica.specs.Applied.{Enters, IsNew, IsStopped, Refuses};
 ghost use Rattle.replica.specs.Laws.{Applies};
+ghost use Rattle.std.specs.Prelude.{◌∷◌, []};
+ghost use Rattle.replica.specs.HeadReading.{log_of, words_of_settings, words_of_state};
 
+<<<<<<< HEAD
 use crate::entry::Entry;
+=======
+use crate::head::{Settings, State};
+>>>>>>> f4f1a6a1 (wip: the head of a snapshot)
 use crate::kept::{Kept, judge};
 use crate::lines::digest_behind;
 use crate::outcome::{Applied, Outcome, ReplicaFault};
@@ -437,5 +443,60 @@ impl Replica {
         let outcome = self.enter(table, position, &entry, bytes, answers)?;
         self.keep(position)?;
         Ok(applied_of(&entry, outcome))
+    }
+}
+
+// What a snapshot has of a replica.
+impl Replica {
+    /// The form of the log; 0 before it has begun.
+    pub fn form(&self) -> u64
+        ensures { result ≡ self.now.form }
+    {
+        self.form
+    }
+
+    /// The bound of all numbers of the table.
+    pub fn pid_max(&self) -> u64
+        ensures { result ≡ self.now.pid_max }
+    {
+        self.pid_max
+    }
+
+    /// The model by which lines are answered.
+    pub fn model(&self) -> u64
+        ensures { result ≡ self.now.model }
+    {
+        self.model
+    }
+
+    /// The open sessions.
+    pub(crate) fn sessions(&self) -> &Sessions
+        ensures { result.now ≡ self.now.sessions }
+    {
+        &self.sessions
+    }
+
+    /// A replica of the log that a snapshot has, whose digest is kept.
+    pub(crate) fn restored(
+        settings: Settings,
+        state: State,
+        sessions: Sessions,
+        kept: Kept,
+    ) -> Replica
+        requires { kept ≡ (state.position, state.digest) ∷ [] }
+        ensures { result ≡ log_of (words_of_settings settings) (words_of_state state) sessions }
+    {
+        Replica {
+            form: settings.form,
+            pid_max: settings.pid_max,
+            model: settings.model,
+            begun: true,
+            position: state.position,
+            sessions,
+            digest: state.digest,
+            kept,
+            calls: state.calls,
+            torn: false,
+        }
     }
 }
