@@ -1,5 +1,5 @@
 -- The head of a snapshot is read as it is written, and nothing else is read.
-use Rattle.std.proofs.Common.{◌≡◌, ℕ, ◌+◌, ◌-◌, ◌<◌, ◌≤◌, ◌^◌, true, false, List, [], ◌∷◌, ◌++◌, length, drop, codes, decimal, Option, Some, None, refl, sym, ap, ◌∙◌, subst, append_assoc, length-append, arith}
+use Rattle.std.proofs.Common.{◌≡◌, ℕ, ◌+◌, ◌-◌, ◌<◌, ◌≤◌, ◌^◌, true, false, List, [], ◌∷◌, ◌++◌, length, drop, codes, decimal, Option, Some, None, Result, Ok, Err, IfOk, IfErr, refl, sym, ap, ◌∙◌, subst, append_assoc, length-append, arith}
 use Rattle.std.proofs.lemmas.List.{drop_at, append_cancel_left}
 use Rattle.std.proofs.lemmas.Option.{none-some, same_Some, option_and_then_some}
 use Rattle.hex.specs.Hex.{IsBytes, encode_lower}
@@ -10,7 +10,8 @@ use Rattle.pid_script.specs.Script.{with_newline}
 use Rattle.replica.specs.Entries.{IsWord, spaced}
 use Rattle.replica.specs.Log.{Log}
 use Rattle.replica.specs.Snapshots.{Begins, Fails, IsSnapshot, Restores, has_settings, head_text, restored, sessions_text, settings_text, state_text}
-use Rattle.replica.specs.HeadReading.{count_field, digest_field, field, head_in, log_of, sessions_in, settings_in, state_in}
+use Rattle.replica.specs.HeadReading.{IsUnread, count_field, digest_field, field, head_in, log_of, sessions_in, settings_in, state_in}
+use Rattle.replica.specs.declared.snapshot.HeadFault.{HeadFault}
 use Rattle.replica.specs.declared.snapshot.HeadFault.TheVariants as fault
 use Rattle.replica.proofs.Told.{lacks_digits}
 use Rattle.replica.proofs.Fronts.{Fronts, ended_front, joined_front, labelled_front, rewritten}
@@ -31,10 +32,10 @@ unfolding count_field
 count_front = labelled_front (codes "sessions") (refl, (refl, (refl, (refl, (refl, (refl, (refl, (refl, tt)))))))) line_number_front
 
 -- the settings, and the rest of the first line
-abbrev Settings : Type 0
+abbrev pub Settings : Type 0
 Settings = ℕ × (ℕ × ℕ)
 
-abbrev State : Type 0
+abbrev pub State : Type 0
 State = ℕ × (List ℕ × (ℕ × ℕ))
 
 abbrev settings_words : Settings → List ℕ
@@ -88,10 +89,10 @@ same_log log begun = rw begun refl
 pub head_told : (log : Log) (rest : List ℕ) → IsSnapshot log → head_in (head_text log ++ rest) ≡ Some (restored log, rest)
 unfolding head_in
 head_told log rest good =
-    let s = settings_front.told (settings_of log) (state_words (state_of log) ++ (sessions_text log.sessions ++ rest)) (good.form, (good.pid_max, good.model)) in
+    let s = settings_front.told (settings_of log) (state_words (state_of log) ++ (sessions_text log.sessions ++ rest)) (good.sized.form, (good.sized.pid_max, good.sized.model)) in
     let t = state_front.told (state_of log) (sessions_text log.sessions ++ rest)
-    (good.position, ((good.size, good.bytes), (good.calls, few_word (length log.sessions) good.few))) in
-    let l = sessions_told log.sessions rest good.few good.numbers good.distinct in
+    (good.sized.position, ((good.sized.digest, good.sized.bytes), (good.sized.calls, few_word (length log.sessions) good.sessions.few))) in
+    let l = sessions_told log.sessions rest good.sessions in
     rw (head_parts log rest, s, t, l) (ap (λ g. Some (g, rest)) (same_log log good.begun))
 
 -- what is read is written so, and is what is restored of it
@@ -103,26 +104,26 @@ says_parts : (settings : Settings) (state : State) (found : List (ℕ × ℕ) ×
     → IsWord settings.0 × (IsWord settings.1.0 × IsWord settings.1.1) → back ≡ state_words state ++ lines
     → IsWord state.0 × (((length state.1.0 ≡ 32) × IsBytes state.1.0) × (IsWord state.1.1.0 × IsWord state.1.1.1))
     → AreSessions state.1.1.1 lines found → Says text (log_of settings state found.0, found.1)
-says_parts settings state found text back lines front fits behind more open =
+says_parts settings state found text back lines front fits behind more told =
     let log = log_of settings state found.0 in
-    let state_is : state ≡ state_of log = ap (λ n. (state.0, (state.1.0, (state.1.1.0, n)))) (sym open.count) in record {
+    let state_is : state ≡ state_of log = ap (λ n. (state.0, (state.1.0, (state.1.1.0, n)))) (sym told.count) in record {
       begins = record {
         good = record {
           begun = refl;
-          form = fits.0;
-          pid_max = fits.1.0;
-          model = fits.1.1;
-          position = more.0;
-          size = more.1.0.0;
-          bytes = more.1.0.1;
-          calls = more.1.1.0;
-          few = open.few;
-          numbers = open.fits;
-          distinct = open.distinct;
+          sized = record {
+            form = fits.0;
+            pid_max = fits.1.0;
+            model = fits.1.1;
+            position = more.0;
+            digest = more.1.0.0;
+            bytes = more.1.0.1;
+            calls = more.1.1.0;
+          };
+          sessions = told.may;
         };
         head =
             front ∙ ap (λ b. settings_words settings ++ b) (behind ∙ ap (λ s. state_words s ++ lines) state_is
-            ∙ ap (λ l. state_words (state_of log) ++ l) open.lines) ∙ sym (head_parts log found.1);
+            ∙ ap (λ l. state_words (state_of log) ++ l) told.lines) ∙ sym (head_parts log found.1);
       };
       same = refl;
     }
@@ -180,3 +181,45 @@ pub written_read : (text : List ℕ) (pid_max model : ℕ) (log new : Log) (rest
 written_read text pid_max model log new rest used begins read =
     let same = heads_tell log read.log rest (drop used text) begins.good read.begins.good (sym begins.head ∙ read.begins.head) in
     let heads : head_text log ≡ head_text read.log = ap head_text same.0 in (read.is ∙ sym same.0, read.whole ∙ ap length (sym heads))
+
+-- what is read of the parts of a text
+pub no_settings : (text : List ℕ) → None ≡ settings_in text → head_in text ≡ None
+unfolding head_in
+no_settings text none = rw (← none) refl
+
+pub no_state : (text : List ℕ) (s : Settings × List ℕ) → Some s ≡ settings_in text → None ≡ state_in s.1 → head_in text ≡ None
+unfolding head_in
+no_state text s settings none = rw (← settings, ← none) refl
+
+pub found_head : (text : List ℕ) (s : Settings × List ℕ) (t : State × List ℕ) (found : List (ℕ × ℕ) × List ℕ) → Some s ≡ settings_in text → Some t ≡ state_in s.1
+    → sessions_in t.0.1.1.1 t.1 ≡ Some found → head_in text ≡ Some (log_of s.0 t.0 found.0, found.1)
+unfolding head_in
+found_head text s t found settings state sessions = rw (← settings, ← state, sessions) refl
+
+no_sessions : (text : List ℕ) (s : Settings × List ℕ) (t : State × List ℕ) → Some s ≡ settings_in text → Some t ≡ state_in s.1
+    → sessions_in t.0.1.1.1 t.1 ≡ None → head_in text ≡ None
+unfolding head_in
+no_sessions text s t settings state none = rw (← settings, ← state, none) refl
+
+pub unread : (text : List ℕ) (pid_max model : ℕ) (s : Settings × List ℕ) (t : State × List ℕ) (f : HeadFault) → Some s ≡ settings_in text → Some t ≡ state_in s.1
+    → IsUnread (sessions_in t.0.1.1.1 t.1) f → Fails text pid_max model f
+unread text pid_max model s t fault.NoSnapshot settings state none = no_head text pid_max model (no_sessions text s t settings state none)
+unread text pid_max model s t fault.OtherSettings settings state never = absurd never
+unread text pid_max model s t fault.NoMemory settings state _ = tt
+
+-- what comes of a text that begins with a head
+pub read_again : (text : List ℕ) (pid_max model : ℕ) (log : Log) (rest : List ℕ) → Begins text log rest → (r : Result (Log × ℕ) HeadFault)
+    → IfOk r (λ p. Restores text pid_max model p.0 p.1) → IfOk r (λ p. (p.0 ≡ restored log) × (p.1 ≡ length (head_text log)))
+read_again text pid_max model log rest begins (Ok p) read = written_read text pid_max model log p.0 rest p.1 begins read
+read_again text pid_max model log rest begins (Err f) read = tt
+
+pub only_memory : (text : List ℕ) (pid_max model : ℕ) (log : Log) (rest : List ℕ) → Begins text log rest → has_settings pid_max model log ≡ true
+    → (r : Result (Log × ℕ) HeadFault) → IfErr r (Fails text pid_max model) → IfErr r (λ f. f ≡ fault.NoMemory)
+only_memory text pid_max model log rest begins fits (Ok p) _ = tt
+only_memory text pid_max model log rest begins fits (Err fault.NoSnapshot) never = absurd (never log rest begins.good begins.head)
+only_memory text pid_max model log rest begins fits (Err fault.OtherSettings) other =
+    let same = heads_tell log other.0 rest other.1 begins.good other.2.good (sym begins.head ∙ other.2.head) in
+    let settings : has_settings pid_max model log ≡ has_settings pid_max model other.0 = ap (has_settings pid_max model) same.0 in
+    let never : true ≡ false = sym fits ∙ settings ∙ other.3 in
+    cc never
+only_memory text pid_max model log rest begins fits (Err fault.NoMemory) _ = refl

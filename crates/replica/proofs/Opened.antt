@@ -11,8 +11,10 @@ use Rattle.pid_script.specs.Script.{with_newline}
 use Rattle.pid_script.proofs.Cuts.{by_test}
 use Rattle.pid_script.proofs.Words.{control, lacks_decimal}
 use Rattle.replica.specs.Replicas.{used, without}
-use Rattle.replica.specs.Snapshots.{IsSession, session_text, sessions_text}
-use Rattle.replica.specs.HeadReading.{line_number, opened, opened_more, session_in, sessions_in}
+use Rattle.replica.specs.Snapshots.{IsSession, MayBeOpen, session_text, sessions_text}
+use Rattle.replica.specs.declared.snapshot.HeadFault.{HeadFault}
+use Rattle.replica.specs.declared.snapshot.HeadFault.TheVariants as fault
+use Rattle.replica.specs.HeadReading.{IsUnread, line_number, opened, opened_more, session_in, sessions_in}
 use Rattle.replica.proofs.Told.{lacks_number}
 use Rattle.replica.proofs.Fronts.{Fronts, ended_front, joined_front, rewritten}
 
@@ -78,11 +80,11 @@ unfolding opened
 opened_says ss text p is =
     option_and_then_some _ (session_in text) p is (λ q here more.
     by_test (is_some (lookup (λ s. eqb q.0.0 s) ss))
-    (λ open. absurd (none-some p (rw open at more)))
-    (λ closed.
-    let same : (q.0 ∷ ss, q.1) ≡ p = same_Some (q.0 ∷ ss, q.1) p (rw closed at more) in
+    (λ found. absurd (none-some p (rw found at more)))
+    (λ other.
+    let same : (q.0 ∷ ss, q.1) ≡ p = same_Some (q.0 ∷ ss, q.1) p (rw other at more) in
     let a = session_front.says text q here in
-    subst (IsOpened ss text) same (record { session = q.0; after = refl; line = a.0; fits = a.1; others = absent q.0.0 ss closed })))
+    subst (IsOpened ss text) same (record { session = q.0; after = refl; line = a.0; fits = a.1; others = absent q.0.0 ss other })))
 
 -- the sessions and so many more
 more_told : (ss : List (ℕ × ℕ)) (n : ℕ) (rest : List ℕ) → AllByRecursion IsSession ss → IsDistinct nat_eq (keys_of ss)
@@ -121,20 +123,20 @@ more_says (suc n) ss text p fits distinct is =
     })
 
 -- the lines of all sessions are read as these
-pub sessions_told : (ss : List (ℕ × ℕ)) (rest : List ℕ) → length ss ≤ 4096 → AllByRecursion IsSession ss → IsDistinct nat_eq (keys_of ss)
-    → sessions_in (length ss) (sessions_text ss ++ rest) ≡ Some (ss, rest)
+pub sessions_told : (ss : List (ℕ × ℕ)) (rest : List ℕ) → MayBeOpen ss → sessions_in (length ss) (sessions_text ss ++ rest) ≡ Some (ss, rest)
 unfolding sessions_in
-sessions_told ss rest few fits distinct =
-    let within : nat_le (length ss) 4096 ≡ true = grind (arith, nat_tests) in
+sessions_told ss rest may =
+    let within : nat_le (length ss) 4096 ≡ true = few_is (length ss) may.few in
     let count : length ss + 0 ≡ length ss = omega arith in
-    rw within (ap (λ m. opened_more m [] (sessions_text ss ++ rest)) (sym count) ∙ more_told ss 0 rest fits distinct)
+    rw within (ap (λ m. opened_more m [] (sessions_text ss ++ rest)) (sym count) ∙ more_told ss 0 rest may.numbers may.distinct)
+  where
+    few_is : (n : ℕ) → n ≤ 4096 → nat_le n 4096 ≡ true
+    few_is n few = grind (arith, nat_tests)
 
 pub record AreSessions (count : ℕ) (lines : List ℕ) (p : List (ℕ × ℕ) × List ℕ) : Type 0 where
   pub count : length p.0 ≡ count
-  pub few : length p.0 ≤ 4096
   pub lines : lines ≡ sessions_text p.0 ++ p.1
-  pub fits : AllByRecursion IsSession p.0
-  pub distinct : IsDistinct nat_eq (keys_of p.0)
+  pub may : MayBeOpen p.0
 
 pub sessions_say : (count : ℕ) (lines : List ℕ) (p : List (ℕ × ℕ) × List ℕ) → sessions_in count lines ≡ Some p → AreSessions count lines p
 unfolding sessions_in IsDistinct
@@ -142,8 +144,11 @@ sessions_say count lines p is =
     by_test (nat_le count 4096)
     (λ within.
     let few : count ≤ 4096 = le_of count within in
-    let a = more_says count [] lines p tt tt (rw within at is) in
-    record { count = omega (arith, a.count); few = omega (arith, a.count, few); lines = a.lines; fits = a.fits; distinct = a.distinct })
+    let a = more_says count [] lines p tt tt (rw within at is) in record {
+      count = omega (arith, a.count);
+      lines = a.lines;
+      may = record { few = omega (arith, a.count, few); numbers = a.fits; distinct = a.distinct };
+    })
     (λ beyond. absurd (none-some p (rw beyond at is)))
   where
     le_of : (n : ℕ) → nat_le n 4096 ≡ true → n ≤ 4096
@@ -153,3 +158,21 @@ sessions_say count lines p is =
 pub too_many : (count : ℕ) (lines : List ℕ) → 4096 < count → sessions_in count lines ≡ None
 unfolding sessions_in
 too_many count lines many = let beyond : nat_le count 4096 ≡ false = grind (arith, nat_tests) in rw beyond refl
+
+-- as the sessions are opened, one after the other
+pub within : (count : ℕ) (lines : List ℕ) → count ≤ 4096 → sessions_in count lines ≡ opened_more count [] lines
+unfolding sessions_in
+within count lines few = let is : nat_le count 4096 ≡ true = grind (arith, nat_tests) in rw is refl
+
+pub more_step : (m n : ℕ) (ss : List (ℕ × ℕ)) (text : List ℕ) (p : List (ℕ × ℕ) × List ℕ) → m ≡ suc n → opened ss text ≡ Some p
+    → opened_more n p.0 p.1 ≡ opened_more m ss text
+more_step m n ss text p count is = sym (rw (count, is) refl)
+
+pub more_none : (m n : ℕ) (ss : List (ℕ × ℕ)) (text : List ℕ) → m ≡ suc n → (f : HeadFault) → IsUnread (opened ss text) f
+    → IsUnread (opened_more m ss text) f
+more_none m n ss text count fault.NoSnapshot none = rw (count, none) refl
+more_none m n ss text count fault.OtherSettings never = never
+more_none m n ss text count fault.NoMemory _ = tt
+
+pub one_more : (ss : List (ℕ × ℕ)) (text : List ℕ) (p : List (ℕ × ℕ) × List ℕ) → opened ss text ≡ Some p → length p.0 ≡ length ss + 1
+one_more ss text p is = let a = opened_says ss text p is in omega (arith, ap length a.after)

@@ -36,20 +36,27 @@ head_text log = with_newline (spaced (settings_text log ∷ state_text log ∷ [
 abbrev pub IsSession : ℕ × ℕ → Type 0
 IsSession session = IsWord session.0 × IsWord session.1
 
--- a log of which there may be a snapshot: it has begun, its numbers have 64 bits, its digest has 32 bytes, and at most 4,096 sessions
--- are open, each once
-pub record IsSnapshot (log : Log) : Type 0 where
-  pub begun : log.begun ≡ true
+-- the numbers of a log have 64 bits, and its digest has 32 bytes
+pub record IsSized (log : Log) : Type 0 where
   pub form : IsWord log.form
   pub pid_max : IsWord log.pid_max
   pub model : IsWord log.model
   pub position : IsWord log.position
-  pub size : length log.digest ≡ 32
+  pub digest : length log.digest ≡ 32
   pub bytes : IsBytes log.digest
   pub calls : IsWord log.calls
-  pub few : length log.sessions ≤ 4096
-  pub numbers : AllByRecursion IsSession log.sessions
-  pub distinct : IsDistinct nat_eq (keys_of log.sessions)
+
+-- sessions that may be open together: at most 4,096, each once
+pub record MayBeOpen (sessions : List (ℕ × ℕ)) : Type 0 where
+  pub few : length sessions ≤ 4096
+  pub numbers : AllByRecursion IsSession sessions
+  pub distinct : IsDistinct nat_eq (keys_of sessions)
+
+-- a log of which there may be a snapshot: one that has begun
+pub record IsSnapshot (log : Log) : Type 0 where
+  pub begun : log.begun ≡ true
+  pub sized : IsSized log
+  pub sessions : MayBeOpen log.sessions
 
 -- what is restored of a log: of the digests that it has kept there is the last one alone
 abbrev pub restored : Log → Log

@@ -11,6 +11,7 @@ ghost use Rattle.replica.specs.Applied.{Enters, IsNew, IsStopped, Refuses};
 ghost use Rattle.replica.specs.Laws.{Applies};
 ghost use Rattle.std.specs.Prelude.{◌∷◌, []};
 ghost use Rattle.replica.specs.HeadReading.{log_of, words_of_settings, words_of_state};
+ghost use Rattle.replica.specs.Snapshots.{IsSized};
 
 <<<<<<< HEAD
 use crate::entry::Entry;
@@ -474,6 +475,13 @@ impl Replica {
         ensures { result.now ≡ self.now.sessions }
     {
         &self.sessions
+    }
+
+    /// Its numbers have 64 bits, and its digest has 32 bytes.
+    pub(crate) fn show_sizes(&self)
+        ensures { IsSized self.now }
+    {
+        let _form = self.form;
     }
 
     /// A replica of the log that a snapshot has, whose digest is kept.

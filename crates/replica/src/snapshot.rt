@@ -11,10 +11,11 @@
 //!
 //! Numbers are decimal, below 2^64, without a leading zero, and the digest has 64 hexadecimal digits with small
 //! letters. [`crate::snapshot_laws`] has that what is written is read.
-ghost use Rattle.std.specs.Prelude.{◌≡◌, ◌++◌, ◌∷◌, ◌<◌, ◌==◌, ◌&&◌, ◌||◌, [], length, IfErr, IfOk, OnOk, Some};
+ghost use Rattle.std.specs.Prelude.{◌≡◌, ◌++◌, ◌∷◌, ◌<◌, ◌==◌, ◌&&◌, ◌||◌, [], length, IfErr, IfOk, OnOk, Some, true};
 ghost use Rattle.pid_script.specs.Script.{with_newline};
 ghost use Rattle.replica.specs.HeadReading.{IsUnread, opened, sessions_in};
-ghost use Rattle.replica.specs.Snapshots.{Fails, Restores, head_text, settings_text, state_text};
+ghost use Rattle.replica.specs.Snapshots.{Fails, IsSnapshot, Restores, head_text, settings_text};
+ghost use Rattle.replica.specs.Snapshots.{state_text};
 
 use crate::head::{Settings, read_session, read_settings, read_state};
 use crate::kept::Kept;
@@ -123,12 +124,14 @@ fn kept_at(alloc: Global, position: u64, digest: [u8; 32]) -> Result<Kept, Alloc
 }
 
 impl Replica {
-    /// Writes the head of a snapshot of the log up to the replica's position. Two replicas that know the same of their
-    /// logs write the same, whatever digests they have kept. The error is want of memory. The cost is linear in the
-    /// open sessions.
+    /// Writes the head of a snapshot of the log up to the replica's position, which [`Replica::read_head`] reads if the
+    /// log has begun. Two replicas that know the same of their logs write the same, whatever digests they have kept. The
+    /// error is want of memory. The cost is linear in the open sessions.
     pub fn write_head(&self, alloc: Global) -> Result<Vec<u8>, AllocError>
-        ensures { IfOk result (λ text. text.items ≡ head_text self.now) }
+        ensures text { IfOk result (λ text. text.items ≡ head_text self.now) }
+        ensures good { OnOk result (self.now.begun ≡ true → IsSnapshot self.now) }
     {
+        self.show_sizes();
         let mut text = Vec::new(alloc);
         push_settings(&mut text, self)?;
         text.extend_from_slice(b" ")?;

@@ -13,19 +13,38 @@ pub fn heads_tell_logs()
         → head_text a ++ behind_a ≡ head_text b ++ behind_b → (restored a ≡ restored b) × (behind_a ≡ behind_b) }
 {}
 
-/// What is written of a replica is read as that replica by a host with its settings, whatever stands behind. The only
-/// error is `NoMemory`.
-pub fn what_is_written_is_read(
+/// A text that begins with the head of a log with these settings is read as that log. The only error is `NoMemory`.
+pub fn head_is_read_as_its_log(
     alloc: Global,
-    replica: &Replica,
     text: &[u8],
     pid_max: u64,
     model: u64,
 ) -> Result<(Replica, usize), HeadFault>
-    requires written { (rest : List ℕ) × Begins text.now replica.now rest }
-    requires settings { has_settings pid_max model replica.now ≡ true }
+    ensures ok { (log : Log) (rest : List ℕ) → Begins text.now log rest → has_settings pid_max model log ≡ true
+        → IfOk result (λ r. (r.0 ≡ restored log) × (r.1 ≡ length (head_text log))) }
+    ensures err { (log : Log) (rest : List ℕ) → Begins text.now log rest → has_settings pid_max model log ≡ true
+        → IfErr result (λ fault. fault ≡ HeadFault.NoMemory) }
+{
+    Replica::read_head(alloc, text, pid_max, model)
+}
+
+/// What is written of a replica whose log has begun, in form 1 or 2, is read as that replica by a host with its
+/// settings, whatever stands behind. The only error is `NoMemory`.
+pub fn what_is_written_is_read(
+    alloc: Global,
+    replica: &Replica,
+    behind: &[u8],
+) -> Result<(Replica, usize), HeadFault>
+    requires begun { replica.now.begun ≡ true }
+    requires form { has_settings replica.now.pid_max replica.now.model replica.now ≡ true }
     ensures ok { IfOk result (λ r. (r.0 ≡ restored replica.now) × (r.1 ≡ length (head_text replica.now))) }
     ensures err { IfErr result (λ fault. fault ≡ HeadFault.NoMemory) }
 {
-    Replica::read_head(alloc, text, pid_max, model)
+    let Ok(mut text) = replica.write_head(alloc) else {
+        return Err(HeadFault::NoMemory);
+    };
+    if text.extend_from_slice(behind).is_err() {
+        return Err(HeadFault::NoMemory);
+    }
+    head_is_read_as_its_log(alloc, text.as_slice(), replica.pid_max(), replica.model())
 }
