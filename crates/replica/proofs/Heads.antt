@@ -1,5 +1,5 @@
 -- The head of a snapshot is read as it is written, and nothing else is read.
-use Rattle.std.proofs.Common.{◌≡◌, ℕ, ◌+◌, ◌-◌, ◌<◌, ◌≤◌, ◌^◌, true, false, List, [], ◌∷◌, ◌++◌, length, drop, codes, decimal, Option, Some, None, Result, Ok, Err, IfOk, IfErr, refl, sym, ap, ◌∙◌, subst, append_assoc, length-append, arith}
+use Rattle.std.proofs.Common.{◌≡◌, ℕ, ◌+◌, ◌-◌, ◌<◌, ◌≤◌, ◌^◌, true, false, List, [], ◌∷◌, ◌++◌, length, drop, codes, decimal, Option, Some, None, Result, Ok, Err, IfOk, IfErr, IsErrAnd, refl, sym, ap, ◌∙◌, subst, append_assoc, length-append, arith}
 use Rattle.std.proofs.lemmas.List.{drop_at, append_cancel_left}
 use Rattle.std.proofs.lemmas.Option.{none-some, same_Some, option_and_then_some}
 use Rattle.hex.specs.Hex.{IsBytes, encode_lower}
@@ -70,9 +70,26 @@ settings_of log = (log.form, (log.pid_max, log.model))
 abbrev state_of : Log → State
 state_of log = (log.position, (log.digest, (log.calls, length log.sessions)))
 
+settings_parts : (a f b p c m x : List ℕ) → (a ++ 32 ∷ (f ++ 32 ∷ (b ++ 32 ∷ (p ++ 32 ∷ (c ++ 32 ∷ m))))) ++ 32 ∷ x
+    ≡ ((a ++ 32 ∷ (f ++ 32 ∷ [])) ++ ((b ++ 32 ∷ (p ++ 32 ∷ [])) ++ (c ++ 32 ∷ (m ++ 32 ∷ [])))) ++ x
+settings_parts a f b p c m x = simp append_assoc
+
+state_parts : (a q b d c k e s x : List ℕ) → (a ++ 32 ∷ (q ++ 32 ∷ (b ++ 32 ∷ (d ++ 32 ∷ (c ++ 32 ∷ (k ++ 32 ∷ (e ++ 32 ∷ s))))))) ++ 10 ∷ x
+    ≡ ((a ++ 32 ∷ (q ++ 32 ∷ [])) ++ ((b ++ 32 ∷ (d ++ 32 ∷ [])) ++ ((c ++ 32 ∷ (k ++ 32 ∷ [])) ++ (e ++ 32 ∷ (s ++ 10 ∷ []))))) ++ x
+state_parts a q b d c k e s x = simp append_assoc
+
+line_parts : (s t x : List ℕ) → ((s ++ 32 ∷ t) ++ 10 ∷ []) ++ x ≡ s ++ 32 ∷ (t ++ 10 ∷ x)
+line_parts s t x = simp append_assoc
+
 first_line : (log : Log) (rest : List ℕ)
     → with_newline (spaced (settings_text log ∷ state_text log ∷ [])) ++ rest ≡ settings_words (settings_of log) ++ (state_words (state_of log) ++ rest)
-first_line log rest = simp append_assoc
+first_line log rest =
+    line_parts (settings_text log) (state_text log) rest
+    ∙ ap (λ l. settings_text log ++ 32 ∷ l)
+    (state_parts (codes "position") (decimal log.position) (codes "digest") (encode_lower log.digest) (codes "calls") (decimal log.calls) (codes "sessions")
+    (decimal (length log.sessions)) rest)
+    ∙ settings_parts (codes "pidtab-snapshot") (decimal log.form) (codes "pid_max") (decimal log.pid_max) (codes "model") (decimal log.model)
+    (state_words (state_of log) ++ rest)
 
 head_parts : (log : Log) (rest : List ℕ)
     → head_text log ++ rest ≡ settings_words (settings_of log) ++ (state_words (state_of log) ++ (sessions_text log.sessions ++ rest))
@@ -106,7 +123,7 @@ says_parts : (settings : Settings) (state : State) (found : List (ℕ × ℕ) ×
     → AreSessions state.1.1.1 lines found → Says text (log_of settings state found.0, found.1)
 says_parts settings state found text back lines front fits behind more told =
     let log = log_of settings state found.0 in
-    let state_is : state ≡ state_of log = ap (λ n. (state.0, (state.1.0, (state.1.1.0, n)))) (sym told.count) in record {
+    let state_is : state ≡ state_of log = ap (λ n. (state.0, (state.1.0, (state.1.1.0, n)))) (sym told.number) in record {
       begins = record {
         good = record {
           begun = refl;
@@ -123,7 +140,7 @@ says_parts settings state found text back lines front fits behind more told =
         };
         head =
             front ∙ ap (λ b. settings_words settings ++ b) (behind ∙ ap (λ s. state_words s ++ lines) state_is
-            ∙ ap (λ l. state_words (state_of log) ++ l) told.lines) ∙ sym (head_parts log found.1);
+            ∙ ap (λ l. state_words (state_of log) ++ l) told.text) ∙ sym (head_parts log found.1);
       };
       same = refl;
     }
@@ -223,3 +240,21 @@ only_memory text pid_max model log rest begins fits (Err fault.OtherSettings) ot
     let never : true ≡ false = sym fits ∙ settings ∙ other.3 in
     cc never
 only_memory text pid_max model log rest begins fits (Err fault.NoMemory) _ = refl
+
+-- an error that is handed on
+pub failed : {A E : Type 0} (P : E → Type 0) (r : Result A E) (e : E) → IsErrAnd r (λ x. x ≡ e) → P e → IfErr r P
+failed P (Ok x) e never here = tt
+failed P (Err x) e same here = subst P (sym same) here
+
+-- the rest of a first line, as it is written
+pub state_written : (log : Log) (old a b c d : List ℕ) → a ≡ old ++ (codes "position " ++ decimal log.position) → b ≡ a ++ (codes " digest " ++ encode_lower log.digest)
+    → c ≡ b ++ (codes " calls " ++ decimal log.calls) → d ≡ c ++ (codes " sessions " ++ decimal (length log.sessions)) → d ≡ old ++ state_text log
+state_written log old a b c d first second third fourth =
+    fourth ∙ ap (λ l. l ++ (codes " sessions " ++ decimal (length log.sessions))) (third ∙ ap (λ l. l ++ (codes " calls " ++ decimal log.calls))
+    (second ∙ ap (λ l. l ++ (codes " digest " ++ encode_lower log.digest)) first))
+    ∙ joined old (codes "position " ++ decimal log.position) (codes " digest ") (encode_lower log.digest) (codes " calls ") (decimal log.calls)
+    (codes " sessions " ++ decimal (length log.sessions))
+    ∙ ap (λ l. old ++ l) (append_assoc (codes "position ") (decimal log.position) _)
+  where
+    joined : (old p a b c d e : List ℕ) → (((old ++ p) ++ (a ++ b)) ++ (c ++ d)) ++ e ≡ old ++ (p ++ (a ++ (b ++ (c ++ (d ++ e)))))
+    joined old p a b c d e = simp append_assoc

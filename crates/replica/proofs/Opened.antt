@@ -134,8 +134,8 @@ sessions_told ss rest may =
     few_is n few = grind (arith, nat_tests)
 
 pub record AreSessions (count : ℕ) (lines : List ℕ) (p : List (ℕ × ℕ) × List ℕ) : Type 0 where
-  pub count : length p.0 ≡ count
-  pub lines : lines ≡ sessions_text p.0 ++ p.1
+  pub number : length p.0 ≡ count
+  pub text : lines ≡ sessions_text p.0 ++ p.1
   pub may : MayBeOpen p.0
 
 pub sessions_say : (count : ℕ) (lines : List ℕ) (p : List (ℕ × ℕ) × List ℕ) → sessions_in count lines ≡ Some p → AreSessions count lines p
@@ -145,8 +145,8 @@ sessions_say count lines p is =
     (λ within.
     let few : count ≤ 4096 = le_of count within in
     let a = more_says count [] lines p tt tt (rw within at is) in record {
-      count = omega (arith, a.count);
-      lines = a.lines;
+      number = omega (arith, a.count);
+      text = a.lines;
       may = record { few = omega (arith, a.count, few); numbers = a.fits; distinct = a.distinct };
     })
     (λ beyond. absurd (none-some p (rw beyond at is)))
@@ -176,3 +176,11 @@ more_none m n ss text count fault.NoMemory _ = tt
 
 pub one_more : (ss : List (ℕ × ℕ)) (text : List ℕ) (p : List (ℕ × ℕ) × List ℕ) → opened ss text ≡ Some p → length p.0 ≡ length ss + 1
 one_more ss text p is = let a = opened_says ss text p is in omega (arith, ap length a.after)
+
+-- one more session is opened
+pub opened_is : (session last : ℕ) (ss new : List (ℕ × ℕ)) (lines rest : List ℕ) (found : Option ℕ) → Some ((session, last), rest) ≡ session_in lines
+    → found ≡ lookup (λ s. eqb session s) ss → is_some found ≡ false → length ss < 4096 → new ≡ used session last ss → opened ss lines ≡ Some (new, rest)
+unfolding opened
+opened_is session last ss new lines rest found is here none room put =
+    let other : is_some (lookup (λ s. eqb session s) ss) ≡ false = ap is_some (sym here) ∙ none in
+    rw (← is, other) (ap (λ l. Some (l, rest)) (sym (put ∙ used_new session last ss other room)))

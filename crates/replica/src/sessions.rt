@@ -1,11 +1,10 @@
 //! Sessions that are open.
 ghost use Rattle.std.specs.Prelude.{◌≡◌, ◌==◌, OnOk, OnErr, IfOk, IsSome, IsOk, [], option_copied};
-ghost use Rattle.std.specs.Prelude.{◌++◌, ◌≤◌, length, nat_eq};
-ghost use Rattle.std.specs.List.{AllByRecursion, IsDistinct};
-ghost use Rattle.std.specs.Map.{keys_of, lookup};
+ghost use Rattle.std.specs.Prelude.{◌++◌, length};
+ghost use Rattle.std.specs.Map.{lookup};
 ghost use Rattle.pid_script.specs.Script.{with_newline};
 ghost use Rattle.replica.specs.Replicas.{used, without};
-ghost use Rattle.replica.specs.Snapshots.{IsSession, session_text, sessions_text};
+ghost use Rattle.replica.specs.Snapshots.{MayBeOpen, session_text, sessions_text};
 
 use lru::LruCache;
 use pid_script::list::push_field;
@@ -83,9 +82,7 @@ impl Sessions {
     }
     /// How many are open.
     pub(crate) fn count(&self) -> u64
-        ensures count { result ≡ length self.now }
-        ensures few { length self.now ≤ 4096 }
-        ensures distinct { IsDistinct nat_eq (keys_of self.now) }
+        ensures { result ≡ length self.now }
     {
         self.open.len() as u64
     }
@@ -94,8 +91,9 @@ impl Sessions {
     /// memory, the text has some of them.
     pub(crate) fn push_lines(&self, text: &mut Vec<u8>) -> Result<(), AllocError>
         ensures text { OnOk result (text.new.items ≡ text.old.items ++ sessions_text self.now) }
-        ensures numbers { OnOk result (AllByRecursion IsSession self.now) }
+        ensures good { OnOk result (MayBeOpen self.now) }
     {
+        let _count = self.open.len();
         let mut entries = self.open.iter();
         while let Some((session, last)) = entries.next_back() {
             push_session(text, *session, *last)?;

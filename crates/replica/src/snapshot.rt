@@ -11,8 +11,9 @@
 //!
 //! Numbers are decimal, below 2^64, without a leading zero, and the digest has 64 hexadecimal digits with small
 //! letters. [`crate::snapshot_laws`] has that what is written is read.
-ghost use Rattle.std.specs.Prelude.{◌≡◌, ◌++◌, ◌∷◌, ◌<◌, ◌==◌, ◌&&◌, ◌||◌, [], length, IfErr, IfOk, OnOk, Some, true};
-ghost use Rattle.pid_script.specs.Script.{with_newline};
+ghost use Rattle.std.specs.Prelude.{◌≡◌, ◌++◌, ◌∷◌, ◌<◌, ◌==◌, ◌&&◌, ◌||◌, [], codes, length, true};
+ghost use Rattle.std.specs.Prelude.{IfErr, IfOk, OnOk, Some};
+ghost use Rattle.hex.specs.Hex.{encode_lower};
 ghost use Rattle.replica.specs.HeadReading.{IsUnread, opened, sessions_in};
 ghost use Rattle.replica.specs.Snapshots.{Fails, IsSnapshot, Restores, head_text, settings_text};
 ghost use Rattle.replica.specs.Snapshots.{state_text};
@@ -52,15 +53,22 @@ fn push_settings(text: &mut Vec<u8>, replica: &Replica) -> Result<(), AllocError
     push_field(text, b" model ", replica.model())
 }
 
+/// Appends the digest behind its label.
+fn push_digest(text: &mut Vec<u8>, alloc: Global, digest: &[u8]) -> Result<(), AllocError>
+    ensures { OnOk result (text.new.items ≡ text.old.items ++ (codes " digest " ++ encode_lower digest.now)) }
+{
+    text.extend_from_slice(b" digest ")?;
+    text.extend_from_slice(encode(alloc, digest)?.as_bytes())
+}
+
 /// Appends what the first line has behind the settings.
 fn push_state(text: &mut Vec<u8>, alloc: Global, replica: &Replica) -> Result<(), AllocError>
     ensures { OnOk result (text.new.items ≡ text.old.items ++ state_text replica.now) }
 {
     push_field(text, b"position ", replica.position())?;
-    text.extend_from_slice(b" digest ")?;
-    text.extend_from_slice(encode(alloc, replica.digest())?.as_bytes())?;
+    push_digest(text, alloc, replica.digest())?;
     push_field(text, b" calls ", replica.calls())?;
-    push_field(text, b" sessions ", replica.sessions().count())
+    push_field(text, b" sessions ", replica.session_count())
 }
 
 /// Whether a log has these settings, in a form that is known.
@@ -86,10 +94,10 @@ fn open_next<'a>(lines: &'a [u8], sessions: &mut Sessions) -> Result<&'a [u8], H
     if sessions.last(session).is_some() {
         return Err(HeadFault::NoSnapshot);
     }
-    if sessions.put(session, last).is_err() {
-        return Err(HeadFault::NoMemory);
+    match sessions.put(session, last) {
+        Ok(()) => Ok(rest),
+        Err(_) => Err(HeadFault::NoMemory),
     }
-    Ok(rest)
 }
 
 /// Opens the sessions of so many lines, and answers what stands behind them. The error is `NoSnapshot` where there are

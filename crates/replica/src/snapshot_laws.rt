@@ -43,8 +43,8 @@ pub fn what_is_written_is_read(
     let Ok(mut text) = replica.write_head(alloc) else {
         return Err(HeadFault::NoMemory);
     };
-    if text.extend_from_slice(behind).is_err() {
+    let Ok(()) = text.extend_from_slice(behind) else {
         return Err(HeadFault::NoMemory);
-    }
+    };
     head_is_read_as_its_log(alloc, text.as_slice(), replica.pid_max(), replica.model())
 }
