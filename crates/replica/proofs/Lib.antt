@@ -9,3 +9,7 @@ pub mod Parted
 pub mod Told
 pub mod Whole
 pub mod Written
+pub mod Fronts
+pub mod Digests
+pub mod Opened
+pub mod Heads

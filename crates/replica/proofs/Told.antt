@@ -20,7 +20,7 @@ pub same_number : (m n : ℕ) → eqb m n ≡ true → m ≡ n
 same_number m n is = grind (arith)
 
 -- a word that passes a test is read as itself
-passes : (test : List ℕ → Bool) (most : ℕ) → ((w : List ℕ) → test w ≡ true → length w ≤ most)
+pub passes : (test : List ℕ → Bool) (most : ℕ) → ((w : List ℕ) → test w ≡ true → length w ≤ most)
     → Reads (passed test) (λ w. w) (λ w. test w ≡ true) most
 passes test most short = record {
   told = λ w holds. (rw holds, short w holds);
@@ -30,7 +30,7 @@ passes test most short = record {
       (λ fails. absurd (none-some x (rw fails at is)));
 }
 
-word_short : (word w : List ℕ) → is_word word w ≡ true → length w ≤ length word
+pub word_short : (word w : List ℕ) → is_word word w ≡ true → length w ≤ length word
 word_short word w holds = omega (arith, ap length ((bytes_eq-Decides w word).0 holds))
 
 hex_short : (n : ℕ) (w : List ℕ) → is_hex n w ≡ true → length w ≤ n

@@ -5,3 +5,5 @@ pub mod Log
 pub mod Reading
 pub mod Replicas
 pub mod Told
+pub mod Snapshots
+pub mod HeadReading

@@ -9,6 +9,7 @@
 mod answer;
 pub mod entry;
 pub mod entry_laws;
+mod head;
 pub mod host;
 mod kept;
 pub mod laws;
@@ -17,5 +18,7 @@ pub mod outcome;
 pub mod read;
 pub mod replica;
 mod sessions;
+pub mod snapshot;
+pub mod snapshot_laws;
 mod words;
 pub mod write;

@@ -26,7 +26,7 @@ struct Head<'a> {
 }
 
 /// What stands behind the word and a space.
-fn read_behind<'a>(words: &'a [u8], word: &[u8]) -> Option<&'a [u8]>
+pub(crate) fn read_behind<'a>(words: &'a [u8], word: &[u8]) -> Option<&'a [u8]>
     ensures { option_map (λ rest. (word.now, rest.now)) result ≡ before (passed (is_word word.now)) words.now }
 {
     let (first, rest) = split_word(words)?;

@@ -2,15 +2,20 @@
 ghost use Rattle.std.specs.Prelude.{◌≡◌, ◌++◌, ◌==◌, Err, true, IfOk, IfErr, OnOk, OnErr, IsSome, if◌then◌else◌};
 ghost use Rattle.std.specs.Map.{lookup};
 ghost use Rattle.sha2.specs.Sha256.{sha256};
-ghost use Rattle.replica.specs.Entries.{entry_text};
+ghost use Rattle.replica.specs.Entries.{IsWord, entry_text};
 ghost use Rattle.replica.specs.Reading.{lines_in};
 ghost use Rattle.replica.specs.Told.{entry_of};
 ghost use Rattle.replica.specs.Replicas.{answers_to, called, checked, made, made_answers, may_come, outcome_of};
 ghost use Rattle.replica.specs.Replicas.{replica_of, sequence_of, session_of, used};
 ghost use Rattle.replica.specs.Applied.{Enters, IsNew, IsStopped, Refuses};
 ghost use Rattle.replica.specs.Laws.{Applies};
+ghost use Rattle.std.specs.Prelude.{◌∷◌, [], length};
+ghost use Rattle.hex.specs.Hex.{IsBytes};
+ghost use Rattle.replica.specs.HeadReading.{log_of, words_of_settings, words_of_state};
+ghost use Rattle.replica.specs.Snapshots.{IsSized};
 
 use crate::entry::Entry;
+use crate::head::{Settings, State};
 use crate::kept::{Kept, judge};
 use crate::lines::digest_behind;
 use crate::outcome::{Applied, Outcome, ReplicaFault};
@@ -437,5 +442,80 @@ impl Replica {
         let outcome = self.enter(table, position, &entry, bytes, answers)?;
         self.keep(position)?;
         Ok(applied_of(&entry, outcome))
+    }
+}
+
+/// The numbers have 64 bits, and the digest has 32 bytes.
+fn show_types(
+    form: u64,
+    pid_max: u64,
+    model: u64,
+    position: u64,
+    digest: [u8; 32],
+    calls: u64,
+)
+    ensures form { IsWord form }
+    ensures pid_max { IsWord pid_max }
+    ensures model { IsWord model }
+    ensures position { IsWord position }
+    ensures digest { length digest ≡ 32 }
+    ensures bytes { IsBytes digest }
+    ensures calls { IsWord calls }
+{}
+
+// What a snapshot has of a replica.
+impl Replica {
+    /// The open sessions.
+    pub(crate) fn sessions(&self) -> &Sessions
+        ensures { result.now ≡ self.now.sessions }
+    {
+        &self.sessions
+    }
+
+    /// How many sessions are open.
+    pub(crate) fn session_count(&self) -> u64
+        ensures { result ≡ length self.now.sessions }
+    {
+        self.sessions.count()
+    }
+
+    /// Its numbers have 64 bits, and its digest has 32 bytes.
+    pub(crate) fn show_sizes(&self)
+        ensures { IsSized self.now }
+    {
+        let digest = self.digest;
+        show_types(
+            self.form,
+            self.pid_max,
+            self.model,
+            self.position,
+            digest,
+            self.calls,
+        );
+    }
+
+    /// A replica of the log that a snapshot has, whose digest is kept.
+    pub(crate) fn restored(
+        settings: Settings,
+        state: State,
+        sessions: Sessions,
+        kept: Kept,
+    ) -> Replica
+        requires { kept ≡ (state.position, state.digest) ∷ [] }
+        ensures { result ≡ log_of (words_of_settings settings) (words_of_state state) sessions }
+    {
+        let digest = state.digest;
+        Replica {
+            form: settings.form,
+            pid_max: settings.pid_max,
+            model: settings.model,
+            begun: true,
+            position: state.position,
+            sessions,
+            digest,
+            kept,
+            calls: state.calls,
+            torn: false,
+        }
     }
 }

@@ -1,9 +1,13 @@
 //! Sessions that are open.
 ghost use Rattle.std.specs.Prelude.{◌≡◌, ◌==◌, OnOk, OnErr, IfOk, IsSome, IsOk, [], option_copied};
+ghost use Rattle.std.specs.Prelude.{◌++◌, length};
 ghost use Rattle.std.specs.Map.{lookup};
+ghost use Rattle.pid_script.specs.Script.{with_newline};
 ghost use Rattle.replica.specs.Replicas.{used, without};
+ghost use Rattle.replica.specs.Snapshots.{MayBeOpen, session_text, sessions_text};
 
 use lru::LruCache;
+use pid_script::list::push_field;
 use std::alloc::{AllocError, Global};
 use std::marker::Model;
 use std::num::NonZeroUsize;
@@ -26,6 +30,15 @@ impl Model for Sessions {
     ghost view = { λ s. s.open.entries };
 
     ghost invariant = { λ s. s.open.cap ≡ 4096 };
+}
+
+/// Appends the line of a session.
+fn push_session(text: &mut Vec<u8>, session: u64, last: u64) -> Result<(), AllocError>
+    ensures { OnOk result (text.new.items ≡ text.old.items ++ with_newline (session_text (session, last))) }
+{
+    push_field(text, b"", session)?;
+    push_field(text, b" ", last)?;
+    text.extend_from_slice(b"\n")
 }
 
 impl Sessions {
@@ -66,5 +79,25 @@ impl Sessions {
     {
         let _count = self.open.len();
         self.open.pop(&session);
+    }
+    /// How many are open.
+    pub(crate) fn count(&self) -> u64
+        ensures { result ≡ length self.now }
+    {
+        self.open.len() as u64
+    }
+
+    /// Appends the line of each, first that of the one that was used the longest ago. After an `Err`, which is want of
+    /// memory, the text has some of them.
+    pub(crate) fn push_lines(&self, text: &mut Vec<u8>) -> Result<(), AllocError>
+        ensures text { OnOk result (text.new.items ≡ text.old.items ++ sessions_text self.now) }
+        ensures good { OnOk result (MayBeOpen self.now) }
+    {
+        let _count = self.open.len();
+        let mut entries = self.open.iter();
+        while let Some((session, last)) = entries.next_back() {
+            push_session(text, *session, *last)?;
+        }
+        Ok(())
     }
 }

@@ -59,6 +59,8 @@ mod scripts;
 #[cfg(test)]
 mod seeds;
 #[cfg(test)]
+mod snapshots;
+#[cfg(test)]
 mod texts;
 #[cfg(test)]
 mod tree;
