@@ -1,4 +1,4 @@
-/* Tests of replicas of a log: each status, what becomes of entries and what is told of them, two replicas of one log, and want of memory at each
+/* Tests of replicas of a log: each status, what becomes of entries and what is told of them, the heads of snapshots, and want of memory at each
  * allocation in turn. The digests are of another program for SHA-256, by the rules of docs/CLUSTER.md. */
 #include "pidtab_replica.h"
 
@@ -180,6 +180,84 @@ static void first_form_goes_on(void)
 	close_host(&host);
 }
 
+/* The head of a snapshot behind these entries, as docs/CLUSTER.md and man/pidtab-keep.1 have it: the session that was used the longest ago is first. */
+#define AT_HEAD "a23d48e1e3a92dc8e0234cfb7da8e71fc70e05f025259e61ac3f8f74816448bc"
+#define HEAD "pidtab-snapshot 2 pid_max 4194304 model 1 position 9 digest 15c2fe3e85470d4756d9d4de58a4a1712c47556d65f8e516cc095f5db632dfdc calls 2 sessions 2\n5 0\n4 1\n"
+
+/* Text in a room of its own, so that a read behind it is found. */
+static uint32_t reads(struct host *host, const char *text, size_t *used)
+{
+	size_t length = strlen(text);
+	char *room = malloc(length ? length : 1);
+	uint32_t status;
+
+	memcpy(room, text, length);
+	status = pidtab_replica_read(&host->replica, room, length, used);
+	free(room);
+	return status;
+}
+
+static void snapshot_is_read_again(void)
+{
+	struct host host, late;
+	struct pidtab_applied it;
+	uint64_t last = 7;
+	size_t size = 7, used = 7;
+	char room[512];
+
+	open_host(&host);
+	CHECK(pidtab_replica_write(&host.replica, room, sizeof room, &size) == PIDTAB_OTHER_SETTINGS && size == 7);
+	CHECK(apply(&host, 3, SETTINGS, &it) == PIDTAB_DONE && apply(&host, 4, "open", &it) == PIDTAB_DONE && apply(&host, 5, "open", &it) == PIDTAB_DONE);
+	CHECK(apply(&host, 6, FIRST, &it) == PIDTAB_DONE && apply(&host, 9, "snap", &it) == PIDTAB_DONE);
+	memset(room, 'x', sizeof room);
+	CHECK(pidtab_replica_write(&host.replica, room, 3, &size) == PIDTAB_NO_ROOM && size == strlen(HEAD) && room[0] == 'x');
+	CHECK(pidtab_replica_write(&host.replica, room, sizeof room, &size) == PIDTAB_DONE && memcmp(room, HEAD, size) == 0 && room[size] == 'x');
+
+	open_host(&late);
+	CHECK(reads(&late, HEAD "pidtab table 1", &used) == PIDTAB_DONE && used == strlen(HEAD));
+	CHECK(log_of(&late).position == 9 && log_of(&late).calls == 2 && log_of(&late).begun == 1 && log_of(&late).form == 2);
+	CHECK(has_digest(&late, 9, AT_FIRST) && !has_digest(&late, 6, "") && has_answers(&late, ""));
+	CHECK(pidtab_replica_last(&late.replica, 4, &last) == PIDTAB_DONE && last == 1);
+	CHECK(pidtab_replica_last(&late.replica, 5, &last) == PIDTAB_DONE && last == 0);
+	CHECK(apply(&late, 10, "calls 4 1 1 9 " AT_FIRST "\nfork 1", &it) == PIDTAB_DONE && is_told(it, PIDTAB_ENTRY_REPEATED, 4, 1, 0));
+	CHECK(apply(&late, 9, "open", &it) == PIDTAB_NOT_RISING);
+
+	/* What is no head, and that of another log, leaves all as it was. */
+	static const char *const none[] = {
+		"", "pidtab-snapshot", "pidtab-snapshot 2 pid_max 4194304 model 1 position 9 digest 00 calls 2 sessions 0\n",
+		"pidtab-snapshot 2 pid_max 4194304 model 1 position 09 digest " AT_HEAD " calls 2 sessions 0\n",
+		"pidtab-snapshot 2 pid_max 4194304 model 1 position 18446744073709551616 digest " AT_HEAD " calls 2 sessions 0\n",
+		"pidtab-snapshot 2 pid_max 4194304 model 1 position 9 digest " AT_HEAD " calls 2 sessions 1\n",
+		"pidtab-snapshot 2 pid_max 4194304 model 1 position 9 digest " AT_HEAD " calls 2 sessions 1\n4 1",
+		"pidtab-snapshot 2 pid_max 4194304 model 1 position 9 digest " AT_HEAD " calls 2 sessions 2\n4 1\n4 2\n",
+		"pidtab-snapshot 2 pid_max 4194304 model 1 position 9 digest " AT_HEAD " calls 2 sessions 4097\n",
+	};
+	for (size_t i = 0; i < sizeof none / sizeof none[0]; i++)
+		CHECK(reads(&late, none[i], &used) == PIDTAB_BAD_TEXT && used == strlen(HEAD) && log_of(&late).position == 10);
+	CHECK(reads(&late, "pidtab-snapshot 2 pid_max 301 model 1 position 9 digest " AT_HEAD " calls 2 sessions 0\n", &used) == PIDTAB_OTHER_SETTINGS);
+	CHECK(reads(&late, "pidtab-snapshot 3 pid_max 4194304 model 1 position 9 digest " AT_HEAD " calls 2 sessions 0\n", &used) == PIDTAB_OTHER_SETTINGS);
+	CHECK(log_of(&late).position == 10 && used == strlen(HEAD));
+	close_host(&late);
+	CHECK(reads(&late, HEAD, &used) == PIDTAB_CLOSED && pidtab_replica_write(&late.replica, room, 0, &size) == PIDTAB_CLOSED);
+
+	/* Want of memory at each allocation of both in turn. */
+	for (int at = 1;; at++) {
+		refuse(at);
+		if (pidtab_replica_write(&host.replica, room, sizeof room, &size) == PIDTAB_DONE)
+			break;
+		CHECK(refuse_at == 0);
+	}
+	for (int at = 1;; at++) {
+		refuse(at);
+		uint32_t status = reads(&host, HEAD, &used);
+		if (status == PIDTAB_DONE)
+			break;
+		CHECK(status == PIDTAB_NO_MEMORY && refuse_at == 0 && log_of(&host).position == 9 && has_digest(&host, 6, AT_FIRST));
+	}
+	refuse(0);
+	close_host(&host);
+}
+
 static const char *const ENTRIES[] = { SETTINGS, "open", FIRST, SECOND, "end 4" };
 static const uint64_t POSITIONS[] = { 3, 4, 6, 10, 11 };
 #define MANY 5
@@ -238,6 +316,7 @@ int main(void)
 	each_is_closed_or_busy();
 	log_is_followed();
 	first_form_goes_on();
+	snapshot_is_read_again();
 	opening_finds_no_memory();
 	while (want_of_memory(at))
 		at++;

@@ -17,7 +17,8 @@ use Rattle.foreign_calls.specs.Held.{IsDoneOr}
 use Rattle.foreign_calls.specs.Records.{Has}
 
 -- the entry was applied, and is told so
-pub record IsApplied (position : ℕ) (bytes : List ℕ) (h : Hosted) (t : Stamped) (h' : Hosted) (t' : Stamped) (told : AppliedNumbers) : Type 0 where
+pub record IsApplied (position : ℕ) (bytes : List ℕ) (h : Hosted) (t : Stamped) (h' : Hosted) (t' : Stamped) (told : AppliedNumbers)
+    : Type 0 where
   pub what : Applied
   pub applies : Applies position bytes (replica_of h.log t) [] (replica_of h'.log t') what h'.answers
   pub numbers : told ≡ applied_numbers what (length h'.answers)
@@ -29,19 +30,21 @@ pub record IsRefused (position : ℕ) (bytes : List ℕ) (h : Hosted) (t : Stamp
   pub refuses : Refuses position bytes (replica_of h.log t) h.answers (replica_of h'.log t') h'.answers fault
 
 -- the next entry of a log was applied to a replica and its table, or the status says why not
-pub record AppliesEntry (position : ℕ) (bytes : List ℕ) (h : Hosted) (t : Stamped) (h' : Hosted) (t' : Stamped) (before after : AppliedNumbers) (status : ℕ)
-    : Type 0 where
+pub record AppliesEntry (position : ℕ) (bytes : List ℕ) (h : Hosted) (t : Stamped) (h' : Hosted) (t' : Stamped)
+    (before after : AppliedNumbers) (status : ℕ) : Type 0 where
   pub done : status ≡ DONE → IsApplied position bytes h t h' t' after
   pub refused : status ≢ DONE → IsRefused position bytes h t h' t' status
   pub not_done : status ≢ DONE → after ≡ before
 
 -- the same of what is held
-pub record AppliesHeld (position : ℕ) (bytes : List ℕ) (host : Option Hosted) (table : Option Stamped) (host' : Option Hosted) (table' : Option Stamped)
-    (before after : AppliedNumbers) (status : ℕ) : Type 0 where
-  pub applies : status ≢ CLOSED → Has host (λ h. Has table (λ t. Has host' (λ h'. Has table' (λ t'. AppliesEntry position bytes h t h' t' before after status))))
+pub record AppliesHeld (position : ℕ) (bytes : List ℕ) (host : Option Hosted) (table : Option Stamped)
+    (host' : Option Hosted) (table' : Option Stamped) (before after : AppliedNumbers) (status : ℕ) : Type 0 where
+  pub applies : status ≢ CLOSED → Has host (λ h. Has table (λ t. Has host' (λ h'. Has table' (λ t'.
+      AppliesEntry position bytes h t h' t' before after status))))
   pub closed : (status ≡ CLOSED) ↔ (host ≡ None) ⊎ (table ≡ None)
   pub same : status ≡ CLOSED → (host' ≡ host) × (table' ≡ table) × (after ≡ before)
-  pub statuses : IsDoneOr status (CLOSED ∷ NOT_RECOVERABLE ∷ NOT_RISING ∷ NO_ENTRY ∷ OTHER_SETTINGS ∷ MISSING ∷ DIVERGED ∷ NO_MEMORY ∷ [])
+  pub statuses :
+      IsDoneOr status (CLOSED ∷ NOT_RECOVERABLE ∷ NOT_RISING ∷ NO_ENTRY ∷ OTHER_SETTINGS ∷ MISSING ∷ DIVERGED ∷ NO_MEMORY ∷ [])
 
 -- the digest behind the entry at a position, if it is kept; and the last number of a session, if it is open
 abbrev pub digest_at : ℕ → Log → Option (List ℕ)

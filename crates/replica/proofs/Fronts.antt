@@ -47,8 +47,7 @@ labelled_front {A} {front} {write} {Fits} word lacks fronts =
       says = λ text p is.
           option_and_then_some _ (before (passed (is_word word)) text) p is (λ w here more.
           let a = first.says text w here in
-          let b = fronts.says w.1 p more in
-          (
+          let b = fronts.says w.1 p more in (
             a.0 ∙ ap (λ v. (v ++ 32 ∷ []) ++ w.1) ((bytes_eq-Decides w.0 word).0 a.1) ∙ append_assoc word (32 ∷ []) w.1
                 ∙ ap (λ v. word ++ 32 ∷ v) b.0 ∙ sym (append_assoc word (32 ∷ write p.0) p.1),
             b.1,

@@ -17,8 +17,8 @@ settings_text log =
 abbrev pub state_text : Log → List ℕ
 state_text log =
     spaced (
-      codes "position" ∷ decimal log.position ∷ codes "digest" ∷ encode_lower log.digest ∷ codes "calls" ∷ decimal log.calls
-          ∷ codes "sessions" ∷ decimal (length log.sessions) ∷ [])
+    codes "position" ∷ decimal log.position ∷ codes "digest" ∷ encode_lower log.digest ∷ codes "calls" ∷ decimal log.calls
+    ∷ codes "sessions" ∷ decimal (length log.sessions) ∷ [])
 
 -- the line of a session, with the number of its last entry that counted
 abbrev pub session_text : ℕ × ℕ → List ℕ

@@ -77,9 +77,7 @@ impl Host {
             (replica_of self.new.log table.new) self.new.answers) }
     {
         self.spare.clear();
-        let what = self
-            .replica
-            .apply(table, position, bytes, &mut self.spare)?;
+        let what = self.replica.apply(table, position, bytes, &mut self.spare)?;
         mem::swap(&mut self.answers, &mut self.spare);
         Ok(what)
     }

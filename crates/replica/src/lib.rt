@@ -2,8 +2,8 @@
 //!
 //! `docs/CLUSTER.md` has the log and its rules. [`read::read_entry`] reads an entry, and [`write::write_entry`] writes
 //! one: a text is of one entry at most, and what is written is read ([`entry_laws`]). [`replica::Replica`] is what is
-//! known of the log, and applies its entries to a table. [`host::Host`] has the last answers besides. What holds of each
-//! log is in [`laws`].
+//! known of the log, and applies its entries to a table. [`host::Host`] has the last answers besides. What holds of
+//! each log is in [`laws`]. [`snapshot`] has the head of a snapshot.
 #![tactic(auto)]
 
 mod answer;

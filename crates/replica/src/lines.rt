@@ -38,7 +38,8 @@ fn make_line(
     line: &[u8],
 ) -> Result<(), AllocError>
     ensures after { OnOk result (table.new ≡ after_line table.old (parsed line.now)) }
-    ensures answer { OnOk result (answers.new.items ≡ answers.old.items ++ with_newline (answer_to table.old (parsed line.now))) }
+    ensures answer { OnOk result (answers.new.items
+        ≡ answers.old.items ++ with_newline (answer_to table.old (parsed line.now))) }
     ensures hashed { OnOk result ((m : List ℕ) → Holds256 hasher.old m
         → Holds256 hasher.new ((m ++ with_newline line.now)
         ++ with_newline (answer_to table.old (parsed line.now)))) }

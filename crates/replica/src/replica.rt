@@ -446,14 +446,7 @@ impl Replica {
 }
 
 /// The numbers have 64 bits, and the digest has 32 bytes.
-fn show_types(
-    form: u64,
-    pid_max: u64,
-    model: u64,
-    position: u64,
-    digest: [u8; 32],
-    calls: u64,
-)
+fn show_types(form: u64, pid_max: u64, model: u64, position: u64, digest: [u8; 32], calls: u64)
     ensures form { IsWord form }
     ensures pid_max { IsWord pid_max }
     ensures model { IsWord model }

@@ -133,8 +133,8 @@ fn kept_at(alloc: Global, position: u64, digest: [u8; 32]) -> Result<Kept, Alloc
 
 impl Replica {
     /// Writes the head of a snapshot of the log up to the replica's position, which [`Replica::read_head`] reads if the
-    /// log has begun. Two replicas that know the same of their logs write the same, whatever digests they have kept. The
-    /// error is want of memory. The cost is linear in the open sessions.
+    /// log has begun. Two replicas that know the same of their logs write the same, whatever digests they have kept.
+    /// The error is want of memory. The cost is linear in the open sessions.
     pub fn write_head(&self, alloc: Global) -> Result<Vec<u8>, AllocError>
         ensures text { IfOk result (λ text. text.items ≡ head_text self.now) }
         ensures good { OnOk result (self.now.begun ≡ true → IsSnapshot self.now) }
