@@ -14,3 +14,6 @@ returns-clause-ok c = search rules
 
 pub begin-requires-clause-root : goal.begin-requires-clause-root
 begin-requires-clause-root c = search rules
+
+pub returns-clause-others : goal.returns-clause-others
+returns-clause-others c = search rules
