@@ -4,7 +4,7 @@ use pid_types::keys::Pid;
 use pid_types::plain::Ended;
 
 /// What a call did to a task, a process group, a session or a namespace. All numbers are those of the root namespace.
-#[derive(Clone, Copy, Debug, PartialEq, Eq)]
+#[derive(Clone, Copy)]
 pub enum Effect {
     /// The task lived, and lives no more: so it ended. One that went with its namespace was killed.
     Ended { number: Pid, end: Ended },

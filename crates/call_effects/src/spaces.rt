@@ -15,7 +15,7 @@ use pid_table::PidTable;
 use std::alloc::AllocError;
 
 /// A namespace that may fall or go, and whether it stood before the call.
-#[derive(Clone, Copy, Debug)]
+#[derive(Clone, Copy)]
 pub struct WatchedSpace {
     pub id: u64,
     pub stood: bool,

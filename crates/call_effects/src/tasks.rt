@@ -11,7 +11,7 @@ use pid_types::plain::{Ended, Life};
 use translate::relations::Relations;
 
 /// A task that a call may touch, by its root number, and its relations before that.
-#[derive(Clone, Copy, Debug)]
+#[derive(Clone, Copy)]
 pub struct Watched {
     pub number: Pid,
     pub before: Relations,

@@ -15,10 +15,10 @@ use Rattle.script_session.specs.declared.job.JobFault.{JobFault}
 use Rattle.script_session.specs.declared.tally.RunScriptFault.{RunScriptFault}
 use Rattle.script_session.specs.declared.tally.Tally.{Tally}
 use Rattle.worker_jobs.specs.declared.fault.RunFault.{RunFault}
-use Rattle.pid_words.specs.declared.words.Command.{Command}
-use Rattle.pid_words.specs.declared.words.Command.TheVariants as command
-use Rattle.pid_words.specs.declared.words.WordsFault.{WordsFault}
-use Rattle.pid_words.specs.declared.words.WordsFault.TheVariants as words
+use Rattle.pid_commands.specs.declared.asked.Command.{Command}
+use Rattle.pid_commands.specs.declared.asked.Command.TheVariants as command
+use Rattle.pid_commands.specs.declared.asked.WordsFault.{WordsFault}
+use Rattle.pid_commands.specs.declared.asked.WordsFault.TheVariants as words
 use Rattle.pid_commands.specs.declared.fault.Fault.{Fault}
 use Rattle.pid_commands.specs.declared.fault.Fault.TheVariants.{NoMemory, Unreadable, Write}
 use Rattle.pid_commands.specs.declared.status.Status.{Status}

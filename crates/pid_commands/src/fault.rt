@@ -14,7 +14,7 @@ use std::{fmt, io};
 
 /// Why a command stopped. Its text is the line that the program writes on standard error, without the
 /// newline.
-#[derive(Debug, Drop, PartialEq, Eq)]
+#[derive(Debug, Drop)]
 pub enum Fault {
     /// The job file cannot be opened, or a read of it failed.
     Unreadable(String),

@@ -4,8 +4,8 @@ ghost use Rattle.std.specs.Prelude.{◌≡◌, ◌<◌, ◌≤◌, ⊤, Option, 
 ghost use Rattle.std.specs.Prelude.{refl};
 ghost use Rattle.std.specs.Io.KnownBytes.{Appends};
 ghost use Rattle.pid_script.specs.Script.{with_newline};
-ghost use Rattle.pid_words.specs.declared.words.Command.{Command};
-ghost use Rattle.pid_words.specs.declared.words.WordsFault.{WordsFault};
+ghost use Rattle.pid_commands.specs.declared.asked.Command.{Command};
+ghost use Rattle.pid_commands.specs.declared.asked.WordsFault.{WordsFault};
 ghost use Rattle.worker_jobs.specs.declared.fault.RunFault.{RunFault};
 ghost use Rattle.pid_commands.specs.Faults.{of_run};
 ghost use Rattle.pid_commands.specs.Output.{ListsScript, FailsToList, ShowsRun};
@@ -13,6 +13,7 @@ ghost use Rattle.pid_commands.specs.Commands.{RunsInput, FailsToRunInput, Writes
 ghost use Rattle.pid_commands.specs.Commands.{FailsToWriteList, WritesRun, FailsToWriteRun, Does, Fails, Ends};
 ghost use Rattle.pid_commands.specs.Commands.{IsSomeFile};
 
+use crate::asked::{Command, WordsFault};
 use crate::fault::{Fault, write_fault_line};
 use crate::jobs::{Opens, read_jobs};
 use crate::show::finished_text;
@@ -20,7 +21,6 @@ use crate::status::{Status, write_usage_line};
 use pid_types::call::Call;
 use pid_types::config::Config;
 use pid_types::device::{Discard, FromReader, Source, ToWriter};
-use pid_words::{Command, WordsFault};
 use pid_workers::{Finished, JobFiles, MOST_READS, OpenGate, run, run_for_table, run_workers};
 use std::alloc::Global;
 use std::io;
@@ -33,7 +33,7 @@ use std::thread::Threads;
 use std::time::Clock;
 use table_lines::list::list_table;
 
-/// Runs the command that the words after the program's name were read as, by [`read_words`]: reads the
+/// Runs the command that the words after the program's name were read as: reads the
 /// script from the input, writes the output, flushes it, and writes the line of a fault or the usage
 /// line to `errors`.
 ///

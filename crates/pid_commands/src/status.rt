@@ -10,7 +10,7 @@ use std::io;
 use std::io::Write;
 
 /// How a command ended.
-#[derive(Clone, Copy, Debug, PartialEq, Eq)]
+#[derive(Clone, Copy)]
 pub enum Status {
     /// It did all that it was asked for.
     Done,

@@ -5,4 +5,4 @@
 
 mod words;
 
-pub use words::{Command, WordsFault, read_words};
+pub use words::read_words;

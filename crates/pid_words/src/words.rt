@@ -1,37 +1,11 @@
 //! The words of the command line: [`read_words`] reads them, and opens and runs nothing.
 use clap::error::ErrorKind;
 use clap::{Arg, ArgAction, ArgMatches, Error};
+use pid_commands::{Command, JobFiles, WordsFault};
 use pid_script::number::read_u32;
 use pid_types::config::Config;
-use pid_workers::JobFiles;
 use std::alloc::{AllocError, Global};
 use std::convert::AsStr;
-
-/// What the program is asked for, with the table's configuration.
-#[derive(Debug, Drop, PartialEq, Eq)]
-pub enum Command {
-    /// The answers to a script.
-    Run(Config),
-    /// The table that a script leaves.
-    List(Config),
-    /// What the workers of the job files had, and the table that they leave.
-    Work { config: Config, files: JobFiles },
-}
-
-/// Why the words ask for nothing.
-#[derive(Clone, Copy, Debug, PartialEq, Eq)]
-pub enum WordsFault {
-    /// They are no command.
-    Usage,
-    /// There was no memory to read them.
-    NoMemory,
-}
-
-impl From<AllocError> for WordsFault {
-    fn from(_error: AllocError) -> WordsFault {
-        WordsFault::NoMemory
-    }
-}
 
 /// The fault of words that clap refuses. It is no `From`, so that no crate above reads clap.
 fn fault_of(error: Error) -> WordsFault {

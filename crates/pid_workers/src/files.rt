@@ -2,7 +2,7 @@
 ghost use Rattle.std.specs.Prelude.{◌≡◌, ◌≤◌, ◌↔◌, vec_len, IsSome, IfSome};
 
 /// The names of 2 to 16 job files, in the order given. A name may come twice.
-#[derive(Debug, Drop, PartialEq, Eq)]
+#[derive(Drop)]
 pub struct JobFiles {
     names: Vec<String>,
     ghost count: { (2 ≤ vec_len names) × (vec_len names ≤ 16) },

@@ -3,7 +3,8 @@
 //! table that they share.
 #![tactic(auto)]
 
-use pid_commands::{Fault, Status, WordsFault, read_words, run_answer, say_fault, say_usage};
+use pid_commands::{Fault, Status, WordsFault, run_answer, say_fault, say_usage};
+use pid_words::read_words;
 use std::io::ErrorKind;
 use std::process::ExitCode;
 use std::rt::Env;

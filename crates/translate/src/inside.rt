@@ -20,7 +20,7 @@ use task_table::Tasks;
 use task_table::view::laws;
 
 /// Which tree an id is of.
-#[derive(Clone, Copy, Debug, PartialEq, Eq)]
+#[derive(Clone, Copy)]
 pub enum Tree {
     /// That of the PID namespaces: `pid_namespaces(7)`, "Nesting PID namespaces".
     Spaces,
@@ -29,7 +29,7 @@ pub enum Tree {
 }
 
 /// Of what the inside is listed, and from which id on.
-#[derive(Clone, Copy, Debug, PartialEq, Eq)]
+#[derive(Clone, Copy)]
 pub struct Inside {
     /// Whether the ids are those of namespaces or of control groups.
     pub tree: Tree,

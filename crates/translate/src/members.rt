@@ -15,7 +15,7 @@ use task_table::Tasks;
 use task_table::view::laws;
 
 /// Which tasks of a namespace are meant.
-#[derive(Clone, Copy, Debug, PartialEq, Eq)]
+#[derive(Clone, Copy)]
 pub enum Reach {
     /// Those that are in it and in no namespace inside it.
     Own,

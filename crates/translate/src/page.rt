@@ -27,7 +27,7 @@ use task_table::Tasks;
 use task_table::view::{Found, find_live, laws};
 
 /// Whom a page lists.
-#[derive(Clone, Copy, Debug, PartialEq, Eq)]
+#[derive(Clone, Copy)]
 pub enum Whom {
     /// The children of a task, the members of a process group, or those of a session, as the kind says.
     Belonging(Kind),
@@ -36,7 +36,7 @@ pub enum Whom {
 }
 
 /// Whom a page lists, and from which number on.
-#[derive(Clone, Copy, Debug, PartialEq, Eq)]
+#[derive(Clone, Copy)]
 pub struct Page {
     /// The caller's root number. Its namespace has all other numbers.
     pub caller: Pid,

@@ -17,7 +17,7 @@ use task_table::Tasks;
 use task_table::view::{Found, find_task, laws, own_id};
 
 /// To whom a task belongs, and where. All numbers are those of the root namespace.
-#[derive(Clone, Copy, Debug, PartialEq, Eq)]
+#[derive(Clone, Copy)]
 pub struct Relations {
     /// Its parent: 0 for the root init, which has none.
     pub parent: Pid,

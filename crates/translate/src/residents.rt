@@ -18,7 +18,7 @@ use task_table::Tasks;
 use task_table::view::{Found, find_live, laws};
 
 /// Of which control group the live tasks are listed, and from which number on.
-#[derive(Clone, Copy, Debug, PartialEq, Eq)]
+#[derive(Clone, Copy)]
 pub struct ControlPage {
     /// The caller's root number. Its namespace has all other numbers.
     pub caller: Pid,

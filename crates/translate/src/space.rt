@@ -13,7 +13,7 @@ use task_table::Tasks;
 use task_table::view::{find_task, laws};
 
 /// What is read of a namespace.
-#[derive(Clone, Copy, Debug, PartialEq, Eq)]
+#[derive(Clone, Copy)]
 pub struct SpaceStat {
     /// Its id.
     pub id: u64,

@@ -18,7 +18,7 @@ use task_table::Tasks;
 use task_table::view::{Found, find_live, laws, own_id};
 
 /// What is read of a task. The numbers are those in the caller's namespace, 0 where there is none, but for `root`.
-#[derive(Clone, Debug, Drop, PartialEq, Eq)]
+#[derive(Drop)]
 pub struct Stat {
     /// Its numbers from the caller's namespace inwards, outermost first, as `NSpid` has them.
     pub numbers: ArrayVec<Pid, LEVELS>,

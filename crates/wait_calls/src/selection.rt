@@ -15,7 +15,7 @@ use pid_types::keys::{IdentKey, Pid, TaskKey};
 use task_table::Tasks;
 
 /// Which of its children a caller waits for.
-#[derive(Clone, Copy, Debug, PartialEq, Eq)]
+#[derive(Clone, Copy)]
 pub enum Selected {
     /// Any child.
     Any,
@@ -26,7 +26,7 @@ pub enum Selected {
 }
 
 /// What a wait finds.
-#[derive(Clone, Copy, Debug, PartialEq, Eq)]
+#[derive(Clone, Copy, PartialEq)]
 pub enum Choice {
     /// No child is selected (`ECHILD`).
     NoChild,

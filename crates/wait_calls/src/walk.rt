@@ -53,7 +53,7 @@ fn choose_ended(store: &Tasks, caller: TaskKey, group: IdentKey) -> Choice
 }
 
 /// What a look at some more children finds.
-#[derive(Clone, Copy, Debug, PartialEq, Eq)]
+#[derive(Clone, Copy)]
 enum Looked {
     /// One of them is in the group.
     Match,

@@ -61,3 +61,9 @@ returns-clause-reply c =
     c.fork_new.new.self c.laws-2.ensures c.in_ok-keys.keys.0 c.args.found.now.key c.child_of-task.result c.args.found.now.task c.requires.caller.found.there c.in_ok-keys.keys.1 c.args.numbers.now
     c.in_ok-keys.ensures.begun c.in_ok-keys.ensures.fresh c.in_ok-keys.ensures.made c.in_ok-keys.ensures.namespaces c.in_ok-keys.ensures.order c.requires.planned c.child_of-task.ensures room
     own refl
+
+pub fork_new-requires-clause-all : goal.fork_new-requires-clause-all
+fork_new-requires-clause-all c = c.requires.all
+
+pub fork_new-requires-clause-planned : goal.fork_new-requires-clause-planned
+fork_new-requires-clause-planned c = c.requires.planned

@@ -1,8 +1,8 @@
-use Rattle.std.proofs.Common.{◌≡◌, ℕ, Some, sym, ap, ◌∙◌}
+use Rattle.std.proofs.Common.{◌≡◌, ℕ, Some, sym, ap, ◌∙◌, rules}
 use Rattle.pid_types.specs.declared.plain.Ended.{Ended}
 use Rattle.pid_types.specs.declared.reply.Reply.TheVariants.{Reaped}
 use Rattle.pid_types.specs.Outcome.{Outcome}
-use Rattle.pid_types.specs.Wait.{end_of}
+use Rattle.pid_types.specs.Wait.{end_of, wait}
 use Rattle.task_tree.specs.declared.Task.{Task}
 use Rattle.task_tree.specs.Tree.{Tree, task_at}
 use Rattle.task_table.specs.View.{row_of, state_of}
@@ -20,3 +20,7 @@ returns-in-Some-task-clause-reply c =
     let end_is : c.reap-ended.result ≡ end_of row = c.reap-ended.ensures.ended ∙ ap (λ (t : Task). end_of (row_of s child t)) same in
     let is = wait-reaps (state_of s) c.args.caller c.args.which (row_of s c.in-Some.found.key c.in-Some.found.task) row c.in-Some.ensures.row h.0 (h.1).3 in
     ap (λ (e : Ended). Reaped c.in-Ended.rank e) end_is ∙ ap (λ (n : ℕ). Reaped n (end_of row)) (sym h.2) ∙ sym (ap (λ (o : Outcome). o.reply) is)
+
+pub returns-in-NoneEnded-clause-reply : goal.returns-in-NoneEnded-clause-reply
+unfolding wait
+returns-in-NoneEnded-clause-reply c = search rules

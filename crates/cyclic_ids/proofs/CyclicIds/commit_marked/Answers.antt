@@ -1,5 +1,5 @@
 -- The number's block says where its room is; a write in the tree is outside the leaf's block, in which the tree must stay empty
-use Rattle.std.proofs.Common.{ap, sym, ◌∙◌, ◌≡◌, ◌<◌, true, arith}
+use Rattle.std.proofs.Common.{ap, sym, ◌∙◌, ◌≡◌, ◌<◌, true, arith, rules}
 use Rattle.std.proofs.lemmas.Bool.{false≢true}
 use Rattle.pid_types.proofs.LeastFree.{draw-Some}
 use Rattle.cyclic_ids.proofs.Draws.{drawn-range, range_written}
@@ -52,3 +52,6 @@ returns-else-n-block-clause-writes c = rw (← c.self.view_is) (written_tree _ _
 
 pub returns-else-n-block-clause-keeps : goal.returns-else-n-block-clause-keeps
 returns-else-n-block-clause-keeps c = rw (← c.self.view_is) (keeps_beside _ _ _ _ _ _ _ (λ on. on) c.store_prepared.ensures.keeps)
+
+pub returns-then-n-block-clause-cursor : goal.returns-then-n-block-clause-cursor
+returns-then-n-block-clause-cursor c = search rules

@@ -1,4 +1,4 @@
-use Rattle.std.proofs.Common.{sym, ap, ◌∙◌, not, refl}
+use Rattle.std.proofs.Common.{sym, ap, ◌∙◌, not, refl, rules}
 use Rattle.std.proofs.Math.Bool.{not-not}
 use Rattle.cyclic_ids.proofs.Draws.{range_written}
 use Rattle.cyclic_ids.proofs.Beside.{entry_in_leaf, entry_in_tree, written_leaf, written_tree, apart_written, empty_if, then_kept}
@@ -34,3 +34,6 @@ returns-clause-writes c =
 
 pub returns-clause-answer : goal.returns-clause-answer
 returns-clause-answer c = rw (← c.self.view_is, entry_in_leaf c.self.inside.is_ready c.self.inside.block c.self.inside.leaf.places c.self.inside.ids c.args.n c.if-n-self.false) c.erase-old.ensures.answer
+
+pub returns-clause-cursor : goal.returns-clause-cursor
+returns-clause-cursor c = search rules

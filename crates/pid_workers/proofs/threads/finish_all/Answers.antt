@@ -1,5 +1,4 @@
-use Rattle.std.proofs.Common.{rules}
 use Rattle.pid_workers.proofs.threads.finish_all.Goals as goal
 
 pub returns-clause-jobs : goal.returns-clause-jobs
-returns-clause-jobs g c = search rules
+returns-clause-jobs g c = c.in_ok-seats.ensures.jobs

@@ -9,3 +9,6 @@ invariant_of-self-2 c =
     (search rules)
     (search rules)
     (search rules)
+
+pub returns-clause-ok : goal.returns-clause-ok
+returns-clause-ok c = search rules

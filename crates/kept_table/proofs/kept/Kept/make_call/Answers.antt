@@ -1,4 +1,6 @@
-use Rattle.std.proofs.Common.{ℕ, arith, rules, refl, ap, sym, subst, ◌∙◌}
+use Rattle.std.proofs.Common.{ℕ, ◌++◌, ◌∷◌, [], arith, rules, refl, ap, sym, subst, ◌∙◌}
+use Rattle.pid_types.specs.declared.call.Call.{Call}
+use Rattle.pid_types.specs.declared.reply.Reply.{Reply}
 use Rattle.pid_types.specs.declared.entry.Entry.{Entry}
 use Rattle.pid_types.specs.Sound.{IsBelow}
 use Rattle.pid_types.specs.Step.{step}
@@ -8,6 +10,9 @@ use Rattle.kept_table.proofs.Counts.{some_of_room, whole-push}
 use Rattle.kept_table.proofs.Totals.{last_reply_pushed}
 use Rattle.kept_table.proofs.Invariant.{outcome-of, present-sound}
 use Rattle.kept_table.proofs.kept.Kept.make_call.Goals as goal
+
+abbrev entry : ℕ → Call → Reply → Entry
+entry worker call reply = record { worker = worker; call = call; reply = reply }
 
 -- the history is one entry longer
 pub invariant_of-self-2 : goal.invariant_of-self-2
@@ -49,4 +54,8 @@ pub returns-in_err-enter-clause-err : goal.returns-in_err-enter-clause-err
 returns-in_err-enter-clause-err c = search rules
 
 pub returns-clause-history : goal.returns-clause-history
-returns-clause-history c = search rules
+returns-clause-history c =
+    let seen = c.self.view_is ∙ c.in_ok-reserve_calls.ensures.others in
+    ap (λ (p : Past). p.entries) c.in_ok-enter.ensures.entry
+    ∙ (ap (λ n. c.self.inside.history.entries ++ entry c.args.worker c.args.call (step c.self.inside.table n c.args.call).reply ∷ []) c.in-Some.ensures.some
+    ∙ ap (λ (t : Chronicle). t.entries ++ entry c.args.worker c.args.call (step t.present (next_stamp c.args.self.now) c.args.call).reply ∷ []) seen)

@@ -11,3 +11,9 @@ returns-in_err-begin-clause-enough c enough =
 
 pub returns-clause-ok : goal.returns-clause-ok
 returns-clause-ok c = search rules
+
+pub begin-requires-clause-root : goal.begin-requires-clause-root
+begin-requires-clause-root c = search rules
+
+pub returns-clause-others : goal.returns-clause-others
+returns-clause-others c = search rules

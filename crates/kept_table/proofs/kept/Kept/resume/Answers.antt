@@ -13,3 +13,6 @@ invariant_of-kept c =
     (c.in_ok-cut.ensures.items_if_clones_equal (λ x y same. same))
     (c.in_ok-calls.ensures.items_if_clones_equal (λ x y same. same))
     (search rules)
+
+pub returns : goal.returns
+returns c = search rules
