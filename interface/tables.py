@@ -25,7 +25,7 @@ KINDS = {
     "kind": r"reply|which|use|whom|tree|what|outcome",
     "word or -": r"[a-z][a-z0-9-]*|-",
     "type": r"number|long|size",
-    "header": r"interface|saved|packages",
+    "header": r"interface|saved|packages|replica",
     "constant or -": r"[a-z_]+/src/[a-z_]+\.rt [A-Z_]+|-",
     "functions": r"[a-z_]+(, [a-z_]+)*",
     "functions or -": r"[a-z_]+(, [a-z_]+)*|-",

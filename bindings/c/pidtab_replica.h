@@ -61,6 +61,10 @@ static inline const char *pidtab_replica_text(uint32_t status)
 }
 /* The end of statuses. */
 
+/* Written by tools/interface: bounds. */
+#define PIDTAB_REPLICA_MODEL 1 /* the model by which lines are answered; it rises where a release answers one otherwise */
+/* The end of bounds. */
+
 /* Written by tools/interface: choices. */
 enum pidtab_outcome {
 	PIDTAB_ENTRY_NOTED = 0,    /* it has no calls */
@@ -96,7 +100,7 @@ struct pidtab_digest {
 };
 
 /* Opens a replica of a log that has not begun. Its log has these settings: pid_max is that of the table, and model is the rules by which the
- * hosts answer, which is PIDTAB_MODEL. DONE; BUSY where it is open already; NO_MEMORY. Each of the functions below may be BUSY too. */
+ * hosts answer, which is PIDTAB_REPLICA_MODEL. DONE; BUSY where it is open already; NO_MEMORY. Each of the functions below may be BUSY too. */
 uint32_t pidtab_replica_open(struct pidtab_replica *replica, uint64_t pid_max, uint64_t model);
 
 /* Frees the replica, and leaves the table. One that is not open stays so. DONE; one that is BUSY is not closed. */

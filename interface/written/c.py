@@ -164,4 +164,5 @@ PARTS = {
     (SAVED, "statuses"): saved_statuses,
     (REPLICA, "statuses"): replica_statuses,
     (REPLICA, "choices"): outcomes,
+    (REPLICA, "bounds"): lambda tables: bounds_of(tables, "replica"),
 }

@@ -57,7 +57,7 @@ def kinds(tables):
 
 def bounds(tables):
     """The bounds of the header and of pid_max."""
-    return [f"export const {it.name} = {it.value};" for it in tables["bounds"] if it.of != "saved"]
+    return [f"export const {it.name} = {it.value};" for it in tables["bounds"] if it.of in ("interface", "packages")]
 
 
 def operations(tables):

@@ -91,7 +91,7 @@ def kinds(tables):
 def bounds(tables):
     """The bounds of the headers."""
     types = {"number": "u32", "long": "u64", "size": "usize"}
-    rows = [(it.name, types[it.type], it.value) for it in tables["bounds"] if it.of != "packages"]
+    rows = [(it.name, types[it.type], it.value) for it in tables["bounds"] if it.of in ("interface", "saved")]
     return numbers("bounds", "The bounds of the headers.", rows)
 
 
