@@ -1,9 +1,9 @@
 -- What is read of the front of a text, as it is written.
-use Rattle.std.proofs.Common.{◌≡◌, ℕ, eqb, true, Bool, List, [], ◌∷◌, ◌++◌, Option, Some, None, refl, sym, ap, ◌∙◌, subst, append_assoc}
-use Rattle.std.proofs.lemmas.Option.{none-some, same_Some, option_and_then_some}
+use Rattle.std.proofs.Common.{◌≡◌, ℕ, true, List, [], ◌∷◌, ◌++◌, Option, Some, refl, sym, ap, ◌∙◌, subst, append_assoc}
+use Rattle.std.proofs.lemmas.Option.{same_Some, option_and_then_some}
 use Rattle.std.proofs.lemmas.Slice.Eq.{bytes_eq-Decides}
 use Rattle.pid_script.specs.Reading.{cut, is_word, before}
-use Rattle.pid_script.proofs.Cuts.{Lacks, by_test, cut-append, cut-Some}
+use Rattle.pid_script.proofs.Cuts.{Lacks, cut-append, cut-Some}
 use Rattle.pid_script.proofs.Words.{Reads}
 use Rattle.replica.specs.Reading.{passed}
 use Rattle.replica.specs.HeadReading.{Front, ended, labelled, joined}

@@ -1,10 +1,9 @@
 -- The head of a snapshot is read as it is written, and nothing else is read.
-use Rattle.std.proofs.Common.{◌≡◌, ℕ, ◌+◌, ◌-◌, ◌<◌, ◌≤◌, ◌^◌, true, false, List, [], ◌∷◌, ◌++◌, length, drop, codes, decimal, Option, Some, None, Result, Ok, Err, IfOk, IfErr, IsErrAnd, refl, sym, ap, ◌∙◌, subst, append_assoc, length-append, arith}
-use Rattle.std.proofs.lemmas.List.{drop_at, append_cancel_left}
+use Rattle.std.proofs.Common.{◌≡◌, ℕ, ◌-◌, ◌≤◌, true, false, List, [], ◌∷◌, ◌++◌, length, drop, codes, decimal, Some, None, Result, Ok, Err, IfOk, IfErr, IsErrAnd, refl, sym, ap, ◌∙◌, subst, append_assoc, length-append, arith}
+use Rattle.std.proofs.lemmas.List.{drop_at}
 use Rattle.std.proofs.lemmas.Option.{none-some, same_Some, option_and_then_some}
 use Rattle.hex.specs.Hex.{IsBytes, encode_lower}
-use Rattle.pid_script.specs.Reading.{before, number_then}
-use Rattle.pid_script.proofs.Cuts.{Lacks, by_test}
+use Rattle.pid_script.proofs.Cuts.{Lacks}
 use Rattle.pid_script.proofs.Words.{control, lacks_decimal}
 use Rattle.pid_script.specs.Script.{with_newline}
 use Rattle.replica.specs.Entries.{IsWord, spaced}
@@ -13,8 +12,7 @@ use Rattle.replica.specs.Snapshots.{Begins, Fails, IsSnapshot, Restores, has_set
 use Rattle.replica.specs.HeadReading.{IsUnread, count_field, digest_field, field, head_in, log_of, sessions_in, settings_in, state_in}
 use Rattle.replica.specs.declared.snapshot.HeadFault.{HeadFault}
 use Rattle.replica.specs.declared.snapshot.HeadFault.TheVariants as fault
-use Rattle.replica.proofs.Told.{lacks_digits}
-use Rattle.replica.proofs.Fronts.{Fronts, ended_front, joined_front, labelled_front, rewritten}
+use Rattle.replica.proofs.Fronts.{Fronts, ended_front, joined_front, labelled_front}
 use Rattle.replica.proofs.Digests.{digests, lacks_digest}
 use Rattle.replica.proofs.Opened.{AreSessions, line_number_front, sessions_say, sessions_told}
 

@@ -1,6 +1,6 @@
 -- Sessions of a snapshot, as their lines say them.
 use mathlib.Core.List.{reverse-cons}
-use Rattle.std.proofs.Common.{◌≡◌, ℕ, zero, suc, ◌+◌, ◌<◌, ◌≤◌, ◌^◌, Bool, true, false, eqb, nat_eq, is_some, List, [], ◌∷◌, ◌++◌, length, take, reverse, flat_map, decimal, Option, Some, None, nat_le, refl, sym, ap, ◌∙◌, subst, append_assoc, append-nil, arith}
+use Rattle.std.proofs.Common.{◌≡◌, ℕ, zero, suc, ◌+◌, ◌<◌, ◌≤◌, ◌^◌, true, false, eqb, nat_eq, is_some, List, [], ◌∷◌, ◌++◌, length, take, reverse, flat_map, decimal, Option, Some, None, nat_le, refl, sym, ap, ◌∙◌, subst, append_assoc, append-nil, arith}
 use Rattle.std.specs.List.{AllByRecursion, IsDistinct}
 use Rattle.std.specs.Map.{keys_of, lookup}
 use Rattle.std.proofs.lemmas.Bool.Decides.{nat_tests}
@@ -12,9 +12,7 @@ use Rattle.pid_script.proofs.Cuts.{by_test}
 use Rattle.pid_script.proofs.Words.{control, lacks_decimal}
 use Rattle.replica.specs.Replicas.{used, without}
 use Rattle.replica.specs.Snapshots.{IsSession, MayBeOpen, session_text, sessions_text}
-use Rattle.replica.specs.declared.snapshot.HeadFault.{HeadFault}
-use Rattle.replica.specs.declared.snapshot.HeadFault.TheVariants as fault
-use Rattle.replica.specs.HeadReading.{IsUnread, line_number, opened, opened_more, session_in, sessions_in}
+use Rattle.replica.specs.HeadReading.{line_number, opened, opened_more, session_in, sessions_in}
 use Rattle.replica.proofs.Told.{lacks_number}
 use Rattle.replica.proofs.Fronts.{Fronts, ended_front, joined_front, rewritten}
 
@@ -37,12 +35,6 @@ pub lines_more : (s : ℕ × ℕ) (ss : List (ℕ × ℕ)) → sessions_text (s 
 lines_more s ss =
     ap (flat_map line_of) (reverse-cons s ss) ∙ flat_map-append line_of (reverse ss) (s ∷ [])
     ∙ ap (λ l. flat_map line_of (reverse ss) ++ l) (append-nil (line_of s))
-
-pub lines_back : (s : ℕ × ℕ) (ss : List (ℕ × ℕ)) → sessions_text (ss ++ s ∷ []) ≡ line_of s ++ sessions_text ss
-lines_back s [] = refl
-lines_back s (t ∷ ss) =
-    lines_more t (ss ++ s ∷ []) ∙ ap (λ l. l ++ line_of t) (lines_back s ss) ∙ append_assoc (line_of s) (sessions_text ss) (line_of t)
-    ∙ ap (λ l. line_of s ++ l) (sym (lines_more t ss))
 
 -- what is not among the numbers is not found, and the other way round
 fresh : (k : ℕ) (ss : List (ℕ × ℕ)) → AllByRecursion (λ j. eqb k j ≡ false) (keys_of ss) → lookup (λ s. eqb k s) ss ≡ None
@@ -154,25 +146,10 @@ sessions_say count lines p is =
     le_of : (n : ℕ) → nat_le n 4096 ≡ true → n ≤ 4096
     le_of n is = grind (arith, nat_tests)
 
--- more than there may be are none
-pub too_many : (count : ℕ) (lines : List ℕ) → 4096 < count → sessions_in count lines ≡ None
-unfolding sessions_in
-too_many count lines many = let beyond : nat_le count 4096 ≡ false = grind (arith, nat_tests) in rw beyond refl
-
 -- as the sessions are opened, one after the other
-pub within : (count : ℕ) (lines : List ℕ) → count ≤ 4096 → sessions_in count lines ≡ opened_more count [] lines
-unfolding sessions_in
-within count lines few = let is : nat_le count 4096 ≡ true = grind (arith, nat_tests) in rw is refl
-
 pub more_step : (m n : ℕ) (ss : List (ℕ × ℕ)) (text : List ℕ) (p : List (ℕ × ℕ) × List ℕ) → m ≡ suc n → opened ss text ≡ Some p
     → opened_more n p.0 p.1 ≡ opened_more m ss text
 more_step m n ss text p count is = sym (rw (count, is) refl)
-
-pub more_none : (m n : ℕ) (ss : List (ℕ × ℕ)) (text : List ℕ) → m ≡ suc n → (f : HeadFault) → IsUnread (opened ss text) f
-    → IsUnread (opened_more m ss text) f
-more_none m n ss text count fault.NoSnapshot none = rw (count, none) refl
-more_none m n ss text count fault.OtherSettings never = never
-more_none m n ss text count fault.NoMemory _ = tt
 
 pub one_more : (ss : List (ℕ × ℕ)) (text : List ℕ) (p : List (ℕ × ℕ) × List ℕ) → opened ss text ≡ Some p → length p.0 ≡ length ss + 1
 one_more ss text p is = let a = opened_says ss text p is in omega (arith, ap length a.after)

@@ -1,5 +1,5 @@
 -- What the bytes of the head of a snapshot are read as.
-use Rattle.std.specs.Prelude.{ℕ, zero, suc, ◌≡◌, ◌^◌, ◌==◌, nat_le, Bool, true, false, List, [], ◌∷◌, codes, Option, Some, None, if◌then◌else◌, is_some}
+use Rattle.std.specs.Prelude.{ℕ, zero, suc, ◌≡◌, ◌^◌, ◌==◌, nat_le, true, false, List, [], ◌∷◌, codes, Option, Some, None, if◌then◌else◌, is_some}
 use Rattle.std.specs.Map.{lookup}
 use Rattle.std.specs.Result.{result_ok}
 use Rattle.hex.specs.Hex.{decode_sized}

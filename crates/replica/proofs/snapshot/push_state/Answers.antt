@@ -1,4 +1,4 @@
-use Rattle.std.proofs.Common.{◌≡◌, ◌++◌, ◌∙◌, ℕ, List, ap, codes, decimal, length}
+use Rattle.std.proofs.Common.{◌++◌, ◌∙◌, ℕ, List, ap, codes, decimal}
 use Rattle.hex.specs.Hex.{encode_lower}
 use Rattle.replica.proofs.Written.{on_ok}
 use Rattle.replica.proofs.Heads.{state_written}

@@ -1,4 +1,4 @@
-use Rattle.std.proofs.Common.{◌≡◌, true, ap, sym, ◌∙◌, ◌++◌}
+use Rattle.std.proofs.Common.{◌≡◌, true, ap, ◌∙◌, ◌++◌}
 use Rattle.replica.specs.Snapshots.{Begins, has_settings}
 use Rattle.replica.proofs.snapshot_laws.what_is_written_is_read.Goals as goal
 

@@ -1,4 +1,4 @@
-use Rattle.std.proofs.Common.{◌≡◌, ℕ, ◌-◌, List, length, Some, refl, sym, ◌∙◌, subst}
+use Rattle.std.proofs.Common.{ℕ, ◌-◌, List, length, refl, sym, ◌∙◌, subst}
 use Rattle.replica.specs.Log.{Log}
 use Rattle.replica.specs.Snapshots.{Fails, Restores}
 use Rattle.replica.specs.HeadReading.{log_of, words_of_settings, words_of_state}
