@@ -207,7 +207,11 @@ static OTHERS: [Row; 6] = [
 /// Opens sessions at the positions from 4 on, below the end.
 fn open_sessions(rt: &(impl AllocGlobal + Abort), hosted: &mut Hosted, end: u64) {
     for position in 4..end {
-        expect_row(rt, hosted, &(position, b"open", Ok(Outcome::Noted), b"", b""));
+        expect_row(
+            rt,
+            hosted,
+            &(position, b"open", Ok(Outcome::Noted), b"", b""),
+        );
     }
 }
 
