@@ -126,5 +126,5 @@ def parts_of(tables):
     known = {name: it.statuses for it in tables["functions"] for name in words_of(it.functions)}
     of_saved = [it.name for it in functions_of(tables, "man/pidtab_saved.3") if known.get(it.name, "-") != "-" and not it.name.endswith("_shared")]
     parts |= {("man/pidtab_saved.3", f"statuses of {name}"): part(statuses, name) for name in of_saved}
-    of_replica = [it.name for it in functions_of(tables, "man/pidtab_replica.3")]
+    of_replica = [it.name for it in functions_of(tables, "man/pidtab_replica.3") if it.name in known]
     return parts | {("man/pidtab_replica.3", f"statuses of {name}"): part(statuses, name) for name in of_replica}
