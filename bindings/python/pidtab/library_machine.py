@@ -5,7 +5,6 @@ import weakref
 from typing import Literal
 
 from pidtab.faults import LibraryFault
-from pidtab.library import call_later
 from pidtab.log_faults import (
     bad_snapshot,
     diverged,
@@ -66,19 +65,21 @@ class LibraryMachine:
         self.table = table
         self.begun = False
         self.position = 0
+        self._functions = table._functions
+        # Each entry goes through these, so they are not looked up by a name.
+        self._apply, self._applied = self._functions.pidtab_replica_apply, PidtabApplied()
         self._replica = self._open(settings)
 
     def _open(self, settings: Settings) -> PidtabReplica:
         """A replica of a log that has not begun, which is freed once nobody has it."""
         replica = PidtabReplica()
-        self._functions = self.table._functions
         weakref.finalize(self, self._functions.pidtab_replica_close, replica)
         self._check(self._call(replica, "open", settings.pid_max, settings.model))
         return replica
 
     def _call(self, replica: PidtabReplica, name: str, *arguments: object) -> int:
         """The status of a function on a replica."""
-        return call_later(self._functions, self.table.library, f"pidtab_replica_{name}", replica, *arguments)
+        return int(getattr(self._functions, f"pidtab_replica_{name}")(replica, *arguments))
 
     def _check(self, status: int) -> None:
         """Raises what a status says that only means want of memory, or a fault of the library."""
@@ -99,9 +100,9 @@ class LibraryMachine:
 
     def apply(self, position: int, data: bytes) -> Outcome | None:
         """Applies the next entry. What became of it, if it has calls."""
-        applied = PidtabApplied()
+        applied = self._applied
         self.table._check_owner()
-        status = self._call(self._replica, "apply", self.table._table, position, data, len(data), applied)
+        status = self._apply(self._replica, self.table._table, position, data, len(data), applied)
         if status != DONE:
             raise self._refused(status, position, data)
         self.position = position

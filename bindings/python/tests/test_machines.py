@@ -191,7 +191,7 @@ class Same(unittest.TestCase):
     def test_no_memory_is_said(self) -> None:
         for status in (12, 131):
             machine = self.pair()[1]
-            with mock.patch.object(machine, "_call", return_value=status), self.assertRaises(NoMemory):
+            with mock.patch.object(machine, "_apply", return_value=status), self.assertRaises(NoMemory):
                 machine.apply(1, write_settings(SETTINGS))
 
 
