@@ -10,7 +10,7 @@ use Rattle.replica.specs.declared.outcome.ReplicaFault.{ReplicaFault}
 use Rattle.replica.specs.declared.outcome.ReplicaFault.TheVariants as fault
 use Rattle.replica.specs.Log.{Log}
 use Rattle.replica.specs.Replicas.{Replica, checked, is_before, judged, may_come}
-use Rattle.replica.specs.Applied.{Refuses}
+use Rattle.replica.specs.Applied.{IsLookedAt, Refuses}
 
 pub calls_checked : (log : Log) (s n q : ℕ) (d : List ℕ) (ls : List (List ℕ)) (kept : List (ℕ × List ℕ)) (found : Option (List ℕ)) (before : Bool) (r : Result Unit ReplicaFault)
     → r ≡ judged found before d → found ≡ lookup (λ p. eqb q p) kept → before ≡ is_before q (last_entry kept) → kept ≡ log.kept → r ≡ checked log (Calls s n q d ls)
@@ -42,12 +42,12 @@ only log (Calls s n q d ls) e is = judged_only (lookup (λ p. eqb q p) log.kept)
 only log Wanted e is = cc is
 only log (Announced q d size sum key) e is = judged_only (lookup (λ p. eqb q p) log.kept) true d e is
 
-pub at_odds : (position : ℕ) (bytes : List ℕ) (old : Replica) (before : List ℕ) (entry : Entry) (e : ReplicaFault) → IsGood entry → bytes ≡ entry_text entry
+pub at_odds : (position : ℕ) (bytes : List ℕ) (old : Replica) (before : List ℕ) (entry : Entry) (e : ReplicaFault) → IsLookedAt position old → IsGood entry → bytes ≡ entry_text entry
     → may_come old.log entry ≡ true → checked old.log entry ≡ Err e → Refuses position bytes old before old before e
-at_odds position bytes old before entry e good text comes is =
+at_odds position bytes old before entry e looked good text comes is =
     elim (only old.log entry e is) [
       | inl missing ↦ subst (Refuses position bytes old before old before) (sym missing)
-          ((entry, good, text, comes, is ∙ ap Err missing), record { replica = refl; answers = refl })
+          (looked, (entry, good, text, comes, is ∙ ap Err missing), record { replica = refl; answers = refl })
       | inr diverged ↦ subst (Refuses position bytes old before old before) (sym diverged)
-          ((entry, good, text, comes, is ∙ ap Err diverged), record { replica = refl; answers = refl })
+          (looked, (entry, good, text, comes, is ∙ ap Err diverged), record { replica = refl; answers = refl })
     ]

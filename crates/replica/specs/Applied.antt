@@ -11,6 +11,7 @@ use Rattle.replica.specs.Replicas.{Replica, answers_at, checked, entered, may_co
 pub record IsNew (pid_max model : ℕ) (log : Log) : Type 0 where
   pub own_pid_max : log.pid_max ≡ pid_max
   pub own_model : log.model ≡ model
+  pub form : log.form ≡ 0
   pub not_begun : log.begun ≡ false
   pub position : log.position ≡ 0
   pub sessions : log.sessions ≡ []
@@ -18,12 +19,17 @@ pub record IsNew (pid_max model : ℕ) (log : Log) : Type 0 where
   pub calls : log.calls ≡ 0
   pub whole : log.torn ≡ false
 
--- the bytes are the text of the entry, which may be applied next: the position rises, the entry may come, and the digest of its writer
--- is the one here
+-- an entry is looked at: there was memory for those before it, and its position rises
+pub record IsLookedAt (position : ℕ) (old : Replica) : Type 0 where
+  pub whole : old.log.torn ≡ false
+  pub rises : old.log.position < position
+
+-- the bytes are the text of the entry, which may be applied next: it is looked at, it may come, and the digest of its writer is the one
+-- here
 pub record IsNext (position : ℕ) (bytes : List ℕ) (old : Replica) (entry : Entry) : Type 0 where
   pub good : IsGood entry
   pub text : bytes ≡ entry_text entry
-  pub rises : old.log.position < position
+  pub looked : IsLookedAt position old
   pub comes : may_come old.log entry ≡ true
   pub agrees : checked old.log entry ≡ Ok tt
 
@@ -49,20 +55,23 @@ IsStopped e old before new after OtherSettings = ⊥
 IsStopped e old before new after Missing = ⊥
 IsStopped e old before new after Diverged = ⊥
 
--- an entry that may come was not looked at, since the digest of its writer is at no entry of the log, or is another one
+-- an entry that may come is not applied, since the digest of its writer is at no entry of the log, or is another one
 abbrev pub IsAtOdds : List ℕ → Replica → ReplicaFault → Type 0
 IsAtOdds bytes old fault =
     (e : Entry) × IsGood e × (bytes ≡ entry_text e) × (may_come old.log e ≡ true) × (checked old.log e ≡ Err fault)
 
--- when each fault comes, and what it leaves
+-- when each fault comes, and what it leaves: they are looked for in this order, but for want of memory
 abbrev pub Refuses : ℕ → List ℕ → Replica → List ℕ → Replica → List ℕ → ReplicaFault → Type 0
-Refuses position bytes old before new after NotRising = (position ≤ old.log.position) × IsSame old before new after
+Refuses position bytes old before new after NotRising =
+    (old.log.torn ≡ false) × (position ≤ old.log.position) × IsSame old before new after
 Refuses position bytes old before new after NoEntry =
-    ((e : Entry) → IsGood e → bytes ≢ entry_text e) × IsSame old before new after
+    IsLookedAt position old × ((e : Entry) → IsGood e → bytes ≢ entry_text e) × IsSame old before new after
 Refuses position bytes old before new after OtherSettings =
-    (e : Entry) × IsGood e × (bytes ≡ entry_text e) × (may_come old.log e ≡ false) × IsSame old before new after
-Refuses position bytes old before new after Missing = IsAtOdds bytes old Missing × IsSame old before new after
-Refuses position bytes old before new after Diverged = IsAtOdds bytes old Diverged × IsSame old before new after
+    IsLookedAt position old × ((e : Entry) × IsGood e × (bytes ≡ entry_text e) × (may_come old.log e ≡ false)) × IsSame old before new after
+Refuses position bytes old before new after Missing =
+    IsLookedAt position old × IsAtOdds bytes old Missing × IsSame old before new after
+Refuses position bytes old before new after Diverged =
+    IsLookedAt position old × IsAtOdds bytes old Diverged × IsSame old before new after
 Refuses position bytes old before new after NoMemory = IsNext position bytes old Opened × IsSame old before new after
 Refuses position bytes old before new after Torn =
     (new.log.torn ≡ true) × ((old.log.torn ≡ true) ⊎ ((e : Entry) × IsNext position bytes old e))
