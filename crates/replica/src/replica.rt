@@ -141,8 +141,8 @@ impl Replica {
         self.position
     }
 
-    /// The digest of the settings, and of all lines and answers since. It has 32 bytes, and means nothing before the log
-    /// has begun.
+    /// The digest of the settings, and of all lines and answers since. It has 32 bytes, and means nothing before the
+    /// log has begun.
     pub fn digest(&self) -> &[u8]
         ensures { result.now ≡ self.now.digest }
     {
