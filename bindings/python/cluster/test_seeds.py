@@ -163,7 +163,13 @@ def short(times: int) -> Callable[..., Calls]:
 
 
 class Faults(Cases):
-    """Faults that are planted are found, by the replay or by the replicas themselves."""
+    """Faults that are planted are found, by the replay or by the replicas themselves. They are planted in the rules in Python, which all hosts have here."""
+
+    def setUp(self) -> None:
+        super().setUp()
+        ours = mock.patch("pidtab.machines.has_replicas", return_value=False)
+        ours.start()
+        self.addCleanup(ours.stop)
 
     def is_found(self, seed: int, tables: Sequence[Callable[..., Calls]] = ()) -> bool:
         """Whether a round shows that something is wrong."""

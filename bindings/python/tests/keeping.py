@@ -76,6 +76,12 @@ class StillFollowing(Following):
         self._following.close()
 
 
+def first_kept(table: Replicated) -> int:
+    """The first position whose digest a host keeps: that of the snapshot with which it began, or of the settings."""
+    machine = table._replica.machine
+    return next(it for it in range(1, machine.position + 1) if machine.digest_at(it) is not None)
+
+
 class Keeping(unittest.TestCase):
     """Opens hosts and keepers, which end behind the test."""
 
