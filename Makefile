@@ -255,7 +255,7 @@ box-test: box ## runs real programs in the box and in the kernel's namespaces, a
 box-bench: box ## times builds and single calls natively, in the box, under strace and under proot (a minute)
 	@box/tests/bench
 
-.PHONY: bindings bindings-python bindings-c bindings-rust bindings-go bindings-js package repository
+.PHONY: bindings bindings-python bindings-c bindings-rust bindings-go bindings-go-cluster bindings-go-cluster-wrong bindings-js package repository
 
 # Over what `make build` and `make lib` have built.
 bindings: bindings-python bindings-c bindings-rust bindings-go bindings-js ## tests the ways in for Python, C, Rust, Go and JavaScript; what is not there is skipped with a word
@@ -350,6 +350,21 @@ bindings-rust:
 bindings-go:
 	$(call tested,go,out/libpidtab.a,export CGO_CFLAGS="-DHEADER_$$(cat $(HEADERS:%=out/%) | cksum | cut -d ' ' -f 1)" && \
 		cd bindings/go && go vet ./... && { ! gofmt -l . | grep .; } && go test -count=1 ./...)
+
+# One table on many hosts in Go, alone and beside hosts in Python, over Debian's sources of etcd's client (some 5 minutes). What it lacks it says.
+define cluster_checked
+@mkdir -p $(OUT)
+@if ! command -v python3 > /dev/null; then echo '$@: skipped: no python3'; \
+elif ! bindings/go/cluster/check missing > $(OUT)/$@.log; then echo "$@: skipped: $$(cat $(OUT)/$@.log)"; \
+elif ! bindings/go/cluster/check $(1) > $(OUT)/$@.log 2>&1; then echo 'make $@ failed: see $(OUT)/$@.log' >&2; exit 1; fi
+endef
+
+bindings-go-cluster:
+	$(call cluster_checked)
+
+# Each wrong version of bindings/go/cluster/wrong is to be found (some 5 minutes).
+bindings-go-cluster-wrong:
+	$(call cluster_checked,wrong)
 
 # The package of the sources as they are, beside its built module.
 package:

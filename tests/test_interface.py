@@ -78,6 +78,7 @@ DIFFERENCES = [
     ("bindings/go/calls.go", "func (it calls) Call(", "func (it calls) Make(", "the package for go has no Table.Call"),
     ("bindings/go/dump.go", "func (table *Table) Dump()", "func (table *Table) Text()", "the package for go has no Table.Dump"),
     ("bindings/go/page.go", "func (shared *Shared) Children(", "func (shared *Shared) Offspring(", "the package for go has no Shared.Children"),
+    ("bindings/go/replica.go", "func (replica *Replica) Last(", "func (replica *Replica) Latest(", "the package for go has no Replica.Last"),
     ("bindings/go/space.go", "func (table *Table) Space(", "func (table *Table) Namespace(", "the package for go has no Table.Space"),
     ("bindings/go/saved.go", "func (saved *Saved) Trim(", "func (saved *Saved) Cut(", "the package for go has no Saved.Trim"),
     ("bindings/go/saver.go", "func (shared *Shared) Serve(", "func (shared *Shared) Saver(", "the package for go has no Shared.Serve"),

@@ -53,3 +53,56 @@ func TestWithoutTheLibraryAllWorksButLinking(t *testing.T) {
 		t.Error(said, err)
 	}
 }
+
+// A library of another interface is told, and nothing is opened.
+func TestALibraryOfAnotherInterface(t *testing.T) {
+	folder := unbuilt(t)
+	root := filepath.Join(folder, "../..")
+	library, err := filepath.Abs("../../out/libpidtab.a")
+	if err != nil {
+		t.Fatal(err)
+	}
+	change(t, filepath.Join(folder, "link_checkout.go"), "${SRCDIR}/../../out/libpidtab.a", library)
+	change(t, filepath.Join(root, "bindings/c/pidtab.h"), "#define PIDTAB_VERSION 1 ", "#define PIDTAB_VERSION 2 ")
+	program := `package main
+
+import (
+	"fmt"
+
+	"pidtab"
+)
+
+func main() {
+	_, table := pidtab.Open(32768)
+	_, shared := pidtab.OpenShared(pidtab.Settings{PidMax: 32768, Workers: 1})
+	_, replica := pidtab.OpenReplica(32768, pidtab.Model)
+	for _, err := range []error{table, shared, replica} {
+		fmt.Println(err)
+	}
+}
+`
+	if err := os.MkdirAll(filepath.Join(folder, "tell"), 0o777); err != nil {
+		t.Fatal(err)
+	}
+	if err := os.WriteFile(filepath.Join(folder, "tell/main.go"), []byte(program), 0o666); err != nil {
+		t.Fatal(err)
+	}
+	run := exec.Command("go", "run", "./tell")
+	run.Dir = folder
+	said, err := run.Output()
+	if wanted := strings.Repeat("pidtab: the library has the interface 1, and this package is for 2\n", 3); string(said) != wanted || err != nil {
+		t.Errorf("%s %v", said, err)
+	}
+}
+
+// change changes a text in a file, which is there once.
+func change(t *testing.T, path, before, now string) {
+	t.Helper()
+	text, err := os.ReadFile(path)
+	if err != nil || strings.Count(string(text), before) != 1 {
+		t.Fatal(path, before, err)
+	}
+	if err := os.WriteFile(path, []byte(strings.Replace(string(text), before, now, 1)), 0o666); err != nil {
+		t.Fatal(err)
+	}
+}

@@ -52,9 +52,24 @@ const (
 // calls are the calls of a table, and of a seat of a table that goroutines share: what makes them is within.
 type calls struct{ by maker }
 
-// A maker makes a call, and answers with a status.
+// A maker makes a call.
 type maker interface {
-	step(call *C.struct_pidtab_call, reply *C.struct_pidtab_reply) C.uint32_t
+	step(call *C.struct_pidtab_call, reply *C.struct_pidtab_reply) error
+}
+
+// Calls are the calls of a table that is elsewhere, as one on many hosts: the methods of a Table, by a function that makes each call.
+type Calls struct{ calls }
+
+// CallsBy has each call made by the function. What that answers, the method answers: its reply, or its error as it is.
+func CallsBy(do func(Call) (Reply, error)) Calls { return Calls{calls{madeBy(do)}} }
+
+// madeBy makes a call by a function of Go.
+type madeBy func(Call) (Reply, error)
+
+func (do madeBy) step(call *C.struct_pidtab_call, reply *C.struct_pidtab_reply) error {
+	made, err := do(callOf(call))
+	*reply = made.numbers()
+	return err
 }
 
 // Call makes the call that the value says. What the table refuses is a reply here, of the kind ReplyRefused, and an error of each method
@@ -244,5 +259,5 @@ func (it calls) step(call *C.struct_pidtab_call, reply *C.struct_pidtab_reply) e
 	if it.by == nil {
 		return ErrClosed
 	}
-	return faultOf(uint32(it.by.step(call, reply)))
+	return it.by.step(call, reply)
 }

@@ -119,6 +119,12 @@ func (it *caseWorld) call(line string) string {
 	it.told = entry.Reply
 	it.same(of(entry.Call.Line()), told{line, nil})
 	it.same(of(entry.Reply.Line()), told{answer, nil})
+	it.same(of(ReadReply(entry.Call.Operation, answer)), told{entry.Reply, nil})
+	elsewhere := CallsBy(func(call Call) (Reply, error) {
+		it.same(call, entry.Call)
+		return entry.Reply, nil
+	})
+	it.sameByMethod(elsewhere.calls, entry)
 	it.same([]any{entry.Worker, sayReply(entry.Reply)}, []any{uint32(it.at), answer})
 	asked := told{Reply{}, ErrOutOfRange}
 	for _, query := range queryWords {
@@ -132,11 +138,7 @@ func (it *caseWorld) call(line string) string {
 		it.same(of(it.tables[1].Would(entry.Call)), told{entry.Reply, nil})
 		reply, _, err := it.tables[1].Told(entry.Call)
 		it.same(of(reply, err), told{entry.Reply, nil})
-		found := byItsMethod(it.tables[2].calls, entry.Call)
-		it.same(found.err, entry.Reply.Err())
-		if found.err == nil {
-			it.same(found.answer, answerOf(entry.Reply))
-		}
+		it.sameByMethod(it.tables[2].calls, entry)
 	}
 	return answer
 }
@@ -239,6 +241,15 @@ func byItsMethod(it calls, call Call) told {
 }
 
 // The end of calls.
+
+// sameByMethod makes a call by its method, which tells what the entry has.
+func (it *caseWorld) sameByMethod(by calls, entry Entry) {
+	found := byItsMethod(by, entry.Call)
+	it.same(found.err, entry.Reply.Err())
+	if found.err == nil {
+		it.same(found.answer, answerOf(entry.Reply))
+	}
+}
 
 // answerOf is what a method tells whose call has the reply.
 func answerOf(reply Reply) any {

@@ -21,7 +21,7 @@ var (
 	ErrBadSettings  = errors.New("pidtab: no table has the settings of the head")
 	ErrOtherTable   = errors.New("pidtab: what is saved is of another table")
 	ErrEnded        = errors.New("pidtab: the saver has ended")
-	ErrNil          = errors.New("pidtab: nil where a writer, a reader, a file, a Saved or a context is needed")
+	ErrNil          = errors.New("pidtab: nil where a writer, a reader, a file, a Saved, a log, a client or a context is needed")
 )
 
 // SavedError is why a history was not saved or not loaded, and where. A reader's or a writer's own error is wrapped as it is.

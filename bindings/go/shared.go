@@ -575,18 +575,18 @@ func (seat *Seat) place() *seated {
 }
 
 // step makes a call.
-func (own *seated) step(call *C.struct_pidtab_call, reply *C.struct_pidtab_reply) C.uint32_t {
+func (own *seated) step(call *C.struct_pidtab_call, reply *C.struct_pidtab_reply) error {
 	own.held.lock.LockForCall()
 	defer own.held.lock.Unlock()
 	var ordinal C.uint64_t
 	if status := own.held.waitForSaver(1); status != C.PIDTAB_DONE {
-		return status
+		return faultOf(uint32(status))
 	}
 	status := C.pidtab_record_call(own.held.raw, C.uint32_t(own.worker), call, reply, &ordinal)
 	if status == C.PIDTAB_DONE {
 		own.held.labels.replied(reply)
 	}
-	return own.after(status, ordinal)
+	return faultOf(uint32(own.after(status, ordinal)))
 }
 
 // after keeps the ordinal of a call that was made, and cuts a history that is long enough. The lock is held.

@@ -162,14 +162,14 @@ func (table *Table) held() *heldTable {
 }
 
 // step makes a call.
-func (held *heldTable) step(call *C.struct_pidtab_call, reply *C.struct_pidtab_reply) C.uint32_t {
+func (held *heldTable) step(call *C.struct_pidtab_call, reply *C.struct_pidtab_reply) error {
 	held.lock.Lock()
 	defer held.lock.Unlock()
 	status := C.pidtab_call(&held.raw, call, reply)
 	if status == C.PIDTAB_DONE {
 		held.labels.replied(reply)
 	}
-	return status
+	return faultOf(uint32(status))
 }
 
 // list is the list as text.

@@ -13,7 +13,7 @@ DECLARED = r"^(?!static)\w[\w ]*[ *]pidtab_(\w+)\("
 FILES = {
     "python": tuple(f"bindings/python/pidtab/{name}.py" for name in ("calls", "native", "shared", "table")),
     "rust": tuple(f"bindings/rust/src/{name}.rs" for name in ("blocks", "calls", "lib", "page", "saved", "shared", "space", "stat")),
-    "go": tuple(f"bindings/go/{name}.go" for name in ("calls", "dump", "page", "saved", "saver", "shared", "space", "stat", "table", "values")),
+    "go": tuple(f"bindings/go/{name}.go" for name in ("calls", "dump", "page", "replica", "saved", "saver", "shared", "space", "stat", "table", "values")),
     "javascript": ("bindings/js/pidtab.d.ts",),
 }
 PATHS = (*HEADERS, *(path for paths in FILES.values() for path in paths))

@@ -40,9 +40,12 @@ T = TypeVar("T")
 class Writer:
     """A host in a process of its own."""
 
+    # What takes the words of `cluster.writer`.
+    program: Sequence[str] = (sys.executable, "-B", "-m", "cluster.writer")
+
     def __init__(self, members: list[str], name: str, file: Path, threads: int = 4, batch: int = 16, calls: int = 10**9, seconds: float = LOAD) -> None:
         words = [",".join(members), name, threads, batch, calls, seconds, file]
-        command = [sys.executable, "-B", "-m", "cluster.writer", *map(str, words)]
+        command = [*self.program, *map(str, words)]
         self.file = file
         self._child = subprocess.Popen(command, cwd=PACKAGE, env=environment(), stdin=subprocess.PIPE, stdout=subprocess.PIPE, text=True)
 
@@ -113,9 +116,9 @@ class Cluster(unittest.TestCase):
             except NotKnown:
                 self.assertLess(time.monotonic(), end)
 
-    def writer(self, etcds: Etcds, **wishes: int) -> Writer:
+    def writer(self, etcds: Etcds, kind: type[Writer] = Writer, **wishes: int) -> Writer:
         """Starts a host, and waits until its table is open."""
-        writer = Writer(etcds.members, "web", self.folder / f"rows{len(self.writers)}", **wishes)
+        writer = kind(etcds.members, "web", self.folder / f"rows{len(self.writers)}", **wishes)
         self.addCleanup(writer.end)
         self.writers.append(writer)
         self.opened = writer.read("open")

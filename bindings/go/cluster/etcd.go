@@ -1,0 +1,228 @@
+package cluster
+
+import (
+	"context"
+	"crypto/rand"
+	"encoding/hex"
+	"errors"
+	"fmt"
+	"regexp"
+	"strconv"
+	"strings"
+	"sync/atomic"
+	"time"
+	"unicode/utf8"
+
+	clientv3 "go.etcd.io/etcd/client/v3"
+	"google.golang.org/grpc/codes"
+	"google.golang.org/grpc/status"
+
+	"pidtab"
+)
+
+// DefaultTimeout is the Timeout of an EtcdLog that names none.
+const DefaultTimeout = 5 * time.Second
+
+// ErrBadName is why there is no log of a name.
+var ErrBadName = errors.New("pidtab: a log's name has 1 to 200 printable characters and no colon")
+
+// EtcdLog is a log in etcd 3.4 or later, as docs/CLUSTER.md has it: the same that EtcdLog of the package for Python has. The key of each entry begins with
+// the log's name and a colon. Nothing but pidtab-keep(1) may change or delete a key there. The history of etcd may be compacted at any time.
+type EtcdLog struct {
+	// Timeout is for one answer of etcd; and a watch that is quiet for so long is opened anew, at another member. 0 is for DefaultTimeout. It is
+	// set before the log is used.
+	Timeout time.Duration
+
+	client   *clientv3.Client
+	name     string
+	prefix   string       // of each key
+	last     string       // behind each key of the log, but those of its cells
+	revision atomic.Int64 // the greatest that a member has told of
+	cluster  atomic.Uint64
+}
+
+// Behind the log's name is a revision that was before that of the entry, and something that no other entry has; or the name of a cell.
+const (
+	cellMark = "~"
+	markName = "~mark"
+	lastName = "~n"
+)
+
+var (
+	keyForm  = regexp.MustCompile(`^([0-9a-f]{16})-[0-9a-f]{16}$`)
+	nameForm = regexp.MustCompile(`^[^:\x00-\x1f\x7f]{1,200}$`)
+)
+
+// NewEtcdLog names a log in the etcd of the client; nothing is asked yet. The client stays the caller's, and open: it has the members, the user and TLS, and
+// no namespace. Give it a DialKeepAliveTime of some seconds, so that it leaves a member that hangs. pidtab.ErrNil; ErrBadName.
+func NewEtcdLog(client *clientv3.Client, name string) (*EtcdLog, error) {
+	if client == nil {
+		return nil, pidtab.ErrNil
+	}
+	if !utf8.ValidString(name) || !nameForm.MatchString(name) {
+		return nil, fmt.Errorf("%w: not %q", ErrBadName, name)
+	}
+	prefix := name + ":"
+	return &EtcdLog{client: client, name: name, prefix: prefix, last: prefix + lastName}, nil
+}
+
+// Append puts an entry behind all others, by one transaction at one member.
+func (log *EtcdLog) Append(ctx context.Context, entry []byte) (uint64, error) {
+	before := log.revision.Load()
+	key, err := log.entryKey(before)
+	if err != nil {
+		return 0, err
+	}
+	return log.put(ctx, key, entry, before)
+}
+
+// put puts an entry, and answers at which revision. The client may send it to a second member, which finds that it is there.
+func (log *EtcdLog) put(ctx context.Context, key string, entry []byte, before int64) (uint64, error) {
+	ctx, cancel := log.within(ctx)
+	defer cancel()
+	isNew := clientv3.Compare(clientv3.CreateRevision(key), "=", 0)
+	told, err := log.client.Txn(ctx).If(isNew).Then(clientv3.OpPut(key, string(entry))).Else(clientv3.OpGet(key, clientv3.WithKeysOnly())).Commit()
+	if err != nil {
+		return 0, log.faultOf(err)
+	}
+	position := told.Header.Revision
+	if !told.Succeeded {
+		for _, kv := range told.Responses[0].GetResponseRange().Kvs {
+			position = kv.CreateRevision
+		}
+	}
+	if position <= before {
+		return 0, LogFault{Why: fmt.Sprintf("etcd has made an entry at revision %d, behind revision %d: it was set back", position, before)}
+	}
+	return uint64(position), log.note(told.Header.ClusterId, told.Header.Revision)
+}
+
+// Follow hands on all entries behind the revision, and then each that comes.
+func (log *EtcdLog) Follow(ctx context.Context, after uint64, take func(Progress) error) error {
+	walk := &etcdWalk{log: log, take: take, seen: int64(after)}
+	return walk.run(ctx)
+}
+
+// End is the revision of etcd now, by a read that a majority confirms.
+func (log *EtcdLog) End(ctx context.Context) (uint64, error) {
+	told, err := log.get(ctx, log.prefix+markName, clientv3.WithKeysOnly())
+	if err != nil {
+		return 0, err
+	}
+	return uint64(told.Header.Revision), nil
+}
+
+// Mark is the same, by a put of a key that is none of an entry, and which each follower sees.
+func (log *EtcdLog) Mark(ctx context.Context) (uint64, error) {
+	ctx, cancel := log.within(ctx)
+	defer cancel()
+	told, err := log.client.Put(ctx, log.prefix+markName, "")
+	if err != nil {
+		return 0, log.faultOf(err)
+	}
+	return uint64(told.Header.Revision), log.note(told.Header.ClusterId, told.Header.Revision)
+}
+
+// String is the name of the log.
+func (log *EtcdLog) String() string { return fmt.Sprintf("the log %q in etcd", log.name) }
+
+// get reads keys, by a read that a majority confirms.
+func (log *EtcdLog) get(ctx context.Context, key string, options ...clientv3.OpOption) (*clientv3.GetResponse, error) {
+	ctx, cancel := log.within(ctx)
+	defer cancel()
+	told, err := log.client.Get(ctx, key, options...)
+	if err != nil {
+		return nil, log.faultOf(err)
+	}
+	return told, log.note(told.Header.ClusterId, told.Header.Revision)
+}
+
+// cellsAt are the cells of the log as they were at a revision, or, where that is 0, as they are.
+func (log *EtcdLog) cellsAt(revision int64) cells {
+	return func(ctx context.Context, name string) ([]byte, error) {
+		told, err := log.get(ctx, log.prefix+cellMark+name, clientv3.WithRev(revision))
+		if err != nil || len(told.Kvs) == 0 {
+			return nil, err
+		}
+		return append([]byte{}, told.Kvs[0].Value...), nil
+	}
+}
+
+// entryKey is a key for an entry: the revision in it is before that at which the entry will be made.
+func (log *EtcdLog) entryKey(revision int64) (string, error) {
+	var chance [8]byte
+	if _, err := rand.Read(chance[:]); err != nil {
+		return "", err
+	}
+	return fmt.Sprintf("%s%016x-%s", log.prefix, revision, hex.EncodeToString(chance[:])), nil
+}
+
+// hintOf is the revision in the key of an entry; false for a key that is none of one.
+func (log *EtcdLog) hintOf(key []byte) (int64, bool) {
+	found := keyForm.FindStringSubmatch(strings.TrimPrefix(string(key), log.prefix))
+	if found == nil {
+		return 0, false
+	}
+	hint, err := strconv.ParseInt(found[1], 16, 64)
+	return hint, err == nil
+}
+
+// isMark is whether the key is that of the mark.
+func (log *EtcdLog) isMark(key []byte) bool { return string(key) == log.prefix+markName }
+
+// checkEntry sees to it that a key is that of an entry which nobody has changed: the revision in it.
+func (log *EtcdLog) checkEntry(key []byte, revision, version int64) (int64, error) {
+	hint, isEntry := log.hintOf(key)
+	if !isEntry || hint >= revision {
+		name := strings.TrimPrefix(string(key), log.prefix)
+		return 0, LogFault{Why: fmt.Sprintf("the log %s has a key that is none of an entry: %.60q", log.name, name)}
+	}
+	if version != 1 {
+		return 0, LogFault{Why: fmt.Sprintf("the entry at revision %d was overwritten", revision)}
+	}
+	return hint, nil
+}
+
+// note reads the head of an answer. All members have to be those of one cluster.
+func (log *EtcdLog) note(cluster uint64, revision int64) error {
+	if !log.cluster.CompareAndSwap(0, cluster) && log.cluster.Load() != cluster {
+		return LogFault{Why: "the members are not those of one etcd cluster"}
+	}
+	for before := log.revision.Load(); before < revision; before = log.revision.Load() {
+		log.revision.CompareAndSwap(before, revision)
+	}
+	return nil
+}
+
+// within bounds a call on etcd.
+func (log *EtcdLog) within(ctx context.Context) (context.Context, context.CancelFunc) {
+	return context.WithTimeout(ctx, log.timeout())
+}
+
+func (log *EtcdLog) timeout() time.Duration {
+	if log.Timeout > 0 {
+		return log.Timeout
+	}
+	return DefaultTimeout
+}
+
+// faultOf is what an error of etcd says: a LogFault where the same never goes well.
+func (log *EtcdLog) faultOf(err error) error {
+	switch codeOf(err) {
+	case codes.InvalidArgument, codes.PermissionDenied, codes.Unimplemented:
+		// The client takes a new token.
+		if !strings.Contains(err.Error(), "revision of auth store is old") {
+			return LogFault{Why: "etcd refuses: " + err.Error(), Err: err}
+		}
+	}
+	return fmt.Errorf("etcd: %w", err)
+}
+
+// codeOf is the code that etcd has given an error.
+func codeOf(err error) codes.Code {
+	var coded interface{ Code() codes.Code }
+	if errors.As(err, &coded) {
+		return coded.Code()
+	}
+	return status.Code(err)
+}

@@ -1,0 +1,344 @@
+package cluster
+
+import (
+	"container/heap"
+	"context"
+	"errors"
+	"fmt"
+	"time"
+
+	clientv3 "go.etcd.io/etcd/client/v3"
+)
+
+const (
+	// A quiet follower that cannot know that it has all asks for a mark so many times less often.
+	quietTimes = 12
+
+	// Bytes that a page of entries should have.
+	pageBytes = 4 * 1024 * 1024
+)
+
+// The bounds of the entries of a page.
+var (
+	firstPage   = int64(100)
+	longestPage = int64(10_000)
+)
+
+var (
+	errQuiet     = errors.New("the watch is quiet")
+	errCompacted = errors.New("the history from which a watch should begin is no more")
+)
+
+// An etcdWalk goes over a log in etcd: first by its keys, and then by a watch.
+type etcdWalk struct {
+	log  *EtcdLog
+	take func(Progress) error
+	seen int64
+	cut  int64 // only entries with an earlier revision in their keys may be deleted
+}
+
+// run goes on until something fails.
+func (it *etcdWalk) run(ctx context.Context) error {
+	if it.seen == 0 {
+		if err := it.readKeys(ctx); err != nil {
+			return err
+		}
+	}
+	for quiet := 0; ; {
+		before := it.seen
+		err := it.watch(ctx)
+		if it.seen > before {
+			quiet = 0
+		}
+		switch {
+		case errors.Is(err, errQuiet):
+			quiet++
+			err = it.hand(Progress{Position: uint64(it.seen)})
+		case errors.Is(err, errCompacted):
+			err = it.readKeys(ctx)
+		}
+		if err == nil && quiet > 0 && quiet%quietTimes == 0 {
+			err = it.markWhereBehind(ctx)
+		}
+		if err != nil {
+			return err
+		}
+	}
+}
+
+// markWhereBehind has the log marked, if etcd is further: others may write to etcd, so that its revision alone does not say that nothing was missed.
+func (it *etcdWalk) markWhereBehind(ctx context.Context) error {
+	end, err := it.log.End(ctx)
+	if err == nil && end > uint64(it.seen) {
+		_, err = it.log.Mark(ctx)
+	}
+	return err
+}
+
+// hand hands on what has come.
+func (it *etcdWalk) hand(progress Progress) error {
+	if err := it.take(progress); err != nil {
+		return err
+	}
+	if it.seen < int64(progress.Position) {
+		it.seen = int64(progress.Position)
+	}
+	return nil
+}
+
+// A found entry: its revision, its bytes, and the revision in its key.
+type found struct {
+	revision, hint int64
+	data           []byte
+}
+
+// A foundHeap has the entry with the least revision at its front.
+type foundHeap []found
+
+func (it foundHeap) Len() int           { return len(it) }
+func (it foundHeap) Less(i, j int) bool { return it[i].revision < it[j].revision }
+func (it foundHeap) Swap(i, j int)      { it[i], it[j] = it[j], it[i] }
+func (it *foundHeap) Push(x any)        { *it = append(*it, x.(found)) }
+func (it *foundHeap) Pop() any {
+	last := len(*it) - 1
+	popped := (*it)[last]
+	*it = (*it)[:last]
+	return popped
+}
+
+// upTo takes the entries up to a revision, in their order.
+func (it *foundHeap) upTo(revision int64) []Entry {
+	var ready []Entry
+	for it.Len() > 0 && (*it)[0].revision <= revision {
+		next := heap.Pop(it).(found)
+		ready = append(ready, Entry{uint64(next.revision), next.data})
+	}
+	return ready
+}
+
+// readKeys hands on all that is behind the place, as it is at one revision: a snapshot, where what was there is cut or much, and then all entries.
+//
+// They are read in the order of their keys. No entry has a revision up to that in its key. So what was read up to a key has all entries up to there.
+func (it *etcdWalk) readKeys(ctx context.Context) error {
+	end, err := it.log.End(ctx)
+	if err != nil {
+		return err
+	}
+	at := int64(end)
+	loaded, err := loadBehind(ctx, it.log.cellsAt(at), uint64(it.seen))
+	if err == nil && loaded != nil {
+		err = it.hand(*loaded)
+	}
+	if err != nil {
+		return err
+	}
+	start, err := it.firstBehind(ctx, at)
+	if err != nil {
+		return err
+	}
+	return it.readPages(ctx, start, at)
+}
+
+// readPages hands on the entries from a key on.
+func (it *etcdWalk) readPages(ctx context.Context, start string, at int64) error {
+	var waiting foundHeap
+	after := it.seen
+	for most := firstPage; ; {
+		page, err := it.page(ctx, start, at, most)
+		if err != nil {
+			return err
+		}
+		bound, err := it.push(&waiting, page, after)
+		if err != nil {
+			return err
+		}
+		if page.isLast {
+			bound = at
+		}
+		if err := it.hand(Progress{Position: uint64(bound), Entries: waiting.upTo(bound)}); err != nil || page.isLast {
+			return err
+		}
+		start, most = page.next, page.longer(most)
+	}
+}
+
+// push keeps the entries of a page that are behind the place; up to which revision all have come.
+func (it *etcdWalk) push(waiting *foundHeap, page page, after int64) (int64, error) {
+	bound := after
+	for _, kv := range page.keys {
+		if it.log.isMark(kv.key) {
+			continue
+		}
+		hint, err := it.log.checkEntry(kv.key, kv.revision, kv.version)
+		if err != nil {
+			return 0, err
+		}
+		if bound < hint {
+			bound = hint
+		}
+		if kv.revision > after {
+			heap.Push(waiting, found{kv.revision, hint, kv.value})
+		}
+	}
+	return bound, nil
+}
+
+// firstBehind is the first key whose entry is behind the place; read without the entries themselves.
+func (it *etcdWalk) firstBehind(ctx context.Context, at int64) (string, error) {
+	start := it.log.prefix
+	for it.seen > 0 {
+		page, err := it.page(ctx, start, at, longestPage, clientv3.WithKeysOnly())
+		if err != nil {
+			return "", err
+		}
+		for _, kv := range page.keys {
+			if kv.revision > it.seen {
+				return string(kv.key), nil
+			}
+		}
+		if page.isLast {
+			return it.log.last, nil
+		}
+		start = page.next
+	}
+	return start, nil
+}
+
+// A page has some keys of a log.
+type page struct {
+	keys   []keyed
+	isLast bool
+	next   string // the first key behind it
+	bytes  int64
+}
+
+// A keyed value is a key with what etcd has of it.
+type keyed struct {
+	key, value        []byte
+	revision, version int64 // at which it was made, and how often it was put
+}
+
+// longer is of how many entries the next page is.
+func (it page) longer(most int64) int64 {
+	longer := most * pageBytes / it.bytes
+	for _, bound := range []int64{2 * most, longestPage} {
+		if longer > bound {
+			longer = bound
+		}
+	}
+	if longer < 1 {
+		return 1
+	}
+	return longer
+}
+
+// page reads some keys from the start on, as they are at a revision.
+func (it *etcdWalk) page(ctx context.Context, start string, at, most int64, options ...clientv3.OpOption) (page, error) {
+	read := page{isLast: true, bytes: 1}
+	if start >= it.log.last {
+		return read, nil
+	}
+	options = append(options, clientv3.WithRange(it.log.last), clientv3.WithRev(at), clientv3.WithLimit(most))
+	told, err := it.log.get(ctx, start, options...)
+	if err != nil {
+		return page{}, err
+	}
+	for _, kv := range told.Kvs {
+		read.keys = append(read.keys, keyed{kv.Key, kv.Value, kv.CreateRevision, kv.Version})
+		read.bytes += int64(len(kv.Key) + len(kv.Value))
+		read.next = string(kv.Key) + "\x00"
+	}
+	read.isLast = !told.More
+	return read, nil
+}
+
+// watch hands on what comes behind the place, until it is quiet, or ends.
+func (it *etcdWalk) watch(ctx context.Context) error {
+	within, cancel := context.WithCancel(clientv3.WithRequireLeader(ctx))
+	defer cancel()
+	// A watcher of its own has a connection of its own to some member, which may be another one than before.
+	watcher := clientv3.NewWatcher(it.log.client)
+	defer watcher.Close()
+	// A member that hangs makes no watch.
+	quiet := time.AfterFunc(it.log.timeout(), cancel)
+	defer quiet.Stop()
+	for told := range watcher.Watch(within, it.log.prefix, clientv3.WithRange(it.log.last), clientv3.WithRev(it.seen+1)) {
+		quiet.Stop()
+		if err := it.handTold(ctx, told); err != nil {
+			return err
+		}
+		quiet.Reset(it.log.timeout())
+	}
+	if err := ctx.Err(); err != nil {
+		return err
+	}
+	if within.Err() != nil {
+		return errQuiet
+	}
+	return errors.New("etcd: the watch has ended")
+}
+
+// handTold hands on what a watch tells.
+func (it *etcdWalk) handTold(ctx context.Context, told clientv3.WatchResponse) error {
+	if told.CompactRevision != 0 {
+		return errCompacted
+	}
+	if err := told.Err(); err != nil {
+		return it.log.faultOf(err)
+	}
+	// The revision in its head does not say how far the watch is: only events do.
+	if err := it.log.note(told.Header.ClusterId, told.Header.Revision); err != nil {
+		return err
+	}
+	var progress Progress
+	for _, event := range told.Events {
+		entry, err := it.readEvent(ctx, event)
+		if err != nil {
+			return err
+		}
+		if entry != nil {
+			progress.Entries = append(progress.Entries, *entry)
+		}
+		if progress.Position < uint64(event.Kv.ModRevision) {
+			progress.Position = uint64(event.Kv.ModRevision)
+		}
+	}
+	if len(told.Events) == 0 {
+		return nil
+	}
+	return it.hand(progress)
+}
+
+// readEvent is the entry of an event; nil where it has none.
+func (it *etcdWalk) readEvent(ctx context.Context, event *clientv3.Event) (*Entry, error) {
+	kv := event.Kv
+	if event.Type == clientv3.EventTypeDelete {
+		return nil, it.checkDeleted(ctx, kv.Key, kv.ModRevision)
+	}
+	if it.log.isMark(kv.Key) {
+		return nil, nil
+	}
+	if _, err := it.log.checkEntry(kv.Key, kv.CreateRevision, kv.Version); err != nil {
+		return nil, err
+	}
+	return &Entry{uint64(kv.CreateRevision), kv.Value}, nil
+}
+
+// checkDeleted sees to it that what was deleted is behind a snapshot. This follower had it before.
+func (it *etcdWalk) checkDeleted(ctx context.Context, key []byte, revision int64) error {
+	if it.log.isMark(key) {
+		return nil
+	}
+	hint, isEntry := it.log.hintOf(key)
+	if isEntry && hint >= it.cut {
+		all, err := readServed(ctx, it.log.cellsAt(0))
+		if err != nil {
+			return err
+		}
+		it.cut = int64(all.cut())
+	}
+	if !isEntry || hint >= it.cut {
+		return LogFault{Why: fmt.Sprintf("an entry of the log %s was deleted, at revision %d", it.log.name, revision)}
+	}
+	return nil
+}
