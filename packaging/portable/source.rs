@@ -2,11 +2,12 @@
 use std::env;
 
 const MACHINES: [&str; 3] = ["x86_64", "aarch64", "riscv64"];
-const FILES: [&str; 6] = [
+const FILES: [&str; 7] = [
     "pidtab.S",
     "heap.c",
     "guard.c",
     "guard_record.c",
+    "guard_replica.c",
     "shared.c",
     "saved_file.c",
 ];

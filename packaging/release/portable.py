@@ -4,8 +4,8 @@ import shutil
 
 from release.files import settle, write_tarball, write_text
 
-AROUND = ("heap", "guard", "guard_record", "shared", "saved_file")
-HEADERS = ("pidtab.h", "pidtab_shared.h", "pidtab_saved.h")
+AROUND = ("heap", "guard", "guard_record", "guard_replica", "shared", "saved_file")
+HEADERS = ("pidtab.h", "pidtab_shared.h", "pidtab_saved.h", "pidtab_replica.h")
 # Beside the assembler, where it is built; it takes the place of all other sources.
 ONE_FILE = "pidtab.c"
 
