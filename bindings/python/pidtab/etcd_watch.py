@@ -19,6 +19,11 @@ class Changes(NamedTuple):
     events: Sequence[JSON]
 
 
+def revision_of(event: JSON) -> int:
+    """The revision of a change."""
+    return int(event["kv"]["mod_revision"])
+
+
 class EtcdWatch:
     """A watch over the keys from one on and before another, each time at the next member."""
 
@@ -40,11 +45,16 @@ class EtcdWatch:
         wanted = {**self._range, "start_revision": after + 1, "fragment": True}
         connection, reply = self._etcd.open_watch({"create_request": wanted})
         self._connection = connection
+        # Of the last revision that a piece of a line has, the next piece may have more.
+        held: list[JSON] = []
         try:
             while not self._closed and (line := reply.readline()):
-                told = self._read_line(line)
-                if told is not None:
-                    yield told
+                events, is_piece = self._read_line(line)
+                events = held + events
+                last = max(map(revision_of, events), default=0)
+                held = [it for it in events if revision_of(it) == last] if is_piece else []
+                if len(held) < len(events):
+                    yield Changes(last - 1 if is_piece else last, events[: len(events) - len(held)])
             if not self._closed:
                 raise ConnectionError("the watch has ended")
         except http.client.HTTPException as fault:
@@ -53,8 +63,8 @@ class EtcdWatch:
             self._connection = None
             connection.close()
 
-    def _read_line(self, line: bytes) -> Changes | None:
-        """What a line of a watch says."""
+    def _read_line(self, line: bytes) -> tuple[list[JSON], bool]:
+        """The changes that a line of a watch tells, and whether it is only a piece of what is told at once."""
         try:
             told = json.loads(line)
         except ValueError as fault:
@@ -68,9 +78,4 @@ class EtcdWatch:
             raise Compacted
         if result.get("canceled"):
             raise ConnectionError(f"the watch was cancelled: {result.get('cancel_reason', 'no reason')}")
-        events = result.get("events", [])
-        if not events:
-            return None
-        last = max(int(it["kv"]["mod_revision"]) for it in events)
-        # Where a line is only a piece, the next one may have more of the last revision.
-        return Changes(last - 1 if result.get("fragment") else last, events)
+        return result.get("events", []), bool(result.get("fragment"))

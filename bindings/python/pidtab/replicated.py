@@ -86,6 +86,9 @@ class Replicated(AskableCalls):
     Opening it loads the newest snapshot that the log has, plays what is behind it, and waits for that.
     """
 
+    # What has to stay as long as this does.
+    _keeps: object = None
+
     def __init__(
         self,
         log: Log,
@@ -103,6 +106,16 @@ class Replicated(AskableCalls):
         if not isinstance(log, Log):
             raise TypeError(f"a log is a pidtab.Log, as an EtcdLog is, not {type(log).__name__}")
         self._begin(log, pid_max, table, patience, checks, OwnThreads)
+
+    @classmethod
+    def _of(
+        cls, keeps: object, log: Log, pid_max: int, table: Callable[..., Calls], patience: float, checks: bool, hire: Callable[[Replica], Crew]
+    ) -> "Replicated":
+        """Opens a table that a crew serves; something has to stay as long as it does."""
+        opened = cls.__new__(cls)
+        opened._keeps = keeps
+        opened._begin(log, pid_max, table, patience, checks, hire)
+        return opened
 
     def _begin(
         self, log: Log, pid_max: int, table: Callable[..., Calls], patience: float, checks: bool, hire: Callable[[Replica], Crew]

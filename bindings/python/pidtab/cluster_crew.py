@@ -1,0 +1,538 @@
+"""The threads of a Cluster, however many tables it has: one watches etcd, some read, apply and append, and one watches the time.
+
+A table's entries are appended by one thread at a time, and so applied. What waits for one table waits in a queue, and holds up no thread.
+"""
+
+import heapq
+import itertools
+import queue
+import sys
+import threading
+import time
+from collections import deque
+from collections.abc import Callable
+from typing import NamedTuple
+
+from pidtab.backoff import Backoff
+from pidtab.changed import Changed
+from pidtab.crew import LAST_SECONDS, LOOK, Crew
+from pidtab.etcd import Etcd, JSON, decode, encode
+from pidtab.etcd_cells import behind
+from pidtab.etcd_log import QUIET_TIMES, EtcdLog, Events, read_behind
+from pidtab.etcd_watch import Changes, Compacted, EtcdWatch, revision_of
+from pidtab.faults import TableClosed
+from pidtab.log import Progress
+from pidtab.replica import CLOSED, Replica
+from pidtab.submitted import deadline_behind
+
+# With the one that watches etcd and the one that watches the time these are all threads.
+APPENDERS, APPLIERS, READERS = 4, 2, 2
+
+# So much of what has come is applied to one table before the next has its turn.
+TURN = 64
+
+# Seconds that the time is not looked at where nothing waits.
+IDLE = 60.0
+
+CLUSTER_CLOSED = "the Cluster was closed"
+
+# Behind the cluster's name; no table has it, as there is no colon.
+MARK = b"~mark"
+
+Job = Callable[[], object]
+
+
+def work(job: Job) -> None:
+    """Does a job. A fault of its own ends no thread, as that is the one of many tables."""
+    try:
+        job()
+    except Exception:
+        sys.excepthook(*sys.exc_info())
+
+
+def nothing() -> None:
+    """Only wakes who waits for a job."""
+
+
+class Pool:
+    """Threads that do jobs in the order in which they were given."""
+
+    def __init__(self, name: str, count: int) -> None:
+        # It takes no lock of Python, so that a destructor or an interrupted thread may put something here.
+        self.jobs: "queue.SimpleQueue[Job | None]" = queue.SimpleQueue()
+        self.threads = [threading.Thread(target=self._run, name=f"pidtab {name}", daemon=True) for _ in range(count)]
+
+    def end(self) -> None:
+        """Has the threads end behind what they have."""
+        for _ in self.threads:
+            self.jobs.put(None)
+
+    def _run(self) -> None:
+        while (job := self.jobs.get()) is not None:
+            work(job)
+
+
+class Alarm(NamedTuple):
+    """When something is to be woken."""
+
+    time: float
+    number: int
+    wake: Job
+
+
+class Clock:
+    """Jobs that one thread does at once or at their time."""
+
+    def __init__(self) -> None:
+        self.jobs: "queue.SimpleQueue[Job]" = queue.SimpleQueue()
+        self._alarms: list[Alarm] = []
+        self._numbers = itertools.count()
+
+    def at(self, when: float, wake: Job) -> None:
+        """Has something woken at a time; from any thread."""
+        self.jobs.put(lambda: heapq.heappush(self._alarms, Alarm(when, next(self._numbers), wake)))
+
+    def poke(self) -> None:
+        """Has the time looked at."""
+        if self.jobs.empty():
+            self.jobs.put(nothing)
+
+    def turn(self, until: float) -> None:
+        """Waits for a job, and no longer than until the first alarm or the time that is named."""
+        first = min([until, *(it.time for it in self._alarms[:1])])
+        try:
+            work(self.jobs.get(timeout=max(0.0, first - time.monotonic())))
+        except queue.Empty:
+            pass
+        while self._alarms and self._alarms[0].time <= time.monotonic():
+            heapq.heappop(self._alarms).wake()
+
+
+class Strand:
+    """A step of one table, which one thread of a pool does at a time, however often it is woken.
+
+    The step says how many seconds are to pass before it is done again, or None, where it is to be woken.
+    """
+
+    def __init__(self, pool: Pool, clock: Clock, step: Callable[[], float | None]) -> None:
+        self._pool = pool
+        self._clock = clock
+        self._step = step
+        self._lock = threading.Lock()
+        self._again = False
+        self._not_before = 0.0
+
+    def wake(self) -> None:
+        """Has the step done soon. It takes no lock."""
+        self._pool.jobs.put(self._run)
+
+    def rest(self, seconds: float) -> None:
+        """Has the step done in so many seconds, and not before."""
+        self._not_before = time.monotonic() + seconds
+        self._clock.at(self._not_before, self.wake)
+
+    def _run(self) -> None:
+        if time.monotonic() < self._not_before:
+            return
+        # Before the lock: who has it sees this behind its step.
+        self._again = True
+        if not self._lock.acquire(blocking=False):
+            return
+        try:
+            self._again = False
+            pause = self._step()
+            if pause:
+                self.rest(pause)
+        finally:
+            self._lock.release()
+        if self._again or pause == 0:
+            self.wake()
+
+
+class Feed(Crew):
+    """What the threads of a Cluster do for one of its tables."""
+
+    def __init__(self, crew: "SharedCrew", replica: Replica, log: EtcdLog) -> None:
+        self.replica = replica
+        self.threads = crew.threads
+        # What the watch has told and was not applied: changes; a fault; or None where the table is to read its keys by itself.
+        self.inbox: "deque[Changes | Exception | None]" = deque()
+        self.key = log.prefix
+        # Whether the router has it told what comes.
+        self.joined = False
+        # Whether somebody has it end, and whether it has ended.
+        self.wished = False
+        self.ended = False
+        self._crew = crew
+        self._log = log
+        self._events = Events(log)
+        # Whether it reads its keys by itself. Meanwhile nothing is taken out of the inbox.
+        self._reads = False
+        self._reading, self._sending = replica.make_backoff(), replica.make_backoff()
+        self._reader = Strand(crew.readers, crew.clock, self._read)
+        self._applier = Strand(crew.appliers, crew.clock, self._apply)
+        self._appender = Strand(crew.appenders, crew.clock, self._append)
+        self._end_by = 0.0
+        # Whether its session is to be ended, and whether that was tried.
+        self._says_end = self._said_end = False
+
+    # What its replica asks.
+
+    def watch_time(self) -> None:
+        self._crew.router.claim(self)
+        self._crew.clock.jobs.put(lambda: self._crew.add(self))
+
+    def follow_log(self) -> None:
+        self._crew.router.join(self)
+
+    def leave_log(self) -> None:
+        self._crew.router.leave(self)
+        self.inbox.clear()
+
+    def tell(self) -> None:
+        if self.replica.queue:
+            self._appender.wake()
+        if self.replica.closing:
+            self._crew.clock.poke()
+
+    def expect(self, position: int) -> None:
+        self._crew.router.expect(self, position)
+
+    def wish(self) -> None:
+        self.wished = True
+        self._crew.clock.jobs.put(self.begin_to_end)
+
+    def wait(self) -> None:
+        self.replica.changed.wait_for(lambda: self.ended)
+
+    def do(self, job: Job) -> None:
+        self._crew.readers.jobs.put(job)
+
+    # What the router asks.
+
+    def put(self, told: Changes | Exception | None) -> None:
+        """Hands something out to it."""
+        self.inbox.append(told)
+        self._applier.wake()
+
+    # The steps.
+
+    def _apply(self) -> float | None:
+        """Applies some of what has come."""
+        for _ in range(TURN):
+            if self._reads or self.replica.stopped or not self.inbox:
+                return None
+            pause = self.replica.attempt(self._apply_next)
+            if pause is not None and not self.replica.stopped:
+                # What it could not do with what was told it does with what it reads.
+                self._read_again(pause)
+        return 0.0
+
+    def _apply_next(self) -> None:
+        told = self.inbox.popleft()
+        if told is None:
+            self._read_again(0.0)
+        elif isinstance(told, Exception):
+            raise told
+        elif told.position > self.replica.seen:
+            entries = [it for event in told.events if self._is_new(event) for it in self._events.read(event)]
+            self.replica.take(Progress(told.position, entries))
+
+    def _is_new(self, event: JSON) -> bool:
+        """Whether a change is one of entries that this table has not read by itself."""
+        return revision_of(event) > self.replica.seen and decode(event["kv"]["key"]) < self._log.last
+
+    def _read_again(self, seconds: float) -> None:
+        """Has the keys read in so many seconds. This is the last that who applies does."""
+        self._reads = True
+        if seconds:
+            self._reader.rest(seconds)
+        else:
+            self._reader.wake()
+
+    def _read(self) -> float | None:
+        """Reads the keys behind what was seen, up to a revision that the watch has reached, or a later one; what is told meanwhile waits."""
+        if not self._reads or self.replica.stopped:
+            return None
+        pause = self.replica.attempt(self._read_all)
+        if pause is not None:
+            return pause + self._reading.next()
+        self._reading.reset()
+        self._reads = False
+        self._applier.wake()
+        return None
+
+    def _read_all(self) -> None:
+        self.replica.replay()
+        for progress in read_behind(self._log, self.replica.seen):
+            self.replica.take(progress)
+            if self.replica.stopped:
+                return
+
+    def _append(self) -> float | None:
+        """Puts one entry into the log, or ends the session."""
+        replica = self.replica
+        if replica.has_to_send():
+            return replica.guard(lambda: replica.send(self._sending))
+        if self._says_end and not self._said_end:
+            replica.guard(replica.end_session)
+            self._said_end = True
+            self._crew.clock.poke()
+        return None
+
+    # What the thread that watches the time does.
+
+    def next_time(self) -> float:
+        """When it is to be looked at."""
+        if self.replica.closing:
+            return min(self._end_by, time.monotonic() + LOOK)
+        return self.replica.first_deadline()
+
+    def look(self) -> None:
+        """Fails what waits longer than the patience, and goes on with an end."""
+        if time.monotonic() >= self.replica.first_deadline():
+            self.replica.expire()
+        if self.replica.closing and self._is_to_stop():
+            self._stop()
+
+    def begin_to_end(self) -> None:
+        """Has what was submitted answered, and then the table end."""
+        if not (self.replica.closing or self.ended):
+            self._end_by = deadline_behind(self.replica.patience)
+            self.replica.begin_to_end()
+            self._crew.add(self)
+
+    def _is_to_stop(self) -> bool:
+        """Whether nothing more is waited for: answers, and then the end of the session."""
+        replica, is_over = self.replica, time.monotonic() >= self._end_by
+        if self._says_end:
+            return self._said_end or replica.stopped or replica.hurried or is_over
+        if not (is_over or replica.is_unwanted()):
+            return False
+        if not replica.is_idle():
+            return True
+        self._says_end, self._end_by = True, deadline_behind(LAST_SECONDS)
+        self._appender.wake()
+        return False
+
+    def _stop(self) -> None:
+        try:
+            self.replica.stop(None, CLOSED)
+        finally:
+            self.ended = True
+            self._crew.feeds.discard(self)
+            self.replica.changed.notify_all()
+
+
+class Router:
+    """The watch over all keys below the name of a Cluster, whose events go to the tables that are open.
+
+    It has told each table that has joined of all changes behind those that it had reached then. What is before these the table reads by itself,
+    as its read is not older than what any watch has reached.
+    """
+
+    def __init__(self, etcd: Etcd, name: str) -> None:
+        self.feeds: dict[bytes, Feed] = {}
+        # Takes no more tables.
+        self.closing = False
+        self._etcd = etcd
+        self._prefix = name.encode() + b"/"
+        self._watch = EtcdWatch(etcd, self._prefix, behind(self._prefix))
+        self._lock = threading.Lock()
+        # Up to this revision all was handed out; 0 where the watch has to begin anew.
+        self._reached = 0
+        # Those for which somebody waits until their log was read up to a revision.
+        self._expected: dict[Feed, int] = {}
+        self._closed = False
+        self._changed = Changed()
+
+    def claim(self, feed: Feed) -> None:
+        """Takes a name for a table. Where the one that has it is about to end, this waits for that."""
+        while True:
+            with self._lock:
+                if self.closing:
+                    raise TableClosed(CLUSTER_CLOSED)
+                before = self.feeds.setdefault(feed.key, feed)
+            if before is feed:
+                return
+            if not before.wished:
+                name = feed.key[len(self._prefix) : -1].decode()
+                raise ValueError(f"the table {name!r} is open in this Cluster: use that one, or close it before it is opened again")
+            before.wait()
+
+    def join(self, feed: Feed) -> None:
+        """Has a table told what comes from now on."""
+        with self._lock:
+            feed.joined = True
+            if self._reached:
+                feed.put(None)
+        self._changed.notify_all()
+
+    def leave(self, feed: Feed) -> None:
+        """Has a table told nothing more."""
+        with self._lock:
+            self._expected.pop(feed, None)
+            if self.feeds.get(feed.key) is feed:
+                del self.feeds[feed.key]
+
+    def expect(self, feed: Feed, position: int) -> None:
+        """Has a table told that a revision was reached, also if that is none of its own."""
+        with self._lock:
+            if self._reached >= position:
+                feed.put(Changes(self._reached, ()))
+            else:
+                self._expected[feed] = position
+
+    def close_names(self) -> list[Feed]:
+        """Takes no more tables: those that there are."""
+        with self._lock:
+            self.closing = True
+            return list(self.feeds.values())
+
+    def close(self) -> None:
+        """Ends the watch."""
+        self._closed = True
+        self._watch.close()
+        self._changed.notify_all()
+
+    # The thread that watches.
+
+    def run(self) -> None:
+        """Watches as long as the Cluster is open, from the first table on."""
+        backoff = Backoff()
+        self._changed.wait_for(lambda: self.feeds or self._closed)
+        while not self._closed:
+            self._follow(backoff)
+            self._changed.wait_for(lambda: self._closed, backoff.next())
+
+    def _follow(self, backoff: Backoff) -> None:
+        """Watches until something is wrong."""
+        try:
+            if not self._reached:
+                self._begin()
+            self._follow_quietly(backoff)
+        except Compacted:
+            self._reached = 0
+        except OSError as fault:
+            for feed in self._joined():
+                feed.replica.trouble = fault
+        except Exception as fault:
+            for feed in self._joined():
+                feed.put(fault)
+
+    def _follow_quietly(self, backoff: Backoff) -> None:
+        """Watches until the watch ends; where it is quiet, at the next member."""
+        quiet = 0
+        while not self._closed:
+            try:
+                for told in self._watch.follow(self._reached):
+                    quiet = 0
+                    backoff.reset()
+                    self._hand_out(told)
+            except TimeoutError:
+                quiet += 1
+                backoff.reset()
+            # As a follower of one log: others may write to etcd.
+            if quiet and quiet % QUIET_TIMES == 0 and self._end() > self._reached:
+                self._etcd.note(self._etcd.ask("/v3/kv/put", {"key": encode(self._prefix + MARK), "value": ""})["header"])
+
+    def _begin(self) -> None:
+        """Begins behind what etcd has now, which each table then reads by itself."""
+        end = self._end()
+        with self._lock:
+            self._reached = end
+            for feed in self.feeds.values():
+                if feed.joined:
+                    feed.put(None)
+
+    def _end(self) -> int:
+        """The revision of etcd now, by a read that a majority confirms, and which says too whether all below the name may be read."""
+        wanted = {"key": encode(self._prefix), "range_end": encode(behind(self._prefix)), "limit": 1, "keys_only": True}
+        return self._etcd.note(self._etcd.ask("/v3/kv/range", wanted)["header"])
+
+    def _hand_out(self, told: Changes) -> None:
+        """Hands changes out to the tables whose they are."""
+        own: dict[bytes, list[JSON]] = {}
+        for event in told.events:
+            name, colon, _ = decode(event["kv"]["key"]).partition(b":")
+            own.setdefault(name + colon, []).append(event)
+        with self._lock:
+            for key, events in own.items():
+                feed = self.feeds.get(key)
+                if feed is not None and feed.joined:
+                    feed.put(Changes(told.position, events))
+            self._reached = told.position
+            for feed in [it for it, position in self._expected.items() if position <= told.position]:
+                del self._expected[feed]
+                feed.put(Changes(told.position, ()))
+
+    def _joined(self) -> list[Feed]:
+        with self._lock:
+            return [it for it in self.feeds.values() if it.joined]
+
+
+class SharedCrew:
+    """All threads of a Cluster. Nothing here has a reference to the Cluster or to the `Replicated` of a table."""
+
+    def __init__(self, etcd: Etcd, name: str) -> None:
+        self.clock = Clock()
+        self.router = Router(etcd, name)
+        self.appenders, self.appliers, self.readers = (
+            Pool(f"cluster {name}", count) for name, count in (("append", APPENDERS), ("apply", APPLIERS), ("read", READERS))
+        )
+        # The tables that have not ended; only the thread that watches the time changes it.
+        self.feeds: set[Feed] = set()
+        self._watcher = threading.Thread(target=self._watch_time, name="pidtab cluster time", daemon=True)
+        self._pools = (self.appenders, self.appliers, self.readers)
+        self._others = [threading.Thread(target=self.router.run, name="pidtab cluster watch", daemon=True), *(it for pool in self._pools for it in pool.threads)]
+        self.threads = [self._watcher, *self._others]
+
+    def start(self) -> None:
+        """Begins with the thread that begins the others, as no interrupt comes there."""
+        self._watcher.start()
+
+    def add(self, feed: Feed) -> None:
+        """Watches the time for a table. For the thread that does."""
+        if not feed.ended:
+            self.feeds.add(feed)
+
+    def wish(self) -> None:
+        """Has all tables end, and then the threads. A destructor may ask it, as it takes no lock."""
+        self.clock.jobs.put(self._end_tables)
+
+    def close(self) -> None:
+        """Waits until all tables and threads have ended."""
+        if threading.current_thread() in self.threads:
+            raise RuntimeError("what is called when a Future is done cannot wait for its Cluster: use another thread")
+        self.wish()
+        try:
+            self._watcher.join()
+        except BaseException:
+            self.clock.jobs.put(self._hurry)
+            raise
+
+    def _end_tables(self) -> None:
+        for feed in {*self.feeds, *self.router.close_names()}:
+            feed.wished = True
+            feed.begin_to_end()
+
+    def _hurry(self) -> None:
+        """Has nothing waited for any more."""
+        self._end_tables()
+        for feed in self.feeds:
+            feed.replica.hurried = True
+
+    def _watch_time(self) -> None:
+        """Fails what waits too long, and ends tables and at last all threads."""
+        for thread in self._others:
+            thread.start()
+        while not (self.router.closing and not self.feeds):
+            self.clock.turn(min([time.monotonic() + IDLE, *(it.next_time() for it in self.feeds)]))
+            for feed in tuple(self.feeds):
+                work(feed.look)
+        self.router.close()
+        for pool in self._pools:
+            pool.end()
+        deadline = deadline_behind(LAST_SECONDS)
+        for thread in self._others:
+            thread.join(max(0.0, deadline - time.monotonic()))
