@@ -40,9 +40,11 @@ T = TypeVar("T")
 class Writer:
     """A host in a process of its own."""
 
+    module = "cluster.writer"
+
     def __init__(self, members: list[str], name: str, file: Path, threads: int = 4, batch: int = 16, calls: int = 10**9, seconds: float = LOAD) -> None:
         words = [",".join(members), name, threads, batch, calls, seconds, file]
-        command = [sys.executable, "-B", "-m", "cluster.writer", *map(str, words)]
+        command = [sys.executable, "-B", "-m", self.module, *map(str, words)]
         self.file = file
         self._child = subprocess.Popen(command, cwd=PACKAGE, env=environment(), stdin=subprocess.PIPE, stdout=subprocess.PIPE, text=True)
 

@@ -29,7 +29,7 @@ class EtcdWatch:
 
     def __init__(self, etcd: Etcd, start: bytes, before: bytes) -> None:
         self._etcd = etcd
-        self._range = {"key": encode(start), "range_end": encode(before)}
+        self._range: JSON = {"key": encode(start), "range_end": encode(before)}
         self._closed = False
         self._connection: http.client.HTTPConnection | None = None
 

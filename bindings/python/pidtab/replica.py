@@ -328,8 +328,9 @@ class Replica:
                     text = self.machine.write()
                 checker.note(position, text)
         elif isinstance(entry, Announced):
+            announced = entry
             # Not by this thread, which must not wait for what the log is asked.
-            self.crew.do(lambda: self.judge(checker, entry))
+            self.crew.do(lambda: self.judge(checker, announced))
 
     def judge(self, checker: Checker, it: Announced) -> None:
         """Says whether this host has the same table as a snapshot. Where it cannot, the next one serves."""
