@@ -62,13 +62,14 @@ class Many(test_etcd.Cluster):
         """What `pidtab-replay` says of the log of a table and of all its rows."""
         log = self.folder / "log.json"
         log.write_bytes(etcds.dump(f"{NAME}/{number}", etcds.leader()))
-        rows = [it for file in self.rows_of(number) for it in ("--answers", file)]
-        rows += [it for folder in self.archives if number == SHARED for it in ("--archive", folder)]
-        way = ("--program", find_program()) if table_kind() is Process else ("--library", find_library())
-        command = [sys.executable, "-B", PACKAGE / "bin" / "pidtab-replay", *rows, *way, log]
+        words = [it for file in self.rows_of(number) for it in ("--answers", str(file))]
+        words += [it for folder in self.archives if number == SHARED for it in ("--archive", str(folder))]
+        words += ["--program", find_program()] if table_kind() is Process else ["--library", find_library()]
+        command = [sys.executable, "-B", str(PACKAGE / "bin" / "pidtab-replay"), *words, str(log)]
         done = subprocess.run(command, env=environment(), capture_output=True, text=True, check=False)
         self.assertEqual((done.returncode, done.stderr), (0, ""), done.stdout)
-        return done.stdout
+        said: str = done.stdout
+        return said
 
     def compare_all(self, etcds: Etcds, hosts: Sequence[Writer], plain: Sequence[Writer] = ()) -> None:
         """Waits until all are done, and compares the tables of all processes with each other and with a replay."""
@@ -134,7 +135,8 @@ class Crashes(Many):
         need_library()
         etcds = self.start()
         self.archives.append(self.folder / "archive")
-        words = [sys.executable, "-B", PROGRAM, "--alone", "--bytes", "0.02", "--times", "0", "--archive", self.archives[0], f"{NAME}/{SHARED}"]
+        self.archives[0].mkdir()
+        words = [sys.executable, "-B", PROGRAM, "--alone", "--bytes", "0.02", "--times", "0.1", "--archive", self.archives[0], f"{NAME}/{SHARED}"]
         hosts, plain = [self.host(etcds), self.host(etcds)], self.plain(etcds)
         keeper = subprocess.Popen([*map(str, words), *etcds.members], env=environment(), stdout=subprocess.PIPE, text=True)
         self.addCleanup(keeper.wait)
@@ -147,7 +149,7 @@ class Crashes(Many):
         late = self.host(etcds, seconds=2)
         keeper.terminate()
         said = keeper.communicate(timeout=LONGEST)[0]
-        self.assertGreater(said.count("cut "), 1, said)
+        self.assertRegex(said, r"[1-9]\d* entries up to position \d+ are cut")
         self.compare_all(etcds, [*hosts, late], [plain])
 
 
