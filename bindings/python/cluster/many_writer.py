@@ -7,17 +7,30 @@ The rows of the table 3 are in FILE.3. Behind `at` it says for each table the di
 
 import hashlib
 import os
+import random
 import sys
 import time
-from collections.abc import Callable
+from collections.abc import Callable, Sequence
 from unittest import mock
 
 from cluster.load import Load, User, run_users, table_kind
-from cluster.writer import TroubledLog, say
-from pidtab import Cluster
+from cluster.writer import TROUBLE, say
+from pidtab import Cluster, EtcdLog
+from pidtab.etcd import Etcd
+from pidtab.etcd_log import append_all
 
 # So many users make calls on each table.
 USERS = 2
+
+
+def append_with_troubles(etcd: Etcd, puts: Sequence[tuple[EtcdLog, bytes]]) -> int:
+    """Puts some entries twice, and says of some that are there that etcd does not answer."""
+    position = append_all(etcd, puts)
+    if random.random() < TROUBLE:
+        append_all(etcd, puts)
+    if random.random() < TROUBLE:
+        raise TimeoutError("the acknowledgement is lost")
+    return position
 
 
 def note_in(file: str) -> Callable[[list[str]], object]:
@@ -28,7 +41,7 @@ def note_in(file: str) -> Callable[[list[str]], object]:
 
 def main(members: str, name: str, tables: str, batch: str, calls: str, seconds: str, file: str) -> None:
     begun = time.monotonic()
-    with mock.patch("pidtab.cluster.EtcdLog", TroubledLog), Cluster(members.split(","), name) as cluster:
+    with mock.patch("pidtab.cluster_crew.append_all", append_with_troubles), Cluster(members.split(","), name) as cluster:
         opened = [cluster.open(str(it), table=table_kind()) for it in range(int(tables))]
         say("open", len(opened), f"{time.monotonic() - begun:.2f}")
         users = []

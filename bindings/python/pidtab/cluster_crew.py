@@ -1,6 +1,6 @@
 """The threads of a Cluster, however many tables it has: one watches etcd, some read, apply and append, and one watches the time.
 
-A table's entries are appended by one thread at a time, and so applied. What waits for one table waits in a queue, and holds up no thread.
+A table's entries are appended one at a time, and applied by one thread at a time. What waits for one table waits in a queue, and holds up no thread.
 """
 
 import heapq
@@ -11,6 +11,7 @@ import threading
 import time
 from collections import deque
 from collections.abc import Callable
+from contextlib import suppress
 from typing import NamedTuple
 
 from pidtab.backoff import Backoff
@@ -18,7 +19,7 @@ from pidtab.changed import Changed
 from pidtab.crew import LAST_SECONDS, LOOK, Crew
 from pidtab.etcd import Etcd, JSON, decode, encode
 from pidtab.etcd_cells import behind
-from pidtab.etcd_log import QUIET_TIMES, EtcdLog, Events, read_behind
+from pidtab.etcd_log import QUIET_TIMES, EtcdLog, Events, append_all, read_behind
 from pidtab.etcd_watch import Changes, Compacted, EtcdWatch, revision_of
 from pidtab.faults import TableClosed
 from pidtab.log import Progress
@@ -30,6 +31,10 @@ APPENDERS, APPLIERS, READERS = 4, 2, 2
 
 # So much of what has come is applied to one table before the next has its turn.
 TURN = 64
+
+# So many tables' entries are put by one transaction of etcd, whose bounds are 128 and 1.5 MiB by default.
+MOST_AT_ONCE = 100
+MOST_BYTES_AT_ONCE = 1_000_000
 
 # Seconds that the time is not looked at where nothing waits.
 IDLE = 60.0
@@ -128,8 +133,11 @@ class Strand:
 
     def rest(self, seconds: float) -> None:
         """Has the step done in so many seconds, and not before."""
-        self._not_before = time.monotonic() + seconds
-        self._clock.at(self._not_before, self.wake)
+        if seconds:
+            self._not_before = time.monotonic() + seconds
+            self._clock.at(self._not_before, self.wake)
+        else:
+            self.wake()
 
     def _run(self) -> None:
         if time.monotonic() < self._not_before:
@@ -141,12 +149,64 @@ class Strand:
         try:
             self._again = False
             pause = self._step()
-            if pause:
+            if pause is not None:
                 self.rest(pause)
         finally:
             self._lock.release()
-        if self._again or pause == 0:
+        if self._again:
             self.wake()
+
+
+class Sender:
+    """Puts entries of tables into their logs: of one table one at a time, and of all that wait as many as fit by one try."""
+
+    def __init__(self, etcd: Etcd, pool: Pool) -> None:
+        self._etcd = etcd
+        self._pool = pool
+        self._waiting: "deque[tuple[Feed, bytes]]" = deque()
+
+    def put(self, feed: "Feed", entry: bytes) -> None:
+        """Has an entry put soon, and the table told what came of it."""
+        self._waiting.append((feed, entry))
+        self._pool.jobs.put(self._send_some)
+
+    def _send_some(self) -> None:
+        taken = self._take()
+        if taken:
+            self._send(taken)
+
+    def _take(self) -> "list[tuple[Feed, bytes]]":
+        """What is put at once; alone, where a try has failed, so that it holds up no other table again. Other threads may take too."""
+        taken: "list[tuple[Feed, bytes]]" = []
+        size = 0
+        with suppress(IndexError):
+            while len(taken) < MOST_AT_ONCE and not (taken and taken[-1][0].has_failed):
+                found = self._waiting.popleft()
+                size += len(found[1])
+                if taken and (size > MOST_BYTES_AT_ONCE or found[0].has_failed):
+                    self._waiting.appendleft(found)
+                    break
+                taken.append(found)
+        if self._waiting:
+            self._pool.jobs.put(self._send_some)
+        return taken
+
+    def _send(self, taken: "list[tuple[Feed, bytes]]") -> None:
+        """One try. What etcd refuses of many is tried one by one, so that it stops the table alone whose it is."""
+        try:
+            position = append_all(self._etcd, [(feed.log, entry) for feed, entry in taken])
+        except OSError as fault:
+            for feed, _ in taken:
+                feed.was_not_sent(fault)
+        except Exception as fault:
+            if len(taken) == 1:
+                taken[0][0].was_refused(fault)
+            else:
+                for it in taken:
+                    self._send([it])
+        else:
+            for feed, _ in taken:
+                feed.was_sent(position)
 
 
 class Feed(Crew):
@@ -157,6 +217,7 @@ class Feed(Crew):
         self.threads = crew.threads
         # What the watch has told and was not applied: changes; a fault; or None where the table is to read its keys by itself.
         self.inbox: "deque[Changes | Exception | None]" = deque()
+        self.log = log
         self.key = log.prefix
         # Whether the router has it told what comes.
         self.joined = False
@@ -164,7 +225,6 @@ class Feed(Crew):
         self.wished = False
         self.ended = False
         self._crew = crew
-        self._log = log
         self._events = Events(log)
         # Whether it reads its keys by itself. Meanwhile nothing is taken out of the inbox.
         self._reads = False
@@ -172,6 +232,8 @@ class Feed(Crew):
         self._reader = Strand(crew.readers, crew.clock, self._read)
         self._applier = Strand(crew.appliers, crew.clock, self._apply)
         self._appender = Strand(crew.appenders, crew.clock, self._append)
+        # Whether an entry of it is being put, and whether the last try has failed.
+        self._sends = self.has_failed = False
         self._end_by = 0.0
         # Whether its session is to be ended, and whether that was tried.
         self._says_end = self._said_end = False
@@ -240,15 +302,12 @@ class Feed(Crew):
 
     def _is_new(self, event: JSON) -> bool:
         """Whether a change is one of entries that this table has not read by itself."""
-        return revision_of(event) > self.replica.seen and decode(event["kv"]["key"]) < self._log.last
+        return revision_of(event) > self.replica.seen and decode(event["kv"]["key"]) < self.log.last
 
     def _read_again(self, seconds: float) -> None:
         """Has the keys read in so many seconds. This is the last that who applies does."""
         self._reads = True
-        if seconds:
-            self._reader.rest(seconds)
-        else:
-            self._reader.wake()
+        self._reader.rest(seconds)
 
     def _read(self) -> float | None:
         """Reads the keys behind what was seen, up to a revision that the watch has reached, or a later one; what is told meanwhile waits."""
@@ -264,21 +323,48 @@ class Feed(Crew):
 
     def _read_all(self) -> None:
         self.replica.replay()
-        for progress in read_behind(self._log, self.replica.seen):
+        for progress in read_behind(self.log, self.replica.seen):
             self.replica.take(progress)
             if self.replica.stopped:
                 return
 
     def _append(self) -> float | None:
-        """Puts one entry into the log, or ends the session."""
+        """Has one entry put into the log, or ends the session."""
         replica = self.replica
+        if self._sends:
+            return None
         if replica.has_to_send():
-            return replica.guard(lambda: replica.send(self._sending))
-        if self._says_end and not self._said_end:
+            entry = replica.guard(replica.next_entry)
+            if entry is None:
+                return 0.0
+            self._sends = True
+            self._crew.sender.put(self, entry)
+        elif self._says_end and not self._said_end:
             replica.guard(replica.end_session)
             self._said_end = True
             self._crew.clock.poke()
         return None
+
+    # What the sender tells.
+
+    def was_sent(self, position: int) -> None:
+        """The entry is in the log."""
+        self.replica.sent(position)
+        self._sending.reset()
+        self._sends = self.has_failed = False
+        self._appender.wake()
+
+    def was_not_sent(self, fault: OSError) -> None:
+        """The entry may be in the log or not."""
+        self.replica.trouble = fault
+        pause = self._sending.next()
+        self._sends, self.has_failed = False, True
+        self._appender.rest(pause)
+
+    def was_refused(self, fault: Exception) -> None:
+        """The entry is not put, nor any other one."""
+        self._sends = False
+        self.replica.stop(fault, f"the replica has stopped, {fault}")
 
     # What the thread that watches the time does.
 
@@ -483,6 +569,7 @@ class SharedCrew:
         # The tables that have not ended; only the thread that watches the time changes it.
         self.feeds: set[Feed] = set()
         self._watcher = threading.Thread(target=self._watch_time, name="pidtab cluster time", daemon=True)
+        self.sender = Sender(etcd, self.appenders)
         self._pools = (self.appenders, self.appliers, self.readers)
         self._others = [threading.Thread(target=self.router.run, name="pidtab cluster watch", daemon=True), *(it for pool in self._pools for it in pool.threads)]
         self.threads = [self._watcher, *self._others]

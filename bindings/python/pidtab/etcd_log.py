@@ -8,7 +8,7 @@ from typing import NamedTuple
 
 from pidtab.bounds import check_seconds
 from pidtab.etcd import JSON, Etcd, decode, encode, read_member
-from pidtab.etcd_cells import EtcdCells, cut_entries, entry_key, read_entries_to
+from pidtab.etcd_cells import EtcdCells, cut_entries, entry_key, put_of, read_entries_to
 from pidtab.etcd_watch import Compacted, EtcdWatch
 from pidtab.faults import LogFault
 from pidtab.log import CutLog, Following, Progress
@@ -124,10 +124,7 @@ class EtcdLog(CutLog):
     def append(self, entry: bytes) -> int:
         """Puts an entry behind all others, by one put at one member."""
         before = self._etcd.revision
-        position = self._put(entry_key(self._etcd, self.prefix), entry)
-        if position <= before:
-            raise LogFault(f"etcd has made an entry at revision {position}, behind revision {before}: it was set back")
-        return position
+        return check_later(self._put(entry_key(self._etcd, self.prefix), entry), before)
 
     def follow(self, after: int) -> "EtcdFollowing":
         """All entries behind the revision, and then each that comes."""
@@ -175,6 +172,22 @@ class EtcdLog(CutLog):
         range_end = encode(self.last)
         page = self._etcd.ask("/v3/kv/range", {"key": encode(start), "range_end": range_end, "revision": at, "limit": most, "keys_only": keys_only})
         return page, 1 + sum(len(it.get("value", "")) + len(it["key"]) for it in page.get("kvs", []))
+
+
+def append_all(etcd: Etcd, puts: Sequence[tuple[EtcdLog, bytes]]) -> int:
+    """Puts an entry into each of some logs in one step, as `append` does into one: the position, which is the same in all."""
+    if len(puts) == 1:
+        return puts[0][0].append(puts[0][1])
+    before = etcd.revision
+    told = etcd.ask("/v3/kv/txn", {"success": [put_of(entry_key(etcd, log.prefix), entry) for log, entry in puts]})
+    return check_later(etcd.note(told["header"]), before)
+
+
+def check_later(position: int, before: int) -> int:
+    """Sees to it that an entry is behind all that etcd had told of before."""
+    if position <= before:
+        raise LogFault(f"etcd has made an entry at revision {position}, behind revision {before}: it was set back")
+    return position
 
 
 class EtcdFollowing(Following):

@@ -91,8 +91,9 @@ class Replica:
         self.waiting: deque[Submitted] = deque()
         self.session = 0
         self.sequence = 0
-        # What is being sent.
+        # What is being sent; and whether it is what opens a session.
         self.batch: Batch | None = None
+        self.opens = False
         self.following: Following | None = None
         self.table_lock = threading.Lock()
         # Its sums, if this host checks snapshots.
@@ -438,20 +439,31 @@ class Replica:
         with self.changed:
             return bool(self.queue or self.batch) and not self.stopped
 
-    def send(self, backoff: Backoff) -> float:
-        """Puts all that waits, as far as it fits, into the log as one entry. After a try with an unknown end the next one puts the same again.
+    def next_entry(self) -> bytes | None:
+        """What goes into the log now: all that waits, as far as it fits, as one entry. Behind a try with an unknown end that is the same again."""
+        self.opens = not self.session
+        if self.opens:
+            return OPEN
+        batch = self.batch = self.batch or self.take_batch()
+        if batch is not None and self.is_wanted(batch):
+            return batch.entry
+        self.batch = None
+        return None
 
-        How many seconds to wait before the next try.
-        """
-        try:
-            if not self.session:
-                session = self.log.append(OPEN)
-                with self.changed:
-                    self.session, self.sequence = session, 0
-            batch = self.batch = self.batch or self.take_batch()
-            if batch is not None and self.is_wanted(batch):
-                self.log.append(batch.entry)
+    def sent(self, position: int) -> None:
+        """That entry is in the log."""
+        if self.opens:
+            with self.changed:
+                self.session, self.sequence = position, 0
+        else:
             self.batch = None
+
+    def send(self, backoff: Backoff) -> float:
+        """Puts an entry into the log, if there is one to put, by one try. How many seconds to wait before the next one."""
+        try:
+            entry = self.next_entry()
+            if entry is not None:
+                self.sent(self.log.append(entry))
             backoff.reset()
         except OSError as fault:
             self.trouble = fault

@@ -11,12 +11,13 @@ import threading
 import time
 import unittest
 import weakref
-from collections.abc import Callable, Iterator
+from collections.abc import Callable, Iterator, Sequence
 from unittest import mock
 
 import pidtab
 from pidtab import Cluster, Diverged, EtcdLog, LogFault, NotKnown, Replicated, TableClosed
-from pidtab.etcd import JSON, decode, encode
+from pidtab.etcd import JSON, Etcd, decode, encode
+from pidtab.etcd_log import append_all
 from pidtab.etcd_watch import EtcdWatch
 from pidtab.log_form import Asked, write_calls
 from tests.alarms import alarms
@@ -35,9 +36,6 @@ TABLES, CALLS = 20, 30
 SEEDS = range(6)
 CHANCE = 0.08
 
-# Without the troubles of a test.
-APPEND = EtcdLog.append
-
 PACKAGE = os.path.dirname(pidtab.__file__)
 
 # What a caller's thread runs, with what of the library has locks.
@@ -52,6 +50,17 @@ FILES = {
 def cluster_threads() -> list[threading.Thread]:
     """The threads of all Clusters."""
     return [it for it in threading.enumerate() if it.name.startswith("pidtab cluster")]
+
+
+def is_append(path: str) -> bool:
+    """Whether a call puts entries."""
+    return path.endswith(("put", "txn"))
+
+
+def names_of(path: str, body: JSON) -> list[bytes]:
+    """The logs into which a call puts something."""
+    puts = [body] if path.endswith("put") else [it["request_put"] for it in body["success"]] if path.endswith("txn") else []
+    return [decode(it["key"]).partition(b":")[0] for it in puts]
 
 
 class Clusters(unittest.TestCase):
@@ -92,7 +101,7 @@ class Clusters(unittest.TestCase):
 
     def diverge(self, name: str, table: Replicated) -> None:
         """Puts an entry of a host that has answered otherwise."""
-        APPEND(log_in(self.store, f"many/{name}"), write_calls(Asked(9, 1, table.position, NO_DIGEST, [b"fork 1"])))
+        log_in(self.store, f"many/{name}").append(write_calls(Asked(9, 1, table.position, NO_DIGEST, [b"fork 1"])))
 
     def check_same(self, *tables: Replicated) -> None:
         """All hosts have answered the same, and have the same table."""
@@ -107,19 +116,22 @@ class Clusters(unittest.TestCase):
 
 
 class Troubles:
-    """What goes wrong with the appends of a Cluster, by a seed: an entry is not there, or twice, or there without an acknowledgement."""
+    """What goes wrong with the appends of a Cluster, by a seed: entries are not there, or twice, or there without an acknowledgement."""
 
     def __init__(self, seed: int) -> None:
         self._random = random.Random(seed)
+        # How many logs had an entry by one try, at most.
+        self.most = 0
 
-    def append(self, log: EtcdLog, entry: bytes) -> int:
-        """Puts an entry, or not."""
+    def append_all(self, etcd: Etcd, puts: Sequence[tuple[EtcdLog, bytes]]) -> int:
+        """Puts entries, or not."""
+        self.most = max(self.most, len(puts))
         time.sleep(self._random.random() * 0.003)
         if self._random.random() < CHANCE:
-            raise ConnectionError("the entry is lost")
-        position = APPEND(log, entry)
+            raise ConnectionError("the entries are lost")
+        position = append_all(etcd, puts)
         if self._random.random() < CHANCE:
-            APPEND(log, entry)
+            append_all(etcd, puts)
         if self._random.random() < CHANCE:
             raise TimeoutError("the acknowledgement is lost")
         return position
@@ -182,15 +194,16 @@ class Answers(Clusters):
             self.store = MemoryEtcd()
             self.addCleanup(self.store.close)
             troubles = Troubles(seed)
-            with self.subTest(seed), mock.patch.object(EtcdLog, "append", lambda log, entry: troubles.append(log, entry)):
+            with self.subTest(seed), mock.patch("pidtab.cluster_crew.append_all", troubles.append_all):
                 self.run_round(seed)
+            self.assertGreater(troubles.most, 3)
 
     def test_entries_go_in_their_order(self) -> None:
         cluster = self.begin()
         table = self.open(cluster)
 
         def be_late(path: str, body: JSON) -> None:
-            if path.endswith("put"):
+            if is_append(path):
                 time.sleep(random.random() * 0.01)
 
         self.client(cluster).before = be_late
@@ -334,12 +347,12 @@ class Joins(Clusters):
         cluster = self.begin()
         quiet, busy = self.open(cluster, "quiet"), self.open(cluster, "busy")
         puts: list[bytes] = []
-        self.client(cluster).before = lambda path, body: puts.append(decode(body["key"])) if path.endswith("put") else None
+        self.client(cluster).before = lambda path, body: puts.extend(names_of(path, body))
         with mock.patch("pidtab.replica.SOON", LONG):
             for _ in range(10):
                 busy.fork(1)
                 quiet.catch_up()
-        self.assertEqual([it for it in puts if not it.startswith(b"many/busy:")], [])
+        self.assertEqual([it for it in puts if it != b"many/busy"], [])
 
     def test_pieces_of_a_line(self) -> None:
         def events(*revisions: int) -> list[JSON]:
@@ -444,7 +457,7 @@ class Faults(Clusters):
         table.fork(1)
 
         def refuse(path: str, body: JSON) -> None:
-            if path.endswith("put") and decode(body["key"]).startswith(b"many/web:"):
+            if b"many/web" in names_of(path, body):
                 raise ConnectionRefusedError(111, "Connection refused")
 
         self.client(cluster).before = refuse
@@ -466,18 +479,43 @@ class Faults(Clusters):
         # It was sent, so it is made yet.
         self.assertEqual(table.fork(1).root, 4)
 
+    def test_what_is_refused_of_many(self) -> None:
+        cluster = self.begin()
+        table, *others = [self.open(cluster, name) for name in ("web", "a", "b", "c", "d")]
+        goes, tried = threading.Event(), list[list[bytes]]()
+        self.addCleanup(goes.set)
+
+        def refuse(path: str, body: JSON) -> None:
+            names = names_of(path, body)
+            if names:
+                goes.wait(LONG)
+                tried.append(names)
+            if b"many/web" in names:
+                raise LogFault("etcd refuses: too large")
+
+        self.client(cluster).before = refuse
+        # Four threads wait with what comes first, and then all that waits is tried at once.
+        asked = [it.submit(["fork 1"]) for _ in range(2) for it in (*others, table)]
+        time.sleep(0.2)
+        goes.set()
+        self.assertEqual({it.result(LONG)[0] for it in asked if asked.index(it) % 5 < 4}, {"child 2 root 2", "child 3 root 3"})
+        self.assertTrue([it for it in tried if b"many/web" in it])
+        self.check_stopped(table, LogFault, "too large", others)
+
     def test_an_append_that_hangs(self) -> None:
         cluster = self.begin()
         table, *others = [self.open(cluster, name) for name in ("web", "a", "b")]
-        goes = threading.Event()
+        hangs, goes = threading.Event(), threading.Event()
         self.addCleanup(goes.set)
 
         def hang(path: str, body: JSON) -> None:
-            if path.endswith("put") and decode(body["key"]).startswith(b"many/web:"):
+            if b"many/web" in names_of(path, body):
+                hangs.set()
                 goes.wait(LONG)
 
         self.client(cluster).before = hang
         asked = [table.submit(["fork 1"]) for _ in range(20)]
+        self.assertTrue(hangs.wait(LONG))
         for it in others:
             self.check_goes(it)
         goes.set()
