@@ -3,16 +3,10 @@
 A table's entries are appended one at a time, and applied by one thread at a time. What waits for one table waits in a queue, and holds up no thread.
 """
 
-import heapq
-import itertools
-import queue
-import sys
 import threading
 import time
 from collections import deque
-from collections.abc import Callable
 from contextlib import suppress
-from typing import NamedTuple
 
 from pidtab.backoff import Backoff
 from pidtab.changed import Changed
@@ -24,6 +18,7 @@ from pidtab.etcd_watch import Changes, Compacted, EtcdWatch, revision_of
 from pidtab.faults import TableClosed
 from pidtab.log import Progress
 from pidtab.replica import CLOSED, Replica
+from pidtab.strands import Clock, Job, Pool, Strand, work
 from pidtab.submitted import deadline_behind
 
 # With the one that watches etcd and the one that watches the time these are all threads.
@@ -43,171 +38,6 @@ CLUSTER_CLOSED = "the Cluster was closed"
 
 # Behind the cluster's name; no table has it, as there is no colon.
 MARK = b"~mark"
-
-Job = Callable[[], object]
-
-
-def work(job: Job) -> None:
-    """Does a job. A fault of its own ends no thread, as that is the one of many tables."""
-    try:
-        job()
-    except Exception:
-        sys.excepthook(*sys.exc_info())
-
-
-def nothing() -> None:
-    """Only wakes who waits for a job."""
-
-
-class Pool:
-    """Threads that do jobs in the order in which they were given."""
-
-    def __init__(self, name: str, count: int) -> None:
-        # It takes no lock of Python, so that a destructor or an interrupted thread may put something here.
-        self.jobs: "queue.SimpleQueue[Job | None]" = queue.SimpleQueue()
-        self.threads = [threading.Thread(target=self._run, name=f"pidtab {name}", daemon=True) for _ in range(count)]
-
-    def end(self) -> None:
-        """Has the threads end behind what they have."""
-        for _ in self.threads:
-            self.jobs.put(None)
-
-    def _run(self) -> None:
-        while (job := self.jobs.get()) is not None:
-            work(job)
-
-
-class Alarm(NamedTuple):
-    """When something is to be woken."""
-
-    time: float
-    number: int
-    wake: Job
-
-
-class Clock:
-    """Jobs that one thread does at once or at their time."""
-
-    def __init__(self) -> None:
-        self.jobs: "queue.SimpleQueue[Job]" = queue.SimpleQueue()
-        self._alarms: list[Alarm] = []
-        self._numbers = itertools.count()
-
-    def at(self, when: float, wake: Job) -> None:
-        """Has something woken at a time; from any thread."""
-        self.jobs.put(lambda: heapq.heappush(self._alarms, Alarm(when, next(self._numbers), wake)))
-
-    def poke(self) -> None:
-        """Has the time looked at."""
-        if self.jobs.empty():
-            self.jobs.put(nothing)
-
-    def turn(self, until: float) -> None:
-        """Waits for a job, and no longer than until the first alarm or the time that is named."""
-        first = min([until, *(it.time for it in self._alarms[:1])])
-        try:
-            work(self.jobs.get(timeout=max(0.0, first - time.monotonic())))
-        except queue.Empty:
-            pass
-        while self._alarms and self._alarms[0].time <= time.monotonic():
-            heapq.heappop(self._alarms).wake()
-
-
-class Strand:
-    """A step of one table, which one thread of a pool does at a time, however often it is woken.
-
-    The step says how many seconds are to pass before it is done again, or None, where it is to be woken.
-    """
-
-    def __init__(self, pool: Pool, clock: Clock, step: Callable[[], float | None]) -> None:
-        self._pool = pool
-        self._clock = clock
-        self._step = step
-        self._lock = threading.Lock()
-        self._again = False
-        self._not_before = 0.0
-
-    def wake(self) -> None:
-        """Has the step done soon. It takes no lock."""
-        self._pool.jobs.put(self._run)
-
-    def rest(self, seconds: float) -> None:
-        """Has the step done in so many seconds, and not before."""
-        if seconds:
-            self._not_before = time.monotonic() + seconds
-            self._clock.at(self._not_before, self.wake)
-        else:
-            self.wake()
-
-    def _run(self) -> None:
-        if time.monotonic() < self._not_before:
-            return
-        # Before the lock: who has it sees this behind its step.
-        self._again = True
-        if not self._lock.acquire(blocking=False):
-            return
-        try:
-            self._again = False
-            pause = self._step()
-            if pause is not None:
-                self.rest(pause)
-        finally:
-            self._lock.release()
-        if self._again:
-            self.wake()
-
-
-class Sender:
-    """Puts entries of tables into their logs: of one table one at a time, and of all that wait as many as fit by one try."""
-
-    def __init__(self, etcd: Etcd, pool: Pool) -> None:
-        self._etcd = etcd
-        self._pool = pool
-        self._waiting: "deque[tuple[Feed, bytes]]" = deque()
-
-    def put(self, feed: "Feed", entry: bytes) -> None:
-        """Has an entry put soon, and the table told what came of it."""
-        self._waiting.append((feed, entry))
-        self._pool.jobs.put(self._send_some)
-
-    def _send_some(self) -> None:
-        taken = self._take()
-        if taken:
-            self._send(taken)
-
-    def _take(self) -> "list[tuple[Feed, bytes]]":
-        """What is put at once; alone, where a try has failed, so that it holds up no other table again. Other threads may take too."""
-        taken: "list[tuple[Feed, bytes]]" = []
-        size = 0
-        with suppress(IndexError):
-            while len(taken) < MOST_AT_ONCE and not (taken and taken[-1][0].has_failed):
-                found = self._waiting.popleft()
-                size += len(found[1])
-                if taken and (size > MOST_BYTES_AT_ONCE or found[0].has_failed):
-                    self._waiting.appendleft(found)
-                    break
-                taken.append(found)
-        if self._waiting:
-            self._pool.jobs.put(self._send_some)
-        return taken
-
-    def _send(self, taken: "list[tuple[Feed, bytes]]") -> None:
-        """One try. What etcd refuses of many is tried one by one, so that it stops the table alone whose it is."""
-        try:
-            position = append_all(self._etcd, [(feed.log, entry) for feed, entry in taken])
-        except OSError as fault:
-            for feed, _ in taken:
-                feed.was_not_sent(fault)
-        except Exception as fault:
-            if len(taken) == 1:
-                taken[0][0].was_refused(fault)
-            else:
-                for it in taken:
-                    self._send([it])
-        else:
-            for feed, _ in taken:
-                feed.was_sent(position)
-
 
 class Feed(Crew):
     """What the threads of a Cluster do for one of its tables."""
@@ -408,6 +238,58 @@ class Feed(Crew):
             self.ended = True
             self._crew.feeds.discard(self)
             self.replica.changed.notify_all()
+
+
+class Sender:
+    """Puts entries of tables into their logs: of one table one at a time, and of all that wait as many as fit by one try."""
+
+    def __init__(self, etcd: Etcd, pool: Pool) -> None:
+        self._etcd = etcd
+        self._pool = pool
+        self._waiting: "deque[tuple[Feed, bytes]]" = deque()
+
+    def put(self, feed: "Feed", entry: bytes) -> None:
+        """Has an entry put soon, and the table told what came of it."""
+        self._waiting.append((feed, entry))
+        self._pool.jobs.put(self._send_some)
+
+    def _send_some(self) -> None:
+        taken = self._take()
+        if taken:
+            self._send(taken)
+
+    def _take(self) -> "list[tuple[Feed, bytes]]":
+        """What is put at once; alone, where a try has failed, so that it holds up no other table again. Other threads may take too."""
+        taken: "list[tuple[Feed, bytes]]" = []
+        size = 0
+        with suppress(IndexError):
+            while len(taken) < MOST_AT_ONCE and not (taken and taken[-1][0].has_failed):
+                found = self._waiting.popleft()
+                size += len(found[1])
+                if taken and (size > MOST_BYTES_AT_ONCE or found[0].has_failed):
+                    self._waiting.appendleft(found)
+                    break
+                taken.append(found)
+        if self._waiting:
+            self._pool.jobs.put(self._send_some)
+        return taken
+
+    def _send(self, taken: "list[tuple[Feed, bytes]]") -> None:
+        """One try. What etcd refuses of many is tried one by one, so that it stops the table alone whose it is."""
+        try:
+            position = append_all(self._etcd, [(feed.log, entry) for feed, entry in taken])
+        except OSError as fault:
+            for feed, _ in taken:
+                feed.was_not_sent(fault)
+        except Exception as fault:
+            if len(taken) == 1:
+                taken[0][0].was_refused(fault)
+            else:
+                for it in taken:
+                    self._send([it])
+        else:
+            for feed, _ in taken:
+                feed.was_sent(position)
 
 
 class Router:

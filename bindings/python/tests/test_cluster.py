@@ -40,7 +40,7 @@ PACKAGE = os.path.dirname(pidtab.__file__)
 
 # What a caller's thread runs, with what of the library has locks.
 FILES = {
-    *(os.path.join(PACKAGE, f"{name}.py") for name in ("calls", "changed", "cluster", "cluster_crew", "replica", "replicated", "submitted")),
+    *(os.path.join(PACKAGE, f"{name}.py") for name in ("calls", "changed", "cluster", "cluster_crew", "replica", "replicated", "strands", "submitted")),
     concurrent.futures._base.__file__,
     contextlib.__file__,
     threading.__file__,
