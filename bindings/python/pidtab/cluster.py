@@ -37,13 +37,9 @@ class Cluster(Owner):
         self.patience = check_seconds("patience", patience)
         self._etcd = open_etcd(members, tls, user, timeout)
         self._crew = SharedCrew(self._etcd, name)
-        try:
-            self._crew.start()
-        except BaseException:
-            self._crew.wish()
-            raise
-        # It takes no lock, as it may run anywhere.
+        # It takes no lock, as it may run anywhere; before the start, so that an interrupt leaves no thread.
         self._keep(self._crew.wish)
+        self._crew.start()
 
     def open(self, name: str, *, pid_max: int = DEFAULT_PID_MAX, table: Callable[..., Calls] = Table, checks: bool = False) -> Replicated:
         """Opens a table, or begins one. A second time only once the first one has stopped or was closed.

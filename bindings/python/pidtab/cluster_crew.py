@@ -39,6 +39,7 @@ CLUSTER_CLOSED = "the Cluster was closed"
 # Behind the cluster's name; no table has it, as there is no colon.
 MARK = b"~mark"
 
+
 class Feed(Crew):
     """What the threads of a Cluster do for one of its tables."""
 
@@ -453,7 +454,8 @@ class SharedCrew:
         self._watcher = threading.Thread(target=self._watch_time, name="pidtab cluster time", daemon=True)
         self.sender = Sender(etcd, self.appenders)
         self._pools = (self.appenders, self.appliers, self.readers)
-        self._others = [threading.Thread(target=self.router.run, name="pidtab cluster watch", daemon=True), *(it for pool in self._pools for it in pool.threads)]
+        watch = threading.Thread(target=self.router.run, name="pidtab cluster watch", daemon=True)
+        self._others = [watch, *(it for pool in self._pools for it in pool.threads)]
         self.threads = [self._watcher, *self._others]
 
     def start(self) -> None:

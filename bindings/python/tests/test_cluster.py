@@ -451,17 +451,19 @@ class Faults(Clusters):
         self.check_goes(self.open(cluster, "c"))
         self.check_goes(self.open(cluster, "a"))
 
-    def test_one_whose_appends_fail(self) -> None:
+    def test_some_whose_appends_fail(self) -> None:
         cluster = self.begin(patience=2)
-        table, *others = [self.open(cluster, name) for name in ("web", "a", "b")]
+        # More than there are threads that append.
+        tables, others = [self.open(cluster, f"web{it}") for it in range(6)], [self.open(cluster, name) for name in ("a", "b")]
+        table = tables[0]
         table.fork(1)
 
         def refuse(path: str, body: JSON) -> None:
-            if b"many/web" in names_of(path, body):
+            if any(it.startswith(b"many/web") for it in names_of(path, body)):
                 raise ConnectionRefusedError(111, "Connection refused")
 
         self.client(cluster).before = refuse
-        sent = table.submit(["fork 1"])
+        sent, *more = [it.submit(["fork 1"]) for it in tables]
         self.wait_until(lambda: sent.sent)
         behind = table.submit(["fork 1"])
         begun = time.monotonic()
@@ -473,11 +475,12 @@ class Faults(Clusters):
         self.assertLess(time.monotonic() - begun, 4)
         with self.assertRaisesRegex(NotKnown, "2 seconds .*Connection refused.*will be made yet$"):
             sent.result()
-        with self.assertRaisesRegex(NotKnown, "the calls were not made$"):
-            behind.result()
+        for submitted in (behind, *more):
+            with self.assertRaisesRegex(NotKnown, "the calls were not made$"):
+                submitted.result()
         self.client(cluster).before = lambda path, body: None
-        # It was sent, so it is made yet.
-        self.assertEqual(table.fork(1).root, 4)
+        # It was sent, so it is made yet; the others had not even a session.
+        self.assertEqual([it.fork(1).root for it in tables], [4, 2, 2, 2, 2, 2])
 
     def test_what_is_refused_of_many(self) -> None:
         cluster = self.begin()
