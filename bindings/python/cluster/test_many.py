@@ -15,6 +15,8 @@ from cluster.load import table_kind
 from cluster.test_etcd import PACKAGE, Writer, add_users, environment, start_with_tls
 from cluster.test_keep import PROGRAM
 from pidtab import Cluster, EtcdLog, LogFault, Process, Replicated, find_library, find_program
+from tests.pages import fenced, read_page, section
+from tests.programs import run
 from tests.ways import need_library
 
 NAME = "many"
@@ -225,6 +227,17 @@ class Losses(Many):
             for it in (plain, table):
                 it.catch_up()
             self.assertEqual((plain.digest, plain.list_text()), (table.digest, table.list_text()))
+
+
+class Examples(Many):
+    """What the page shows."""
+
+    def test_the_page(self) -> None:
+        need_library()
+        (code,) = fenced(section(read_page("docs/CLUSTER.md"), "## Many tables"), "python")
+        etcds = self.start(count=1)
+        (self.folder / "many.py").write_text(f"import sys\nimport pidtab\n{code}")
+        self.assertEqual(run([sys.executable, "many.py", *etcds.members], self.folder, PYTHONPATH=PACKAGE), "[2, 2]\n")
 
 
 if __name__ == "__main__":
