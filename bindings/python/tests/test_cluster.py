@@ -16,7 +16,7 @@ from unittest import mock
 
 import pidtab
 from pidtab import Cluster, Diverged, EtcdLog, LogFault, NotKnown, Replicated, TableClosed
-from pidtab.etcd import JSON, Etcd, decode, encode
+from pidtab.etcd import JSON, Etcd, Member, decode, encode
 from pidtab.etcd_log import append_all
 from pidtab.etcd_watch import EtcdWatch
 from pidtab.log_form import Asked, write_calls
@@ -550,6 +550,30 @@ class Faults(Clusters):
         self.assertEqual({it.result(LONG) for it in asked}, {("child 2 root 2",)})
         for it in tables:
             self.check_goes(it)
+
+
+    def test_two_threads_that_meet_a_dead_member(self) -> None:
+        # Each goes to the next member, and not the second one beyond that, which might be the dead one again.
+        etcd, both = Etcd([Member("dead", 1), Member("good", 1)], None, None, 1.0), threading.Barrier(2)
+
+        def be_dead(*words: object) -> None:
+            both.wait(LONG)
+            raise ConnectionRefusedError(111, "Connection refused")
+
+        def connect(member: Member) -> mock.Mock:
+            return mock.Mock(host=member.host, port=member.port, request=be_dead)
+
+        def ask() -> None:
+            with contextlib.suppress(OSError):
+                etcd.ask("/v3/kv/put", {})
+
+        with mock.patch.object(etcd, "_connect", connect):
+            threads = [threading.Thread(target=ask) for _ in range(2)]
+            for it in threads:
+                it.start()
+            for it in threads:
+                it.join()
+        self.assertEqual(etcd._member(etcd._at).host, "good")
 
 
 class Ends(Clusters):
