@@ -10,6 +10,7 @@ from pidtab.accounts import Accounts
 from pidtab.answers import Forked, Reaped, SpaceStat, Stat
 from pidtab.bounds import DEFAULT_PID_MAX, GREATEST_PID_MAX, LEAST_PID_MAX
 from pidtab.calls import Calls, Kind, Queries
+from pidtab.cluster import Cluster
 from pidtab.effects import Adopted, Effect, Ended, Gone, GroupGone, SessionGone, SpaceFell, SpaceGone, Told
 from pidtab.etcd_log import EtcdLog
 from pidtab.faults import (
@@ -61,6 +62,7 @@ __all__ = [
     "BadText",
     "Calls",
     "Changes",
+    "Cluster",
     "Control",
     "Counts",
     "Diverged",

@@ -155,7 +155,9 @@ class Etcd:
             told = self._read(reply.status, reply.read())
         except (OSError, http.client.HTTPException) as fault:
             connection.close()
-            self._at += 1
+            # Not once more where another thread has met the same, as the turn might come back to this one.
+            if self._member(self._at) == (connection.host, connection.port):
+                self._at += 1
             if isinstance(fault, NotEnabled):
                 raise
             raise OSError(self._say(connection, fault)) from fault

@@ -1,16 +1,15 @@
 """A log in etcd: each entry is a key of its own, and the order is that of the revisions at which they were made."""
 
 import heapq
-import http.client
-import json
 import re
 import ssl
 from collections.abc import Iterator, Sequence
 from typing import NamedTuple
 
 from pidtab.bounds import check_seconds
-from pidtab.etcd import JSON, Etcd, decode, encode, hang_up, read_member
-from pidtab.etcd_cells import EtcdCells, cut_entries, entry_key, read_entries_to
+from pidtab.etcd import JSON, Etcd, decode, encode, read_member
+from pidtab.etcd_cells import EtcdCells, cut_entries, entry_key, put_of, read_entries_to
+from pidtab.etcd_watch import Compacted, EtcdWatch
 from pidtab.faults import LogFault
 from pidtab.log import CutLog, Following, Progress
 from pidtab.snapshots import load_behind, read_served
@@ -32,10 +31,6 @@ NAME = re.compile(r"[^:\x00-\x1f\x7f]{1,200}")
 MARK = b"~mark"
 # Before the names of all cells, and behind what is read as the log.
 END = b"~n"
-
-
-class Compacted(Exception):
-    """The history from which a watch should begin is no more."""
 
 
 class Found(NamedTuple):
@@ -65,6 +60,28 @@ def check_user(user: tuple[str, str] | None) -> tuple[str, str] | None:
     return user
 
 
+def check_name(whose: str, name: str) -> str:
+    """A name below which keys are."""
+    if not isinstance(name, str):
+        raise TypeError(f"name is a text, not {type(name).__name__}")
+    if not NAME.fullmatch(name):
+        raise ValueError(f"a {whose}'s name has 1 to 200 printable characters and no colon, not {name!r}")
+    return name
+
+
+def open_etcd(members: Sequence[str], tls: ssl.SSLContext | None, user: tuple[str, str] | None, timeout: float) -> Etcd:
+    """The members, of which nothing is asked yet."""
+    texts = split_members(members)
+    found = [read_member(it) for it in texts]
+    if tls is not None and not isinstance(tls, ssl.SSLContext):
+        raise TypeError(f"tls is an ssl.SSLContext, not {type(tls).__name__}")
+    if tls is None and any(it.startswith("https://") for it in texts):
+        raise ValueError("a member by https needs tls, as ssl.create_default_context(cafile=..) is")
+    if tls is not None and any(it.startswith("http://") for it in texts):
+        raise ValueError("a member by http has no tls")
+    return Etcd(found, tls, check_user(user), check_seconds("timeout", timeout))
+
+
 class EtcdLog(CutLog):
     """A log in etcd 3.4 or later, by the JSON gateway of its members, which are tried in turn.
 
@@ -85,20 +102,18 @@ class EtcdLog(CutLog):
 
         The members are `HOST:PORT`, or URLs. Those of `https` need `tls`, as `ssl.create_default_context(cafile=..)` is. The timeout is for one answer.
         """
-        texts = split_members(members)
-        found = [read_member(it) for it in texts]
-        if not isinstance(name, str):
-            raise TypeError(f"name is a text, not {type(name).__name__}")
-        if not NAME.fullmatch(name):
-            raise ValueError(f"a log's name has 1 to 200 printable characters and no colon, not {name!r}")
-        if tls is not None and not isinstance(tls, ssl.SSLContext):
-            raise TypeError(f"tls is an ssl.SSLContext, not {type(tls).__name__}")
-        if tls is None and any(it.startswith("https://") for it in texts):
-            raise ValueError("a member by https needs tls, as ssl.create_default_context(cafile=..) is")
-        if tls is not None and any(it.startswith("http://") for it in texts):
-            raise ValueError("a member by http has no tls")
+        self._begin(open_etcd(members, tls, user, timeout), check_name("log", name))
+
+    @classmethod
+    def _at(cls, etcd: Etcd, name: str) -> "EtcdLog":
+        """A log at members that are shared with others."""
+        log = cls.__new__(cls)
+        log._begin(etcd, name)
+        return log
+
+    def _begin(self, etcd: Etcd, name: str) -> None:
         self.name = name
-        self._etcd = Etcd(found, tls, check_user(user), check_seconds("timeout", timeout))
+        self._etcd = etcd
         self.prefix = name.encode() + b":"
         # Behind each key of the log, but those of its cells.
         self.last = self.prefix + END
@@ -109,10 +124,7 @@ class EtcdLog(CutLog):
     def append(self, entry: bytes) -> int:
         """Puts an entry behind all others, by one put at one member."""
         before = self._etcd.revision
-        position = self._put(entry_key(self._etcd, self.prefix), entry)
-        if position <= before:
-            raise LogFault(f"etcd has made an entry at revision {position}, behind revision {before}: it was set back")
-        return position
+        return check_later(self._put(entry_key(self._etcd, self.prefix), entry), before)
 
     def follow(self, after: int) -> "EtcdFollowing":
         """All entries behind the revision, and then each that comes."""
@@ -126,9 +138,9 @@ class EtcdLog(CutLog):
         """The same, by a put of a key that is none of an entry, and which each follower sees."""
         return self._put(self.prefix + MARK, b"")
 
-    def cells(self) -> EtcdCells:
-        """The cells, as keys behind `NAME:~`."""
-        return EtcdCells(self._etcd, self.prefix)
+    def cells(self, at: int = 0) -> EtcdCells:
+        """The cells, as keys behind `NAME:~`; all as at one revision, if that is named."""
+        return EtcdCells(self._etcd, self.prefix, at)
 
     def entries_to(self, position: int) -> Iterator[Sequence[tuple[int, bytes]]]:
         """The entries up to a revision, in the order of their keys."""
@@ -153,18 +165,40 @@ class EtcdLog(CutLog):
             raise LogFault(f"the entry at revision {revision} was overwritten")
         return Found(revision, decode(kv.get("value", "")), int(form[1], 16))
 
+    def page(self, start: bytes, at: int, most: int, keys_only: bool = False) -> tuple[JSON, int]:
+        """Some keys from the start on, as they are at a revision, and about how many bytes they are."""
+        if start >= self.last:
+            return {}, 1
+        range_end = encode(self.last)
+        page = self._etcd.ask("/v3/kv/range", {"key": encode(start), "range_end": range_end, "revision": at, "limit": most, "keys_only": keys_only})
+        return page, 1 + sum(len(it.get("value", "")) + len(it["key"]) for it in page.get("kvs", []))
+
+
+def append_all(etcd: Etcd, puts: Sequence[tuple[EtcdLog, bytes]]) -> int:
+    """Puts an entry into each of some logs in one step, as `append` does into one: the position, which is the same in all."""
+    if len(puts) == 1:
+        return puts[0][0].append(puts[0][1])
+    before = etcd.revision
+    told = etcd.ask("/v3/kv/txn", {"success": [put_of(entry_key(etcd, log.prefix), entry) for log, entry in puts]})
+    return check_later(etcd.note(told["header"]), before)
+
+
+def check_later(position: int, before: int) -> int:
+    """Sees to it that an entry is behind all that etcd had told of before."""
+    if position <= before:
+        raise LogFault(f"etcd has made an entry at revision {position}, behind revision {before}: it was set back")
+    return position
+
 
 class EtcdFollowing(Following):
     """A walk over a log in etcd: first by its keys, and then by a watch."""
 
     def __init__(self, log: EtcdLog, etcd: Etcd, after: int) -> None:
         self._log = log
-        self._etcd = etcd
         self._seen = after
-        # Only entries with an earlier revision in their keys may be deleted.
-        self._cut = 0
         self._closed = False
-        self._connection: http.client.HTTPConnection | None = None
+        self._events = Events(log)
+        self._watch = EtcdWatch(etcd, log.prefix, log.last)
         self._steps = self._walk()
 
     def __next__(self) -> Progress:
@@ -177,121 +211,36 @@ class EtcdFollowing(Following):
     def close(self) -> None:
         """Ends it: who waits in it finds its connection ended."""
         self._closed = True
-        connection = self._connection
-        if connection is not None:
-            hang_up(connection)
+        self._watch.close()
 
     def _walk(self) -> Iterator[Progress]:
         if not self._seen:
-            yield from self._read_keys()
+            yield from read_behind(self._log, self._seen)
         quiet = 0
         while not self._closed:
             try:
-                for progress in self._watch():
+                for told in self._watch.follow(self._seen):
                     quiet = 0
-                    yield progress
+                    yield Progress(told.position, [it for event in told.events for it in self._events.read(event)])
             except TimeoutError:
                 quiet += 1
                 yield Progress(self._seen)
             except Compacted:
-                yield from self._read_keys()
+                yield from read_behind(self._log, self._seen)
             # Others may write to etcd, so that its revision alone does not say that nothing was missed.
             if quiet and quiet % QUIET_TIMES == 0 and self._log.end() > self._seen:
                 self._log.mark()
 
-    # By the keys, in their order: no entry has a revision up to that in its key. So what was read up to a key has all entries up to there.
 
-    def _read_keys(self) -> Iterator[Progress]:
-        """All that is behind the place, as it is at one revision: a snapshot, where what was there is cut or much, and then all entries."""
-        at, most = self._log.end(), FIRST_PAGE
-        loaded = load_behind(EtcdCells(self._etcd, self._log.prefix, at), self._seen)
-        if loaded is not None:
-            yield Progress(loaded[0], (), loaded[1])
-        after = self._seen
-        start = self._first_behind(after, at)
-        waiting: list[Found] = []
-        while True:
-            page, size = self._page(start, at, most)
-            kvs = page.get("kvs", [])
-            found = [it for it in map(self._log.read, kvs) if it is not None]
-            for it in found:
-                if it.revision > after:
-                    heapq.heappush(waiting, it)
-            is_last = not page.get("more")
-            bound = at if is_last else max([after, *(it.hint for it in found)])
-            ready = []
-            while waiting and waiting[0].revision <= bound:
-                it = heapq.heappop(waiting)
-                ready.append((it.revision, it.data))
-            yield Progress(bound, ready)
-            if is_last:
-                return
-            start = decode(kvs[-1]["key"]) + b"\0"
-            most = max(1, min(LONGEST_PAGE, 2 * most, most * PAGE_BYTES // size))
+class Events:
+    """Reads what a watch tells of a log, for one follower."""
 
-    def _first_behind(self, after: int, at: int) -> bytes:
-        """The first key whose entry is behind the place; read without the entries themselves."""
-        start = self._log.prefix
-        while after:
-            page, _ = self._page(start, at, LONGEST_PAGE, keys_only=True)
-            kvs = page.get("kvs", [])
-            newer = [it for it in kvs if int(it["create_revision"]) > after]
-            if newer:
-                return decode(newer[0]["key"])
-            if not page.get("more"):
-                return self._log.last
-            start = decode(kvs[-1]["key"]) + b"\0"
-        return start
+    def __init__(self, log: EtcdLog) -> None:
+        self._log = log
+        # Only entries with an earlier revision in their keys may be deleted.
+        self._cut = 0
 
-    def _page(self, start: bytes, at: int, most: int, keys_only: bool = False) -> tuple[JSON, int]:
-        """Some keys from the start on, as they are at a revision, and about how many bytes they are."""
-        if start >= self._log.last:
-            return {}, 1
-        range_end = encode(self._log.last)
-        page = self._etcd.ask("/v3/kv/range", {"key": encode(start), "range_end": range_end, "revision": at, "limit": most, "keys_only": keys_only})
-        return page, 1 + sum(len(it.get("value", "")) + len(it["key"]) for it in page.get("kvs", []))
-
-    # By a watch.
-
-    def _watch(self) -> Iterator[Progress]:
-        """What comes behind the place, until it is quiet, which is a TimeoutError, or ends."""
-        wanted = {"key": encode(self._log.prefix), "range_end": encode(self._log.last), "start_revision": self._seen + 1}
-        connection, reply = self._etcd.open_watch({"create_request": {**wanted, "fragment": True}})
-        self._connection = connection
-        try:
-            while not self._closed and (line := reply.readline()):
-                progress = self._read_line(line)
-                if progress is not None:
-                    yield progress
-            if not self._closed:
-                raise ConnectionError("the watch has ended")
-        except http.client.HTTPException as fault:
-            raise ConnectionError(f"the watch has ended: {fault!r}") from fault
-        finally:
-            self._connection = None
-            connection.close()
-
-    def _read_line(self, line: bytes) -> Progress | None:
-        """What a line of a watch says."""
-        try:
-            told = json.loads(line)
-        except ValueError as fault:
-            raise ConnectionError("the watch has ended amid a line") from fault
-        if "error" in told:
-            raise self._etcd.fault_of(told["error"] if isinstance(told["error"], dict) else told)
-        result = told.get("result", {})
-        # Its revision does not say how far the watch is: that only events do.
-        self._etcd.note(result.get("header", {}))
-        if "compact_revision" in result:
-            raise Compacted
-        if result.get("canceled"):
-            raise ConnectionError(f"the watch was cancelled: {result.get('cancel_reason', 'no reason')}")
-        events = result.get("events", [])
-        if not events:
-            return None
-        return Progress(max(int(it["kv"]["mod_revision"]) for it in events), [it for event in events for it in self._read_event(event)])
-
-    def _read_event(self, event: JSON) -> Sequence[tuple[int, bytes]]:
+    def read(self, event: JSON) -> Sequence[tuple[int, bytes]]:
         """The entry of an event, if it has one."""
         kv = event["kv"]
         if event.get("type") == "DELETE":
@@ -301,7 +250,7 @@ class EtcdFollowing(Following):
         return () if found is None else ((found.revision, found.data),)
 
     def _check_deleted(self, key: bytes, revision: str) -> None:
-        """Sees to it that what was deleted is behind a snapshot. This follower had it before."""
+        """Sees to it that what was deleted is behind a snapshot. The follower had it before."""
         form = KEY.fullmatch(key)
         if key != MARK and not (form and self._is_cut(int(form[1], 16))):
             raise LogFault(f"an entry of the log {self._log.name} was deleted, at revision {revision}")
@@ -311,3 +260,51 @@ class EtcdFollowing(Following):
         if hint >= self._cut:
             self._cut = read_served(self._log.cells()).cut
         return hint < self._cut
+
+
+def read_behind(log: EtcdLog, after: int) -> Iterator[Progress]:
+    """All that is behind a position, as it is at one revision: a snapshot, where what was there is cut or much, and then all entries.
+
+    They are read by their keys, in the order of these: no entry has a revision up to that in its key. So what was read up to a key has all entries
+    up to there.
+    """
+    at, most = log.end(), FIRST_PAGE
+    loaded = load_behind(log.cells(at), after)
+    if loaded is not None:
+        yield Progress(loaded[0], (), loaded[1])
+        after = loaded[0]
+    start = first_behind(log, after, at)
+    waiting: list[Found] = []
+    while True:
+        page, size = log.page(start, at, most)
+        kvs = page.get("kvs", [])
+        found = [it for it in map(log.read, kvs) if it is not None]
+        for it in found:
+            if it.revision > after:
+                heapq.heappush(waiting, it)
+        is_last = not page.get("more")
+        bound = at if is_last else max([after, *(it.hint for it in found)])
+        ready = []
+        while waiting and waiting[0].revision <= bound:
+            it = heapq.heappop(waiting)
+            ready.append((it.revision, it.data))
+        yield Progress(bound, ready)
+        if is_last:
+            return
+        start = decode(kvs[-1]["key"]) + b"\0"
+        most = max(1, min(LONGEST_PAGE, 2 * most, most * PAGE_BYTES // size))
+
+
+def first_behind(log: EtcdLog, after: int, at: int) -> bytes:
+    """The first key whose entry is behind a position; read without the entries themselves."""
+    start = log.prefix
+    while after:
+        page, _ = log.page(start, at, LONGEST_PAGE, keys_only=True)
+        kvs = page.get("kvs", [])
+        newer = [it for it in kvs if int(it["create_revision"]) > after]
+        if newer:
+            return decode(newer[0]["key"])
+        if not page.get("more"):
+            return log.last
+        start = decode(kvs[-1]["key"]) + b"\0"
+    return start

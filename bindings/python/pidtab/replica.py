@@ -1,7 +1,6 @@
-"""One host's part in a table on many hosts: a thread that follows the log, one that appends to it, and one that watches the time."""
+"""One host's part in a table on many hosts, in steps: it follows the log, appends to it, and watches the time."""
 
 import copy
-import queue
 import threading
 import time
 from collections import deque
@@ -12,6 +11,7 @@ from typing import TypeVar
 from pidtab.backoff import Backoff
 from pidtab.calls import Calls
 from pidtab.changed import Changed
+from pidtab.crew import Crew
 from pidtab.faults import Diverged, LogFault, NotKnown, ProgramFault, TableClosed
 from pidtab.log import CutLog, Following, Log, Progress
 from pidtab.log_form import FORM, MODEL, MOST_BYTES, OPEN, SHORT_DIGEST, Announced, Asked, Settings, Wanted, read_entry, write_calls, write_end, write_settings
@@ -38,12 +38,6 @@ SOON = 0.02
 # At least so many tries of the log are made within the patience, if it answers at once.
 PATIENCE_TRIES = 8
 
-# How often a close looks whether it still waits for something, in seconds.
-LOOK = 0.2
-
-# How long a close waits for its threads, which a log may hold up.
-LAST_SECONDS = 10.0
-
 CLOSED = "the table was closed"
 
 
@@ -62,12 +56,15 @@ class Batch:
 class Replica:
     """A table that follows a log, and what this host puts into it.
 
-    An interrupt comes into a thread of the caller alone. So what takes several steps is done by the threads of the replica.
+    An interrupt comes into a thread of the caller alone. So what takes several steps is done by a crew: three threads of its own, or some that
+    serve many replicas. One thread at a time follows, one appends, and one watches the time.
 
     Nothing here has its own reference to the `Replicated` that it serves, but by what was submitted and is not answered.
     """
 
-    def __init__(self, log: Log, pid_max: int, open_table: Callable[[], Calls], patience: float, checks: bool = False) -> None:
+    def __init__(
+        self, log: Log, pid_max: int, open_table: Callable[[], Calls], patience: float, hire: "Callable[[Replica], Crew]", checks: bool = False
+    ) -> None:
         self.log = log
         self.patience = patience
         self.settings = Settings(FORM, pid_max, MODEL)
@@ -94,11 +91,10 @@ class Replica:
         self.waiting: deque[Submitted] = deque()
         self.session = 0
         self.sequence = 0
-        # What is being sent.
+        # What is being sent; and whether it is what opens a session.
         self.batch: Batch | None = None
+        self.opens = False
         self.following: Following | None = None
-        # Asks the thread that watches to end the replica. A destructor may put something here, as it takes no lock.
-        self.wishes: "queue.SimpleQueue[None]" = queue.SimpleQueue()
         self.table_lock = threading.Lock()
         # Its sums, if this host checks snapshots.
         self.checker = Checker() if checks else None
@@ -108,20 +104,32 @@ class Replica:
             text_of(self.machine.table)
         # The last entry that was applied, and the digest behind it. While the log is replayed it stays.
         self.place = (0, "")
-        self.threads = [threading.Thread(target=it, name=f"pidtab {it.__name__}", daemon=True) for it in (self.follow, self.append, self.watch)]
-        self.appender, self.watcher = self.threads[1:]
+        self.crew = hire(self)
+
+    @property
+    def threads(self) -> Sequence[threading.Thread]:
+        """Those of the crew."""
+        return self.crew.threads
+
+    def tell(self) -> None:
+        """Says that something has changed. It takes no lock."""
+        self.changed.notify_all()
+        self.crew.tell()
+
+    def make_backoff(self) -> Backoff:
+        """Pauses of which there are some within the patience."""
+        return Backoff(self.patience / PATIENCE_TRIES)
 
     # What the threads of the caller do.
 
     def start(self) -> None:
         """Begins, and waits until the table is as the log has it now."""
-        # The first, as it ends what cannot be opened.
-        self.watcher.start()
+        # The first, as that ends what cannot be opened.
+        self.crew.watch_time()
         try:
-            # Before the follower begins, which so gets there by itself.
+            # Before the log is followed, which so gets there by itself.
             end = self.insist(self.log.end, deadline_behind(self.patience))
-            for thread in self.threads[:-1]:
-                thread.start()
+            self.crew.follow_log()
             self.reach(end)
             if not self.machine.begun:
                 self.insist(lambda: self.log.append(write_settings(self.settings)), deadline_behind(self.patience))
@@ -135,7 +143,7 @@ class Replica:
             self.check_open()
             self.waiting.append(submitted)
             self.queue.extend(submitted.parts)
-            self.changed.notify_all()
+            self.tell()
 
     def check_open(self) -> None:
         """Raises why the replica takes no calls, if it does not."""
@@ -151,7 +159,7 @@ class Replica:
             self.check_open()
 
     def check_thread(self) -> None:
-        """Sees to it that no thread of the replica waits for itself, as in what was added to a `Future` to be called when it is done."""
+        """Sees to it that no thread of the crew waits for itself, as in what was added to a `Future` to be called when it is done."""
         if threading.current_thread() in self.threads:
             raise RuntimeError("what is called when a Future is done cannot wait for its table: use `submit` there, or another thread")
 
@@ -177,6 +185,7 @@ class Replica:
         self.check_open()
         deadline = deadline_behind(self.patience)
         end = self.insist(self.log.end, deadline)
+        self.crew.expect(end)
         if self.changed.wait_for(lambda: self.seen >= end or self.stopped, SOON) and not self.stopped:
             return self.place[0]
         self.reach(self.insist(self.log.mark, deadline))
@@ -210,7 +219,7 @@ class Replica:
 
     def insist(self, step: Callable[[], T], deadline: float) -> T:
         """What a step of the log answers, which is tried until it does."""
-        backoff = Backoff(self.patience / PATIENCE_TRIES)
+        backoff = self.make_backoff()
         while True:
             try:
                 return step()
@@ -228,9 +237,9 @@ class Replica:
     def close(self) -> None:
         """Waits within the patience until what was submitted is answered, and ends. What still waits gets a `NotKnown`."""
         self.check_thread()
-        self.wishes.put(None)
+        self.crew.wish()
         try:
-            self.watcher.join()
+            self.crew.wait()
         except BaseException:
             self.abandon()
             raise
@@ -238,11 +247,11 @@ class Replica:
     def abandon(self) -> None:
         """Has the replica end at once. Who asks this does not wait for it."""
         self.hurried = True
-        self.wishes.put(None)
-        self.changed.notify_all()
+        self.crew.wish()
+        self.tell()
 
     def stop(self, fault: Exception | None, why: str) -> None:
-        """Ends the threads and the table, and fails all that waits. Where it has stopped before, that stays as it was."""
+        """Ends all work and the table, and fails all that waits. Where it has stopped before, that stays as it was."""
         with self.changed:
             first, self.stopped = not self.stopped, True
             self.fault = fault if first else self.fault
@@ -250,47 +259,33 @@ class Replica:
             self.waiting.clear()
             self.queue.clear()
             self.pending.clear()
-            self.changed.notify_all()
+            self.tell()
         following = self.following
         if following is not None:
             # A generator that is at work cannot be closed, and ends behind its next word.
             with suppress(ValueError):
                 following.close()
+        self.crew.leave_log()
         for it in failed:
             it.fail(why, fault)
         if fault is None:
             with self.table_lock:
                 self.machine.table.close()
 
-    # The thread that follows the log.
+    # Who follows the log.
 
-    def follow(self) -> None:
-        """Applies what comes of the log, for as long as the replica is open."""
-        backoff = Backoff(self.patience / PATIENCE_TRIES)
-        while not self.stopped:
-            try:
-                self.follow_once(backoff)
-            except OSError as fault:
-                self.trouble = fault
-            except LOSSES as fault:
-                self.lose(fault)
-            except Exception as fault:
-                self.stop(fault, f"the replica has stopped, {fault}")
-            self.pause(backoff.next())
-
-    def follow_once(self, backoff: Backoff) -> None:
-        """Follows the log until it raises something."""
-        if self.lost is not None:
-            self.replay()
-        following = self.following = self.log.follow(self.seen)
+    def attempt(self, step: Callable[[], object]) -> float | None:
+        """Does a step of who follows, and sees to what it raises. How many seconds to wait then, beside what a try waits that fails; None without a fault."""
         try:
-            for progress in following:
-                self.take(progress)
-                backoff.reset()
-                if self.stopped:
-                    return
-        finally:
-            following.close()
+            step()
+            return None
+        except OSError as fault:
+            self.trouble = fault
+        except LOSSES as fault:
+            return self.lose(fault)
+        except Exception as fault:
+            self.stop(fault, f"the replica has stopped, {fault}")
+        return 0.0
 
     def take(self, progress: Progress) -> None:
         """Applies what has come, and answers what is this host's."""
@@ -308,7 +303,7 @@ class Replica:
                 return
         with self.changed:
             self.seen = max(self.seen, progress.position)
-            self.changed.notify_all()
+            self.tell()
 
     def advance(self, position: int, step: Callable[[], T]) -> T | None:
         """Has the table go on to a position; None where the replica has stopped."""
@@ -334,8 +329,9 @@ class Replica:
                     text = self.machine.write()
                 checker.note(position, text)
         elif isinstance(entry, Announced):
+            announced = entry
             # Not by this thread, which must not wait for what the log is asked.
-            threading.Thread(target=self.judge, args=(checker, entry), name="pidtab judge", daemon=True).start()
+            self.crew.do(lambda: self.judge(checker, announced))
 
     def judge(self, checker: Checker, it: Announced) -> None:
         """Says whether this host has the same table as a snapshot. Where it cannot, the next one serves."""
@@ -359,7 +355,7 @@ class Replica:
             self.queue = deque([part for part in self.queue if id(part.submitted) not in lost])
             if last is None:
                 self.session = 0
-            self.changed.notify_all()
+            self.tell()
         for it in lost.values():
             it.fail("the log was cut before this host had read it")
 
@@ -382,7 +378,7 @@ class Replica:
                 self.renew()
                 return
             batch = self.pending.pop((outcome.session, outcome.sequence), None)
-            self.changed.notify_all()
+            self.tell()
         if batch is not None and outcome.what == "made":
             self.answer(batch, outcome.answers)
 
@@ -396,7 +392,7 @@ class Replica:
         with self.changed:
             while self.waiting and self.waiting[0].done():
                 self.waiting.popleft()
-            self.changed.notify_all()
+            self.tell()
 
     def renew(self) -> None:
         """Gives up a session that the log has ended: what was sent in it and not made there, never will be, so it is sent in a new one."""
@@ -404,66 +400,81 @@ class Replica:
         self.pending.clear()
         self.queue.extendleft(reversed(parts))
         self.session = 0
-        self.changed.notify_all()
+        self.tell()
 
-    def lose(self, fault: Exception) -> None:
-        """Counts how often the table was lost without a gain, and stops the replica behind a bound."""
+    def lose(self, fault: Exception) -> float:
+        """Counts how often the table was lost without a gain, and stops the replica behind a bound. How many seconds to wait before the next replay."""
         self.lost = fault
         self.replays = 1 if self.machine.position > self.failed_at + GAIN else self.replays + 1
         self.failed_at = max(self.failed_at, self.machine.position)
         if self.replays > MOST_REPLAYS:
             words = f"the replica has stopped behind entry {self.failed_at}, after {MOST_REPLAYS} replays of the log: {fault}"
             self.stop(type(fault)(words) if isinstance(fault, ProgramFault) else MemoryError(words), words)
-        self.pause(self.replays * REPLAY_PAUSE)
+        return self.replays * REPLAY_PAUSE
 
     def replay(self) -> None:
-        """Throws the table away, and begins anew from the log's first entry."""
+        """Throws the table away where it is not that of the log any more, and begins anew from the log's first entry."""
         with self.table_lock:
-            if self.stopped:
+            if self.stopped or self.lost is None:
                 return
             self.machine.table.close()
             self.machine = open_machine(self.open_table, self.settings)
             self.lost = None
         with self.changed:
             self.seen = 0
-            self.changed.notify_all()
+            self.tell()
 
-    # The thread that appends.
+    # Who appends.
 
-    def append(self) -> None:
-        """Puts what waits into the log, an entry at a time, and ends the session."""
-        backoff = Backoff(self.patience / PATIENCE_TRIES)
+    def guard(self, step: Callable[[], T]) -> T | None:
+        """Does a step of who appends. What it raises stops the replica."""
         try:
-            while self.next_comes():
-                self.send(backoff)
-            if self.session and not self.stopped:
-                # One try: a session that nobody ends goes when there are too many.
-                with suppress(OSError):
-                    self.log.append(write_end(self.session))
+            return step()
         except Exception as fault:
             self.stop(fault, f"the replica has stopped, {fault}")
+            return None
 
-    def next_comes(self) -> bool:
-        """Waits until there is something to send; False where nothing more comes."""
-        self.changed.wait_for(lambda: self.stopped or self.queue or self.batch or (self.closing and not self.pending))
+    def has_to_send(self) -> bool:
+        """Whether something goes into the log yet."""
         with self.changed:
             return bool(self.queue or self.batch) and not self.stopped
 
-    def send(self, backoff: Backoff) -> None:
-        """Puts all that waits, as far as it fits, into the log as one entry. After a try with an unknown end the next one puts the same again."""
-        try:
-            if not self.session:
-                session = self.log.append(OPEN)
-                with self.changed:
-                    self.session, self.sequence = session, 0
-            batch = self.batch = self.batch or self.take_batch()
-            if batch is not None and self.is_wanted(batch):
-                self.log.append(batch.entry)
+    def next_entry(self) -> bytes | None:
+        """What goes into the log now: all that waits, as far as it fits, as one entry. Behind a try with an unknown end that is the same again."""
+        self.opens = not self.session
+        if self.opens:
+            return OPEN
+        batch = self.batch = self.batch or self.take_batch()
+        if batch is not None and self.is_wanted(batch):
+            return batch.entry
+        self.batch = None
+        return None
+
+    def sent(self, position: int) -> None:
+        """That entry is in the log."""
+        if self.opens:
+            with self.changed:
+                self.session, self.sequence = position, 0
+        else:
             self.batch = None
+
+    def send(self, backoff: Backoff) -> float:
+        """Puts an entry into the log, if there is one to put, by one try. How many seconds to wait before the next one."""
+        try:
+            entry = self.next_entry()
+            if entry is not None:
+                self.sent(self.log.append(entry))
             backoff.reset()
         except OSError as fault:
             self.trouble = fault
-            self.pause(backoff.next())
+            return backoff.next()
+        return 0.0
+
+    def end_session(self) -> None:
+        """Ends the session, by one try: one that nobody ends goes when there are too many."""
+        if self.session and not self.stopped:
+            with suppress(OSError):
+                self.log.append(write_end(self.session))
 
     def take_batch(self) -> Batch | None:
         """What goes into the next entry; None where nothing does."""
@@ -486,41 +497,18 @@ class Replica:
         with self.changed:
             return not self.stopped and (batch.session, batch.sequence) in self.pending
 
-    # The thread that watches the time, and ends the replica.
+    # Who watches the time, and ends the replica.
 
-    def watch(self) -> None:
-        """Fails what waits longer than the patience, until the replica is closed, or nobody has it any more."""
-        while not self.is_to_end():
-            self.expire()
-        self.finish()
-
-    def is_to_end(self) -> bool:
-        """Waits until the first of the patiences is over, or somebody wishes the replica to end: whether that is so."""
+    def first_deadline(self) -> float:
+        """When the first of the patiences is over."""
         with self.changed:
-            until = self.waiting[0].deadline if self.waiting else deadline_behind(self.patience)
-        try:
-            self.wishes.get(timeout=max(0.0, until - time.monotonic()))
-        except queue.Empty:
-            return False
-        return True
+            return self.waiting[0].deadline if self.waiting else deadline_behind(self.patience)
 
-    def finish(self) -> None:
-        """Waits within the patience until what was submitted is answered, and ends the threads and the table."""
-        deadline = deadline_behind(self.patience)
+    def begin_to_end(self) -> None:
+        """Takes no more calls."""
         with self.changed:
             self.closing = True
-            self.changed.notify_all()
-        # What is cancelled wakes nobody.
-        while time.monotonic() < deadline and not self.changed.wait_for(self.is_unwanted, LOOK):
-            pass
-        if self.is_idle():
-            # It ends the session, by one try.
-            self.appender.join(LAST_SECONDS)
-        self.stop(None, CLOSED)
-        # What could not be opened may lack some.
-        for thread in self.threads[:-1]:
-            if thread.is_alive():
-                thread.join(LAST_SECONDS)
+            self.tell()
 
     def is_unwanted(self) -> bool:
         """Whether nobody waits for an answer that may come yet."""
@@ -541,6 +529,6 @@ class Replica:
             # What was not sent yet is not sent any more.
             late = {id(it) for it in overdue}
             self.queue = deque([part for part in self.queue if id(part.submitted) not in late])
-            self.changed.notify_all()
+            self.tell()
         for it in overdue:
             it.fail(self.why_late())

@@ -8,9 +8,11 @@ from typing import TypeVar
 from pidtab.answers import Form, SpaceStat, Stat
 from pidtab.bounds import DEFAULT_PID_MAX, check_pid_max, check_seconds
 from pidtab.calls import Call, Calls, as_line
+from pidtab.crew import Crew
 from pidtab.faults import LibraryFault, NotKept
 from pidtab.log import CutLog, Log
 from pidtab.native import Ask, AskableCalls, pack
+from pidtab.own_threads import OwnThreads
 from pidtab.raw import PidtabReply, PidtabSpace, PidtabTask
 from pidtab.replica import Replica
 from pidtab.submitted import Submitted, deadline_behind
@@ -84,6 +86,9 @@ class Replicated(AskableCalls):
     Opening it loads the newest snapshot that the log has, plays what is behind it, and waits for that.
     """
 
+    # What has to stay as long as this does.
+    _keeps: object = None
+
     def __init__(
         self,
         log: Log,
@@ -100,19 +105,35 @@ class Replicated(AskableCalls):
         """
         if not isinstance(log, Log):
             raise TypeError(f"a log is a pidtab.Log, as an EtcdLog is, not {type(log).__name__}")
+        self._begin(log, pid_max, table, patience, checks, OwnThreads)
+
+    @classmethod
+    def _of(
+        cls, keeps: object, log: Log, pid_max: int, table: Callable[..., Calls], patience: float, checks: bool, hire: Callable[[Replica], Crew]
+    ) -> "Replicated":
+        """Opens a table that a crew serves; something has to stay as long as it does."""
+        opened = cls.__new__(cls)
+        opened._keeps = keeps
+        opened._begin(log, pid_max, table, patience, checks, hire)
+        return opened
+
+    def _begin(
+        self, log: Log, pid_max: int, table: Callable[..., Calls], patience: float, checks: bool, hire: Callable[[Replica], Crew]
+    ) -> None:
+        """Opens the table, which a crew serves."""
         if checks and not isinstance(log, CutLog):
             raise TypeError(f"a {type(log).__name__} has no snapshots to check")
         self.pid_max = check_pid_max(pid_max)
         self.log = log
         self.patience = check_seconds("patience", patience)
-        self._replica = Replica(log, self.pid_max, opener(table, self.pid_max), self.patience, checks)
+        self._replica = Replica(log, self.pid_max, opener(table, self.pid_max), self.patience, hire, checks)
         try:
             self._replica.start()
         except BaseException:
             self._replica.abandon()
             raise
         # It takes no lock, as it may run anywhere.
-        self._keep(self._replica.wishes.put, None)
+        self._keep(self._replica.crew.wish)
 
     def submit(self, texts: Iterable[str]) -> Submitted:
         """Has the calls on lines made: a `Future` of what `answers` would answer. All that waits goes into the log as one entry.

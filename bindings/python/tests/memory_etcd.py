@@ -6,8 +6,9 @@ import threading
 from bisect import bisect_right
 from collections.abc import Callable, Sequence
 from typing import Any, NamedTuple
+from unittest import mock
 
-from pidtab import EtcdLog
+from pidtab import Cluster, EtcdLog
 from pidtab.etcd import JSON, Etcd, Member, decode, encode
 
 # How much a watcher may be behind before it is cut off, in bytes.
@@ -231,3 +232,9 @@ def log_in(store: MemoryEtcd, name: str = "web", kind: type[EtcdLog] = EtcdLog) 
     log = kind(["memory:1"], name)
     log._etcd = Client(store)
     return log
+
+
+def cluster_in(store: MemoryEtcd, name: str = "many", patience: float = 20.0) -> Cluster:
+    """A Cluster in it, whose calls are those of its `_etcd`."""
+    with mock.patch("pidtab.cluster.open_etcd", lambda *words: Client(store)):
+        return Cluster(["memory:1"], name, patience=patience)

@@ -34,6 +34,11 @@ def use(table: pidtab.Table, shared: pidtab.Shared, seat: pidtab.Seat, many: pid
     return asked + child(table) + child(seat) + child(many)
 
 
+def use_many(cluster: pidtab.Cluster) -> int:
+    with cluster.open("web", pid_max=400) as table:
+        return child(table) + table.position
+
+
 def fall(table: pidtab.Table, seat: pidtab.Seat) -> int:
     answer, effects = table.told.exit(2, 9)
     for effect in [*effects, *seat.told.wait(1, own=True).effects]:
