@@ -2,7 +2,7 @@
  *
  * docs/CLUSTER.md has the log. Each host has a replica with a table beside it, and gives both the entries of the log in their order. So all
  * hosts have one table, and have given the same answers. A host puts entries into the log, reads them, and hands them on; which log that
- * is, is its own affair. What each function does is proved (crates/replica, crates/pidtab_c/src/replica.rt), but for the marks around it,
+ * is, is its own affair. What each function does is proved (crates/replica, crates/pidtab_c/src/replicas.rt), but for the marks around it,
  * which guard_replica.c has.
  *
  * The rules of pidtab.h hold here too. The table of a replica changes by pidtab_replica_apply alone: a call that is made on it otherwise is

@@ -11,7 +11,7 @@ use Rattle.replica.specs.declared.outcome.ReplicaFault.{ReplicaFault}
 use Rattle.replica.specs.declared.snapshot.HeadFault.{HeadFault}
 use Rattle.stamped_table.specs.Stamped.{Stamped}
 use Rattle.foreign_numbers.specs.Replicas.{applied_numbers, fault_status, head_status}
-use Rattle.foreign_numbers.specs.declared.replica.AppliedNumbers.{AppliedNumbers}
+use Rattle.foreign_numbers.specs.declared.replicas.AppliedNumbers.{AppliedNumbers}
 use Rattle.foreign_numbers.specs.declared.status.TheConstants.{DONE, CLOSED, BAD_TEXT, NOT_RISING, NO_ENTRY, OTHER_SETTINGS, MISSING, DIVERGED, NO_MEMORY, NOT_RECOVERABLE}
 use Rattle.foreign_calls.specs.Held.{IsDoneOr}
 use Rattle.foreign_calls.specs.Records.{Has}

@@ -14,7 +14,7 @@ pub mod read;
 pub mod record;
 pub mod record_calls;
 pub mod replay;
-pub mod replica;
+pub mod replicas;
 pub mod residents;
 pub mod saved_record;
 pub mod saved_table;

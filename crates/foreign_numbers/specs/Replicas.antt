@@ -8,8 +8,8 @@ use Rattle.replica.specs.declared.outcome.ReplicaFault.{ReplicaFault}
 use Rattle.replica.specs.declared.outcome.ReplicaFault.TheVariants.{NotRising, NoEntry, OtherSettings, Missing, Diverged, NoMemory, Torn}
 use Rattle.replica.specs.declared.snapshot.HeadFault.{HeadFault}
 use Rattle.replica.specs.declared.snapshot.HeadFault.TheVariants as head
-use Rattle.foreign_numbers.specs.declared.replica.AppliedNumbers.{AppliedNumbers}
-use Rattle.foreign_numbers.specs.declared.replica.LogNumbers.{LogNumbers}
+use Rattle.foreign_numbers.specs.declared.replicas.AppliedNumbers.{AppliedNumbers}
+use Rattle.foreign_numbers.specs.declared.replicas.LogNumbers.{LogNumbers}
 use Rattle.foreign_numbers.specs.CallNumbers.{switch_number}
 use Rattle.foreign_numbers.specs.declared.status.TheConstants.{BAD_TEXT, NOT_RISING, NO_ENTRY, OTHER_SETTINGS, MISSING, DIVERGED, NO_MEMORY, NOT_RECOVERABLE}
 

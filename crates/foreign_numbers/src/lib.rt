@@ -10,7 +10,7 @@ pub mod effects;
 pub mod kinds;
 pub mod numbers;
 pub mod operations;
-pub mod replica;
+pub mod replicas;
 pub mod replies;
 pub mod space;
 pub mod status;

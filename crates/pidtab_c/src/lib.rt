@@ -38,7 +38,7 @@ mod read;
 mod record;
 mod record_calls;
 mod replay;
-mod replica;
+mod replicas;
 mod residents;
 mod saved_bytes;
 mod saved_record;

@@ -8,7 +8,7 @@ ghost use Rattle.foreign_calls.specs.Replicas.{AppliesEntry, ReadsHead, TellsFou
 use foreign_handles::handle::null;
 use foreign_handles::loose::Loose;
 use foreign_handles::replica_handle::ReplicaHandle;
-use foreign_numbers::replica::{
+use foreign_numbers::replicas::{
     AppliedNumbers, DigestBytes, status_of_entry, status_of_head, tell_applied,
 };
 use foreign_numbers::status::{DONE, NO_MEMORY, NO_SESSION, NOT_KEPT, OTHER_SETTINGS};

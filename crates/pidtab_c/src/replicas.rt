@@ -11,12 +11,12 @@ ghost use Rattle.foreign_calls.specs.Records.{Has};
 ghost use Rattle.foreign_calls.specs.Replicas.{AppliesHeld, ReadsHeld, TellsOf, digest_at, last_of};
 ghost use Rattle.foreign_calls.specs.Rooms.{PutsText};
 
-use foreign_calls::replica::{
+use foreign_calls::replicas::{
     PidtabReplica, apply_entry, boxed_host, head_of, read_head, tell_digest, tell_last,
 };
 use foreign_calls::table::Pidtab;
 use foreign_calls::texts::write_text;
-use foreign_numbers::replica::{AppliedNumbers, DigestBytes, LogNumbers, tell_log};
+use foreign_numbers::replicas::{AppliedNumbers, DigestBytes, LogNumbers, tell_log};
 use foreign_numbers::status::{
     BUSY, CLOSED, DONE, NO_MEMORY, NO_ROOM, NO_SESSION, NOT_KEPT, OTHER_SETTINGS,
 };
