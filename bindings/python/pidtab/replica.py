@@ -85,15 +85,7 @@ class Replica:
         self.replays = 0
         self.failed_at = 0
         self.changed = Changed()
-        self.queue: deque[Part] = deque()
-        # What was sent and is not answered, by session and number.
-        self.pending: dict[tuple[int, int], Batch] = {}
-        self.waiting: deque[Submitted] = deque()
-        self.session = 0
-        self.sequence = 0
-        # What is being sent; and whether it is what opens a session.
-        self.batch: Batch | None = None
-        self.opens = False
+        self._have_nothing_to_send()
         self.following: Following | None = None
         self.table_lock = threading.Lock()
         # Its sums, if this host checks snapshots.
@@ -105,6 +97,18 @@ class Replica:
         # The last entry that was applied, and the digest behind it. While the log is replayed it stays.
         self.place = (0, "")
         self.crew = hire(self)
+
+    def _have_nothing_to_send(self) -> None:
+        """What a host has before its first call."""
+        self.queue: deque[Part] = deque()
+        # What was sent and is not answered, by session and number.
+        self.pending: dict[tuple[int, int], Batch] = {}
+        self.waiting: deque[Submitted] = deque()
+        self.session = 0
+        self.sequence = 0
+        # What is being sent; and whether it is what opens a session.
+        self.batch: Batch | None = None
+        self.opens = False
 
     @property
     def threads(self) -> Sequence[threading.Thread]:

@@ -396,17 +396,18 @@ impl Replica {
     /// entry that was made. They are made in order, and a line that is none of the script language, or has more than
     /// 200 bytes, is answered `bad line`. A call is answered `spent` where the table has no stamp left.
     ///
+    /// The faults are looked for in this order, but for want of memory. Each but `Torn` says that nothing has changed.
+    ///
     /// - `Torn`: there was no memory amid the calls of this entry or for its digest, or for those of an entry before.
     ///   The table and the replica have to be made anew from the log.
-    /// - `Missing`: the writer of calls had a digest at a position that is not before the oldest of the 4,096 that are
-    ///   kept, and has no entry here. Nothing has changed.
-    /// - `Diverged`: the writer of calls or of a snapshot had another digest than this replica at the same position.
-    ///   Nothing has changed.
-    /// - `NoMemory`: there was no memory for a session. Nothing has changed, and the entry may be applied again.
-    /// - `NotRising`: the position is not behind that of the last entry. Nothing has changed.
-    /// - `NoEntry`: the bytes are the text of no entry. Nothing has changed.
+    /// - `NotRising`: the position is not behind that of the last entry.
+    /// - `NoEntry`: the bytes are the text of no entry.
     /// - `OtherSettings`: the first entry is not the settings of this replica in form 1 or 2, or a log of form 1 has an
-    ///   entry of snapshots. Nothing has changed.
+    ///   entry of snapshots.
+    /// - `Missing`: the writer of calls had a digest at a position that is not before the oldest of the 4,096 that are
+    ///   kept, and has no entry here.
+    /// - `Diverged`: the writer of calls or of a snapshot had another digest than this replica at the same position.
+    /// - `NoMemory`: there was no memory for a session. The entry may be applied again.
     ///
     /// It costs the time to read the entry, and to make each call. How many sessions are open does not matter.
     pub fn apply(

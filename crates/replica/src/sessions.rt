@@ -13,7 +13,7 @@ use std::marker::Model;
 use std::num::NonZeroUsize;
 
 /// So many sessions are open at most.
-const MOST_SESSIONS: usize = 4096;
+pub(crate) const MOST_SESSIONS: usize = 4096;
 
 /// The open sessions, each with the number of its last entry that counted. The one that was used the longest ago ends
 /// where one more opens. Each method takes a time that does not depend on how many there are.
@@ -80,6 +80,7 @@ impl Sessions {
         let _count = self.open.len();
         self.open.pop(&session);
     }
+
     /// How many are open.
     pub(crate) fn count(&self) -> u64
         ensures { result ≡ length self.now }

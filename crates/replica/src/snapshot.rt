@@ -21,14 +21,11 @@ ghost use Rattle.replica.specs.Snapshots.{state_text};
 use crate::head::{Settings, read_session, read_settings, read_state};
 use crate::kept::Kept;
 use crate::replica::Replica;
-use crate::sessions::Sessions;
+use crate::sessions::{MOST_SESSIONS, Sessions};
 use hex::encode;
 use pid_script::list::push_field;
 use std::alloc::{AllocError, Global};
 use thiserror::Error;
-
-/// So many sessions are open at most.
-const MOST_SESSIONS: u64 = 4096;
 
 /// Why the head of a snapshot is not read.
 #[derive(Clone, Copy, Debug, PartialEq, Eq, Error)]
@@ -112,7 +109,7 @@ fn open_sessions<'a>(
     ensures ok { IfOk result (λ rest. sessions_in count lines.now ≡ Some (sessions.new, rest.now)) }
     ensures err { IfErr result (IsUnread (sessions_in count lines.now)) }
 {
-    if count > MOST_SESSIONS {
+    if count > MOST_SESSIONS as u64 {
         return Err(HeadFault::NoSnapshot);
     }
     let mut rest = lines;
