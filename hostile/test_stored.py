@@ -216,7 +216,7 @@ class Words(Stored):
 class LongRuns(Stored):
     """A long run takes the memory of its table, and not of its length."""
 
-    # With an entry of 184 bytes for each call they would take 359,375 KiB.
+    # With an entry of 64 bytes for each call they would take 125,000 KiB.
     CALLS = 2_000_000
     MOST_KIB = 65_536
 

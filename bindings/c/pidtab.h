@@ -605,7 +605,7 @@ static inline int64_t pidtab_subreaper(struct pidtab *table, uint32_t caller, ui
  * Each call is made for a worker, a number below those of pidtab_record_open, and recorded with its reply. A call's ordinal is its
  * place among all recorded calls, from 0 on. Between any two functions: the kept history replays, reply for reply, as one thread's,
  * from the opening to the present state; and the calls of all workers add up to the number of recorded calls. That is proved of
- * pidtab_record_counts. The history has 184 bytes a call, until it is cut. What is cut away is made once more on a second table, which
+ * pidtab_record_counts. The history has 64 bytes a call, until it is cut. What is cut away is made once more on a second table, which
  * lags behind the present one by the kept calls: that is the opening, and no call waits for a copy of the table. */
 struct pidtab_record {
 	void *at;

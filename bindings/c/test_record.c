@@ -219,7 +219,7 @@ static void keeps_a_bound(void)
 	pidtab_record_close(&record);
 }
 
-/* The room for entries grows with them: 1,000 calls ask for less than four times 184 bytes each, and a few pages. */
+/* The room for entries grows with them: 1,000 calls ask for less than four times 64 bytes each, and a few pages. */
 static void room_grows_with_the_calls(void)
 {
 	struct pidtab_record record = PIDTAB_RECORD_INIT;
@@ -230,7 +230,7 @@ static void room_grows_with_the_calls(void)
 	bytes_asked = 0;
 	for (int i = 0; i < 1000; i++)
 		CHECK(pidtab_record_call(&record, 0, &getpid_1, &reply, &ordinal) == PIDTAB_DONE);
-	CHECK(bytes_asked >= 1000 * 184 && bytes_asked < 4 * 1000 * 184 + 65536);
+	CHECK(bytes_asked >= 1000 * 64 && bytes_asked < 4 * 1000 * 64 + 65536);
 	pidtab_record_close(&record);
 }
 

@@ -27,7 +27,7 @@ type Settings struct {
 // The kept history replays, reply for reply, as one thread's, from its opening to the present state, and the calls of all workers add up to
 // Counts.Recorded. That is proved of the library. The lock is trusted: it is a sync.RWMutex, so that a goroutine that waits holds no thread.
 //
-// The history has 184 bytes a call until it is cut. With Settings.Keep, a call behind which there are more entries cuts the first, and makes its
+// The history has 64 bytes a call until it is cut. With Settings.Keep, a call behind which there are more entries cuts the first, and makes its
 // call once more on a second table. Where that finds no memory, later calls make up for it.
 type Shared struct {
 	own *heldRecord

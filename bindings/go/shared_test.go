@@ -437,7 +437,7 @@ func resident(t *testing.T) int {
 	return pages * os.Getpagesize()
 }
 
-// dropped makes a table with a history of some 3.7 MB, and drops it and its seat.
+// dropped makes a table with a history of some 3.8 MB, and drops it and its seat.
 func dropped(t *testing.T) {
 	t.Helper()
 	shared, err := OpenShared(Settings{PidMax: 32768, Workers: 1})
@@ -445,7 +445,7 @@ func dropped(t *testing.T) {
 		t.Fatal(err)
 	}
 	seat := seatOf(t, shared)
-	for i := 0; i < 20000; i++ {
+	for i := 0; i < 60000; i++ {
 		seat.Getpid(1)
 	}
 }
@@ -465,7 +465,7 @@ func TestWhatTheCollectorCloses(t *testing.T) {
 		time.Sleep(time.Millisecond)
 	}
 	if grown := resident(t) - before; grown > 90e6 {
-		t.Errorf("%d bytes more, of some 184 million", grown)
+		t.Errorf("%d bytes more, of some 190 million", grown)
 	}
 	want(t, "getpid", of(seat.Getpid(1)), uint32(1), nil)
 }

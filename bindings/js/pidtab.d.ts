@@ -311,7 +311,7 @@ export interface Counts {
   recorded: bigint;
 }
 
-/** A table with its history, for 1 to 16 workers. The history takes 184 bytes a call until a checkpoint cuts it. */
+/** A table with its history, for 1 to 16 workers. The history takes 64 bytes a call until a checkpoint cuts it. */
 export class Record {
   /** The first call has the first stamp, 1 to 2^64 - 1, as the id of what it makes; each later one has the next. By default 4 workers and 1n. */
   constructor(options?: { workers?: number; pidMax?: number; firstStamp?: Long });

@@ -221,7 +221,7 @@ class Shared(Labelled, Owner):
     have such a table too. Each call is made alone, and its ordinal is its place among all. The calls, made again in their order by one thread,
     have the same answers.
 
-    The history takes 184 bytes a call until it is cut: by a checkpoint, or by itself where `keep` is not 0. Then at most so many entries are
+    The history takes 64 bytes a call until it is cut: by a checkpoint, or by itself where `keep` is not 0. Then at most so many entries are
     kept: a call behind which there are more cuts the first, which costs that call once more.
 
     Once it is closed, each method raises `TableClosed`, and so it does in a forked child, whose parent has the table. Where there is no memory,

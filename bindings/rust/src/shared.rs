@@ -113,7 +113,7 @@ static NEXT_NUMBER: AtomicU64 = AtomicU64::new(1);
 /// The kept history replays, reply for reply, as one thread's, from its opening to the present state, and the calls of all workers add up to
 /// [`Counts::recorded`]. That is proved of the library. The lock is trusted: it is an `RwLock` of std.
 ///
-/// The history has 184 bytes a call until it is cut, by [`Options::keep`], [`Shared::checkpoint`] or [`Shared::checkpoint_at`].
+/// The history has 64 bytes a call until it is cut, by [`Options::keep`], [`Shared::checkpoint`] or [`Shared::checkpoint_at`].
 ///
 /// A thread that panics harms no other: each function of the record ends first, and the lock is given back.
 pub struct Shared {

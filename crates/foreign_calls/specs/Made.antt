@@ -2,7 +2,10 @@
 use Rattle.std.specs.Prelude.{◌≡◌, ◌≢◌, ◌↔◌, ◌-◌, ◌^◌, ℕ, [], ◌∷◌, Option, Some, IfSome, IsTrue}
 use Rattle.pid_types.specs.declared.call.Call.{Call}
 use Rattle.pid_types.specs.declared.reply.Reply.{Reply}
+use Rattle.pid_types.specs.declared.reply.ShortReply.{ShortReply}
+use Rattle.pid_types.specs.Short.{reply_of}
 use Rattle.pid_types.specs.Step.{may_grow}
+use Rattle.kept_table.specs.Chronicle.{Chronicle, last_reply}
 use Rattle.saved_form.specs.declared.numbers.ReplyNumbers.{ReplyNumbers}
 use Rattle.stamped_table.specs.Stamped.{Stamped, after_call, reply_to}
 use Rattle.foreign_numbers.specs.Numbers.{numbers_of}
@@ -17,6 +20,10 @@ Makes old call reply new = IfSome old (λ s. (new ≡ Some (after_call s call)) 
 pub record TellsReply (told : Reply) (old new : ReplyNumbers) (status : ℕ) : Type 0 where
   pub reply : status ≡ DONE → new ≡ numbers_of told
   pub not_done : status ≢ DONE → new ≡ old
+
+-- it is the reply of the record's last entry, unless it is none
+abbrev pub IsReplyToLast : Chronicle → Option ShortReply → Type 0
+IsReplyToLast held told = IfSome told (λ short. last_reply held ≡ Some (reply_of short))
 
 -- no stamp is left: the one of the next call would be the greatest number, which no call has
 abbrev pub IsSpent : ℕ → Type 0

@@ -8,8 +8,8 @@ ghost use Rattle.foreign_calls.specs.Records.{Has, roomless};
 ghost use Rattle.foreign_calls.specs.Replays.{IsSameAgain};
 ghost use Rattle.foreign_calls.specs.Turns.{turn, AreMade, CanMakeAll, MayGrowAt};
 
-use crate::record_calls::make_on;
-use foreign_numbers::numbers::{CallNumbers, ReplyNumbers, put_reply, read_call};
+use crate::record_calls::{make_on, put_told};
+use foreign_numbers::numbers::{CallNumbers, ReplyNumbers, read_call};
 use foreign_numbers::status::{DONE, NO_MEMORY, NO_ROOM, OUT_OF_RANGE, SPENT};
 use kept_table::Kept;
 
@@ -45,14 +45,12 @@ fn turn_on(
     let Some(made) = read_call(call) else {
         unreachable!()
     };
-    let status = make_on(held, worker, made, ordinal);
+    let mut told = None;
+    let status = make_on(held, worker, made, &mut told, ordinal);
     if status != DONE {
         return status;
     }
-    let Some(told) = held.last_reply() else {
-        unreachable!()
-    };
-    put_reply(told, reply);
+    put_told(held, told, reply);
     DONE
 }
 

@@ -1,36 +1,72 @@
 //! Calls on a record, as numbers and as lines.
-ghost use Rattle.std.specs.Prelude.{◌≡◌, ◌≢◌, ◌+◌, ◌≤◌, Some, length, take};
+ghost use Rattle.std.specs.Prelude.{◌≡◌, ◌≢◌, ◌+◌, ◌≤◌, Some, IsSome, length, take, option_map};
 ghost use Rattle.pid_script.specs.Answers.{reply_text};
 ghost use Rattle.kept_table.specs.Calls.{outcome};
 ghost use Rattle.kept_table.specs.Chronicle.{last_reply};
-ghost use Rattle.foreign_calls.specs.Made.{TellsReply};
+ghost use Rattle.foreign_calls.specs.Made.{TellsReply, IsReplyToLast};
+ghost use Rattle.foreign_numbers.specs.Numbers.{numbers_of};
 ghost use Rattle.foreign_calls.specs.Records.{roomless, IsRecordedKeeping, IsWorkerStatus, RecordsCall};
 ghost use Rattle.foreign_calls.specs.Rooms.{KeepsRoom};
 
 use crate::texts::write_reply;
-use foreign_numbers::numbers::{ReplyNumbers, put_reply};
+use foreign_numbers::numbers::{ReplyNumbers, put_reply, put_short};
 use foreign_numbers::status::{DONE, OUT_OF_RANGE, status_of};
-use kept_table::{Kept, copy_reply};
+use kept_table::Kept;
 use pid_script::answer::LONGEST_ANSWER;
 use pid_types::call::Call;
-use pid_types::reply::Reply;
+use pid_types::reply::{Reply, ShortReply};
 
-/// Makes the worker's call on the record, and tells its place in the history. The result is the status.
+/// Makes the worker's call on the record, and tells its place in the history, and its reply where that is no list. The
+/// result is the status.
 #[inline(always)]
-pub fn make_on(held: &mut Kept, worker: usize, made: Call, ordinal: &mut u64) -> u32
+pub fn make_on(
+    held: &mut Kept,
+    worker: usize,
+    made: Call,
+    told: &mut Option<ShortReply>,
+    ordinal: &mut u64,
+) -> u32
     ensures records { RecordsCall held.old worker made ordinal.old ordinal.new result held.new }
     ensures reply { result ≡ DONE → last_reply held.new ≡ Some (outcome held.old made).reply }
+    ensures told { result ≡ DONE → IsReplyToLast held.new told.new }
     ensures room { held.old.room ≤ held.new.room + 1 }
 {
     if worker >= held.workers() {
         return OUT_OF_RANGE;
     }
     let place = held.total();
-    if let Err(fault) = held.make_call(worker, made) {
-        return status_of(fault);
+    match held.make_call(worker, made) {
+        Ok(short) => *told = short,
+        Err(fault) => return status_of(fault),
     }
     *ordinal = place;
     DONE
+}
+
+/// Tells the reply to the call that was made last: the short one, or else that of its entry.
+#[inline(always)]
+pub fn put_told(held: &Kept, told: Option<ShortReply>, reply: &mut ReplyNumbers)
+    requires last { IsSome (last_reply held.now) }
+    requires told { IsReplyToLast held.now told }
+    ensures { Some reply.new ≡ option_map numbers_of (last_reply held.now) }
+{
+    if let Some(short) = told {
+        put_short(short, reply);
+        return;
+    }
+    put_last(held, reply);
+}
+
+/// Tells the reply of the last entry. It is not inlined, since a call rarely comes here.
+#[inline(never)]
+fn put_last(held: &Kept, reply: &mut ReplyNumbers)
+    requires { IsSome (last_reply held.now) }
+    ensures { Some reply.new ≡ option_map numbers_of (last_reply held.now) }
+{
+    let Some(last) = held.last_reply() else {
+        unreachable!()
+    };
+    put_reply(&last, reply);
 }
 
 /// Makes the call as [`make_on`] does, and tells its reply as numbers.
@@ -45,14 +81,12 @@ pub fn call_on(
     ensures records { RecordsCall held.old worker made ordinal.old ordinal.new result held.new }
     ensures reply { TellsReply (outcome held.old made).reply reply.old reply.new result }
 {
-    let status = make_on(held, worker as usize, made, ordinal);
+    let mut told = None;
+    let status = make_on(held, worker as usize, made, &mut told, ordinal);
     if status != DONE {
         return status;
     }
-    let Some(told) = held.last_reply() else {
-        unreachable!()
-    };
-    put_reply(told, reply);
+    put_told(held, told, reply);
     DONE
 }
 
@@ -99,13 +133,14 @@ pub fn line_on(
     ensures answer { KeepsRoom answer.old answer.new size.new result }
     ensures same_size { result ≢ DONE → size.new ≡ size.old }
 {
-    let status = make_on(held, worker as usize, made, ordinal);
+    let mut told = None;
+    let status = make_on(held, worker as usize, made, &mut told, ordinal);
     if status != DONE {
         return status;
     }
-    let Some(told) = held.last_reply() else {
+    let Some(last) = held.last_reply() else {
         unreachable!()
     };
-    *size = write_reply(answer, made, copy_reply(told));
+    *size = write_reply(answer, made, last);
     DONE
 }

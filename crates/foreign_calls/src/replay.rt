@@ -31,14 +31,15 @@ fn replay_one(held: &mut Kept, saved: &EntryNumbers) -> u32
         return OUT_OF_RANGE;
     };
     let mut ordinal = 0u64;
-    let step = make_on(held, saved.worker as usize, made, &mut ordinal);
+    let mut told = None;
+    let step = make_on(held, saved.worker as usize, made, &mut told, &mut ordinal);
     if step != DONE {
         return step;
     }
-    let Some(told) = held.last_reply() else {
+    let Some(last) = held.last_reply() else {
         unreachable!()
     };
-    let same = is_same(&tell_reply(told), &saved.reply);
+    let same = is_same(&tell_reply(&last), &saved.reply);
     if same { DONE } else { DIFFERS }
 }
 

@@ -6,9 +6,10 @@ ghost use Rattle.foreign_calls.specs.Rooms.{KeepsRoom};
 ghost use Rattle.stamped_table.specs.Stamped.{after_call, reply_to};
 
 use crate::texts::write_reply;
-use foreign_numbers::numbers::{ReplyNumbers, put_reply};
+use foreign_numbers::numbers::{ReplyNumbers, put_reply, put_short};
 use foreign_numbers::status::{DONE, status_of};
 use pid_script::answer::LONGEST_ANSWER;
+use pid_table::answers_list;
 use pid_types::call::Call;
 use pid_types::reply::Reply;
 use stamped_table::StampedTable;
@@ -16,6 +17,26 @@ use stamped_table::StampedTable;
 /// Makes the call, and tells its reply as numbers. The result is the status.
 #[inline(always)]
 pub fn call_table(held: &mut StampedTable, made: Call, reply: &mut ReplyNumbers) -> u32
+    ensures done { result ≡ DONE → held.new ≡ after_call held.old made }
+    ensures not_done { result ≢ DONE → held.new ≡ held.old }
+    ensures reply { TellsReply (reply_to held.old made) reply.old reply.new result }
+    ensures status { IsCallStatus held.old made result }
+{
+    if answers_list(&made) {
+        return call_for_list(held, made, reply);
+    }
+    match held.make_short(made) {
+        Ok(told) => {
+            put_short(told, reply);
+            DONE
+        }
+        Err(fault) => status_of(fault),
+    }
+}
+
+/// The same of a call that may be answered by a list. It is not inlined, since the others need no room for one.
+#[inline(never)]
+fn call_for_list(held: &mut StampedTable, made: Call, reply: &mut ReplyNumbers) -> u32
     ensures done { result ≡ DONE → held.new ≡ after_call held.old made }
     ensures not_done { result ≢ DONE → held.new ≡ held.old }
     ensures reply { TellsReply (reply_to held.old made) reply.old reply.new result }

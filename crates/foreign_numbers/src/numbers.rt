@@ -1,5 +1,6 @@
 //! Calls and replies as numbers, for callers who would rather not read text. The numbers stay the same from release to
 //! release.
+ghost use Rattle.pid_types.specs.Short.{reply_of};
 ghost use Rattle.std.specs.Prelude.{◌≡◌};
 ghost use Rattle.foreign_numbers.specs.Numbers.{switch_of, which_of, kind_of, limit_of, status_of, call_of};
 ghost use Rattle.foreign_numbers.specs.Numbers.{control_call_of, later_call_of, blank, with_zeroes, levels_numbers};
@@ -9,7 +10,7 @@ use crate::{choices, kinds, operations};
 use arrayvec::ArrayVec;
 use pid_types::call::{Call, Kind, Which};
 use pid_types::plain::{Ended, LEVELS};
-use pid_types::reply::{Refusal, Reply};
+use pid_types::reply::{Refusal, Reply, ShortReply};
 pub use saved_form::numbers::{CallNumbers, ReplyNumbers};
 
 /// A switch.
@@ -217,6 +218,34 @@ pub fn put_reply(told: &Reply, reply: &mut ReplyNumbers)
         Reply::Control(id) => put_values(reply, kinds::CONTROL, *id, 0),
         Reply::End => put_values(reply, kinds::END, 0, 0),
         Reply::Refused(refusal) => put_refusal(reply, *refusal),
+    }
+}
+
+/// Writes a reply that is no list, as [`put_reply`] does.
+#[tactic(auto, unfolding(crate::specs::Numbers::numbers_of))]
+#[inline(always)]
+pub fn put_short(told: ShortReply, reply: &mut ReplyNumbers)
+    ensures { reply.new ≡ numbers_of (reply_of told) }
+{
+    match told {
+        ShortReply::Forked { child, root } => {
+            put_values(reply, kinds::FORKED, u64::from(child), u64::from(root))
+        }
+        ShortReply::Done => put_values(reply, kinds::OK, 0, 0),
+        ShortReply::Number(number) => put_values(reply, kinds::NUMBER, u64::from(number), 0),
+        ShortReply::Reaped {
+            child,
+            ended: Ended::Exited(status),
+        } => put_values(reply, kinds::REAPED, u64::from(child), u64::from(status)),
+        ShortReply::Reaped {
+            child,
+            ended: Ended::Killed,
+        } => put_values(reply, kinds::REAPED, u64::from(child), kinds::KILLED),
+        ShortReply::NoneYet => put_values(reply, kinds::NONE_YET, 0, 0),
+        ShortReply::Counted(count) => put_values(reply, kinds::COUNTED, count, 0),
+        ShortReply::Control(id) => put_values(reply, kinds::CONTROL, id, 0),
+        ShortReply::End => put_values(reply, kinds::END, 0, 0),
+        ShortReply::Refused(refusal) => put_refusal(reply, refusal),
     }
 }
 

@@ -1,4 +1,4 @@
 pub mod Along
-pub mod Entered
 pub mod Past
+pub mod Places
 pub mod Shown

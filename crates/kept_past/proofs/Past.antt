@@ -1,7 +1,7 @@
 -- What a record holds of its past.
-use Rattle.std.specs.Prelude.{IfSome, ◌⊎◌}
+use Rattle.std.specs.Prelude.{IfSome, ◌⊎◌, ◌≤◌, slice_get, option_map}
 use Rattle.std.proofs.Common.{◌≡◌, ◌≢◌, ℕ, Bool, true, false, inl, inr, ◌+◌, ◌<◌, get_or, List, [], ◌∷◌, ◌++◌, length, take, drop, Option, Some, None, refl, sym, ap, ◌∙◌, subst, arith}
-use Rattle.std.proofs.lemmas.Option.{same_Some}
+use Rattle.std.proofs.lemmas.Option.{same_Some, slice_get_cases}
 use Rattle.std.proofs.lemmas.List.{take_all, take_more, drop_more, drop_all, length-drop, length-take-le, take-append-drop}
 use Rattle.pid_types.specs.declared.entry.Entry.{Entry}
 use Rattle.pid_types.specs.Replay.{state_after, calls_of}
@@ -94,7 +94,7 @@ exchanged-is held ring lag stamp room next state seen past is which same moves =
     ∙ (ap (λ (l : ℕ). record seen { opening = Some state; is_fixed = false; lag = l; room = room }) (ap (λ (p : Past). p.lag) is) ∙ ap (λ (r : ℕ). record seen { opening = Some state; is_fixed = false; room = r }) (ap (λ (p : Past). p.room) is))
 
 -- one entry more waits
-pub cut-once : (held : Option Held) (ring : List Entry) (lag stamp room : ℕ) (first : Entry) (seen new : Past) → IsPast held ring lag stamp → past_of held ring lag stamp room ≡ seen → lag < length ring → first ≡ get_or ring lag first
+cut-once : (held : Option Held) (ring : List Entry) (lag stamp room : ℕ) (first : Entry) (seen new : Past) → IsPast held ring lag stamp → past_of held ring lag stamp room ≡ seen → lag < length ring → first ≡ get_or ring lag first
     → new ≡ record (past_of held ring (lag + 1) stamp room) { lag = new.lag; room = new.room } → IsCutOnce first.worker seen new
 cut-once None ring lag stamp room first seen new past is within at left = absurd (omega (arith, within, ap length (past.bare refl)))
 cut-once (Some held) ring lag stamp room first seen new past is within at left =
@@ -113,6 +113,26 @@ cut-once (Some held) ring lag stamp room first seen new past is within at left =
       by = refl;
       left = past-is new _ _ _ _ _ _ _ _ _ _ left (ap (λ (s : State). Some s) moved) (ap (λ (p : Past). p.is_fixed) is) (sym rest) (omega (arith, stamps));
     }
+
+-- whose call the first entry has
+abbrev worker_of : Entry → ℕ
+worker_of e = e.worker
+
+cut-there : (held : Option Held) (ring : List Entry) (lag stamp room worker : ℕ) (seen new : Past) → IsPast held ring lag stamp → past_of held ring lag stamp room ≡ seen
+    → Some worker ≡ option_map worker_of (slice_get ring lag)
+    → ((x : Entry) × (lag < length ring) × (slice_get ring lag ≡ Some x) × (get_or ring lag x ≡ x)) ⊎ ((length ring ≤ lag) × (slice_get ring lag ≡ None))
+    → new ≡ record (past_of held ring (lag + 1) stamp room) { lag = new.lag; room = new.room } → IsCutOnce worker seen new
+cut-there held ring lag stamp room worker seen new past is whose (inl at) left =
+    subst (λ (w : ℕ). IsCutOnce w seen new) (sym (same_Some _ _ (whose ∙ ap (option_map worker_of) at.2)))
+    (cut-once held ring lag stamp room at.0 seen new past is at.1 (sym at.3) left)
+cut-there held ring lag stamp room worker seen new past is whose (inr past_end) left =
+    let none : Some worker ≡ None = whose ∙ ap (option_map worker_of) past_end.1 in absurd (cc)
+
+-- one entry more waits, the first of those that are kept
+pub cut-first : (held : Option Held) (ring : List Entry) (lag stamp room worker : ℕ) (seen new : Past) → IsPast held ring lag stamp → past_of held ring lag stamp room ≡ seen
+    → Some worker ≡ option_map worker_of (slice_get ring lag)
+    → new ≡ record (past_of held ring (lag + 1) stamp room) { lag = new.lag; room = new.room } → IsCutOnce worker seen new
+cut-first held ring lag stamp room worker seen new past is whose left = cut-there held ring lag stamp room worker seen new past is whose (slice_get_cases ring lag).1 left
 
 -- all entries wait
 pub cut-all : (held : Option Held) (ring : List Entry) (lag stamp all room : ℕ) (present : State) (seen new : Past) → IsPast held ring lag stamp → past_of held ring lag stamp room ≡ seen → all ≡ length ring → seen.opening ≢ None

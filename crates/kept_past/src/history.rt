@@ -4,13 +4,13 @@
 //! in two steps. From the first on it is no longer kept, and it waits at the front of the ring. In the second its call
 //! is made on what is held, and it is dropped. Contracts see the state that the calls which wait will lead to. So
 //! nothing is seen of the second step, which may find no memory.
-ghost use Rattle.std.specs.Prelude.{◌≡◌, ◌≢◌, ◌+◌, ◌-◌, ◌<◌, ◌≤◌, ◌^◌, ◌↔◌, ℕ, IsTrue, IsSome, IfOk, IfSome};
+ghost use Rattle.std.specs.Prelude.{◌≡◌, ◌≢◌, ◌+◌, ◌-◌, ◌<◌, ◌≤◌, ◌^◌, ◌↔◌, IsTrue, IfOk, IfSome};
 ghost use Rattle.std.specs.Prelude.{OnOk, OnErr, ◌⊎◌, true, false, not};
-ghost use Rattle.std.specs.Prelude.{[], ◌∷◌, ◌++◌, length, slice_get, Some, None, vec_len};
-ghost use Rattle.std.specs.VecDeque.{deque_len, deque_capacity};
-ghost use Rattle.std.specs.Option.{option_copied, option_map};
+ghost use Rattle.std.specs.Prelude.{[], ◌∷◌, ◌++◌, length, slice_get, Some, None};
+ghost use Rattle.std.specs.Option.{option_map};
 ghost use Rattle.pid_types.specs.declared.entry.Entry.{Entry};
 ghost use Rattle.pid_types.specs.Replay.{state_after, calls_of};
+ghost use Rattle.pid_types.specs.Short.{reply_of};
 ghost use Rattle.pid_types.specs.Shown.{Shows};
 ghost use Rattle.pid_types.specs.Sound.{IsBelow};
 ghost use Rattle.pid_types.specs.State.{State, root_state};
@@ -18,15 +18,15 @@ ghost use Rattle.pid_types.specs.Step.{step, may_grow};
 ghost use Rattle.kept_past.specs.Past.{held_fixed, moves_or, opening_of, IsCutOnce};
 
 use crate::opening::Opening;
+use crate::ring::Ring;
 use model_laws::soundness::soundness_is_kept;
-use pid_table::PidTable;
+use pid_table::{PidTable, answers_list};
 use pid_types::call::Call;
 use pid_types::config::Config;
 use pid_types::entry::Entry;
 use pid_types::plain::Plain;
-use pid_types::reply::Reply;
+use pid_types::reply::{Reply, ShortReply};
 use std::alloc::{AllocError, Global};
-use std::collections::VecDeque;
 use std::marker::Model;
 
 /// How many calls that wait a recorded call makes: one more than it can add.
@@ -38,7 +38,7 @@ pub struct History {
     // What the entries of the ring begin in. There is none while that is the present state, and the ring is empty.
     held: Option<Opening>,
     // First the entries that wait, and then the kept ones.
-    ring: VecDeque<Entry>,
+    ring: Ring,
     lag: usize,
     // The stamp of the first entry of the ring.
     stamp: u64,
@@ -57,15 +57,13 @@ impl Drop for History {
 }
 
 impl Model for History {
-    ghost use Rattle.std.specs.Prelude.{◌-◌};
-    ghost use Rattle.std.specs.VecDeque.{deque_len, deque_capacity};
     ghost use Rattle.kept_past.specs.Past.{Past, past_of, IsPast};
 
     ghost Value = { Past };
 
-    ghost view = { λ a. past_of a.held a.ring.items a.lag a.stamp (deque_capacity a.ring - deque_len a.ring) };
+    ghost view = { λ a. past_of a.held a.ring.entries a.lag a.stamp a.ring.room };
 
-    ghost invariant = { λ a. IsPast a.held a.ring.items a.lag a.stamp };
+    ghost invariant = { λ a. IsPast a.held a.ring.entries a.lag a.stamp };
 }
 
 impl History {
@@ -82,7 +80,7 @@ impl History {
     {
         History {
             held: None,
-            ring: VecDeque::new(alloc),
+            ring: Ring::new(alloc),
             lag: 0,
             stamp,
         }
@@ -105,26 +103,31 @@ impl History {
     }
 
     /// The kept entry at a place.
-    pub fn entry(&self, place: u64) -> Option<&Entry>
-        ensures { option_copied result ≡ slice_get self.now.entries place }
+    pub fn entry(&self, place: u64) -> Option<Entry>
+        ensures { result ≡ slice_get self.now.entries place }
     {
-        if place >= self.len() as u64 {
+        let all = self.ring.len();
+        if place >= (all - self.lag) as u64 {
             return None;
         }
         self.ring.get(self.lag + place as usize)
     }
 
     /// The reply of the last kept entry.
-    #[inline(always)]
-    pub fn last_reply(&self) -> Option<&Reply>
-        ensures { option_copied result
+    pub fn last_reply(&self) -> Option<Reply>
+        ensures { result
             ≡ option_map (λ (e : Entry). e.reply) (slice_get self.now.entries (length self.now.entries - 1)) }
     {
-        if self.len() == 0 {
+        let kept = self.len() as u64;
+        if kept == 0 {
             return None;
         }
-        let last = self.ring.back()?;
-        Some(&last.reply)
+        let Entry {
+            worker: _,
+            call: _,
+            reply,
+        } = self.entry(kept - 1)?;
+        Some(reply)
     }
 
     /// The state that the kept entries begin in: where there are none, the present one. The error is want of memory,
@@ -142,7 +145,7 @@ impl History {
         if self.lag > 0 {
             return Err(AllocError);
         }
-        held.snapshot(*self.ring.allocator())
+        held.snapshot(self.ring.allocator())
     }
 
     /// Where the opening is the present state, holds that from now on. The root init's state, where it is that of the
@@ -217,8 +220,8 @@ impl History {
         self.ring.reserve(n)
     }
 
-    /// Makes a call, and enters it behind the others. The reply is written where the entry keeps it. The error is want
-    /// of memory, and then there is no entry.
+    /// Makes a call, and enters it with its reply behind the others. It answers the reply, but for one that may be a list:
+    /// that is in the entry alone. The error is want of memory, and then there is no entry.
     #[inline(always)]
     pub fn enter(
         &mut self,
@@ -226,12 +229,14 @@ impl History {
         stamp: u64,
         worker: usize,
         call: Call,
-    ) -> Result<(), AllocError>
+    ) -> Result<Option<ShortReply>, AllocError>
         requires below { IsBelow stamp table.old }
         requires room { 0 < self.old.room }
         requires begun { self.old.opening ≢ None }
         requires fits { self.old.stamp < 2 ^ 64 }
         ensures state { OnOk result (table.new ≡ (step table.old stamp call).state) }
+        ensures reply { IfOk result (λ told.
+            IfSome told (λ short. reply_of short ≡ (step table.old stamp call).reply)) }
         ensures entry { OnOk result (self.new ≡ record self.old {
           entries = self.old.entries
               ++ record { worker = worker; call = call; reply = (step table.old stamp call).reply } ∷ [];
@@ -243,11 +248,11 @@ impl History {
         ensures none { OnErr result (self.new ≡ self.old) }
         ensures grows { OnErr result (IsTrue (may_grow call)) }
     {
-        enter_call(table, &mut self.ring, stamp, worker, call)?;
+        let told = enter_call(table, &mut self.ring, stamp, worker, call)?;
         if self.lag > 0 {
             self.catch_up(STEPS);
         }
-        Ok(())
+        Ok(told)
     }
 
     /// Cuts the first kept entry away, and answers whose call it was; none where there is no entry, or no call can be
@@ -259,10 +264,10 @@ impl History {
         ensures none { result ≡ None → self.new ≡ self.old }
         ensures some { (result ≡ None) ↔ ((self.old.is_fixed ≡ true) ⊎ (self.old.entries ≡ [])) }
     {
-        if is_fixed(&self.held) {
+        if is_fixed(&self.held) || self.lag == self.ring.len() {
             return None;
         }
-        let worker = self.ring.get(self.lag)?.worker;
+        let worker = self.ring.worker_at(self.lag);
         self.lag += 1;
         self.catch_up(STEPS);
         Some(worker)
@@ -331,19 +336,20 @@ impl History {
     fn move_on(&mut self) -> Result<(), AllocError>
         requires waits { 0 < self.old.lag }
         requires fits { self.old.stamp < 2 ^ 64 }
-        ensures ok { OnOk result (self.new ≡ record self.old { lag = self.old.lag - 1; room = self.old.room + 1 }) }
+        ensures ok { OnOk result (self.new ≡ record self.old { lag = self.old.lag - 1; room = self.new.room }) }
+        ensures room { self.old.room ≤ self.new.room }
         ensures err { OnErr result (self.new ≡ self.old) }
     {
         soundness_is_kept();
-        let alloc = *self.ring.allocator();
+        let alloc = self.ring.allocator();
         let Some(held) = &mut self.held else {
             unreachable!()
         };
-        let Some(first) = self.ring.front() else {
+        let Some(call) = self.ring.first_call() else {
             unreachable!()
         };
-        held.make(alloc, self.stamp, first.call)?;
-        let _made = self.ring.pop_front();
+        held.make(alloc, self.stamp, call)?;
+        self.ring.pop();
         self.lag -= 1;
         self.stamp += 1;
         Ok(())
@@ -398,10 +404,10 @@ fn opening_at(table: &PidTable, config: &Config, is_root: bool) -> Result<Openin
 
 /// Lets go of what is held, of which there mostly is none.
 #[inline(always)]
-fn empty(held: &mut Option<Opening>, ring: &mut VecDeque<Entry>, lag: &mut usize)
-    requires bare { held.old ≡ None → (ring.old.items ≡ []) × (lag.old ≡ 0) }
+fn empty(held: &mut Option<Opening>, ring: &mut Ring, lag: &mut usize)
+    requires bare { held.old ≡ None → (ring.old.entries ≡ []) × (lag.old ≡ 0) }
     ensures held { held.new ≡ None }
-    ensures ring { ring.new.items ≡ [] }
+    ensures ring { ring.new.entries ≡ [] }
     ensures lag { lag.new ≡ 0 }
 {
     if held.is_some() {
@@ -411,36 +417,59 @@ fn empty(held: &mut Option<Opening>, ring: &mut VecDeque<Entry>, lag: &mut usize
     }
 }
 
-/// Makes a call, and enters it behind the ring's entries, for which there is room. The reply is written where the entry
-/// keeps it. The error is want of memory, and then there is no entry.
+/// Makes a call, and enters it with its reply behind the ring's entries, for which there is room. It answers the reply,
+/// but for one that may be a list. The error is want of memory, and then there is no entry.
 #[inline(always)]
 fn enter_call(
     table: &mut PidTable,
-    ring: &mut VecDeque<Entry>,
+    ring: &mut Ring,
+    stamp: u64,
+    worker: usize,
+    call: Call,
+) -> Result<Option<ShortReply>, AllocError>
+    requires below { IsBelow stamp table.old }
+    requires room { 0 < ring.old.room }
+    ensures state { OnOk result (table.new ≡ (step table.old stamp call).state) }
+    ensures reply { IfOk result (λ told.
+        IfSome told (λ short. reply_of short ≡ (step table.old stamp call).reply)) }
+    ensures ring { OnOk result (ring.new.entries ≡ ring.old.entries
+        ++ record { worker = worker; call = call; reply = (step table.old stamp call).reply } ∷ []) }
+    ensures left { ring.old.room ≤ ring.new.room + 1 }
+    ensures err { OnErr result (table.new ≡ table.old) }
+    ensures none { OnErr result (ring.new ≡ ring.old) }
+    ensures grows { OnErr result (IsTrue (may_grow call)) }
+{
+    if answers_list(&call) {
+        enter_list(table, ring, stamp, worker, call)?;
+        return Ok(None);
+    }
+    let short = table.step_short(stamp, call)?;
+    ring.push_short(worker, call, short);
+    Ok(Some(short))
+}
+
+/// The same of any call, whose whole reply goes into the entry. It is not inlined, since the others need no room for a
+/// list.
+#[inline(never)]
+fn enter_list(
+    table: &mut PidTable,
+    ring: &mut Ring,
     stamp: u64,
     worker: usize,
     call: Call,
 ) -> Result<(), AllocError>
     requires below { IsBelow stamp table.old }
-    requires room { deque_len ring.old < deque_capacity ring.old }
+    requires room { 0 < ring.old.room }
     ensures state { OnOk result (table.new ≡ (step table.old stamp call).state) }
-    ensures ring { OnOk result (ring.new.items ≡ ring.old.items
+    ensures ring { OnOk result (ring.new.entries ≡ ring.old.entries
         ++ record { worker = worker; call = call; reply = (step table.old stamp call).reply } ∷ []) }
-    ensures len { OnOk result (deque_len ring.new ≡ deque_len ring.old + 1) }
+    ensures left { ring.old.room ≤ ring.new.room + 1 }
     ensures err { OnErr result (table.new ≡ table.old) }
-    ensures none { OnErr result ((ring.new.items ≡ ring.old.items) × (deque_len ring.new ≡ deque_len ring.old)) }
+    ensures none { OnErr result (ring.new ≡ ring.old) }
     ensures grows { OnErr result (IsTrue (may_grow call)) }
-    ensures capacity { deque_capacity ring.new ≡ deque_capacity ring.old }
 {
-    let place = ring.len();
-    ring.push_back_reserved(Entry {
-        worker,
-        call,
-        reply: Reply::Done,
-    });
-    let made = table.step(stamp, call, &mut ring[place].reply);
-    if made.is_err() {
-        ring.truncate(place);
-    }
-    made
+    let mut reply = Reply::Done;
+    table.step(stamp, call, &mut reply)?;
+    ring.push(worker, call, &reply);
+    Ok(())
 }

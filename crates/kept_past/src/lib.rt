@@ -6,5 +6,6 @@
 
 mod history;
 mod opening;
+mod ring;
 
 pub use history::History;

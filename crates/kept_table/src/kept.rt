@@ -1,13 +1,13 @@
-//! The table, its history, and how many calls of each worker were recorded. The history grows by an entry of 184
-//! bytes with each [`Kept::make_call`], until a [`Kept::checkpoint`] empties it. [`Kept::make_call_keeping`] bounds it.
+//! The table, its history, and how many calls of each worker were recorded. The history grows by an entry of 64
+//! bytes with each [`Kept::make_call`], and by the numbers of a list, until a [`Kept::checkpoint`] empties it. [`Kept::make_call_keeping`] bounds it.
 ghost use Rattle.std.specs.Prelude.{◌≡◌, ℕ, ◌+◌, ◌-◌, ◌^◌, ◌<◌, ◌≤◌, ◌==◌, [], ◌∷◌, ◌++◌, ◌↔◌, length, All, IsTrue};
 ghost use Rattle.std.specs.Prelude.{sum, slice_index, slice_get, replicate, IfOk, OnOk, OnErr, IsOk, IfSome, Some};
 ghost use Rattle.std.specs.Prelude.{None, Err, vec_len, vec_capacity};
-ghost use Rattle.std.specs.Option.{option_copied, option_map};
 ghost use Rattle.std.specs.Prelude.{◌≢◌, ◌⊎◌, true, false};
 ghost use Rattle.pid_types.specs.declared.plain.Control.{Control};
 ghost use Rattle.pid_types.specs.Membership.{IsIn};
 ghost use Rattle.pid_types.specs.declared.entry.Entry.{Entry};
+ghost use Rattle.pid_types.specs.Short.{reply_of};
 ghost use Rattle.pid_types.specs.Shown.{Shows};
 ghost use Rattle.pid_types.specs.Sound.{IsBelow};
 ghost use Rattle.pid_types.specs.Step.{step, may_grow};
@@ -32,7 +32,7 @@ use pid_types::config::Config;
 use pid_types::entry::Entry;
 use pid_types::keys::Pid;
 use pid_types::plain::Plain;
-use pid_types::reply::{CallFault, Refusal, Reply};
+use pid_types::reply::{CallFault, Refusal, Reply, ShortReply};
 use std::alloc::{AllocError, Global};
 use std::marker::Model;
 use translate::stat::Stat;
@@ -221,8 +221,8 @@ impl Kept {
 
     /// The entry with the ordinal; none where it was cut away, or is not reached yet. It costs the
     /// same for each ordinal.
-    pub fn entry(&self, ordinal: u64) -> Option<&Entry>
-        ensures { option_copied result ≡ kept_entry self.now ordinal }
+    pub fn entry(&self, ordinal: u64) -> Option<Entry>
+        ensures { result ≡ kept_entry self.now ordinal }
     {
         if ordinal < self.first_kept {
             return None;
@@ -230,10 +230,9 @@ impl Kept {
         self.history.entry(ordinal - self.first_kept)
     }
 
-    /// The reply of the last kept entry, lent from there; none where the history is empty. It costs
-    /// nothing.
-    pub fn last_reply(&self) -> Option<&Reply>
-        ensures { option_copied result ≡ last_reply self.now }
+    /// The reply of the last kept entry; none where the history is empty. It costs a copy.
+    pub fn last_reply(&self) -> Option<Reply>
+        ensures { result ≡ last_reply self.now }
     {
         self.history.last_reply()
     }
@@ -393,14 +392,15 @@ impl Kept {
         Ok(())
     }
 
-    /// Makes a call of the worker, and records it with its reply, whatever that is: [`Kept::last_reply`] lends it.
-    /// `Spent` is answered first, where the call's stamp would be `u64::MAX`. A call that finds no memory, for what
-    /// it makes or for its entry, changes nothing and is not recorded.
+    /// Makes a call of the worker, and records it with its reply, whatever that is. It answers the reply, but for one that
+    /// may be a list: [`Kept::last_reply`] has that. `Spent` is answered first, where the call's stamp would be
+    /// `u64::MAX`. A call that finds no memory, for what it makes or for its entry, changes nothing and is not recorded.
     #[inline(always)]
-    pub fn make_call(&mut self, worker: usize, call: Call) -> Result<(), CallFault>
+    pub fn make_call(&mut self, worker: usize, call: Call) -> Result<Option<ShortReply>, CallFault>
         requires { worker < length self.old.cut }
         ensures step { OnOk result (self.new.present ≡ (outcome self.old call).state) }
         ensures reply { OnOk result (last_reply self.new ≡ Some (outcome self.old call).reply) }
+        ensures short { IfOk result (λ told. IfSome told (λ short. reply_of short ≡ (outcome self.old call).reply)) }
         ensures history { OnOk result (self.new.entries ≡ self.old.entries ++ entry_of self.old worker call ∷ []) }
         ensures others { OnOk result (self.new ≡ counted self.old self.new.entries self.new.present self.new.room) }
         ensures room { self.old.room ≤ self.new.room + 1 }
@@ -415,9 +415,9 @@ impl Kept {
         };
         self.reserve_calls(1)?;
         soundness_is_kept();
-        self.history.enter(&mut self.table, stamp, worker, call)?;
+        let told = self.history.enter(&mut self.table, stamp, worker, call)?;
         count_call(&mut self.calls, worker);
-        Ok(())
+        Ok(told)
     }
 
     /// Cuts the first kept entry away: the state that its call leads to is the opening. It answers whether there was
@@ -470,7 +470,7 @@ impl Kept {
         let Some(made) = self.last_reply() else {
             unreachable!()
         };
-        *reply = copy_reply(made);
+        *reply = made;
         self.keep_at_most(keep);
         Ok(())
     }
@@ -521,16 +521,6 @@ impl Kept {
         cut_all(&mut self.cut, self.calls.as_slice());
         self.history
             .forget(self.config.first_stamp() + self.first_kept);
-    }
-}
-
-/// A copy, which needs no memory.
-pub fn copy_reply(reply: &Reply) -> Reply
-    ensures { result ≡ reply.now }
-{
-    match reply.clone() {
-        Ok(copy) => copy,
-        Err(_) => unreachable!(),
     }
 }
 

@@ -9,6 +9,6 @@
 mod kept;
 mod replicas;
 
-pub use kept::{Kept, copy_reply};
+pub use kept::Kept;
 pub use pid_types::entry::Entry;
 pub use replicas::same_calls_same_replies;

@@ -1,11 +1,10 @@
 //! The record: the present state, the history of its calls, and the ledger's book.
 //!
 //! One thread may use a record as it is, with [`Record::act`]; several share it as a
-//! [`crate::Shared`], whose guard lends it. The history grows by an entry of 184 bytes with each
-//! call, until a [`Record::checkpoint`] empties it. [`Record::make_call_keeping`] bounds it.
+//! [`crate::Shared`], whose guard lends it. The history grows by an entry of 64 bytes with each
+//! call, and by the numbers of a list, until a [`Record::checkpoint`] empties it. [`Record::make_call_keeping`] bounds it.
 ghost use Rattle.std.specs.Prelude.{◌≡◌, ℕ, ◌+◌, ◌^◌, ◌<◌, ◌≤◌, [], ◌∷◌, ◌++◌, ◌↔◌, IsTrue};
 ghost use Rattle.std.specs.Prelude.{IfOk, OnOk, OnErr, IsOk, IfSome, Some, None, Err};
-ghost use Rattle.std.specs.Option.{option_copied};
 ghost use Rattle.std.specs.Prelude.{◌≢◌, ◌⊎◌, true, length, sum};
 ghost use Rattle.pid_types.specs.declared.plain.Control.{Control};
 ghost use Rattle.pid_types.specs.Membership.{IsIn};
@@ -21,7 +20,7 @@ ghost use Rattle.kept_table.specs.Whole.{one_of};
 ghost use Rattle.locked_table.specs.SeatState.{AreSeats, AreCounted, AreRecorded, AreNew, calls_of_seats};
 
 use crate::seat::Seat;
-use kept_table::{Kept, copy_reply};
+use kept_table::Kept;
 use pid_table::PidTable;
 use pid_types::call::Call;
 use pid_types::config::Config;
@@ -152,16 +151,15 @@ impl<L: Ledger, const N: usize> Record<L, N> {
 
     /// The entry with the ordinal; none where it was cut away, or is not reached yet. It costs the
     /// same for each ordinal.
-    pub fn entry(&self, ordinal: u64) -> Option<&Entry>
-        ensures { option_copied result ≡ kept_entry self.now ordinal }
+    pub fn entry(&self, ordinal: u64) -> Option<Entry>
+        ensures { result ≡ kept_entry self.now ordinal }
     {
         self.kept.entry(ordinal)
     }
 
-    /// The reply of the last kept entry, lent from there; none where the history is empty. It costs
-    /// nothing.
-    pub fn last_reply(&self) -> Option<&Reply>
-        ensures { option_copied result ≡ last_reply self.now }
+    /// The reply of the last kept entry; none where the history is empty. It costs a copy.
+    pub fn last_reply(&self) -> Option<Reply>
+        ensures { result ≡ last_reply self.now }
     {
         self.kept.last_reply()
     }
@@ -284,12 +282,11 @@ impl<L: Ledger, const N: usize> Record<L, N> {
             ordinal,
             worker: seat.worker,
             call,
-            reply: copy_reply(reply),
+            reply,
         })
     }
 
-    /// Makes a call as [`Record::act`] does, and copies no reply: [`Record::last_reply`] lends it from
-    /// the entry that was recorded.
+    /// Makes a call as [`Record::act`] does, and makes no receipt: [`Record::last_reply`] has the reply.
     #[inline(always)]
     pub fn make_call(&mut self, seat: &mut Seat<L, N>, call: Call) -> Result<(), CallFault>
         ensures step { OnOk result (self.new.present ≡ (outcome self.old call).state) }

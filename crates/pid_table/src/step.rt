@@ -1,8 +1,10 @@
 //! Any call: [`PidTable::step`] picks the function that makes it. The record makes all its calls so.
-ghost use Rattle.std.specs.Prelude.{◌≡◌, ℕ, IsTrue, OnOk, OnErr};
+ghost use Rattle.std.specs.Prelude.{◌≡◌, ℕ, IsTrue, OnOk, OnErr, IfOk, false};
 ghost use Rattle.model_laws.specs.Refusals.{is_query};
+ghost use Rattle.pid_types.specs.Short.{reply_of};
 ghost use Rattle.pid_types.specs.Sound.{IsBelow};
 ghost use Rattle.pid_types.specs.Step.{step, may_grow};
+ghost use Rattle.pid_table.specs.Lists.{answers_list};
 ghost use Rattle.task_table.specs.View.{state_of};
 ghost use Rattle.task_table.specs.Whole.{HasParents, IsWhole};
 
@@ -11,7 +13,7 @@ use fork_calls::{fork, would_fork};
 use model_laws::soundness::soundness_is_kept;
 use ns_teardown::{exit, would_exit};
 use pid_types::call::Call;
-use pid_types::reply::Reply;
+use pid_types::reply::{Reply, ShortReply};
 use set_calls::controls::{
     count, make_control, remove_control, set_limit, would_make_control, would_remove_control,
     would_set_limit,
@@ -26,15 +28,23 @@ use task_table::Tasks;
 use translate::{get_pgid, get_pid, get_ppid, get_sid, next, ns_pid};
 use wait_calls::{wait, would_wait};
 
-/// Makes the call on a store, and writes the reply in place. Only the reply to `NSpid` is made as a whole, by a
-/// function that is not inlined, so that no other call has room for it.
+/// Whether the reply to the call may be a list of numbers: [`PidTable::step_short`] makes all others.
+#[inline(always)]
+pub fn answers_list(call: &Call) -> bool
+    ensures { result ≡ answers_list call.now }
+{
+    matches!(call, Call::NsPid { .. })
+}
+
+/// Makes a call on a store that is answered by no list.
 #[tactic(auto, unfolding(pid_types::specs::Step::step))]
 #[inline(always)]
-fn make(store: &mut Tasks, stamp: u64, call: Call, reply: &mut Reply) -> Result<(), AllocError>
+fn make_short(store: &mut Tasks, stamp: u64, call: Call) -> Result<ShortReply, AllocError>
     requires whole { IsWhole store.old }
     requires below { IsBelow stamp (state_of store.old) }
+    requires short { answers_list call ≡ false }
     ensures state { OnOk result (state_of store.new ≡ (step (state_of store.old) stamp call).state) }
-    ensures reply { OnOk result (reply.new ≡ (step (state_of store.old) stamp call).reply) }
+    ensures reply { IfOk result (λ reply. reply_of reply ≡ (step (state_of store.old) stamp call).reply) }
     ensures err { OnErr result (state_of store.new ≡ state_of store.old) }
     ensures grows { OnErr result (IsTrue (may_grow call)) }
     ensures parents { HasParents store.new }
@@ -56,14 +66,30 @@ fn make(store: &mut Tasks, stamp: u64, call: Call, reply: &mut Reply) -> Result<
         Call::GetPpid { caller } => get_ppid(store, caller),
         Call::GetPgid { caller, pid } => get_pgid(store, caller, pid),
         Call::GetSid { caller, pid } => get_sid(store, caller, pid),
-        Call::NsPid { caller, target } => {
-            ns_pid(store, caller, target, reply);
-            return Ok(());
-        }
+        Call::NsPid { .. } => unreachable!(),
         Call::Next { caller, kind, from } => next(store, caller, kind, from),
         Call::Count { id } => count(store, id),
     };
-    short.tell(reply);
+    Ok(short)
+}
+
+/// Makes the call on a store, and writes the reply in place.
+#[tactic(auto, unfolding(pid_types::specs::Step::step))]
+#[inline(always)]
+fn make(store: &mut Tasks, stamp: u64, call: Call, reply: &mut Reply) -> Result<(), AllocError>
+    requires whole { IsWhole store.old }
+    requires below { IsBelow stamp (state_of store.old) }
+    ensures state { OnOk result (state_of store.new ≡ (step (state_of store.old) stamp call).state) }
+    ensures reply { OnOk result (reply.new ≡ (step (state_of store.old) stamp call).reply) }
+    ensures err { OnErr result (state_of store.new ≡ state_of store.old) }
+    ensures grows { OnErr result (IsTrue (may_grow call)) }
+    ensures parents { HasParents store.new }
+{
+    if let Call::NsPid { caller, target } = call {
+        ns_pid(store, caller, target, reply);
+        return Ok(());
+    }
+    make_short(store, stamp, call)?.tell(reply);
     Ok(())
 }
 
@@ -170,5 +196,19 @@ impl PidTable {
     {
         soundness_is_kept();
         make(&mut self.store, stamp, call, reply)
+    }
+    /// Makes the call as [`PidTable::step`] does, where that is answered by no list ([`answers_list`]): so the reply is a
+    /// short one, and nothing is written but that.
+    #[inline(always)]
+    pub fn step_short(&mut self, stamp: u64, call: Call) -> Result<ShortReply, AllocError>
+        requires below { IsBelow stamp self.old }
+        requires short { answers_list call ≡ false }
+        ensures state { OnOk result (self.new ≡ (step self.old stamp call).state) }
+        ensures reply { IfOk result (λ reply. reply_of reply ≡ (step self.old stamp call).reply) }
+        ensures err { OnErr result (self.new ≡ self.old) }
+        ensures grows { OnErr result (IsTrue (may_grow call)) }
+    {
+        soundness_is_kept();
+        make_short(&mut self.store, stamp, call)
     }
 }

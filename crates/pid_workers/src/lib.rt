@@ -4,7 +4,7 @@
 //! compare what each worker was told with what was recorded.
 //!
 //! [`run`] answers a script on a new table. [`run_for_table`] hands back the table too, and [`run_state`] a record with
-//! the whole history of the run, 184 bytes a call. They wait for nobody but the reader and the writer. All but
+//! the whole history of the run, 64 bytes a call. They wait for nobody but the reader and the writer. All but
 //! [`run_state`] take the memory of the table alone.
 #![tactic(auto)]
 

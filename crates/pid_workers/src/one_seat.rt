@@ -11,11 +11,12 @@ use script_session::session::Table;
 use std::alloc::{AllocError, Global};
 use std::sync::ledger::{Blank, Ledger};
 
-/// A record and its one seat.
+/// A record and its one seat, and the reply to the last call.
 #[derive(Drop)]
 pub struct OneSeat<L: Ledger> {
     pub record: Record<L, 1>,
     pub seat: Seat<L, 1>,
+    pub reply: Reply,
 }
 
 impl<L: Ledger> OneSeat<L> {
@@ -35,13 +36,17 @@ impl<L: Ledger> OneSeat<L> {
         let Some(seat) = seats.pop() else {
             unreachable!()
         };
-        Ok(OneSeat { record, seat })
+        Ok(OneSeat {
+            record,
+            seat,
+            reply: Reply::Done,
+        })
     }
 }
 
 impl<L: Ledger> Table for OneSeat<L> {
-    ghost use Rattle.std.specs.Prelude.{◌++◌};
-    ghost use Rattle.kept_table.specs.Chronicle.{next_stamp, last_reply};
+    ghost use Rattle.std.specs.Prelude.{◌++◌, Some};
+    ghost use Rattle.kept_table.specs.Chronicle.{next_stamp};
     ghost use Rattle.script_session.specs.Session.{any_call};
     ghost use Rattle.pid_workers.specs.Made.{Makes};
     ghost use Rattle.pid_workers.specs.MadeLaws.{makes_nothing, makes_more};
@@ -50,7 +55,7 @@ impl<L: Ledger> Table for OneSeat<L> {
 
     ghost stamp = { λ t. next_stamp t.record };
 
-    ghost held = { λ t. last_reply t.record };
+    ghost held = { λ t. Some t.reply };
 
     ghost did = { λ a b calls. Makes a.record b.record calls };
 
@@ -63,11 +68,16 @@ impl<L: Ledger> Table for OneSeat<L> {
 
     #[inline(always)]
     fn act(&mut self, call: Call) -> Result<(), CallFault> {
-        self.record.make_call(&mut self.seat, call)
+        self.record.make_call(&mut self.seat, call)?;
+        let Some(reply) = self.record.last_reply() else {
+            unreachable!()
+        };
+        self.reply = reply;
+        Ok(())
     }
 
     #[inline(always)]
     fn reply(&self) -> Option<&Reply> {
-        self.record.last_reply()
+        Some(&self.reply)
     }
 }

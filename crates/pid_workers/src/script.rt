@@ -62,7 +62,7 @@ pub fn run<S: Source, K: Sink>(
 
 /// Runs a script on a new table, as [`run`] does with [`MOST_READS`], and hands back the record that the lines leave,
 /// with the whole history: the calls of the script that were recorded, in their order, each with its reply. An entry
-/// takes 184 bytes.
+/// takes 64 bytes.
 pub fn run_state<L: Ledger, S: Source, K: Sink>(
     alloc: Global,
     blank: Blank,
@@ -95,6 +95,7 @@ pub fn run_state<L: Ledger, S: Source, K: Sink>(
     let OneSeat {
         record,
         seat: _seat,
+        reply: _reply,
     } = table;
     Ok((tally, record))
 }

@@ -4,7 +4,7 @@
 //! which is the caller's affair, and two threads with one number are counted as one worker. C keeps the lock: one
 //! function at a time works on a record.
 //!
-//! The history grows by 184 bytes with each recorded call, until a checkpoint cuts it. Any status but `DONE` says that
+//! The history grows by 64 bytes with each recorded call, until a checkpoint cuts it. Any status but `DONE` says that
 //! the record is as it was, but for the room that it keeps for entries, which nothing shows.
 ghost use Rattle.std.specs.Prelude.{◌≡◌, ◌↔◌, [], ◌∷◌, Some, None};
 ghost use Rattle.foreign_calls.specs.Held.{Opens};

@@ -4,9 +4,11 @@
 //! keeps the calls too.
 #![tactic(auto)]
 
-ghost use Rattle.std.specs.Prelude.{◌≡◌, ◌≢◌, ◌+◌, ◌<◌, ◌≤◌, ◌↔◌, IfOk, OnOk, OnErr, Err, IsTrue, length};
+ghost use Rattle.std.specs.Prelude.{◌≡◌, ◌≢◌, ◌+◌, ◌<◌, ◌≤◌, ◌↔◌, IfOk, IfErr, OnOk, OnErr, Err, IsTrue, length, false};
 ghost use Rattle.call_effects.specs.Touched.{is_touching, most_in, most_of, Watches};
 ghost use Rattle.model_laws.specs.Refusals.{is_query};
+ghost use Rattle.pid_table.specs.Lists.{answers_list};
+ghost use Rattle.pid_types.specs.Short.{reply_of};
 ghost use Rattle.pid_types.specs.Sound.{IsSound, IsBelow};
 ghost use Rattle.pid_types.specs.State.{root_state};
 ghost use Rattle.pid_types.specs.Step.{may_grow};
@@ -18,7 +20,7 @@ use model_laws::soundness::{root_state_is_sound, soundness_is_kept};
 use pid_table::PidTable;
 use pid_types::call::Call;
 use pid_types::config::Config;
-use pid_types::reply::{CallFault, Refusal, Reply};
+use pid_types::reply::{CallFault, Refusal, Reply, ShortReply};
 use std::alloc::{AllocError, Global};
 use std::marker::Model;
 use translate::stat::Stat;
@@ -86,6 +88,18 @@ impl StampedTable {
         self.stamp
     }
 
+    /// Whether a stamp is left for the next call. The error is `Spent`.
+    #[inline(always)]
+    fn has_stamp(&self) -> Result<(), CallFault>
+        ensures left { OnOk result (self.now.stamp < u64.MAX) }
+        ensures spent { IfErr result (λ e. (e ≡ CallFault.Spent) × (self.now.stamp ≡ u64.MAX)) }
+    {
+        if self.stamp == u64::MAX {
+            return Err(CallFault::Spent);
+        }
+        Ok(())
+    }
+
     /// Makes the call, and writes the reply. An error says that the table is as it was, and leaves the reply with no
     /// meaning: the stamps are used up, or there was no memory for a call that makes something. It costs what
     /// [`PidTable::step`] says.
@@ -97,13 +111,29 @@ impl StampedTable {
         ensures spent { (result ≡ Err CallFault.Spent) ↔ (self.old.stamp ≡ u64.MAX) }
         ensures no_memory { result ≡ Err CallFault.NoMemory → IsTrue (may_grow call) }
     {
-        if self.stamp == u64::MAX {
-            return Err(CallFault::Spent);
-        }
+        self.has_stamp()?;
         soundness_is_kept();
         self.table.step(self.stamp, call, reply)?;
         self.stamp += 1;
         Ok(())
+    }
+
+    /// Makes the call as [`StampedTable::make`] does, where that is answered by no list
+    /// ([`answers_list`](pid_table::answers_list)).
+    #[inline(always)]
+    pub fn make_short(&mut self, call: Call) -> Result<ShortReply, CallFault>
+        requires { answers_list call ≡ false }
+        ensures state { OnOk result (self.new ≡ after_call self.old call) }
+        ensures reply { IfOk result (λ reply. reply_of reply ≡ reply_to self.old call) }
+        ensures err { OnErr result (self.new ≡ self.old) }
+        ensures spent { (result ≡ Err CallFault.Spent) ↔ (self.old.stamp ≡ u64.MAX) }
+        ensures no_memory { result ≡ Err CallFault.NoMemory → IsTrue (may_grow call) }
+    {
+        self.has_stamp()?;
+        soundness_is_kept();
+        let reply = self.table.step_short(self.stamp, call)?;
+        self.stamp += 1;
+        Ok(reply)
     }
 
     /// Answers a query. It uses no stamp, and changes nothing.
@@ -123,12 +153,9 @@ impl StampedTable {
         ensures spent { (result ≡ Err CallFault.Spent) ↔ (self.now.stamp ≡ u64.MAX) }
         ensures only { result ≢ Err CallFault.NoMemory }
     {
-        if self.stamp < u64::MAX {
-            self.table.would(self.stamp, call, reply);
-            Ok(())
-        } else {
-            Err(CallFault::Spent)
-        }
+        self.has_stamp()?;
+        self.table.would(self.stamp, call, reply);
+        Ok(())
     }
 
     /// Those whom the call may touch as the next one: [`Touched::before`]. It uses no stamp, and changes nothing. An
@@ -140,11 +167,8 @@ impl StampedTable {
         ensures spent { (result ≡ Err CallFault.Spent) ↔ (self.now.stamp ≡ u64.MAX) }
         ensures no_memory { result ≡ Err CallFault.NoMemory → IsTrue (is_touching call) }
     {
-        if self.stamp < u64::MAX {
-            Ok(Touched::before(&self.table, self.stamp, call)?)
-        } else {
-            Err(CallFault::Spent)
-        }
+        self.has_stamp()?;
+        Ok(Touched::before(&self.table, self.stamp, call)?)
     }
 
     /// One read of a task. It is no call, and uses no stamp.

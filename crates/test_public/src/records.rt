@@ -1,4 +1,4 @@
-//! One record, by its seats: checkpoints, reserved room, lent replies, two seats on a shared table.
+//! One record, by its seats: checkpoints, reserved room, kept entries, two seats on a shared table.
 ghost use Rattle.std.specs.Prelude.{◌≡◌, ◌<◌, true};
 ghost use Rattle.locked_table.specs.SeatState.{AreSeats};
 
@@ -15,7 +15,7 @@ use std::sync::ledger::{Blank, Ledger};
 
 /// A step on a record by its seats, or what they show.
 pub(crate) enum Step {
-    /// A worker's call, and the ordinal and the reply of its receipt. The record lends the reply.
+    /// A worker's call, and the ordinal and the reply of its receipt. The record keeps all three.
     Act(u64, usize, Call, ShortReply),
     /// Cuts what was recorded away.
     Cut,
@@ -31,8 +31,8 @@ pub(crate) enum Step {
     Begun(Option<u64>, u32, bool),
     /// How many tasks and control groups there are, and how many tasks the control groups 0, 2 and 7 have.
     Tasks([usize; 2], [Option<u64>; 3]),
-    /// Whether the entries 2 and 3 are kept, and whether a reply is lent.
-    Keeps([bool; 2], bool),
+    /// Whether the entries 2 and 3 are kept, and whether the last one is.
+    Keeps([bool; 3]),
     /// The kept history begins in a state with so many tasks, and control groups with these counts.
     Opening(usize, &'static [u64]),
     /// The present state is such a one.
@@ -69,7 +69,15 @@ pub(crate) fn want(ordinal: u64, worker: usize, call: Call, told: ShortReply) ->
     }
 }
 
-/// Whether the worker's call has the receipt, whose reply is lent.
+/// Whether the record keeps the call of the receipt.
+fn keeps<L: Ledger, const N: usize>(record: &Record<L, N>, want: &Receipt) -> bool {
+    let Some(entry) = record.entry(want.ordinal) else {
+        return false;
+    };
+    entry.worker == want.worker && entry.call == want.call && entry.reply == want.reply
+}
+
+/// Whether the worker's call has the receipt, and is kept.
 fn acts<L: Ledger, const N: usize>(
     record: &mut Record<L, N>,
     seats: &mut [Seat<L, N>],
@@ -81,7 +89,7 @@ fn acts<L: Ledger, const N: usize>(
     let Ok(receipt) = record.act(seat, want.call) else {
         return false;
     };
-    receipt == *want && record.last_reply() == Some(&want.reply)
+    receipt == *want && keeps(record, want)
 }
 
 /// Whether no stamp is left for a call of worker 0.
@@ -132,9 +140,14 @@ fn tasks_of<L: Ledger, const N: usize>(record: &Record<L, N>) -> [Option<u64>; 3
     [record.count(0), record.count(2), record.count(7)]
 }
 
-/// Whether the entries 2 and 3 are kept.
-fn has_entries<L: Ledger, const N: usize>(record: &Record<L, N>) -> [bool; 2] {
-    [record.entry(2).is_some(), record.entry(3).is_some()]
+/// Whether the entries 2 and 3 are kept, and whether the last one is.
+fn has_entries<L: Ledger, const N: usize>(record: &Record<L, N>) -> [bool; 3] {
+    let last = record.total().saturating_sub(1);
+    [
+        record.entry(2).is_some(),
+        record.entry(3).is_some(),
+        record.entry(last).is_some(),
+    ]
 }
 
 /// Whether the control groups have these counts.
@@ -170,9 +183,7 @@ fn is_shown<L: Ledger, const N: usize>(record: &Record<L, N>, step: &Step) -> bo
         Step::Tasks(sizes, told) => {
             [record.tasks(), record.controls()] == *sizes && tasks_of(record) == *told
         }
-        Step::Keeps(entries, lends) => {
-            has_entries(record) == *entries && record.last_reply().is_some() == *lends
-        }
+        Step::Keeps(entries) => has_entries(record) == *entries,
         Step::Opening(tasks, counts) => is_state(record.opening(), *tasks, counts),
         Step::Present(tasks, counts) => is_state(record.snapshot(), *tasks, counts),
         _ => false,
@@ -331,7 +342,7 @@ static CUT_UNDER_THE_LOCK: [Step; 6] = [
 static BEHIND_THE_CUT: [Step; 3] = [
     Step::Recorded([3, 5, 5, NONE]),
     Step::Tasks([2, 3], [Some(2), Some(0), None]),
-    Step::Keeps([false, true], true),
+    Step::Keeps([false, true, true]),
 ];
 
 #[test]
@@ -372,13 +383,13 @@ static PLAYS: [(u64, &[Step]); 4] = [
     (
         1,
         &[
-            Step::Keeps([false, false], false),
+            Step::Keeps([false, false, false]),
             Step::Act(0, 0, FORK, FORKED_2),
             Step::Act(1, 0, MAKE, ShortReply::Control(2)),
             Step::Act(2, 0, Call::GetPid { caller: 2 }, ShortReply::Number(2)),
             Step::Opening(1, &[1]),
             Step::Cut,
-            Step::Keeps([false, false], false),
+            Step::Keeps([false, false, false]),
             Step::Recorded([3, 3, 3, NONE]),
             Step::Tasks([2, 2], [Some(2), Some(0), None]),
             Step::Opening(2, &[2, 0]),
@@ -386,7 +397,7 @@ static PLAYS: [(u64, &[Step]); 4] = [
             Step::Act(4, 0, MAKE, ShortReply::Control(5)),
             Step::Recorded([3, 5, 5, NONE]),
             Step::Tasks([2, 3], [Some(2), Some(0), None]),
-            Step::Keeps([false, true], true),
+            Step::Keeps([false, true, true]),
             Step::Opening(2, &[2, 0]),
         ],
     ),

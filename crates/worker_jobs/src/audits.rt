@@ -62,7 +62,7 @@ fn first_difference<L: Ledger, const N: usize>(
         if next == receipts.len() {
             return Some(place);
         }
-        if !is_receipt_of(&receipts[next], ordinal, entry) {
+        if !is_receipt_of(&receipts[next], ordinal, &entry) {
             return Some(place);
         }
         next += 1;

@@ -5,4 +5,4 @@ use Rattle.kept_past.proofs.history.History.copy.Goals as goal
 
 pub invariant_of-self : goal.invariant_of-self
 invariant_of-self c =
-    anew _ _ _ _ _ _ _ _ _ _ c.self.view_is c.requires.none_waits (c.len.ensures ∙ c.self.inside.ring.ok.0) c.clear.ensures.items (ap (λ (held : Held). held.state) c.in_ok-anew.ensures) c.laws.ensures c.requires.below
+    anew _ _ _ _ _ _ _ _ _ _ c.self.view_is c.requires.none_waits c.len.ensures c.clear.ensures.entries (ap (λ (held : Held). held.state) c.in_ok-anew.ensures) c.laws.ensures c.requires.below

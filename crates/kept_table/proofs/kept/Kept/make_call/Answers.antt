@@ -19,10 +19,10 @@ pub invariant_of-self-2 : goal.invariant_of-self-2
 invariant_of-self-2 c =
     let e : Entry = record { worker = c.args.worker; call = c.args.call; reply = (step c.self.inside.table c.in-Some.stamp c.args.call).reply } in
     let some = some_of_room c.self.inside.history.opening c.self.inside.history.room (omega (arith, c.in_ok-reserve_calls.ensures.ok, ap (λ (t : Chronicle). t.room) c.self.view_is)) in
-    whole-push c.self.inside.history c.enter.new.self _ _ _ _ _ _ _ _ _ _ e some.0 c.self.invariant c.in_ok-enter.ensures.entry
+    whole-push c.self.inside.history c.enter.new.self _ _ _ _ _ _ _ _ _ _ e some.0 c.self.invariant c.in_ok-told.ensures.entry
     (search rules)
     (search rules)
-    (outcome-of _ _ _ c.in_ok-enter.ensures.state refl
+    (outcome-of _ _ _ c.in_ok-told.ensures.state refl
     ∙ ap (λ n. step c.self.inside.table n c.args.call) (c.in-Some.ensures.some ∙ sym (ap next_stamp (c.self.view_is ∙ c.in_ok-reserve_calls.ensures.others))))
     c.count_call.ensures.each
     c.count_call.ensures.all
@@ -42,7 +42,7 @@ enter-requires c =
 
 pub returns-clause-reply : goal.returns-clause-reply
 returns-clause-reply c =
-    last_reply_pushed c.self.inside.history.entries c.enter.new.self.entries _ _ (ap (λ (p : Past). p.entries) c.in_ok-enter.ensures.entry)
+    last_reply_pushed c.self.inside.history.entries c.enter.new.self.entries _ _ (ap (λ (p : Past). p.entries) c.in_ok-told.ensures.entry)
     (ap (λ n. (step c.self.inside.table n c.args.call).reply) c.in-Some.ensures.some
     ∙ ap (λ (t : Chronicle). (step t.present (next_stamp c.args.self.now) c.args.call).reply) (c.self.view_is ∙ c.in_ok-reserve_calls.ensures.others))
 
@@ -50,12 +50,12 @@ returns-clause-reply c =
 pub invariant_of-self : goal.invariant_of-self
 invariant_of-self c = search rules
 
-pub returns-in_err-enter-clause-err : goal.returns-in_err-enter-clause-err
-returns-in_err-enter-clause-err c = search rules
+pub returns-in_err-told-clause-err : goal.returns-in_err-told-clause-err
+returns-in_err-told-clause-err c = search rules
 
 pub returns-clause-history : goal.returns-clause-history
 returns-clause-history c =
     let seen = c.self.view_is ∙ c.in_ok-reserve_calls.ensures.others in
-    ap (λ (p : Past). p.entries) c.in_ok-enter.ensures.entry
+    ap (λ (p : Past). p.entries) c.in_ok-told.ensures.entry
     ∙ (ap (λ n. c.self.inside.history.entries ++ entry c.args.worker c.args.call (step c.self.inside.table n c.args.call).reply ∷ []) c.in-Some.ensures.some
     ∙ ap (λ (t : Chronicle). t.entries ++ entry c.args.worker c.args.call (step t.present (next_stamp c.args.self.now) c.args.call).reply ∷ []) seen)

@@ -1,0 +1,255 @@
+//! The entries of a history, at 64 bytes each. Where a reply is a list of numbers, these stand beside the entry, in memory
+//! that is there before the call is made.
+ghost use Rattle.std.specs.Prelude.{◌≡◌, ◌+◌, ◌<◌, ◌≤◌, [], ◌∷◌, ◌++◌, length, drop, slice_get, vec_len, OnOk, OnErr, Some};
+ghost use Rattle.std.specs.Option.{option_map};
+ghost use Rattle.pid_types.specs.declared.entry.Entry.{Entry};
+ghost use Rattle.pid_types.specs.Short.{reply_of};
+ghost use Rattle.kept_past.specs.Stored.{reply_in};
+
+use arrayvec::ArrayVec;
+use pid_types::call::Call;
+use pid_types::entry::Entry;
+use pid_types::keys::Pid;
+use pid_types::plain::LEVELS;
+use pid_types::reply::{Reply, ShortReply};
+use std::alloc::{AllocError, Global};
+use std::collections::VecDeque;
+use std::marker::Model;
+
+/// What a slot has of a reply.
+#[derive(Drop)]
+enum SlotReply {
+    /// All of it.
+    Short(ShortReply),
+    /// It is a list of numbers, and these are they.
+    Listed(Box<ArrayVec<Pid, LEVELS>>),
+}
+
+/// An entry, but for the numbers of a list.
+#[derive(Drop)]
+struct Slot {
+    worker: usize,
+    call: Call,
+    reply: SlotReply,
+}
+
+/// Entries in their order. Contracts see them, and for how many more there is room.
+#[derive(Drop)]
+pub(crate) struct Ring {
+    slots: VecDeque<Slot>,
+    // Where the numbers of replies to come will stand.
+    spare: Vec<Box<ArrayVec<Pid, LEVELS>>>,
+}
+
+impl Model for Ring {
+    ghost use Rattle.std.specs.Prelude.{◌-◌, min, vec_len};
+    ghost use Rattle.std.specs.VecDeque.{deque_len, deque_capacity};
+    ghost use Rattle.kept_past.specs.Stored.{Stored, entries_in};
+
+    ghost Value = { Stored };
+
+    ghost view = { λ a. record {
+      entries = entries_in a.slots.items;
+      room = min (deque_capacity a.slots - deque_len a.slots) (vec_len a.spare);
+    } };
+}
+
+impl Ring {
+    /// No entry.
+    pub(crate) fn new(alloc: Global) -> Ring
+        ensures { result.entries ≡ [] }
+    {
+        Ring {
+            slots: VecDeque::new(alloc),
+            spare: Vec::new(alloc),
+        }
+    }
+
+    /// Where its memory is from.
+    pub(crate) fn allocator(&self) -> Global {
+        *self.slots.allocator()
+    }
+
+    /// How many entries there are.
+    #[inline(always)]
+    pub(crate) fn len(&self) -> usize
+        ensures { result ≡ length self.now.entries }
+    {
+        self.slots.len()
+    }
+
+    /// The entry at a place.
+    pub(crate) fn get(&self, place: usize) -> Option<Entry>
+        ensures { result ≡ slice_get self.now.entries place }
+    {
+        let slot = self.slots.get(place)?;
+        Some(Entry {
+            worker: slot.worker,
+            call: slot.call,
+            reply: slot.reply.told(),
+        })
+    }
+
+    /// Whose call the entry at a place has.
+    #[inline(always)]
+    pub(crate) fn worker_at(&self, place: usize) -> usize
+        requires { place < length self.now.entries }
+        ensures { Some result ≡ option_map (λ (e : Entry). e.worker) (slice_get self.now.entries place) }
+    {
+        self.slots[place].worker
+    }
+
+    /// The call of the first entry.
+    pub(crate) fn first_call(&self) -> Option<Call>
+        ensures { result ≡ option_map (λ (e : Entry). e.call) (slice_get self.now.entries 0) }
+    {
+        let slot = self.slots.get(0)?;
+        Some(slot.call)
+    }
+
+    /// Makes room for n more entries, each of which may have a list. The error is want of memory.
+    #[inline(always)]
+    pub(crate) fn reserve(&mut self, n: usize) -> Result<(), AllocError>
+        ensures entries { self.new.entries ≡ self.old.entries }
+        ensures ok { OnOk result (n ≤ self.new.room) }
+        ensures room { self.old.room ≤ self.new.room }
+        ensures enough { OnErr result (self.old.room < n) }
+    {
+        self.slots.reserve(n)?;
+        if self.spare.len() < n {
+            return stock(&mut self.spare, n);
+        }
+        Ok(())
+    }
+
+    /// Puts an entry behind the others, whose reply may be a list.
+    pub(crate) fn push(&mut self, worker: usize, call: Call, reply: &Reply)
+        requires { 0 < self.old.room }
+        ensures entries { self.new.entries
+            ≡ self.old.entries ++ record { worker = worker; call = call; reply = reply.now } ∷ [] }
+        ensures room { self.old.room ≤ self.new.room + 1 }
+    {
+        let kept = slot_reply(reply, &mut self.spare);
+        self.slots.push_back_reserved(Slot {
+            worker,
+            call,
+            reply: kept,
+        });
+    }
+
+    /// Puts an entry behind the others, whose reply is no list.
+    #[inline(always)]
+    pub(crate) fn push_short(&mut self, worker: usize, call: Call, reply: ShortReply)
+        requires { 0 < self.old.room }
+        ensures entries { self.new.entries
+            ≡ self.old.entries ++ record { worker = worker; call = call; reply = reply_of reply } ∷ [] }
+        ensures room { self.old.room ≤ self.new.room + 1 }
+    {
+        self.slots.push_back_reserved(Slot {
+            worker,
+            call,
+            reply: SlotReply::Short(reply),
+        });
+    }
+
+    /// Drops the first entry.
+    pub(crate) fn pop(&mut self)
+        ensures entries { self.new.entries ≡ drop 1 self.old.entries }
+        ensures room { self.old.room ≤ self.new.room }
+    {
+        let _first = self.slots.pop_front();
+    }
+
+    /// Drops all entries.
+    pub(crate) fn clear(&mut self)
+        ensures entries { self.new.entries ≡ [] }
+        ensures room { self.old.room ≤ self.new.room }
+    {
+        self.slots.clear();
+    }
+}
+
+impl SlotReply {
+    /// The whole reply.
+    fn told(&self) -> Reply
+        ensures { result ≡ reply_in self.now }
+    {
+        match self {
+            SlotReply::Short(short) => {
+                let mut reply = Reply::Done;
+                (*short).tell(&mut reply);
+                reply
+            }
+            SlotReply::Listed(numbers) => Reply::Levels(copy(&**numbers)),
+        }
+    }
+}
+
+/// What a slot has of the reply. The numbers of a list go into spare memory.
+fn slot_reply(reply: &Reply, spare: &mut Vec<Box<ArrayVec<Pid, LEVELS>>>) -> SlotReply
+    requires { 0 < vec_len spare.old }
+    ensures reply { reply_in result ≡ reply.now }
+    ensures spare { vec_len spare.old ≤ vec_len spare.new + 1 }
+{
+    let short = match reply {
+        Reply::Forked { child, root } => ShortReply::Forked {
+            child: *child,
+            root: *root,
+        },
+        Reply::Done => ShortReply::Done,
+        Reply::Number(number) => ShortReply::Number(*number),
+        Reply::Levels(numbers) => return SlotReply::Listed(beside(numbers, spare)),
+        Reply::Reaped { child, ended } => ShortReply::Reaped {
+            child: *child,
+            ended: *ended,
+        },
+        Reply::NoneYet => ShortReply::NoneYet,
+        Reply::Counted(count) => ShortReply::Counted(*count),
+        Reply::Control(id) => ShortReply::Control(*id),
+        Reply::End => ShortReply::End,
+        Reply::Refused(refusal) => ShortReply::Refused(*refusal),
+    };
+    SlotReply::Short(short)
+}
+
+/// The numbers of a list, in spare memory.
+fn beside(
+    numbers: &ArrayVec<Pid, LEVELS>,
+    spare: &mut Vec<Box<ArrayVec<Pid, LEVELS>>>,
+) -> Box<ArrayVec<Pid, LEVELS>>
+    requires { 0 < vec_len spare.old }
+    ensures numbers { result.value ≡ numbers.now }
+    ensures spare { vec_len spare.old ≡ vec_len spare.new + 1 }
+{
+    let Some(list) = spare.pop() else {
+        unreachable!()
+    };
+    let mut list = list;
+    *list = copy(numbers);
+    list
+}
+
+/// A copy, which needs no memory.
+fn copy(numbers: &ArrayVec<Pid, LEVELS>) -> ArrayVec<Pid, LEVELS>
+    ensures { result ≡ numbers.now }
+{
+    match numbers.clone() {
+        Ok(copy) => copy,
+        Err(_) => unreachable!(),
+    }
+}
+
+/// Fetches memory for lists until there is some for n of them. It is not inlined, since a call rarely comes here. The
+/// error is want of memory.
+#[inline(never)]
+fn stock(spare: &mut Vec<Box<ArrayVec<Pid, LEVELS>>>, n: usize) -> Result<(), AllocError>
+    requires { vec_len spare.old < n }
+    ensures ok { OnOk result (n ≤ vec_len spare.new) }
+    ensures more { vec_len spare.old ≤ vec_len spare.new }
+{
+    let alloc = *spare.allocator();
+    for _ in spare.len()..n {
+        spare.push(Box::new(alloc, ArrayVec::new())?)?;
+    }
+    Ok(())
+}
