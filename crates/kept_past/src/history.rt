@@ -220,8 +220,8 @@ impl History {
         self.ring.reserve(n)
     }
 
-    /// Makes a call, and enters it with its reply behind the others. It answers the reply, but for one that may be a list:
-    /// that is in the entry alone. The error is want of memory, and then there is no entry.
+    /// Makes a call, and enters it with its reply behind the others. It answers the reply, but for one that may be a
+    /// list: that is in the entry alone. The error is want of memory, and then there is no entry.
     #[inline(always)]
     pub fn enter(
         &mut self,

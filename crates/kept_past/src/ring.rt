@@ -1,6 +1,7 @@
-//! The entries of a history, at 64 bytes each. Where a reply is a list of numbers, these stand beside the entry, in memory
-//! that is there before the call is made.
-ghost use Rattle.std.specs.Prelude.{◌≡◌, ◌+◌, ◌<◌, ◌≤◌, [], ◌∷◌, ◌++◌, length, drop, slice_get, vec_len, OnOk, OnErr, Some};
+//! The entries of a history, at 64 bytes each. Where a reply is a list of numbers, these stand beside the entry, in
+//! memory that is there before the call is made.
+ghost use Rattle.std.specs.Prelude.{◌≡◌, ◌+◌, ◌<◌, ◌≤◌, [], ◌∷◌, ◌++◌, length, drop, slice_get, vec_len};
+ghost use Rattle.std.specs.Prelude.{OnOk, OnErr, Some};
 ghost use Rattle.std.specs.Option.{option_map};
 ghost use Rattle.pid_types.specs.declared.entry.Entry.{Entry};
 ghost use Rattle.pid_types.specs.Short.{reply_of};

@@ -1,5 +1,6 @@
 //! The table, its history, and how many calls of each worker were recorded. The history grows by an entry of 64
-//! bytes with each [`Kept::make_call`], and by the numbers of a list, until a [`Kept::checkpoint`] empties it. [`Kept::make_call_keeping`] bounds it.
+//! bytes with each [`Kept::make_call`], and by the numbers of a list, until a [`Kept::checkpoint`] empties it.
+//! [`Kept::make_call_keeping`] bounds it.
 ghost use Rattle.std.specs.Prelude.{◌≡◌, ℕ, ◌+◌, ◌-◌, ◌^◌, ◌<◌, ◌≤◌, ◌==◌, [], ◌∷◌, ◌++◌, ◌↔◌, length, All, IsTrue};
 ghost use Rattle.std.specs.Prelude.{sum, slice_index, slice_get, replicate, IfOk, OnOk, OnErr, IsOk, IfSome, Some};
 ghost use Rattle.std.specs.Prelude.{None, Err, vec_len, vec_capacity};
@@ -392,9 +393,10 @@ impl Kept {
         Ok(())
     }
 
-    /// Makes a call of the worker, and records it with its reply, whatever that is. It answers the reply, but for one that
-    /// may be a list: [`Kept::last_reply`] has that. `Spent` is answered first, where the call's stamp would be
-    /// `u64::MAX`. A call that finds no memory, for what it makes or for its entry, changes nothing and is not recorded.
+    /// Makes a call of the worker, and records it with its reply, whatever that is. It answers the reply, but for one
+    /// that may be a list: [`Kept::last_reply`] has that. `Spent` is answered first, where the call's stamp would be
+    /// `u64::MAX`. A call that finds no memory, for what it makes or for its entry, changes nothing and is not
+    /// recorded.
     #[inline(always)]
     pub fn make_call(&mut self, worker: usize, call: Call) -> Result<Option<ShortReply>, CallFault>
         requires { worker < length self.old.cut }

@@ -2,7 +2,8 @@
 //!
 //! One thread may use a record as it is, with [`Record::act`]; several share it as a
 //! [`crate::Shared`], whose guard lends it. The history grows by an entry of 64 bytes with each
-//! call, and by the numbers of a list, until a [`Record::checkpoint`] empties it. [`Record::make_call_keeping`] bounds it.
+//! call, and by the numbers of a list, until a [`Record::checkpoint`] empties it. [`Record::make_call_keeping`] bounds
+//! it.
 ghost use Rattle.std.specs.Prelude.{◌≡◌, ℕ, ◌+◌, ◌^◌, ◌<◌, ◌≤◌, [], ◌∷◌, ◌++◌, ◌↔◌, IsTrue};
 ghost use Rattle.std.specs.Prelude.{IfOk, OnOk, OnErr, IsOk, IfSome, Some, None, Err};
 ghost use Rattle.std.specs.Prelude.{◌≢◌, ◌⊎◌, true, length, sum};

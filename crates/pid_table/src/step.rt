@@ -197,8 +197,9 @@ impl PidTable {
         soundness_is_kept();
         make(&mut self.store, stamp, call, reply)
     }
-    /// Makes the call as [`PidTable::step`] does, where that is answered by no list ([`answers_list`]): so the reply is a
-    /// short one, and nothing is written but that.
+
+    /// Makes the call as [`PidTable::step`] does, where that is answered by no list ([`answers_list`]): so the reply is
+    /// a short one, and nothing is written but that.
     #[inline(always)]
     pub fn step_short(&mut self, stamp: u64, call: Call) -> Result<ShortReply, AllocError>
         requires below { IsBelow stamp self.old }
