@@ -9,7 +9,7 @@ ghost use Rattle.foreign_calls.specs.Records.{roomless, IsRecordedKeeping, IsWor
 ghost use Rattle.foreign_calls.specs.Rooms.{KeepsRoom};
 
 use crate::texts::write_reply;
-use foreign_numbers::numbers::{ReplyNumbers, put_reply, put_short};
+use foreign_numbers::numbers::{ReplyNumbers, put_list, put_reply, put_short};
 use foreign_numbers::status::{DONE, OUT_OF_RANGE, status_of};
 use kept_table::Kept;
 use pid_script::answer::LONGEST_ANSWER;
@@ -58,11 +58,16 @@ pub fn put_told(held: &Kept, told: Option<ShortReply>, reply: &mut ReplyNumbers)
 }
 
 /// Tells the reply of the last entry. It is not inlined, since a call rarely comes here.
+#[tactic(auto, unfolding(foreign_numbers::specs::Numbers::numbers_of))]
 #[inline(never)]
 fn put_last(held: &Kept, reply: &mut ReplyNumbers)
     requires { IsSome (last_reply held.now) }
     ensures { Some reply.new ≡ option_map numbers_of (last_reply held.now) }
 {
+    if let Some(list) = held.last_list() {
+        put_list(list, reply);
+        return;
+    }
     let Some(last) = held.last_reply() else {
         unreachable!()
     };

@@ -1,7 +1,7 @@
 //! Calls and replies as numbers, for callers who would rather not read text. The numbers stay the same from release to
 //! release.
 ghost use Rattle.pid_types.specs.Short.{reply_of};
-ghost use Rattle.std.specs.Prelude.{◌≡◌};
+ghost use Rattle.std.specs.Prelude.{◌≡◌, ◌≤◌, length};
 ghost use Rattle.foreign_numbers.specs.Numbers.{switch_of, which_of, kind_of, limit_of, status_of, call_of};
 ghost use Rattle.foreign_numbers.specs.Numbers.{control_call_of, later_call_of, blank, with_zeroes, levels_numbers};
 ghost use Rattle.foreign_numbers.specs.Numbers.{refusal_numbers, numbers_of};
@@ -171,12 +171,13 @@ pub fn padded(numbers: &ArrayVec<u32, LEVELS>) -> [u32; LEVELS]
 }
 
 /// Writes the reply with a task's numbers.
-fn put_levels(reply: &mut ReplyNumbers, numbers: &ArrayVec<u32, LEVELS>)
-    ensures { reply.new ≡ levels_numbers numbers.now.items }
+pub fn put_list(list: &[u32], reply: &mut ReplyNumbers)
+    requires { length list.now ≤ LEVELS }
+    ensures { reply.new ≡ levels_numbers list.now }
 {
     put_values(reply, kinds::LEVELS, 0, 0);
-    reply.count = numbers.len() as u32;
-    reply.levels = padded(numbers);
+    reply.count = list.len() as u32;
+    reply.levels[..list.len()].copy_from_slice(list);
 }
 
 /// Writes the reply of a refused call.
@@ -204,7 +205,7 @@ pub fn put_reply(told: &Reply, reply: &mut ReplyNumbers)
         }
         Reply::Done => put_values(reply, kinds::OK, 0, 0),
         Reply::Number(number) => put_values(reply, kinds::NUMBER, u64::from(*number), 0),
-        Reply::Levels(numbers) => put_levels(reply, numbers),
+        Reply::Levels(numbers) => put_list(numbers.as_slice(), reply),
         Reply::Reaped {
             child,
             ended: Ended::Exited(status),

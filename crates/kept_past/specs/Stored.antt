@@ -5,17 +5,26 @@ use Rattle.pid_types.specs.declared.reply.Reply.{Reply}
 use Rattle.pid_types.specs.Short.{reply_of}
 use Rattle.kept_past.specs.declared.ring.Slot.{Slot}
 use Rattle.kept_past.specs.declared.ring.SlotReply.{SlotReply}
-use Rattle.kept_past.specs.declared.ring.SlotReply.TheVariants.{Short, Listed}
+use Rattle.kept_past.specs.declared.ring.SlotReply.TheVariants.{Short, Few, Many}
 
 -- the entries in their order, and for how many more there is room
 pub record Stored : Type 0 where
   pub entries : List Entry
   pub room : ℕ
 
--- the reply: all of it stands in the slot, or it is a list, whose numbers stand beside
+-- the reply that is a list of these numbers
+abbrev pub list_reply : List ℕ → Reply
+list_reply numbers = Reply.Levels (record { items = numbers })
+
+-- the reply: all of it is in the slot, but for a list of many numbers, which are beside
 abbrev pub reply_in : SlotReply → Reply
 reply_in (Short short) = reply_of short
-reply_in (Listed numbers) = Reply.Levels numbers.value
+reply_in (Few numbers) = list_reply numbers
+reply_in (Many numbers) = Reply.Levels numbers.value
+
+-- the replies of the entries
+abbrev pub replies_of : List Entry → List Reply
+replies_of entries = map (λ (e : Entry). e.reply) entries
 
 -- the entry in a slot
 abbrev pub entry_in : Slot → Entry

@@ -15,6 +15,7 @@ ghost use Rattle.pid_types.specs.Shown.{Shows};
 ghost use Rattle.pid_types.specs.Sound.{IsBelow};
 ghost use Rattle.pid_types.specs.State.{State, root_state};
 ghost use Rattle.pid_types.specs.Step.{step, may_grow};
+ghost use Rattle.kept_past.specs.Stored.{list_reply, replies_of};
 ghost use Rattle.kept_past.specs.Past.{held_fixed, moves_or, opening_of, IsCutOnce};
 
 use crate::opening::Opening;
@@ -24,7 +25,8 @@ use pid_table::{PidTable, answers_list};
 use pid_types::call::Call;
 use pid_types::config::Config;
 use pid_types::entry::Entry;
-use pid_types::plain::Plain;
+use pid_types::keys::Pid;
+use pid_types::plain::{LEVELS, Plain};
 use pid_types::reply::{Reply, ShortReply};
 use std::alloc::{AllocError, Global};
 use std::marker::Model;
@@ -130,6 +132,18 @@ impl History {
         Some(reply)
     }
 
+    /// The numbers of the last kept entry's reply, where that is a list, lent from there.
+    pub fn last_list(&self) -> Option<&[Pid]>
+        ensures list { IfSome result (λ list.
+            slice_get (replies_of self.now.entries) (length self.now.entries - 1) ≡ Some (list_reply list.now)) }
+        ensures fits { IfSome result (λ list. length list.now ≤ LEVELS) }
+    {
+        if self.len() == 0 {
+            return None;
+        }
+        self.ring.last_list()
+    }
+
     /// The state that the kept entries begin in: where there are none, the present one. The error is want of memory,
     /// here or before: where calls wait, they found none.
     pub fn snapshot(&self, present: &PidTable) -> Result<Plain, AllocError>
@@ -220,8 +234,8 @@ impl History {
         self.ring.reserve(n)
     }
 
-    /// Makes a call, and enters it with its reply behind the others. It answers the reply, but for one that may be a
-    /// list: that is in the entry alone. The error is want of memory, and then there is no entry.
+    /// Makes a call, and enters it with its reply behind the others. It answers the reply, unless that is a list:
+    /// that is in the entry alone. The error is want of memory, and then there is no entry.
     #[inline(always)]
     pub fn enter(
         &mut self,
@@ -418,7 +432,7 @@ fn empty(held: &mut Option<Opening>, ring: &mut Ring, lag: &mut usize)
 }
 
 /// Makes a call, and enters it with its reply behind the ring's entries, for which there is room. It answers the reply,
-/// but for one that may be a list. The error is want of memory, and then there is no entry.
+/// unless that is a list. The error is want of memory, and then there is no entry.
 #[inline(always)]
 fn enter_call(
     table: &mut PidTable,
@@ -440,16 +454,14 @@ fn enter_call(
     ensures grows { OnErr result (IsTrue (may_grow call)) }
 {
     if answers_list(&call) {
-        enter_list(table, ring, stamp, worker, call)?;
-        return Ok(None);
+        return enter_list(table, ring, stamp, worker, call);
     }
     let short = table.step_short(stamp, call)?;
     ring.push_short(worker, call, short);
     Ok(Some(short))
 }
 
-/// The same of any call, whose whole reply goes into the entry. It is not inlined, since the others need no room for a
-/// list.
+/// The same of a call whose reply may be a list. It is not inlined, since the others need no room for one.
 #[inline(never)]
 fn enter_list(
     table: &mut PidTable,
@@ -457,10 +469,12 @@ fn enter_list(
     stamp: u64,
     worker: usize,
     call: Call,
-) -> Result<(), AllocError>
+) -> Result<Option<ShortReply>, AllocError>
     requires below { IsBelow stamp table.old }
     requires room { 0 < ring.old.room }
     ensures state { OnOk result (table.new ≡ (step table.old stamp call).state) }
+    ensures reply { IfOk result (λ told.
+        IfSome told (λ short. reply_of short ≡ (step table.old stamp call).reply)) }
     ensures ring { OnOk result (ring.new.entries ≡ ring.old.entries
         ++ record { worker = worker; call = call; reply = (step table.old stamp call).reply } ∷ []) }
     ensures left { ring.old.room ≤ ring.new.room + 1 }
@@ -470,6 +484,5 @@ fn enter_list(
 {
     let mut reply = Reply::Done;
     table.step(stamp, call, &mut reply)?;
-    ring.push(worker, call, &reply);
-    Ok(())
+    Ok(ring.push(worker, call, &reply))
 }

@@ -1,11 +1,11 @@
 //! The entries of a history, at 64 bytes each. Where a reply is a list of numbers, these stand beside the entry, in
 //! memory that is there before the call is made.
-ghost use Rattle.std.specs.Prelude.{◌≡◌, ◌+◌, ◌<◌, ◌≤◌, [], ◌∷◌, ◌++◌, length, drop, slice_get, vec_len};
-ghost use Rattle.std.specs.Prelude.{OnOk, OnErr, Some};
+ghost use Rattle.std.specs.Prelude.{◌≡◌, ◌+◌, ◌-◌, ◌<◌, ◌≤◌, [], ◌∷◌, ◌++◌, length, drop, slice_get, vec_len};
+ghost use Rattle.std.specs.Prelude.{OnOk, OnErr, IfSome, Some};
 ghost use Rattle.std.specs.Option.{option_map};
 ghost use Rattle.pid_types.specs.declared.entry.Entry.{Entry};
 ghost use Rattle.pid_types.specs.Short.{reply_of};
-ghost use Rattle.kept_past.specs.Stored.{reply_in};
+ghost use Rattle.kept_past.specs.Stored.{reply_in, list_reply, replies_of};
 
 use arrayvec::ArrayVec;
 use pid_types::call::Call;
@@ -17,13 +17,35 @@ use std::alloc::{AllocError, Global};
 use std::collections::VecDeque;
 use std::marker::Model;
 
+/// So many numbers have room in a slot.
+const FEW: usize = 5;
+
+/// A list of few numbers.
+#[derive(Drop)]
+struct Few {
+    count: u32,
+    numbers: [Pid; FEW],
+}
+
+impl Model for Few {
+    ghost use Rattle.std.specs.Prelude.{List, ℕ, ◌≤◌, take};
+
+    ghost Value = { List ℕ };
+
+    ghost view = { λ a. take a.count a.numbers };
+
+    ghost invariant = { λ a. a.count ≤ 5 };
+}
+
 /// What a slot has of a reply.
 #[derive(Drop)]
 enum SlotReply {
     /// All of it.
     Short(ShortReply),
-    /// It is a list of numbers, and these are they.
-    Listed(Box<ArrayVec<Pid, LEVELS>>),
+    /// It is a list, and these are its numbers.
+    Few(Few),
+    /// It is a list, and its numbers stand here.
+    Many(Box<ArrayVec<Pid, LEVELS>>),
 }
 
 /// An entry, but for the numbers of a list.
@@ -108,6 +130,20 @@ impl Ring {
         Some(slot.call)
     }
 
+    /// The numbers of the last entry's reply, where that is a list.
+    pub(crate) fn last_list(&self) -> Option<&[Pid]>
+        ensures list { IfSome result (λ list.
+            slice_get (replies_of self.now.entries) (length self.now.entries - 1) ≡ Some (list_reply list.now)) }
+        ensures fits { IfSome result (λ list. length list.now ≤ LEVELS) }
+    {
+        let all = self.slots.len();
+        if all == 0 {
+            return None;
+        }
+        let slot = self.slots.get(all - 1)?;
+        slot.reply.list()
+    }
+
     /// Makes room for n more entries, each of which may have a list. The error is want of memory.
     #[inline(always)]
     pub(crate) fn reserve(&mut self, n: usize) -> Result<(), AllocError>
@@ -123,19 +159,22 @@ impl Ring {
         Ok(())
     }
 
-    /// Puts an entry behind the others, whose reply may be a list.
-    pub(crate) fn push(&mut self, worker: usize, call: Call, reply: &Reply)
+    /// Puts an entry behind the others, whose reply may be a list. It answers the reply where that is none.
+    pub(crate) fn push(&mut self, worker: usize, call: Call, reply: &Reply) -> Option<ShortReply>
         requires { 0 < self.old.room }
+        ensures short { IfSome result (λ short. reply_of short ≡ reply.now) }
         ensures entries { self.new.entries
             ≡ self.old.entries ++ record { worker = worker; call = call; reply = reply.now } ∷ [] }
         ensures room { self.old.room ≤ self.new.room + 1 }
     {
         let kept = slot_reply(reply, &mut self.spare);
+        let short = kept.short();
         self.slots.push_back_reserved(Slot {
             worker,
             call,
             reply: kept,
         });
+        short
     }
 
     /// Puts an entry behind the others, whose reply is no list.
@@ -170,6 +209,39 @@ impl Ring {
     }
 }
 
+impl Few {
+    /// A list of the numbers.
+    fn of(numbers: &[Pid]) -> Few
+        requires { length numbers.now ≤ 5 }
+        ensures { result ≡ numbers.now }
+    {
+        let mut few = Few {
+            count: 0,
+            numbers: [0; FEW],
+        };
+        few.fill(numbers);
+        few
+    }
+
+    /// Writes the numbers over those that it has.
+    #[inline(always)]
+    fn fill(&mut self, numbers: &[Pid])
+        requires { length numbers.now ≤ 5 }
+        ensures { self.new ≡ numbers.now }
+    {
+        self.numbers[..numbers.len()].copy_from_slice(numbers);
+        self.count = numbers.len() as u32;
+    }
+
+    /// The numbers.
+    fn as_slice(&self) -> &[Pid]
+        ensures numbers { result.now ≡ self.now }
+        ensures few { length result.now ≤ 5 }
+    {
+        &self.numbers[..self.count as usize]
+    }
+}
+
 impl SlotReply {
     /// The whole reply.
     fn told(&self) -> Reply
@@ -181,7 +253,30 @@ impl SlotReply {
                 (*short).tell(&mut reply);
                 reply
             }
-            SlotReply::Listed(numbers) => Reply::Levels(copy(&**numbers)),
+            SlotReply::Few(few) => Reply::Levels(listed(few.as_slice())),
+            SlotReply::Many(numbers) => Reply::Levels(listed(numbers.as_slice())),
+        }
+    }
+
+    /// The reply, where it is no list.
+    fn short(&self) -> Option<ShortReply>
+        ensures { IfSome result (λ short. reply_of short ≡ reply_in self.now) }
+    {
+        match self {
+            SlotReply::Short(short) => Some(*short),
+            SlotReply::Few(_) | SlotReply::Many(_) => None,
+        }
+    }
+
+    /// The numbers, where it is a list.
+    fn list(&self) -> Option<&[Pid]>
+        ensures list { IfSome result (λ list. reply_in self.now ≡ list_reply list.now) }
+        ensures fits { IfSome result (λ list. length list.now ≤ LEVELS) }
+    {
+        match self {
+            SlotReply::Short(_) => None,
+            SlotReply::Few(few) => Some(few.as_slice()),
+            SlotReply::Many(numbers) => Some(numbers.as_slice()),
         }
     }
 }
@@ -199,7 +294,7 @@ fn slot_reply(reply: &Reply, spare: &mut Vec<Box<ArrayVec<Pid, LEVELS>>>) -> Slo
         },
         Reply::Done => ShortReply::Done,
         Reply::Number(number) => ShortReply::Number(*number),
-        Reply::Levels(numbers) => return SlotReply::Listed(beside(numbers, spare)),
+        Reply::Levels(numbers) => return slot_list(numbers.as_slice(), spare),
         Reply::Reaped { child, ended } => ShortReply::Reaped {
             child: *child,
             ended: *ended,
@@ -213,29 +308,35 @@ fn slot_reply(reply: &Reply, spare: &mut Vec<Box<ArrayVec<Pid, LEVELS>>>) -> Slo
     SlotReply::Short(short)
 }
 
-/// The numbers of a list, in spare memory.
-fn beside(
-    numbers: &ArrayVec<Pid, LEVELS>,
-    spare: &mut Vec<Box<ArrayVec<Pid, LEVELS>>>,
-) -> Box<ArrayVec<Pid, LEVELS>>
-    requires { 0 < vec_len spare.old }
-    ensures numbers { result.value ≡ numbers.now }
-    ensures spare { vec_len spare.old ≡ vec_len spare.new + 1 }
+/// What a slot has of a list.
+fn slot_list(numbers: &[Pid], spare: &mut Vec<Box<ArrayVec<Pid, LEVELS>>>) -> SlotReply
+    requires spare { 0 < vec_len spare.old }
+    requires fits { length numbers.now ≤ LEVELS }
+    ensures reply { reply_in result ≡ list_reply numbers.now }
+    ensures spare { vec_len spare.old ≤ vec_len spare.new + 1 }
 {
+    if numbers.len() <= FEW {
+        return SlotReply::Few(Few::of(numbers));
+    }
     let Some(list) = spare.pop() else {
         unreachable!()
     };
     let mut list = list;
-    *list = copy(numbers);
-    list
+    list.clear();
+    match list.try_extend_from_slice(numbers) {
+        Ok(()) => SlotReply::Many(list),
+        Err(_) => unreachable!(),
+    }
 }
 
-/// A copy, which needs no memory.
-fn copy(numbers: &ArrayVec<Pid, LEVELS>) -> ArrayVec<Pid, LEVELS>
-    ensures { result ≡ numbers.now }
+/// The numbers as a list of their own.
+fn listed(numbers: &[Pid]) -> ArrayVec<Pid, LEVELS>
+    requires { length numbers.now ≤ LEVELS }
+    ensures { result.items ≡ numbers.now }
 {
-    match numbers.clone() {
-        Ok(copy) => copy,
+    let mut list = ArrayVec::new();
+    match list.try_extend_from_slice(numbers) {
+        Ok(()) => list,
         Err(_) => unreachable!(),
     }
 }

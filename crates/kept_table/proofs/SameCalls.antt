@@ -7,7 +7,8 @@ use Rattle.pid_types.specs.State.{State}
 use Rattle.pid_types.specs.Step.{step}
 use Rattle.pid_types.specs.Replay.{calls_of, replies, state_after, Replays}
 use Rattle.kept_table.specs.Chronicle.{first_kept_stamp}
-use Rattle.kept_table.specs.Replicas.{replies_of, SameCallsSameReplies}
+use Rattle.kept_past.specs.Stored.{replies_of}
+use Rattle.kept_table.specs.Replicas.{SameCallsSameReplies}
 
 both : (x y : Reply) (xs ys : List Reply) → x ≡ y → xs ≡ ys → x ∷ xs ≡ y ∷ ys
 both x y xs ys h t = ap (λ (r : Reply). r ∷ xs) h ∙ ap (λ (rs : List Reply). y ∷ rs) t

@@ -14,6 +14,7 @@ ghost use Rattle.pid_types.specs.Sound.{IsBelow};
 ghost use Rattle.pid_types.specs.Step.{step, may_grow};
 ghost use Rattle.translate.specs.Stat.{stat_at, glimpse_in, IsSeen};
 ghost use Rattle.call_effects.specs.Touched.{is_touching, most_in, most_of, Watches};
+ghost use Rattle.kept_past.specs.Stored.{list_reply};
 ghost use Rattle.kept_table.specs.Calls.{begun, resumed, outcome, entry_of, after_call, counted, cut_at};
 ghost use Rattle.kept_table.specs.Calls.{IsWithoutFirst, to_cut, to_cut_once};
 ghost use Rattle.kept_table.specs.Chronicle.{Chronicle, total, next_stamp, recorded, recorded_by_all, kept_entry};
@@ -32,7 +33,7 @@ use pid_types::call::Call;
 use pid_types::config::Config;
 use pid_types::entry::Entry;
 use pid_types::keys::Pid;
-use pid_types::plain::Plain;
+use pid_types::plain::{LEVELS, Plain};
 use pid_types::reply::{CallFault, Refusal, Reply, ShortReply};
 use std::alloc::{AllocError, Global};
 use std::marker::Model;
@@ -238,6 +239,14 @@ impl Kept {
         self.history.last_reply()
     }
 
+    /// The numbers of the last kept entry's reply, where that is a list, lent from there. It costs nothing.
+    pub fn last_list(&self) -> Option<&[Pid]>
+        ensures list { IfSome result (λ list. last_reply self.now ≡ Some (list_reply list.now)) }
+        ensures fits { IfSome result (λ list. length list.now ≤ LEVELS) }
+    {
+        self.history.last_list()
+    }
+
     /// How many tasks the control group with the id and those below it have, ended ones too; none where there is no
     /// such group. It is the number that the table keeps with the group, and that a fork is held against: a search
     /// for the id and one read, with no look at any task.
@@ -393,8 +402,8 @@ impl Kept {
         Ok(())
     }
 
-    /// Makes a call of the worker, and records it with its reply, whatever that is. It answers the reply, but for one
-    /// that may be a list: [`Kept::last_reply`] has that. `Spent` is answered first, where the call's stamp would be
+    /// Makes a call of the worker, and records it with its reply, whatever that is. It answers the reply, unless
+    /// that is a list: [`Kept::last_list`] has that. `Spent` is answered first, where the call's stamp would be
     /// `u64::MAX`. A call that finds no memory, for what it makes or for its entry, changes nothing and is not
     /// recorded.
     #[inline(always)]
