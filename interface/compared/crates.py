@@ -88,8 +88,8 @@ def compare_kinds(tables, top):
     """All that the crates have of the kinds of a reply, and the kinds of an effect."""
     numbers, reply, saved, effect = [Source(top, path) for path in (NUMBERS, REPLY, SAVED_NUMBERS, EFFECT)]
     replies = of(tables, "reply")
-    told = numbers.found(r"Reply::(\w+)[^=]*?=> (?:\{\s*)?put_values\(reply, kinds::(\w+)") + numbers.found(r"^fn put_(levels|refusal)\((?:.|\n)*?put_values\(reply, kinds::(\w+)")
-    models = {"levels": "Levels", "refusal": "Refused"}
+    told = numbers.found(r"Reply::(\w+)[^=]*?=> (?:\{\s*)?put_values\(reply, kinds::(\w+)") + numbers.found(r"^(?:pub )?fn put_(list|refusal)\((?:.|\n)*?put_values\(reply, kinds::(\w+)")
+    models = {"list": "Levels", "refusal": "Refused"}
     facts = [(line, (models.get(name, name), kind)) for line, (name, kind) in told]
     numbers.same("the kind", facts, [(it.model, it.name) for it in replies])
     names, line = variants(reply, "\npub enum Reply {\n")
