@@ -112,7 +112,7 @@ class Examples(unittest.TestCase):
         need_shared()
         # One needs a server, which `cluster.test_postgres` has.
         shown = sorted(it for it in (PACKAGES / "examples").glob("*.py") if it.stem != "postgres_log")
-        self.assertEqual([it.stem for it in shown], ["controls", "effects", "end_group", "follow", "reserve", "saved", "shared", "spaces", "text"])
+        self.assertEqual([it.stem for it in shown], ["controls", "effects", "end_group", "follow", "hang_up", "reach", "reserve", "saved", "shared", "spaces", "text"])
         for path in shown:
             with self.subTest(path.name), tempfile.TemporaryDirectory() as folder:
                 code = path.read_text(encoding="utf-8")
