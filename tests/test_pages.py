@@ -125,7 +125,8 @@ class Examples(unittest.TestCase):
     def test_c_in_files(self) -> None:
         need_archive()
         shown = sorted(C_EXAMPLES.glob("*.c"))
-        self.assertEqual([it.stem for it in shown], ["controls", "effects", "end_group", "lines", "replica", "reserve", "saver", "spaces", "text"])
+        names = ["controls", "effects", "end_group", "follow", "hang_up", "lines", "reach", "replica", "reserve", "saver", "spaces", "text"]
+        self.assertEqual([it.stem for it in shown], names)
         # That of lines.c is run by SavedHistory.
         for path in (it for it in shown if it.stem != "lines"):
             with self.subTest(path.name), tempfile.TemporaryDirectory() as folder:
