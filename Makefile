@@ -367,9 +367,10 @@ bindings-go-cluster-wrong:
 	$(call cluster_checked,wrong)
 
 # The package of the sources as they are, beside its built module.
+PACKED = package.json README.md pidtab.js pidtab.d.ts src examples
 package:
-	@rm -rf $(PACKAGE)/src && mkdir -p $(PACKAGE)
-	@cp -R bindings/js/package.json bindings/js/README.md bindings/js/pidtab.js bindings/js/pidtab.d.ts bindings/js/src LICENSE $(PACKAGE)
+	@rm -rf $(PACKAGE)/src $(PACKAGE)/examples && mkdir -p $(PACKAGE)
+	@cp -R $(PACKED:%=bindings/js/%) LICENSE $(PACKAGE)
 
 bindings-js: package
 	$(call tested,node,$(PACKAGE)/pidtab.wasm,node --test --test-reporter=tap bindings/js/tests/*.test.js)

@@ -30,6 +30,24 @@ EXAMPLES = [
     ("bindings/go/README.md", "## Example", "go"),
 ]
 
+# What a supervisor asks, as the examples that are run have it in C, Python, Rust, Go and JavaScript. Where there is a `-`, there is no such function.
+ASKED = """
+PIDTAB_CHILDREN          .children(          .children(          .Children(         .children(
+PIDTAB_GROUP_MEMBERS     .group_members(     .group_members(     .GroupMembers(     .groupMembers(
+PIDTAB_SESSION_MEMBERS   .session_members(   .session_members(   .SessionMembers(   .sessionMembers(
+PIDTAB_NAMESPACE_MEMBERS .namespace_members( .namespace_members( .NamespaceMembers( .namespaceMembers(
+PIDTAB_NAMESPACE_OWN     .namespace_own(     .namespace_own(     .NamespaceOwn(     .namespaceOwn(
+pidtab_space(            .space(             .space(             .Space(            .space(
+PIDTAB_SPACES            .spaces_inside(     .spaces_inside(     .SpacesInside(     .spacesInside(
+PIDTAB_CONTROLS          .controls_inside(   .controls_inside(   .ControlsInside(   .controlsInside(
+pidtab_control_tasks(    .control_tasks(     .control_tasks(     .ControlTasks(     .controlTasks(
+pidtab_call_told(        .told.              .told(              .Told(             .told.
+pidtab_would(            .would.             .would(             .Would(            .would.
+pidtab_fork_at(          .fork_at(           .fork_at(           .ForkAt(           .forkAt(
+pidtab_reply_line(       -                   reply.line(         reply.Line(        -
+pidtab_shared_wait(      .wait_changed(      .wait_changed(      .WaitChanged(      -
+"""
+
 # The pages of the library's functions.
 LIBRARY_PAGES = sorted(path.name for path in MANUAL.glob("*.3"))
 
@@ -112,7 +130,7 @@ class Examples(unittest.TestCase):
         need_shared()
         # One needs a server, which `cluster.test_postgres` has.
         shown = sorted(it for it in (PACKAGES / "examples").glob("*.py") if it.stem != "postgres_log")
-        self.assertEqual([it.stem for it in shown], ["controls", "effects", "end_group", "follow", "reserve", "saved", "shared", "spaces", "text"])
+        self.assertEqual([it.stem for it in shown], ["controls", "effects", "end_group", "follow", "hang_up", "reach", "reserve", "saved", "shared", "spaces", "text"])
         for path in shown:
             with self.subTest(path.name), tempfile.TemporaryDirectory() as folder:
                 code = path.read_text(encoding="utf-8")
@@ -125,13 +143,25 @@ class Examples(unittest.TestCase):
     def test_c_in_files(self) -> None:
         need_archive()
         shown = sorted(C_EXAMPLES.glob("*.c"))
-        self.assertEqual([it.stem for it in shown], ["controls", "effects", "end_group", "lines", "replica", "reserve", "saver", "spaces", "text"])
+        names = ["controls", "effects", "end_group", "follow", "hang_up", "lines", "reach", "replica", "reserve", "saver", "spaces", "text"]
+        self.assertEqual([it.stem for it in shown], names)
         # That of lines.c is run by SavedHistory.
         for path in (it for it in shown if it.stem != "lines"):
             with self.subTest(path.name), tempfile.TemporaryDirectory() as folder:
                 code = path.read_text(encoding="utf-8")
                 words = ["-pthread", f"-I{C_EXAMPLES}", f"-I{BUILT}", str(ARCHIVE)]
                 self.assertEqual(run_c(code, Path(folder), words), printed_by(code))
+
+    def test_what_a_supervisor_asks(self) -> None:
+        # Each language runs its own: those of Rust are in its comments.
+        files = ("c/examples/*.[ch]", "python/examples/*.py", "rust/src/*.rs", "go/example_test.go", "js/examples/*.js")
+        texts = ["".join(it.read_text(encoding="utf-8") for it in sorted((REPOSITORY / "bindings").glob(found))) for found in files]
+        blocks = re.findall(r"^ */// ```([\w,]*)\n(.*?)^ */// ```$", texts[2], re.MULTILINE | re.DOTALL)
+        texts[2] = "".join(text for words, text in blocks if not words)
+        for row in ASKED.splitlines()[1:]:
+            for name, text, found in zip(row.split(), texts, files):
+                with self.subTest(f"{found}: {name}"):
+                    self.assertTrue(name == "-" or name in text)
 
     def test_rust(self) -> None:
         need_archive()

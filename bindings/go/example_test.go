@@ -1,6 +1,8 @@
 package pidtab_test
 
 import (
+	"context"
+	"errors"
 	"fmt"
 	"log"
 	"math"
@@ -205,6 +207,71 @@ func ExampleTable_GroupMembers() {
 	// 2 ends
 }
 
+// reached are whom kill(2) of -1 reaches, by their root numbers: all whom its caller's namespace sees, but the init there, which is 1, and the caller.
+// To a zombie it does nothing.
+func reached(table *pidtab.Table, caller uint32) ([]uint32, error) {
+	numbers, err := table.NamespaceMembers(caller, 0, 2)
+	if err != nil {
+		return nil, err
+	}
+	var tasks []uint32
+	for _, number := range numbers {
+		task, err := table.Stat(caller, number)
+		if err != nil {
+			return nil, err
+		}
+		if task.Live && task.Root != caller {
+			tasks = append(tasks, task.Root)
+		}
+	}
+	return tasks, nil
+}
+
+// Whom a kill of -1 reaches. A zombie is no caller.
+func ExampleTable_NamespaceMembers() {
+	table := opened()
+	defer table.Close()
+	// 2 is the init of a namespace, and 3, 4 and 5 are its children. 4 is a zombie, and 5 is the init of a namespace within it. 6 is beside them.
+	table.Fork(1, pidtab.NewNamespace)
+	table.Fork(2, pidtab.NoNewNamespace)
+	table.Fork(2, pidtab.NoNewNamespace)
+	table.Fork(2, pidtab.NewNamespace)
+	table.Fork(1, pidtab.NoNewNamespace)
+	table.Exit(4, 0)
+	for caller := uint32(1); caller <= 6; caller++ {
+		fmt.Println(reached(table, caller))
+	}
+	// Output:
+	// [2 3 5 6] <nil>
+	// [3 5] <nil>
+	// [5] <nil>
+	// [] pidtab: no such process: no-caller
+	// [] <nil>
+	// [2 3 5] <nil>
+}
+
+// Whom the end of a session's leader reaches by its terminal (exit(3)): the foreground process group gets a SIGHUP, and all of the session lose the
+// terminal. The table has no terminals: which group is in the foreground, tcgetpgrp(3) says.
+func ExampleTable_SessionMembers() {
+	table := opened()
+	defer table.Close()
+	// 2 leads a session. Its children 3 and 4 are in the foreground, in the group 3, and 5 is in its own. 6, a child of 5, leads another session.
+	table.Fork(1, pidtab.NoNewNamespace)
+	table.Setsid(2)
+	for _, group := range []int32{3, 3, 5} {
+		child, _ := table.Fork(2, pidtab.NoNewNamespace)
+		table.Setpgid(2, int32(child.Number), group)
+	}
+	table.Fork(5, pidtab.NoNewNamespace)
+	table.Setsid(6)
+	fmt.Println(table.GroupMembers(2, 3, 0))
+	// 0 is the session of 2, which is one of them.
+	fmt.Println(table.SessionMembers(2, 0, 0))
+	// Output:
+	// [3 4] <nil>
+	// [2 3 4 5] <nil>
+}
+
 // The namespaces that a task is in, from its own outwards.
 func ExampleTable_Space() {
 	table := opened()
@@ -229,6 +296,42 @@ func ExampleTable_Space() {
 	// pidtab: no namespace has the id 9: it is gone, or there was none
 }
 
+// tellSpace tells a namespace with its own tasks, and then each directly inside it. Where the init was reaped, nobody is left but zombies whose
+// parents are outside.
+func tellSpace(table *pidtab.Table, id uint64) {
+	space, _ := table.Space(id)
+	var tasks []uint32
+	if space.Init != 0 {
+		tasks, _ = table.NamespaceOwn(1, space.Init, 0)
+	}
+	fmt.Println("level", space.Level, "namespace", id, "fallen", space.Fallen, "has", tasks)
+	inner, _ := table.SpacesInside(id, 0)
+	for _, id := range inner {
+		tellSpace(table, id)
+	}
+}
+
+// The tree of namespaces, each with its own tasks.
+func ExampleTable_SpacesInside() {
+	table := opened()
+	defer table.Close()
+	// 2 is the init of a namespace, in which is its child 3, and 4 that of one within it. 5 is the init of another one, which ends.
+	table.Fork(1, pidtab.NewNamespace)
+	table.Fork(2, pidtab.NoNewNamespace)
+	table.Fork(3, pidtab.NewNamespace)
+	table.Fork(1, pidtab.NewNamespace)
+	table.Exit(5, 0)
+	tellSpace(table, 0)
+	_, err := table.SpacesInside(9, 0)
+	fmt.Println(err)
+	// Output:
+	// level 0 namespace 0 fallen false has [1]
+	// level 1 namespace 1 fallen false has [2 3]
+	// level 2 namespace 3 fallen false has [4]
+	// level 1 namespace 4 fallen true has [5]
+	// pidtab: no namespace has the id 9: it is gone, or there was none
+}
+
 // A fork with the numbers that were told before, or none.
 func ExampleTable_ForkAt() {
 	table := opened()
@@ -242,6 +345,49 @@ func ExampleTable_ForkAt() {
 	// {2 2}
 	// true <nil>
 	// false <nil>
+}
+
+// Whom a wait would reap, as waitid(2) with WNOWAIT says it: the child is there until it is reaped.
+func ExampleTable_Would() {
+	table := opened()
+	defer table.Close()
+	table.Fork(1, pidtab.NoNewNamespace)
+	wait := pidtab.Call{Operation: pidtab.OpWait, Caller: 1}
+	told, _ := table.Would(wait)
+	fmt.Println(told.Line())
+	table.Exit(2, 7)
+	told, _ = table.Would(wait)
+	fmt.Println(told.Line())
+	reply, err := table.Call(wait)
+	fmt.Println(reply == told, err)
+	told, _ = table.Would(wait)
+	fmt.Println(told.Line())
+	// Output:
+	// none <nil>
+	// reaped 2 exit 7 <nil>
+	// true <nil>
+	// ECHILD no-child <nil>
+}
+
+// Calls and replies as lines of the script language.
+func ExampleReply_Line() {
+	table := opened()
+	defer table.Close()
+	for _, call := range []pidtab.Call{
+		{Operation: pidtab.OpFork, Caller: 1, Choice: 1}, {Operation: pidtab.OpNspid, Caller: 1, Number: 2}, {Operation: pidtab.OpExit, Caller: 9},
+	} {
+		reply, _ := table.Call(call)
+		line, _ := call.Line()
+		answer, _ := reply.Line()
+		fmt.Println(line, "is", answer)
+	}
+	_, err := pidtab.Reply{Kind: 99}.Line()
+	fmt.Println(errors.Is(err, pidtab.ErrOutOfRange))
+	// Output:
+	// fork 1 new is child 2 root 2
+	// nspid 1 2 is 2 1
+	// exit 9 0 is ESRCH no-caller
+	// true
 }
 
 // tell says what a call has done.
@@ -329,4 +475,46 @@ func ExampleTable_ControlTasks() {
 	// level 1 control group 1 has [2 3]
 	// level 2 control group 2 has [4]
 	// 4 <nil>
+}
+
+// ship tells each call once it is recorded, with its answer, until the context is done: then it has told all of them.
+func ship(ctx context.Context, shared *pidtab.Shared) error {
+	for shipped := uint64(0); ; {
+		if _, err := shared.WaitChanged(ctx, shipped); err != nil {
+			return err
+		}
+		entries, err := shared.Entries(shipped, 1000)
+		if err != nil {
+			return err
+		}
+		for _, entry := range entries {
+			line, _ := entry.Call.Line()
+			answer, _ := entry.Reply.Line()
+			fmt.Println(entry.Ordinal, line, "is", answer)
+		}
+		shipped += uint64(len(entries))
+	}
+}
+
+// Who follows a shared table: a goroutine that ships each call once it is recorded.
+func ExampleShared_WaitChanged() {
+	shared, err := pidtab.OpenShared(pidtab.Settings{PidMax: 32768, Workers: 1})
+	if err != nil {
+		log.Fatal(err)
+	}
+	defer shared.Close()
+	ctx, cancel := context.WithCancel(context.Background())
+	shipper := make(chan error)
+	go func() { shipper <- ship(ctx, shared) }()
+	seat, _ := shared.Seat()
+	child, _ := seat.Fork(1, pidtab.NoNewNamespace)
+	seat.Exit(child.Root, 7)
+	seat.Wait(1, pidtab.Pid(child.Number))
+	cancel()
+	fmt.Println(<-shipper)
+	// Output:
+	// 0 fork 1 is child 2 root 2
+	// 1 exit 2 7 is ok
+	// 2 wait 1 pid 2 is reaped 2 exit 7
+	// context canceled
 }

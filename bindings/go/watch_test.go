@@ -4,7 +4,6 @@ import (
 	"bytes"
 	"context"
 	"errors"
-	"fmt"
 	"math"
 	"runtime"
 	"sync"
@@ -230,41 +229,4 @@ func TestWhoFollowsToTheEnd(t *testing.T) {
 	<-follower
 	want(t, "the text", of(shared.Dump()), text, nil)
 	want(t, "calls", of(calls, nil), uint64(watchers*(3*watchedEach-(watchedEach+2)/3)), nil)
-}
-
-func ExampleShared_WaitChanged() {
-	shared, err := OpenShared(Settings{PidMax: 32768, Workers: 1})
-	if err != nil {
-		fmt.Println(err)
-		return
-	}
-	defer shared.Close()
-	ctx, cancel := context.WithCancel(context.Background())
-	shipper := make(chan error)
-	go func() {
-		for shipped := uint64(0); ; {
-			if _, err := shared.WaitChanged(ctx, shipped); err != nil {
-				shipper <- err
-				return
-			}
-			entries, err := shared.Entries(shipped, 1000)
-			if err != nil {
-				shipper <- err
-				return
-			}
-			for _, entry := range entries {
-				fmt.Println(entry.Ordinal, entry.Call.Operation == OpFork, entry.Reply.First)
-			}
-			shipped += uint64(len(entries))
-		}
-	}()
-	seat, _ := shared.Seat()
-	seat.Fork(1, NoNewNamespace)
-	seat.Fork(1, NewNamespace)
-	cancel()
-	fmt.Println(<-shipper)
-	// Output:
-	// 0 true 2
-	// 1 true 3
-	// context canceled
 }

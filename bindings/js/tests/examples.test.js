@@ -2,14 +2,17 @@
 
 import assert from "node:assert/strict";
 import { spawnSync } from "node:child_process";
-import { readFileSync } from "node:fs";
+import { readdirSync, readFileSync } from "node:fs";
 import { test } from "node:test";
+import { fileURLToPath } from "node:url";
 
 import { examples, storedScripts } from "../../../page/tests/stored.js";
 import { pidtab, skip } from "./package.js";
 
 const { Table } = pidtab;
-const ENTRY = new URL("../../../out/js/pidtab.js", import.meta.url).href;
+const PACKAGE = new URL("../../../out/js/", import.meta.url);
+const ENTRY = new URL("pidtab.js", PACKAGE).href;
+const EXAMPLES = new URL("../examples/", import.meta.url);
 
 test("the examples and the stored scripts, with a dump and a load in the middle", { skip }, () => {
   const scripts = [...examples(), ...storedScripts()];
@@ -44,5 +47,21 @@ test("the examples of the page print what it says", { skip }, () => {
   for (const [place, code] of codes.entries()) {
     const run = spawnSync(process.execPath, ["--input-type=module"], { input: code.replace('"pidtab"', JSON.stringify(ENTRY)) });
     assert.equal(String(run.stdout), printed[place], String(run.stderr));
+  }
+});
+
+/** What an example in a file says at its end that it prints. */
+function printedBy(code) {
+  const [, shown] = code.split("\n// It prints\n//\n");
+  return shown.replace(/^\/\/ {5}/gm, "");
+}
+
+test("the examples in files print what they say at their ends", { skip }, () => {
+  const names = readdirSync(EXAMPLES).sort();
+  assert.deepEqual(names, ["controls", "effects", "end_group", "hang_up", "reach", "reserve", "spaces"].map((name) => `${name}.js`));
+  for (const name of names) {
+    // In the package, `pidtab` is the package itself.
+    const run = spawnSync(process.execPath, [fileURLToPath(new URL(`examples/${name}`, PACKAGE))]);
+    assert.equal(String(run.stdout), printedBy(readFileSync(new URL(name, EXAMPLES), "utf8")), name + run.stderr);
   }
 });

@@ -76,6 +76,25 @@ impl Table {
 
     /// The members of the session with the number in the caller's namespace, where 0 is the caller's own, as [`Table::children`] has those of a task.
     ///
+    /// So it has who loses the terminal where the session's leader ends (`exit(3)`), whose foreground process group gets a SIGHUP:
+    ///
+    /// ```
+    /// use pidtab::{Calls, Table};
+    ///
+    /// // 2 leads a session. Its child 3 is in the foreground, in a group of its own, and 5, a child of its child 4, leads another session.
+    /// let mut table = Table::open(32768)?;
+    /// table.fork(1, false)?;
+    /// table.setsid(2)?;
+    /// table.fork(2, false)?;
+    /// table.fork(2, false)?;
+    /// table.setpgid(2, 3, 3)?;
+    /// table.fork(4, false)?;
+    /// table.setsid(5)?;
+    /// assert_eq!(table.group_members(2, 3, 0)?, [3]);
+    /// assert_eq!(table.session_members(2, 0, 0)?, [2, 3, 4]);
+    /// # Ok::<(), pidtab::Error>(())
+    /// ```
+    ///
     /// # Errors
     /// `Refused` as `NoCaller`; `NoMemory`, `Busy`.
     pub fn session_members(&self, caller: u32, number: u32, from: u32) -> Result<Vec<u32>, Error> {
@@ -84,6 +103,35 @@ impl Table {
 
     /// The tasks of the namespace that the task with the number is in, where 0 is the caller, those in namespaces inside it too, as
     /// [`Table::children`] has those of a task. Of the caller's own namespace these are all that it sees: whom `kill(2)` of -1 reaches.
+    ///
+    /// ```
+    /// use pidtab::{Calls, Error, Table};
+    ///
+    /// /// Whom a kill of -1 reaches, by their root numbers: not the init, which is 1 there, and not the caller. To a zombie it does nothing.
+    /// fn reached(table: &Table, caller: u32) -> Result<Vec<u32>, Error> {
+    ///     let mut tasks = Vec::new();
+    ///     for number in table.namespace_members(caller, 0, 2)? {
+    ///         let task = table.stat(caller, number)?;
+    ///         if task.ended().is_none() && task.root() != caller {
+    ///             tasks.push(task.root());
+    ///         }
+    ///     }
+    ///     Ok(tasks)
+    /// }
+    ///
+    /// // 2 is the init of a namespace, and 3, 4 and 5 are its children. 4 is a zombie, and 5 is the init of a namespace within it.
+    /// let mut table = Table::open(32768)?;
+    /// table.fork(1, true)?;
+    /// table.fork(2, false)?;
+    /// table.fork(2, false)?;
+    /// table.fork(2, true)?;
+    /// table.exit(4, 0)?;
+    /// assert_eq!(reached(&table, 1)?, [2, 3, 5]);
+    /// assert_eq!(reached(&table, 3)?, [5]);
+    /// assert_eq!(reached(&table, 5)?, []);
+    /// assert!(reached(&table, 4).is_err());
+    /// # Ok::<(), Error>(())
+    /// ```
     ///
     /// # Errors
     /// `Refused` as `NoCaller`; `NoMemory`, `Busy`.
@@ -97,6 +145,26 @@ impl Table {
     }
 
     /// Of [`Table::namespace_members`] those that are in no namespace inside it.
+    ///
+    /// ```
+    /// use pidtab::{Calls, Table};
+    ///
+    /// // 2 is the init of a namespace, in which is its child 3, and 4 that of one within it.
+    /// let mut table = Table::open(32768)?;
+    /// table.fork(1, true)?;
+    /// table.fork(2, false)?;
+    /// table.fork(3, true)?;
+    /// // Each namespace with its own tasks, from the root inwards. Where the init was reaped, nobody is left but zombies.
+    /// let (mut told, mut spaces) = (Vec::new(), vec![0]);
+    /// while let Some(id) = spaces.pop() {
+    ///     if let Some(init) = table.space(id)?.and_then(|it| it.init) {
+    ///         told.push((id, table.namespace_own(1, init, 0)?));
+    ///     }
+    ///     spaces.extend(table.spaces_inside(id, 0)?.unwrap_or_default());
+    /// }
+    /// assert_eq!(told, [(0, vec![1]), (1, vec![2, 3]), (3, vec![4])]);
+    /// # Ok::<(), pidtab::Error>(())
+    /// ```
     ///
     /// # Errors
     /// `Refused` as `NoCaller`; `NoMemory`, `Busy`.
