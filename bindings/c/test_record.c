@@ -234,6 +234,83 @@ static void room_grows_with_the_calls(void)
 	pidtab_record_close(&record);
 }
 
+/* The reply of a task at the level in a chain of inits: each namespace has one task fewer than the one around it. */
+static void numbers_are(const struct pidtab_reply *reply, uint32_t level)
+{
+	CHECK(reply->kind == PIDTAB_LEVELS && reply->count == level + 1 && reply->first == 0 && reply->second == 0);
+	for (uint32_t i = 0; i < PIDTAB_LEVELS_MAX; i++)
+		CHECK(reply->levels[i] == (i <= level ? level + 1 - i : 0));
+}
+
+static void entry_has_numbers(struct pidtab_record *record, uint64_t ordinal, uint32_t level)
+{
+	struct pidtab_entry entry;
+	size_t count;
+
+	CHECK(pidtab_record_read(record, ordinal, &entry, 1, &count) == PIDTAB_DONE && count == 1);
+	CHECK(entry.call.operation == PIDTAB_NSPID && entry.call.number == level + 1);
+	numbers_are(&entry.reply, level);
+}
+
+static int numbers_refused;
+
+/* Makes the query once no allocation of it is refused, each in turn before that, and answers its place. */
+static uint64_t query(struct pidtab_record *record, const struct pidtab_call *call, struct pidtab_reply *reply)
+{
+	uint64_t place = 77;
+
+	*reply = (struct pidtab_reply){ .kind = 77 };
+	for (int at = 1; refuse(at), pidtab_record_call(record, 0, call, reply, &place) == PIDTAB_NO_MEMORY; at++, numbers_refused++)
+		CHECK(reply->kind == 77 && place == 77);
+	refuse(0);
+	return place;
+}
+
+/* The call behind a list of numbers tells none of them, and fetches what the next list may need. */
+static uint64_t ask_numbers(struct pidtab_record *record, uint32_t level)
+{
+	const struct pidtab_call nspid = { .operation = PIDTAB_NSPID, .caller = 1, .number = level + 1 };
+	struct pidtab_reply reply;
+	uint64_t place = query(record, &nspid, &reply);
+
+	numbers_are(&reply, level);
+	entry_has_numbers(record, place, level);
+	CHECK(query(record, &getpid_1, &reply) == place + 1);
+	CHECK(reply.kind == PIDTAB_NUMBER && reply.first == 1 && reply.count == 0 && reply.levels[0] == 0);
+	entry_has_numbers(record, place, level);
+	return place;
+}
+
+/* Lists of 1 to 33 numbers, the longer ones of which are not in their entries: as they are told, as they are read, and behind cuts. */
+static void lists_of_each_length(void)
+{
+	struct pidtab_record record = PIDTAB_RECORD_INIT;
+	struct pidtab_reply reply;
+	uint64_t places[PIDTAB_LEVELS_MAX], ordinal, first = 0, all = 0;
+
+	CHECK(pidtab_record_open(&record, 32768, 1, 1) == PIDTAB_DONE);
+	for (uint32_t level = 0; level < PIDTAB_LEVELS_MAX; level++) {
+		const struct pidtab_call fork = { .operation = PIDTAB_FORK, .caller = level + 1, .choice = 1 };
+		places[level] = ask_numbers(&record, level);
+		if (level + 1 < PIDTAB_LEVELS_MAX)
+			CHECK(pidtab_record_call(&record, 0, &fork, &reply, &ordinal) == PIDTAB_DONE && reply.kind == PIDTAB_FORKED);
+	}
+	/* Each list of more than five numbers takes memory of its own. */
+	CHECK(numbers_refused >= 28);
+	CHECK(pidtab_record_counts(&record, &first, &all) == PIDTAB_DONE && first == 0);
+	for (uint32_t level = 0; level < PIDTAB_LEVELS_MAX; level++) {
+		while (first < places[level]) {
+			CHECK(pidtab_record_keep(&record, all - first - 1) == PIDTAB_DONE);
+			CHECK(pidtab_record_counts(&record, &first, &all) == PIDTAB_DONE);
+		}
+		for (uint32_t kept = level; kept < PIDTAB_LEVELS_MAX; kept++)
+			entry_has_numbers(&record, places[kept], kept);
+	}
+	CHECK(pidtab_record_checkpoint(&record) == PIDTAB_DONE);
+	CHECK(pidtab_record_counts(&record, &first, &all) == PIDTAB_DONE && first == all);
+	pidtab_record_close(&record);
+}
+
 int main(void)
 {
 	closed();
@@ -244,5 +321,6 @@ int main(void)
 	want_of_memory();
 	keeps_a_bound();
 	room_grows_with_the_calls();
+	lists_of_each_length();
 	return 0;
 }
