@@ -77,6 +77,7 @@ gate:
 	@tools/architecture --check
 	@tools/pages --check
 	@tools/widths --check
+	@tools/names --check
 	@tools/walk --check
 	@tools/gate --check
 	@tools/gate --budget $(GATE_MINUTES)

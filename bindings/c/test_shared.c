@@ -168,6 +168,53 @@ static void a_cut(void)
 	CHECK(pidtab_shared_call(&shared, 3, &call, &reply, &ordinal) == PIDTAB_DONE && ordinal == all);
 }
 
+struct waiting {
+	uint32_t worker;
+	uint32_t status;
+	struct pidtab_reply reply;
+	uint64_t ordinal;
+};
+
+static void *asks(void *at)
+{
+	const struct pidtab_call call = { .operation = PIDTAB_GETPID, .caller = 1 };
+	struct waiting *it = at;
+
+	it->status = pidtab_shared_call(&shared, it->worker, &call, &it->reply, &it->ordinal);
+	return NULL;
+}
+
+/* Calls that find the lock taken are made, each once and in some order; those of a worker that is none are not. */
+static void calls_while_locked(void)
+{
+	static struct waiting waits[WORKERS];
+	const struct timespec moment = { .tv_nsec = 20000000 };
+	bool seen[WORKERS] = { false };
+	pthread_t threads[WORKERS];
+	uint64_t first_kept, before, recorded;
+
+	CHECK(pidtab_record_counts(pidtab_shared_lock(&shared), &first_kept, &before) == PIDTAB_DONE);
+	for (uint32_t i = 0; i < WORKERS; i++) {
+		waits[i] = (struct waiting){ .worker = i % 4 == 3 ? WORKERS : i, .reply = { .kind = 77 }, .ordinal = 77 };
+		CHECK(pthread_create(&threads[i], NULL, asks, &waits[i]) == 0);
+	}
+	nanosleep(&moment, NULL);
+	pidtab_shared_unlock(&shared);
+	for (uint32_t i = 0; i < WORKERS; i++) {
+		const struct waiting *it = &waits[i];
+
+		CHECK(pthread_join(threads[i], NULL) == 0);
+		if (i % 4 == 3) {
+			CHECK(it->status == PIDTAB_OUT_OF_RANGE && it->reply.kind == 77 && it->ordinal == 77);
+			continue;
+		}
+		CHECK(it->status == PIDTAB_DONE && it->reply.kind == PIDTAB_NUMBER && it->reply.first == 1);
+		CHECK(it->ordinal - before < WORKERS / 4 * 3 && !seen[it->ordinal - before]);
+		seen[it->ordinal - before] = true;
+	}
+	CHECK(pidtab_shared_counts(&shared, &first_kept, &recorded) == PIDTAB_DONE && recorded - before == WORKERS / 4 * 3);
+}
+
 int main(void)
 {
 	works = calloc(WORKERS, sizeof *works);
@@ -178,6 +225,7 @@ int main(void)
 	the_receipts_are_the_entries();
 	the_history_replays();
 	a_cut();
+	calls_while_locked();
 	pidtab_shared_close(&shared);
 	free(works);
 	free(entries);

@@ -75,9 +75,9 @@ def all_refusals(tables):
     return [imported("pid_types.specs.declared.reply.Refusal", [camel(it.word) for it in tables["refusals"]])]
 
 
-def refused_by(form, otherwise):
+def refused_by(function, form, otherwise):
     """The id of what refused the call."""
-    return lambda tables: [*[f"refused_by ({camel(it.word)} {IDS[it.id]}) = {form.format(IDS[it.id])}" for it in tables["refusals"] if it.id != "-"], f"refused_by _ = {otherwise}"]
+    return lambda tables: [*[f"{function} ({camel(it.word)} {IDS[it.id]}) = {form.format(IDS[it.id])}" for it in tables["refusals"] if it.id != "-"], f"{function} _ = {otherwise}"]
 
 
 def first_of(tables):
@@ -112,9 +112,9 @@ ROWS = {
     (MODEL, "errno_entry"): (definition("errno_entry"), of_errnos('errno_entry {name} = record {{ name = codes "{word}"; value = {value} }}')),
     (MODEL, "refusal_entry"): (definition("refusal_entry"), entries),
     (ANSWER, "push_refusal_words"): (arms("push_refusal_words<"), of_each('        {code} => push_bytes(text, b"{error} {word}"),')),
-    (ANSWERS, "refused_by"): (definition("refused_by"), refused_by('codes " " ++ decimal {}', "[]")),
+    (ANSWERS, "refuser_text"): (definition("refuser_text"), refused_by("refuser_text", 'codes " " ++ decimal {}', "[]")),
     (NUMBERS, "put_refusal"): (arms("put_refusal("), first_of),
-    (NUMBERS_MODEL, "refused_by"): (definition("refused_by"), refused_by("{}", "0")),
+    (NUMBERS_MODEL, "refused_by"): (definition("refused_by"), refused_by("refused_by", "{}", "0")),
     (REPLIES, "read_refusal"): (arms("read_refusal("), of_numbers),
     (REPLIES_MODEL, "refusals_of"): (definition("refusals_of"), listed),
     (FAULT, "from LoadFault"): (arms("from(fault: LoadFault)"), held("LoadFault", ["form"])),

@@ -24,7 +24,7 @@ WAYS = {
 }
 
 # What reads the word of an argument.
-READERS = {"number": "process_of", "byte": "status_of", "id": "control_of", "signed": "signed_of", "which": "which_of", "use": "kind_of", "most": "limit_of", "on": "switch_of"}
+READERS = {"number": "process_of", "byte": "status_read", "id": "control_of", "signed": "signed_of", "which": "which_read", "use": "kind_read", "most": "limit_read", "on": "switch_read"}
 
 # What writes a call whose arguments are of these kinds, behind its command or by itself.
 BEHIND = {"number": "push_one", "number number": "push_two", "number byte": "push_two", "id": "push_control"}
@@ -82,7 +82,7 @@ def words_of_uses(tables):
 
 def uses(tables):
     """What reads such a word."""
-    return [f"kind_of = named ({' ∷ '.join([*[f'(codes {chr(34)}{it.word}{chr(34)}, kind.{it.model})' for it in of(tables, 'use')], '[]'])})"]
+    return [f"kind_read = named ({' ∷ '.join([*[f'(codes {chr(34)}{it.word}{chr(34)}, kind.{it.model})' for it in of(tables, 'use')], '[]'])})"]
 
 
 def commands(tables):
@@ -138,7 +138,7 @@ ROWS = {
     (LINES, "words_of"): (definition("words_of"), words),
     (LINES, "FitsWhich"): (definition("FitsWhich"), of_which("FitsWhich", "Unit {{0}}", "number < 2 ^ 32")),
     (LINES, "Fits"): (definition("Fits"), fits),
-    (READING, "kind_of"): (definition("kind_of"), uses),
+    (READING, "kind_read"): (definition("kind_read"), uses),
     (READING, "commands"): (definition("commands"), commands),
     (WRITER, "line_text"): (arms("line_text("), writes),
     (READER, "read_command"): (arms("read_command("), by_length),

@@ -24,7 +24,7 @@ use Rattle.call_effects.specs.declared.spaces.WatchedSpace.{WatchedSpace}
 use Rattle.call_effects.specs.declared.tasks.Watched.{Watched}
 use Rattle.call_effects.specs.Changes.{as_list, changes, changes_in, end_with}
 use Rattle.call_effects.specs.Belonging.{gone_in}
-use Rattle.call_effects.specs.Effects.{fate, fate_of_members, fate_of_space, gone_as, has_members, is_space, stands, where_lost, where_so, AreEffects, Collects}
+use Rattle.call_effects.specs.Effects.{fate, fate_of_members, fate_of_space, gone_as, has_members_as, is_space, takes_tasks, where_lost, where_so, AreEffects, Collects}
 use Rattle.call_effects.specs.Spaces.{changes_of_space}
 use Rattle.call_effects.specs.Touched.{AreWatched, AreWatchedSpaces, MayEnd, Touches, Watches, Watching}
 use Rattle.call_effects.proofs.Rows.{row_of}
@@ -123,27 +123,27 @@ not_lost so old new numbers ends n off e = go (so old n) refl
     go false is = rw is refl
     go true is = let stays = ends.rest n is off in rw (is, stays) refl
 
-module _ (kind : Kind) (old new : State) (numbers : List ℕ) (ends : MayEnd (has_members kind) old new numbers) where
-  gone-is : (ns : List ℕ) → ((n : ℕ) → IsIn n ns → has_members kind old n ≡ true) → flat_map (gone_in kind new) ns ≡ flat_map (fate_of_members kind old new) ns
+module _ (kind : Kind) (old new : State) (numbers : List ℕ) (ends : MayEnd (has_members_as kind) old new numbers) where
+  gone-is : (ns : List ℕ) → ((n : ℕ) → IsIn n ns → has_members_as kind old n ≡ true) → flat_map (gone_in kind new) ns ≡ flat_map (fate_of_members kind old new) ns
   gone-is [] before = refl
   gone-is (n ∷ ns) before =
       let so = before n (inl refl) in
-      λ i. ap (λ b. where_so (b && not (has_members kind new n)) (gone_as kind n)) (sym so) i ++ gone-is ns (λ m on. before m (inr on)) i
+      λ i. ap (λ b. where_so (b && not (has_members_as kind new n)) (gone_as kind n)) (sym so) i ++ gone-is ns (λ m on. before m (inr on)) i
 
   pub members_told : Collects (fate_of_members kind old new) (flat_map (gone_in kind new) numbers)
   members_told =
-      collected (fate_of_members kind old new) numbers ends.rising (λ n off. not_lost (has_members kind) old new numbers ends n off (gone_as kind n)) (flat_map (gone_in kind new) numbers)
+      collected (fate_of_members kind old new) numbers ends.rising (λ n off. not_lost (has_members_as kind) old new numbers ends n off (gone_as kind n)) (flat_map (gone_in kind new) numbers)
       (gone-is numbers ends.before)
 
-module _ (old new : State) (ids : List ℕ) (ends : MayEnd is_space old new ids) (standing : (id : ℕ) → stands old id ≡ true → (IsIn id ids → ⊥) → stands new id ≡ true)
+module _ (old new : State) (ids : List ℕ) (ends : MayEnd is_space old new ids) (standing : (id : ℕ) → takes_tasks old id ≡ true → (IsIn id ids → ⊥) → takes_tasks new id ≡ true)
     (spaces : List WatchedSpace) (watched : AreWatchedSpaces old ids spaces) where
   -- what is read of a namespace is what became of it
-  space-is : (w : WatchedSpace) → stands old w.id ≡ w.stood → is_space old w.id ≡ true → changes_of_space new w ≡ fate_of_space old new w.id
+  space-is : (w : WatchedSpace) → takes_tasks old w.id ≡ w.stood → is_space old w.id ≡ true → changes_of_space new w ≡ fate_of_space old new w.id
   space-is w stood there = λ i.
-      (as_where (w.stood && not (stands new w.id)) (SpaceFell w.id) ∙ ap (λ b. where_so (b && not (stands new w.id)) (SpaceFell w.id)) (sym stood)) i
+      (as_where (w.stood && not (takes_tasks new w.id)) (SpaceFell w.id) ∙ ap (λ b. where_so (b && not (takes_tasks new w.id)) (SpaceFell w.id)) (sym stood)) i
       ++ (as_not (is_space new w.id) (SpaceGone w.id) ∙ ap (λ b. where_so (b && not (is_space new w.id)) (SpaceGone w.id)) (sym there)) i
 
-  spaces-are : (ws : List WatchedSpace) → ((w : WatchedSpace) → IsIn w ws → (stands old w.id ≡ w.stood) × (is_space old w.id ≡ true))
+  spaces-are : (ws : List WatchedSpace) → ((w : WatchedSpace) → IsIn w ws → (takes_tasks old w.id ≡ w.stood) × (is_space old w.id ≡ true))
       → flat_map (changes_of_space new) ws ≡ flat_map (fate_of_space old new) (map (λ (w : WatchedSpace). w.id) ws)
   spaces-are [] all = refl
   spaces-are (w ∷ ws) all = let h = all w (inl refl) in λ i. space-is w h.0 h.1 i ++ spaces-are ws (λ v on. all v (inr on)) i
@@ -155,14 +155,14 @@ module _ (old new : State) (ids : List ℕ) (ends : MayEnd is_space old new ids)
       ∙ ap (flat_map (fate_of_space old new)) watched.numbered)
     where
       nothing_else : (n : ℕ) → (IsIn n ids → ⊥) → fate_of_space old new n ≡ []
-      nothing_else n off = fell (stands old n) refl
+      nothing_else n off = fell (takes_tasks old n) refl
         where
           gone : where_lost is_space old new n (SpaceGone n) ≡ []
           gone = not_lost is_space old new ids ends n off (SpaceGone n)
 
-          fell : (b : Bool) → stands old n ≡ b → fate_of_space old new n ≡ []
-          fell false is = ap (λ es. where_lost stands old new n (SpaceFell n) ++ es) gone ∙ rw is refl
-          fell true is = let stays = standing n is off in ap (λ es. where_lost stands old new n (SpaceFell n) ++ es) gone ∙ rw (is, stays) refl
+          fell : (b : Bool) → takes_tasks old n ≡ b → fate_of_space old new n ≡ []
+          fell false is = ap (λ es. where_lost takes_tasks old new n (SpaceFell n) ++ es) gone ∙ rw is refl
+          fell true is = let stays = standing n is off in ap (λ es. where_lost takes_tasks old new n (SpaceFell n) ++ es) gone ∙ rw (is, stays) refl
 
 -- what is told of all that is watched are the effects
 pub told : (old new : State) (w : Watching) → Watches old new w → (effects : List Effect)

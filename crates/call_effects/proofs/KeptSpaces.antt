@@ -5,7 +5,7 @@ use Rattle.model_laws.proofs.Lists.{IsIn-append}
 use Rattle.model_laws.proofs.Calls.{Comes, still, born, born_first, fell, handed_on, waits, reaped, grouped, led, executed, control_made, control_removed, limit_set, moved, joined, marked}
 use Rattle.model_laws.proofs.Refusals.{step_comes}
 use Rattle.model_laws.proofs.Sweeps.{from_kept}
-use Rattle.call_effects.specs.Touched.{KeepsSpaces}
+use Rattle.call_effects.specs.Touched.{KeepsParents}
 
 -- the namespace was there, in the same place, and has fallen where it had
 record WasThere (olds : List Space) (t : Space) : Type 0 where
@@ -60,7 +60,7 @@ all_from state stamp call o (moved n id task c found there) t i = itself state.s
 all_from state stamp call o (joined n target caller row found there live) t i = itself state.spaces stamp t (from_kept _ t i).0
 all_from state stamp call o (marked n on caller found) t i = itself state.spaces stamp t (from_kept _ t i).0
 
-pub keeps_spaces : (state : State) (stamp : ℕ) (call : Call) → IsSound state → IsBelow stamp state → KeepsSpaces state (step state stamp call).state
+pub keeps_spaces : (state : State) (stamp : ℕ) (call : Call) → IsSound state → IsBelow stamp state → KeepsParents state (step state stamp call).state
 keeps_spaces state stamp call sound below id s t here there = go (all_from state stamp call (step state stamp call) (step_comes state stamp call) t new.0)
   where
     old : IsIn s state.spaces × (s.id ≡ id)

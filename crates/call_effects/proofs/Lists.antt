@@ -9,7 +9,7 @@ use Rattle.member_lists.specs.Owners.{times}
 use Rattle.pid_types.specs.Membership.{IsIn}
 use Rattle.pid_types.specs.Sound.{IsRising}
 use Rattle.task_table.proofs.Places.{place-of}
-use Rattle.translate.specs.Pages.{AreListed}
+use Rattle.translate.specs.Pages.{AreListedFrom}
 use Rattle.translate.proofs.Rising.{once-more, IsIn-permuted, IsIn-unpermuted}
 use Rattle.call_effects.specs.Distinct.{SortsDistinct}
 
@@ -58,7 +58,7 @@ IsIn-from_Contains (y ∷ xs) x (zero, few, e) = inl (sym e)
 IsIn-from_Contains (y ∷ xs) x (suc k, few, e) = inr (IsIn-from_Contains xs x (k, omega (arith, few), e))
 
 -- a sorted list without what comes again has each number of the list once, in rising order
-pub distinct : (old new : List ℕ) → SortsDistinct nat_cmp ◌==◌ old new → AreListed old 0 new
+pub distinct : (old new : List ℕ) → SortsDistinct nat_cmp ◌==◌ old new → AreListedFrom old 0 new
 distinct old new d = record {
   rising = subst IsRising (sym d.is) (rising_pairs (dedup ◌==◌ d.sorted) (AllPairs-from_increasing (dedup ◌==◌ d.sorted) (IsStrictlyIncreasing-dedup d.sorted d.in_order)));
   each = λ m. (

@@ -10,12 +10,12 @@ use Rattle.pid_types.specs.Queries.{name_by}
 use Rattle.pid_types.specs.Sound.{IsRising}
 use Rattle.pid_types.specs.State.{State}
 use Rattle.model_laws.proofs.Lists.{IsIn-from_map, IsIn-map, list_any-from_one, some_passes}
-use Rattle.translate.specs.Pages.{AreListed}
+use Rattle.translate.specs.Pages.{AreListedFrom}
 use Rattle.translate.specs.Relations.{relations_of}
 use Rattle.translate.specs.declared.relations.Relations.{Relations}
 use Rattle.call_effects.specs.declared.tasks.Watched.{Watched}
 use Rattle.call_effects.specs.Belonging.{owner_by}
-use Rattle.call_effects.specs.Effects.{has_members}
+use Rattle.call_effects.specs.Effects.{has_members_as}
 use Rattle.call_effects.specs.Touched.{AreWatched, MayEnd, Touches}
 use Rattle.call_effects.proofs.Rows.{either, row_of_watched}
 
@@ -32,17 +32,17 @@ owner_stays Group a b n r = ap (λ (x : Relations). x.group) r
 owner_stays Session a b n r = ap (λ (x : Relations). x.session) r
 
 -- one member is enough
-pub has_member : (kind : Kind) (state : State) (row : Row) (n : ℕ) → IsIn row state.rows → root_number (name_by kind row) ≡ n → has_members kind state n ≡ true
+pub has_member : (kind : Kind) (state : State) (row : Row) (n : ℕ) → IsIn row state.rows → root_number (name_by kind row) ≡ n → has_members_as kind state n ≡ true
 has_member kind state row n i e = list_any-from_one (λ (r : Row). root_number (name_by kind r) == n) state.rows row i (eq-eqb (root_number (name_by kind row)) n e)
 
 -- where there are members there is one
-pub a_member : (kind : Kind) (state : State) (n : ℕ) → has_members kind state n ≡ true → (row : Row) × IsIn row state.rows × (root_number (name_by kind row) ≡ n)
+pub a_member : (kind : Kind) (state : State) (n : ℕ) → has_members_as kind state n ≡ true → (row : Row) × IsIn row state.rows × (root_number (name_by kind row) ≡ n)
 a_member kind state n so =
     let p = some_passes (λ (r : Row). root_number (name_by kind r) == n) state.rows so in
     (p.0, p.1, eqb-true (root_number (name_by kind p.0)) n p.2)
 
 pub members_may_end : (old new : State) → IsRising (map (λ (r : Row). root_number r.name) old.rows) → (numbers : List ℕ) (tasks : List Watched) → AreWatched old numbers tasks
-    → Touches old new numbers → (kind : Kind) (owners : List ℕ) → AreListed (map (owner_by kind) tasks) 0 owners → MayEnd (has_members kind) old new owners
+    → Touches old new numbers → (kind : Kind) (owners : List ℕ) → AreListedFrom (map (owner_by kind) tasks) 0 owners → MayEnd (has_members_as kind) old new owners
 members_may_end old new rise numbers tasks watched touches kind owners listed = record {
   rising = listed.rising;
   before = λ n on.

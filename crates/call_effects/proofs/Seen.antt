@@ -27,9 +27,9 @@ use Rattle.translate.specs.Stat.{stat_of}
 use Rattle.translate.specs.declared.page.Page.{Page}
 use Rattle.translate.specs.declared.page.Whom.{Whom}
 use Rattle.translate.specs.declared.stat.Stat.{Stat}
-use Rattle.translate.specs.Pages.{AreListed, ListsPage, numbers_asked}
+use Rattle.translate.specs.Pages.{AreListedFrom, ListsPage, numbers_asked}
 use Rattle.translate.proofs.Least.{least_bound, least-some}
-use Rattle.call_effects.specs.Effects.{has_members}
+use Rattle.call_effects.specs.Effects.{has_members_as}
 use Rattle.call_effects.specs.Whom.{is_number, root_seen, IsRootList}
 use Rattle.call_effects.proofs.Members.{a_member, has_member}
 use Rattle.call_effects.proofs.Stays.{live_row-listed}
@@ -76,7 +76,7 @@ pub root_list : (state : State) (whom : Whom) (n : ℕ) (told : Option (List ℕ
 root_list state whom n told listed is page root at =
     let l = page.listed root at in
     let same : l.0 ≡ listed = (let z : Some l.0 ≡ Some listed = sym l.2 ∙ is in cc) in
-    subst (λ ns. AreListed (numbers_asked state root whom n) 0 ns) same l.1
+    subst (λ ns. AreListedFrom (numbers_asked state root whom n) 0 ns) same l.1
 
 -- ---- members
 
@@ -94,13 +94,13 @@ named_at_root state sound kind row i =
 
 -- the next number from one on is that one, just where it has members
 next_is : (state : State) → IsSound state → (kind : Kind) (n : ℕ)
-    → is_number n (option_map_or Number (least_of (filter (nat_le n) (numbers_by state kind 0))) End) ≡ has_members kind state n
-next_is state sound kind n = go (has_members kind state n) refl
+    → is_number n (option_map_or Number (least_of (filter (nat_le n) (numbers_by state kind 0))) End) ≡ has_members_as kind state n
+next_is state sound kind n = go (has_members_as kind state n) refl
   where
     all : List ℕ
     all = filter (nat_le n) (numbers_by state kind 0)
 
-    go : (b : Bool) → has_members kind state n ≡ b → is_number n (option_map_or Number (least_of all) End) ≡ has_members kind state n
+    go : (b : Bool) → has_members_as kind state n ≡ b → is_number n (option_map_or Number (least_of all) End) ≡ has_members_as kind state n
     go true so =
         let m = a_member kind state n so in
         let here : IsIn n all =
@@ -124,7 +124,7 @@ next_is state sound kind n = go (has_members kind state n) refl
                 absurd (let z : true ≡ false = sym (has_member kind state r.0 n r.1 same) ∙ so in cc)
 
 -- so the root init is told whether there are members
-pub members_asked : (state : State) (stamp n : ℕ) (kind : Kind) → IsSound state → is_number n (step state stamp (Next 1 kind n)).reply ≡ has_members kind state n
+pub members_asked : (state : State) (stamp n : ℕ) (kind : Kind) → IsSound state → is_number n (step state stamp (Next 1 kind n)).reply ≡ has_members_as kind state n
 unfolding step next
 members_asked state stamp n kind sound =
     let r = root_init_row state sound.coherent in

@@ -7,16 +7,16 @@ use Rattle.model_laws.proofs.Chains.{climb-None, climb-Some, climb-stopped, IsIn
 use Rattle.model_laws.proofs.Lists.{IsIn-flat_map, IsIn-from_flat_map}
 use Rattle.model_laws.proofs.Names.{IsIn-names_in_use}
 use Rattle.model_laws.proofs.Trees.{root_space_parent}
-use Rattle.translate.specs.Pages.{AreListed}
+use Rattle.translate.specs.Pages.{AreListedFrom}
 use Rattle.translate.specs.Relations.{relations_of}
 use Rattle.translate.specs.Stat.{still_lives}
 use Rattle.translate.specs.Spaces.{space_stat_at, space_stat_of}
 use Rattle.translate.specs.declared.relations.Relations.{Relations}
 use Rattle.translate.specs.declared.space.SpaceStat.{SpaceStat}
 use Rattle.call_effects.specs.declared.tasks.Watched.{Watched}
-use Rattle.call_effects.specs.Effects.{is_space, stands}
-use Rattle.call_effects.specs.Spaces.{inner_path, spaces_of}
-use Rattle.call_effects.specs.Touched.{AreWatched, KeepsSpaces, MayEnd, Touches}
+use Rattle.call_effects.specs.Effects.{is_space, takes_tasks}
+use Rattle.call_effects.specs.Spaces.{inner_path, watched_spaces}
+use Rattle.call_effects.specs.Touched.{AreWatched, KeepsParents, MayEnd, Touches}
 use Rattle.call_effects.proofs.Fates.{lives-is}
 use Rattle.call_effects.proofs.Rows.{IsWatchedRow, StaysAs, either, row_of_watched}
 
@@ -122,13 +122,13 @@ module _ (old : State) (sound : IsSound old) (numbers : List ℕ) (tasks : List 
   rise = sound.coherent.rows_rise
 
   -- each of the tasks' own namespaces is that of a name that is used
-  own_name : (x : ℕ) → IsIn x (flat_map spaces_of tasks) → (a : Name) × IsIn a (names_in_use old.rows) × (a.space ≡ x)
+  own_name : (x : ℕ) → IsIn x (flat_map watched_spaces tasks) → (a : Name) × IsIn a (names_in_use old.rows) × (a.space ≡ x)
   own_name x on =
-      let m = IsIn-from_flat_map spaces_of x tasks on in
+      let m = IsIn-from_flat_map watched_spaces x tasks on in
       let r = row_of_watched old rise numbers tasks watched m.0 m.1 in
       go m.0 r.0 r.1 r.3 m.2
     where
-      go : (w : Watched) (row : Row) → IsIn row old.rows → w.before ≡ relations_of row → IsIn x (spaces_of w) → (a : Name) × IsIn a (names_in_use old.rows) × (a.space ≡ x)
+      go : (w : Watched) (row : Row) → IsIn row old.rows → w.before ≡ relations_of row → IsIn x (watched_spaces w) → (a : Name) × IsIn a (names_in_use old.rows) × (a.space ≡ x)
       go w row i before (inl e) = (row.name, IsIn-names_in_use old.rows row row.name i (inl refl), sym (ap (λ (r : Relations). r.space) before) ∙ sym e)
       go w row i before (inr (inl e)) = (row.group, IsIn-names_in_use old.rows row row.group i (inr (inl refl)), sym (ap (λ (r : Relations). r.group_space) before) ∙ sym e)
       go w row i before (inr (inr (inl e))) =
@@ -136,14 +136,14 @@ module _ (old : State) (sound : IsSound old) (numbers : List ℕ) (tasks : List 
       go w row i before (inr (inr (inr none))) = absurd none
 
   -- so it is there
-  pub own_there : (x : ℕ) → IsIn x (flat_map spaces_of tasks) → is_space old x ≡ true
+  pub own_there : (x : ℕ) → IsIn x (flat_map watched_spaces tasks) → is_space old x ≡ true
   own_there x on =
       let a = own_name x on in
       let l = (sound.coherent.numbered a.0 a.1).listed x (subst (λ n. IsIn x (path_up old.spaces n)) (sym a.2) (path_first old.spaces x)) in
       ap is_some l.1
 
   -- and so is all that is listed
-  pub listed_there : (own ids : List ℕ) → AreListed (flat_map spaces_of tasks) 0 own → AreListed (flat_map (inner_path old) own) 0 ids → (x : ℕ) → IsIn x ids → is_space old x ≡ true
+  pub listed_there : (own ids : List ℕ) → AreListedFrom (flat_map watched_spaces tasks) 0 own → AreListedFrom (flat_map (inner_path old) own) 0 ids → (x : ℕ) → IsIn x ids → is_space old x ≡ true
   listed_there own ids owns listed x on =
       let m = IsIn-from_flat_map (inner_path old) x own ((listed.each x).0 on).1 in
       let a = own_name m.0 ((owns.each m.0).0 m.1).1 in
@@ -153,9 +153,9 @@ module _ (old : State) (sound : IsSound old) (numbers : List ℕ) (tasks : List 
 
 -- ---- what is not around a watched name
 
-module _ (old new : State) (sound : IsSound old) (sound_new : IsSound new) (keeps : KeepsSpaces old new) (numbers : List ℕ) (tasks : List Watched)
-    (touches : Touches old new numbers) (watched : AreWatched old numbers tasks) (own ids : List ℕ) (owns : AreListed (flat_map spaces_of tasks) 0 own)
-    (listed : AreListed (flat_map (inner_path old) own) 0 ids) where
+module _ (old new : State) (sound : IsSound old) (sound_new : IsSound new) (keeps : KeepsParents old new) (numbers : List ℕ) (tasks : List Watched)
+    (touches : Touches old new numbers) (watched : AreWatched old numbers tasks) (own ids : List ℕ) (owns : AreListedFrom (flat_map watched_spaces tasks) 0 own)
+    (listed : AreListedFrom (flat_map (inner_path old) own) 0 ids) where
   -- a name that is used before and one that is used behind, of one namespace, have one path
   path_same : (a b : Name) → IsIn a (names_in_use old.rows) → IsIn b (names_in_use new.rows) → b.space ≡ a.space → path_up new.spaces a.space ≡ path_up old.spaces a.space
   unfolding path_up
@@ -185,9 +185,9 @@ module _ (old new : State) (sound : IsSound old) (sound_new : IsSound new) (keep
 
   -- the namespace of a watched name is one of the tasks' own
   own_of : (row : Row) (w : IsWatchedRow tasks row) (a : Name) → Uses row a → IsIn a.space own
-  own_of row w a u = (owns.each a.space).1 (omega arith, IsIn-flat_map spaces_of w.watched a.space tasks w.listed (used u))
+  own_of row w a u = (owns.each a.space).1 (omega arith, IsIn-flat_map watched_spaces w.watched a.space tasks w.listed (used u))
     where
-      used : Uses row a → IsIn a.space (spaces_of w.watched)
+      used : Uses row a → IsIn a.space (watched_spaces w.watched)
       used (inl e) = inl (ap (λ (n : Name). n.space) e ∙ sym (ap (λ (r : Relations). r.space) w.before))
       used (inr (inl e)) = inr (inl (ap (λ (n : Name). n.space) e ∙ sym (ap (λ (r : Relations). r.group_space) w.before)))
       used (inr (inr (inl e))) = inr (inr (inl (ap (λ (n : Name). n.space) e ∙ sym (ap (λ (r : Relations). r.session_space) w.before))))
@@ -243,11 +243,11 @@ module _ (old new : State) (sound : IsSound old) (sound_new : IsSound new) (keep
       go false is = is
       go true is = absurd (let none = (sound_new.coherent.fallen s i is).ended row j live in let z : Some seen.0 ≡ None = sym seen.1 ∙ none in cc)
 
-  pub stands_still : (id : ℕ) → stands old id ≡ true → (IsIn id ids → ⊥) → stands new id ≡ true
+  pub stands_still : (id : ℕ) → takes_tasks old id ≡ true → (IsIn id ids → ⊥) → takes_tasks new id ≡ true
   stands_still zero so off = let r = root_there in ap (λ o. option_map_or (λ (t : Space). not t.fallen) o false) r.1 ∙ ap not r.2
   stands_still (suc n) so off = go (space_at old.spaces (suc n)) refl so
     where
-      go : (o : Option Space) → space_at old.spaces (suc n) ≡ o → option_map_or (λ (s : Space). not s.fallen) o false ≡ true → stands new (suc n) ≡ true
+      go : (o : Option Space) → space_at old.spaces (suc n) ≡ o → option_map_or (λ (s : Space). not s.fallen) o false ≡ true → takes_tasks new (suc n) ≡ true
       go None at so = absurd (cc)
       go (Some s) at so =
           let h = space_at-Some old.spaces (suc n) s at in

@@ -1,5 +1,5 @@
 -- Whom each call may touch.
-use Rattle.model_laws.proofs.Words.{◌≡◌, ◌==◌, ◌<◌, ℕ, zero, suc, ℤ, pos, negsuc, Bool, true, false, not, List, [], ◌∷◌, filter, Option, Some, None, refl, sym, ap, ◌∙◌, subst, inl, inr, arith, is_some, option_map, option_and_then, option_map_or, if◌then◌else◌, false_from_ne_true, not_from_false, ne_eqb, Call, Fork, GetPid, NsPid, Exec, Exit, Wait, GetPpid, SetPgid, SetSid, MakeControl, RemoveControl, SetLimit, Move, Count, GetPgid, GetSid, Next, Join, SetSubreaper, Which, Row, Name, Ended, Done, Reaped, IsIn, State, Outcome, sweep, without_row, root_number, number, number_or_zero, is_live, is_member, is_parent, is_numbered, same_name, row_at, live_row, task_at, self_or_task, parent_number, step, is_init, rows_after_exit, IsSound, IsBelow, set_group, start_session, with_row, matching, ended_children, unwrap_or}
+use Rattle.model_laws.proofs.Words.{◌≡◌, ◌==◌, ◌<◌, ℕ, zero, suc, ℤ, pos, negsuc, Bool, true, false, not, List, [], ◌∷◌, filter, Option, Some, None, refl, sym, ap, ◌∙◌, subst, inl, inr, arith, is_some, option_map, option_and_then, option_map_or, if◌then◌else◌, false_from_ne_true, not_from_false, ne_eqb, Call, Fork, GetPid, NsPid, Exec, Exit, Wait, GetPpid, SetPgid, SetSid, MakeControl, RemoveControl, SetLimit, Move, Count, GetPgid, GetSid, Next, Join, SetSubreaper, Which, Row, Name, Ended, Done, Reaped, IsIn, State, Outcome, sweep, without_row, root_number, number, number_or_zero, is_live, is_member, is_parent, is_numbered, same_name, row_at, live_row, task_numbered, self_or_task, parent_number, step, is_init, rows_after_exit, IsSound, IsBelow, set_group, start_session, with_row, matching, ended_children, unwrap_or}
 use Rattle.model_laws.proofs.Ground.{IsIn-filter, IsIn-from_filter, row_at-listed, live_row-Some, unique_key, same_name-true, is_parent-true, is_numbered-from, is_numbered-true, find-Some, number-within, number-on_path, own_name_in_use, task_at-own}
 use Rattle.model_laws.proofs.Lists.{IsIn-filter_map, IsIn-from_filter_map}
 use Rattle.model_laws.proofs.Ancestry.{number-root_of_row, parent_number-at, root_init_row, row_far, top_row, Far}
@@ -16,12 +16,12 @@ use Rattle.pid_types.specs.declared.call.Kind.TheVariants.{Task}
 use Rattle.translate.specs.declared.members.Reach.TheVariants.{Subtree}
 use Rattle.translate.specs.declared.page.Whom.{Whom}
 use Rattle.translate.specs.declared.page.Whom.TheVariants.{Belonging, Namespace}
-use Rattle.translate.specs.Members.{numbers_in, is_among}
-use Rattle.translate.specs.Pages.{numbers_asked, numbers_belonging, belongs, is_meant, AreListed}
+use Rattle.translate.specs.Members.{visible_numbers, is_among}
+use Rattle.translate.specs.Pages.{numbers_asked, numbers_belonging, belongs, is_meant, AreListedFrom}
 use Rattle.translate.specs.Relations.{relations_of, relations_at}
 use Rattle.translate.proofs.Rising.{once-more, rising-once, times-permuted, IsIn-permuted, IsIn-unpermuted}
 use Rattle.call_effects.specs.Touched.{is_touching, Touches}
-use Rattle.call_effects.specs.Whom.{list_of, root_seen, target_seen, IsRootList}
+use Rattle.call_effects.specs.Whom.{none_or_one, root_seen, target_seen, IsRootList}
 use Rattle.call_effects.proofs.Lists.{once_rising}
 use Rattle.call_effects.proofs.Stays.{Stays, found, itself, other, all_stay, bystander, live_row-listed}
 
@@ -95,7 +95,7 @@ module _ (state : State) (stamp : ℕ) (sound : IsSound state) (below : IsBelow 
   meant : (caller row : Row) (m : ℕ) → IsIn row state.rows → number state.spaces row.name caller.name.space ≡ Some m → self_or_task state caller m ≡ Some row
   meant caller row m i e =
       let some = above_zero row caller.name.space m i e in
-      ap (λ b. if b then Some caller else task_at state caller.name.space m) (ne_eqb m 0 (λ z. omega (arith, z, some)))
+      ap (λ b. if b then Some caller else task_numbered state caller.name.space m) (ne_eqb m 0 (λ z. omega (arith, z, some)))
       ∙ task_at-own state sound.coherent row i caller.name.space m e
 
   -- nothing is touched where all stay
@@ -112,8 +112,8 @@ module _ (state : State) (stamp : ℕ) (sound : IsSound state) (below : IsBelow 
 
   -- one task is touched, or none
   one_touched : (call : Call) (n m : ℕ) (o : Option ℕ) → o ≡ root_seen state n m
-      → ((row : Row) → IsIn row state.rows → (IsIn (root_number row.name) (list_of o) → ⊥) → Stays (after call).rows row) → Touches state (after call) (list_of o)
-  unfolding task_at
+      → ((row : Row) → IsIn row state.rows → (IsIn (root_number row.name) (none_or_one o) → ⊥) → Stays (after call).rows row) → Touches state (after call) (none_or_one o)
+  unfolding task_numbered
   one_touched call n m None is rest = record { rising = tt; there = λ k i. absurd i; rest = λ row i none. stays call row (rest row i none) }
   one_touched call n m (Some k) is rest = record {
     rising = (λ j i. absurd i, tt);
@@ -121,7 +121,7 @@ module _ (state : State) (stamp : ℕ) (sound : IsSound state) (below : IsBelow 
     rest = λ row i none. stays call row (rest row i none);
   }
     where
-      task_there : (s x : ℕ) (row : Row) → task_at state s x ≡ Some row → IsIn row state.rows
+      task_there : (s x : ℕ) (row : Row) → task_numbered state s x ≡ Some row → IsIn row state.rows
       task_there s x row e = (find-Some (λ (r : Row). is_numbered state.spaces r.name s x) state.rows row e).0
 
       seen_there : (n m k : ℕ) → root_seen state n m ≡ Some k → is_some (relations_at state.rows k) ≡ true
@@ -136,10 +136,10 @@ module _ (state : State) (stamp : ℕ) (sound : IsSound state) (below : IsBelow 
                   → is_some (relations_at state.rows k) ≡ true
               task b at_zero None on e = absurd (cc)
               task true at_zero (Some row) on e =
-                  let same : caller ≡ row = (let z : Some caller ≡ Some row = sym (ap (λ b. if b then Some caller else task_at state caller.name.space m) at_zero) ∙ on in cc) in
+                  let same : caller ≡ row = (let z : Some caller ≡ Some row = sym (ap (λ b. if b then Some caller else task_numbered state caller.name.space m) at_zero) ∙ on in cc) in
                   row_there row (subst (λ r. IsIn r state.rows) same (live_row-Some state.rows n caller at).0) k (let z : root_number row.name ≡ k = cc in z)
               task false at_zero (Some row) on e =
-                  row_there row (task_there caller.name.space m row (sym (ap (λ b. if b then Some caller else task_at state caller.name.space m) at_zero) ∙ on)) k
+                  row_there row (task_there caller.name.space m row (sym (ap (λ b. if b then Some caller else task_numbered state caller.name.space m) at_zero) ∙ on)) k
                   (let z : root_number row.name ≡ k = cc in z)
 
   -- ---- the root init asks
@@ -147,7 +147,7 @@ module _ (state : State) (stamp : ℕ) (sound : IsSound state) (below : IsBelow 
   abbrev top : Row
   top = (root_init_row state sound.coherent).0
 
-  top_asks : (whom : Whom) (n : ℕ) (ns : List ℕ) → IsRootList state whom n ns → AreListed (numbers_asked state top whom n) 0 ns
+  top_asks : (whom : Whom) (n : ℕ) (ns : List ℕ) → IsRootList state whom n ns → AreListedFrom (numbers_asked state top whom n) 0 ns
   top_asks whom n ns lists =
       let r = root_init_row state sound.coherent in
       lists top (subst (λ m. live_row state.rows m ≡ Some top) r.4 (live_row-listed state sound.coherent top r.1 r.2))
@@ -164,17 +164,17 @@ module _ (state : State) (stamp : ℕ) (sound : IsSound state) (below : IsBelow 
     it : self_or_task state top (root_number task.name) ≡ Some task
     it = meant top task (root_number task.name) at (as_top task at)
 
-    members : numbers_asked state top (Namespace Subtree) (root_number task.name) ≡ numbers_in state Subtree task.name.space top.name.space
-    members = ap (λ o. option_map_or (λ (t : Row). numbers_in state Subtree t.name.space top.name.space) o []) it
+    members : numbers_asked state top (Namespace Subtree) (root_number task.name) ≡ visible_numbers state Subtree task.name.space top.name.space
+    members = ap (λ o. option_map_or (λ (t : Row). visible_numbers state Subtree t.name.space top.name.space) o []) it
 
     -- a member is listed
-    member_in : (row : Row) → IsIn row state.rows → is_member state.spaces task.name.space row ≡ true → IsIn (root_number row.name) (numbers_in state Subtree task.name.space top.name.space)
+    member_in : (row : Row) → IsIn row state.rows → is_member state.spaces task.name.space row ≡ true → IsIn (root_number row.name) (visible_numbers state Subtree task.name.space top.name.space)
     member_in row i on =
         IsIn-filter_map (λ r. number state.spaces r.name top.name.space) row (root_number row.name) (filter (is_among state.spaces Subtree task.name.space) state.rows)
         (IsIn-filter (is_among state.spaces Subtree task.name.space) row state.rows i on) (as_top row i)
 
     -- and who is listed is there
-    member_there : (m : ℕ) → IsIn m (numbers_in state Subtree task.name.space top.name.space) → is_some (relations_at state.rows m) ≡ true
+    member_there : (m : ℕ) → IsIn m (visible_numbers state Subtree task.name.space top.name.space) → is_some (relations_at state.rows m) ≡ true
     member_there m i =
         let f = IsIn-from_filter_map (λ r. number state.spaces r.name top.name.space) m (filter (is_among state.spaces Subtree task.name.space) state.rows) i in
         let g = IsIn-from_filter (is_among state.spaces Subtree task.name.space) f.0 state.rows f.1 in
@@ -215,7 +215,7 @@ module _ (state : State) (stamp : ℕ) (sound : IsSound state) (below : IsBelow 
       let init : Row = c.0 in
       let i = live_row-Some state.rows n init c.1 in
       let falls : HasFallen state (after (Exit n status)) init status = exit_of_init_falls state stamp n status init sound c.1 (own init c.1) done in
-      let listed = subst (λ all. AreListed all 0 ns) (ap (λ m. numbers_asked state top (Namespace Subtree) m) (sym i.1) ∙ members init i.0) (top_asks (Namespace Subtree) n ns lists) in
+      let listed = subst (λ all. AreListedFrom all 0 ns) (ap (λ m. numbers_asked state top (Namespace Subtree) m) (sym i.1) ∙ members init i.0) (top_asks (Namespace Subtree) n ns lists) in
       record {
         rising = listed.rising;
         there = λ m on. member_there init i.0 m ((listed.each m).0 on).1;
@@ -226,7 +226,7 @@ module _ (state : State) (stamp : ℕ) (sound : IsSound state) (below : IsBelow 
   -- another one touches the task and its children
   module _ (n status : ℕ) (xs ys : List ℕ) (lists : IsRootList state (Belonging Task) n xs) (perm : IsPermutation (n ∷ xs) ys) (sorted : IsSorted nat_cmp ys)
       (caller : Row) (at : live_row state.rows n ≡ Some caller) (is : (after (Exit n status)).rows ≡ rows_after_exit state caller status) where
-    listed : AreListed (numbers_asked state top (Belonging Task) n) 0 xs
+    listed : AreListedFrom (numbers_asked state top (Belonging Task) n) 0 xs
     listed = top_asks (Belonging Task) n xs lists
 
     i : IsIn caller state.rows × (root_number caller.name ≡ n) × (is_live caller ≡ true)
@@ -293,17 +293,17 @@ module _ (state : State) (stamp : ℕ) (sound : IsSound state) (below : IsBelow 
 
   -- a wait that reaps touches whom it reaps
   pub touches_reaped : (n : ℕ) (which : Which) (child : ℕ) (ended : Ended) (o : Option ℕ) → (step state stamp (Wait n which)).reply ≡ Reaped child ended → o ≡ root_seen state n child
-      → Touches state (after (Wait n which)) (list_of o)
+      → Touches state (after (Wait n which)) (none_or_one o)
   unfolding sweep without_row matching
   touches_reaped n which child ended o told is = one_touched (Wait n which) n child o is (λ row i off. go _ (step_comes state stamp (Wait n which)) told row i off)
     where
-      go : (q : Outcome) → Comes state stamp (Wait n which) q → q.reply ≡ Reaped child ended → (row : Row) → IsIn row state.rows → (IsIn (root_number row.name) (list_of o) → ⊥)
+      go : (q : Outcome) → Comes state stamp (Wait n which) q → q.reply ≡ Reaped child ended → (row : Row) → IsIn row state.rows → (IsIn (root_number row.name) (none_or_one o) → ⊥)
           → Stays q.state.rows row
       go q (still _ reply answer) told row i off = absurd (no_answer reply (Reaped child ended) answer refl told)
       go q (waits _ _ caller there none) told row i off = absurd (cc)
       go q (reaped _ _ caller gone there least) told row i off =
           itself _ row (IsIn-filter (λ r. not (same_name r.name gone.name)) row state.rows i (not_from_false (same_name row.name gone.name) (false_from_ne_true (same_name row.name gone.name) (λ e.
-          off (subst (λ p. IsIn (root_number row.name) (list_of p)) (sym here) (inl (ap root_number (same_name-true row.name gone.name e))))))))
+          off (subst (λ p. IsIn (root_number row.name) (none_or_one p)) (sym here) (inl (ap root_number (same_name-true row.name gone.name e))))))))
         where
           number-is : number_or_zero state.spaces gone.name caller.name.space ≡ child
           number-is = cc
@@ -337,31 +337,31 @@ module _ (state : State) (stamp : ℕ) (sound : IsSound state) (below : IsBelow 
       go o (reaped _ _ caller gone there least) never = absurd (never _ _ refl)
 
   -- a setpgid touches its target
-  pub touches_target : (n : ℕ) (pid pgid : ℤ) (o : Option ℕ) → o ≡ target_seen state n pid → Touches state (after (SetPgid n pid pgid)) (list_of o)
+  pub touches_target : (n : ℕ) (pid pgid : ℤ) (o : Option ℕ) → o ≡ target_seen state n pid → Touches state (after (SetPgid n pid pgid)) (none_or_one o)
   unfolding sweep with_row
-  touches_target n (negsuc m) pgid o is = subst (λ p. Touches state (after (SetPgid n (negsuc m) pgid)) (list_of p)) (sym is) (unchanged (SetPgid n (negsuc m) pgid) (go _ (step_comes state stamp (SetPgid n (negsuc m) pgid))))
+  touches_target n (negsuc m) pgid o is = subst (λ p. Touches state (after (SetPgid n (negsuc m) pgid)) (none_or_one p)) (sym is) (unchanged (SetPgid n (negsuc m) pgid) (go _ (step_comes state stamp (SetPgid n (negsuc m) pgid))))
     where
       go : (q : Outcome) → Comes state stamp (SetPgid n (negsuc m) pgid) q → q.state ≡ state
       go q (still _ reply answer) = refl
       go q (grouped _ _ _ caller target group there aimed same own found) = absurd (cc)
   touches_target n (pos m) pgid o is = one_touched (SetPgid n (pos m) pgid) n m o is (λ row i off. go _ (step_comes state stamp (SetPgid n (pos m) pgid)) row i off)
     where
-      go : (q : Outcome) → Comes state stamp (SetPgid n (pos m) pgid) q → (row : Row) → IsIn row state.rows → (IsIn (root_number row.name) (list_of o) → ⊥) → Stays q.state.rows row
+      go : (q : Outcome) → Comes state stamp (SetPgid n (pos m) pgid) q → (row : Row) → IsIn row state.rows → (IsIn (root_number row.name) (none_or_one o) → ⊥) → Stays q.state.rows row
       go q (still _ reply answer) row i off = itself state.rows row i
       go q (grouped _ _ _ caller target group there aimed same own found) row i off =
           let here : o ≡ Some (root_number target.name) =
           is ∙ ap (λ c. option_and_then (λ (c : Row). option_map (λ (r : Row). root_number r.name) (self_or_task state c m)) c) there
           ∙ ap (option_map (λ (r : Row). root_number r.name)) aimed in
-          other target (set_group group) state.rows row i (λ e. off (subst (λ p. IsIn (root_number row.name) (list_of p)) (sym here) (inl e)))
+          other target (set_group group) state.rows row i (λ e. off (subst (λ p. IsIn (root_number row.name) (none_or_one p)) (sym here) (inl e)))
 
   -- a setsid touches its caller
-  pub touches_leader : (n : ℕ) (o : Option ℕ) → o ≡ root_seen state n 0 → Touches state (after (SetSid n)) (list_of o)
+  pub touches_leader : (n : ℕ) (o : Option ℕ) → o ≡ root_seen state n 0 → Touches state (after (SetSid n)) (none_or_one o)
   unfolding sweep with_row
   touches_leader n o is = one_touched (SetSid n) n 0 o is (λ row i off. go _ (step_comes state stamp (SetSid n)) row i off)
     where
-      go : (q : Outcome) → Comes state stamp (SetSid n) q → (row : Row) → IsIn row state.rows → (IsIn (root_number row.name) (list_of o) → ⊥) → Stays q.state.rows row
+      go : (q : Outcome) → Comes state stamp (SetSid n) q → (row : Row) → IsIn row state.rows → (IsIn (root_number row.name) (none_or_one o) → ⊥) → Stays q.state.rows row
       go q (still _ reply answer) row i off = itself state.rows row i
       go q (led _ caller there none) row i off =
           let here : o ≡ Some (root_number caller.name) =
           is ∙ ap (λ c. option_and_then (λ (c : Row). option_map (λ (r : Row). root_number r.name) (self_or_task state c 0)) c) there in
-          other caller start_session state.rows row i (λ e. off (subst (λ p. IsIn (root_number row.name) (list_of p)) (sym here) (inl e)))
+          other caller start_session state.rows row i (λ e. off (subst (λ p. IsIn (root_number row.name) (none_or_one p)) (sym here) (inl e)))

@@ -10,21 +10,21 @@ use Rattle.pid_types.specs.Sound.{IsRising, IsSound}
 use Rattle.pid_types.specs.State.{State}
 use Rattle.model_laws.proofs.Lists.{IsIn-map}
 use Rattle.model_laws.proofs.Trees.{row_at-Some, space_at-Some}
-use Rattle.translate.specs.Pages.{AreListed}
+use Rattle.translate.specs.Pages.{AreListedFrom}
 use Rattle.translate.specs.Relations.{relations_of, relations_at}
 use Rattle.call_effects.specs.declared.spaces.WatchedSpace.{WatchedSpace}
 use Rattle.call_effects.specs.declared.tasks.Watched.{Watched}
 use Rattle.call_effects.specs.Belonging.{owner_by}
 use Rattle.call_effects.specs.Effects.{is_space}
-use Rattle.call_effects.specs.Spaces.{inner_path, spaces_of}
-use Rattle.call_effects.specs.Touched.{most_in, most_of, AreWatched, AreWatchedSpaces, KeepsSpaces, Touches, Watches, Watching}
+use Rattle.call_effects.specs.Spaces.{inner_path, watched_spaces}
+use Rattle.call_effects.specs.Touched.{most_in, most_of, AreWatched, AreWatchedSpaces, KeepsParents, Touches, Watches, Watching}
 use Rattle.call_effects.proofs.Lists.{few_of}
 use Rattle.call_effects.proofs.Members.{members_may_end}
 use Rattle.call_effects.proofs.Standing.{listed_there, spaces_may_end, stands_still}
 
-pub watches : (old new : State) (w : Watching) (numbers own ids : List ℕ) → IsSound old → IsSound new → Touches old new numbers → KeepsSpaces old new
-    → AreWatched old numbers w.tasks → AreListed (map (owner_by Group) w.tasks) 0 w.groups → AreListed (map (owner_by Session) w.tasks) 0 w.sessions
-    → AreListed (flat_map spaces_of w.tasks) 0 own → AreListed (flat_map (inner_path old) own) 0 ids → AreWatchedSpaces old ids w.spaces → Watches old new w
+pub watches : (old new : State) (w : Watching) (numbers own ids : List ℕ) → IsSound old → IsSound new → Touches old new numbers → KeepsParents old new
+    → AreWatched old numbers w.tasks → AreListedFrom (map (owner_by Group) w.tasks) 0 w.groups → AreListedFrom (map (owner_by Session) w.tasks) 0 w.sessions
+    → AreListedFrom (flat_map watched_spaces w.tasks) 0 own → AreListedFrom (flat_map (inner_path old) own) 0 ids → AreWatchedSpaces old ids w.spaces → Watches old new w
 watches old new w numbers own ids sound sound_new touches keeps watched groups sessions owns listed spaces = record {
   numbers = numbers;
   touches = touches;
@@ -70,8 +70,8 @@ few_spaces state sound ids rise there =
 
 -- so there are no more effects than on all that there is
 pub few : (state : State) (w : Watching) (numbers own ids : List ℕ) → IsSound state → IsRising numbers → ((n : ℕ) → IsIn n numbers → is_some (relations_at state.rows n) ≡ true)
-    → AreWatched state numbers w.tasks → length w.groups ≤ length w.tasks → length w.sessions ≤ length w.tasks → AreListed (flat_map spaces_of w.tasks) 0 own
-    → AreListed (flat_map (inner_path state) own) 0 ids → AreWatchedSpaces state ids w.spaces → most_of w ≤ most_in state
+    → AreWatched state numbers w.tasks → length w.groups ≤ length w.tasks → length w.sessions ≤ length w.tasks → AreListedFrom (flat_map watched_spaces w.tasks) 0 own
+    → AreListedFrom (flat_map (inner_path state) own) 0 ids → AreWatchedSpaces state ids w.spaces → most_of w ≤ most_in state
 few state w numbers own ids sound rise there watched groups sessions owns listed spaces =
     let tasks = few_tasks state sound numbers rise there in
     let around = few_spaces state sound ids listed.rising (listed_there state sound numbers w.tasks watched own ids owns listed) in
@@ -80,11 +80,11 @@ few state w numbers own ids sound rise there watched groups sessions owns listed
     omega (arith, tasks, around, a, b, groups, sessions)
 
 -- where no task is touched nothing is watched
-pub watches_none : (old new : State) → IsSound old → IsSound new → Touches old new [] → KeepsSpaces old new
+pub watches_none : (old new : State) → IsSound old → IsSound new → Touches old new [] → KeepsParents old new
     → Watches old new (record { tasks = []; groups = []; sessions = []; spaces = [] })
 watches_none old new sound sound_new touches keeps =
     watches old new (record { tasks = []; groups = []; sessions = []; spaces = [] }) [] [] [] sound sound_new touches keeps
     (record { numbered = refl; before = λ w on. absurd on }) nobody nobody nobody nobody (record { numbered = refl; before = λ w on. absurd on })
   where
-    nobody : AreListed [] 0 []
+    nobody : AreListedFrom [] 0 []
     nobody = record { rising = tt; each = λ m. (λ on. absurd on, λ h. absurd h.1) }

@@ -17,12 +17,12 @@ use Rattle.call_effects.specs.declared.effect.Effect.{Effect}
 use Rattle.call_effects.specs.declared.effect.Effect.TheVariants.{Ended as HasEnded, Adopted, Gone, GroupGone, SessionGone, SpaceFell, SpaceGone}
 
 -- whether a task has the root number, live or ended
-abbrev pub is_there : State → ℕ → Bool
-is_there state n = is_some (row_at state.rows n)
+abbrev pub has_task : State → ℕ → Bool
+has_task state n = is_some (row_at state.rows n)
 
 -- whether it lives
-abbrev pub lives : State → ℕ → Bool
-lives state n = option_map_or is_live (row_at state.rows n) false
+abbrev pub is_alive : State → ℕ → Bool
+is_alive state n = option_map_or is_live (row_at state.rows n) false
 
 -- how it ended: one that is there no more was killed
 abbrev pub end_at : State → ℕ → Ended
@@ -33,16 +33,16 @@ abbrev pub parent_at : State → ℕ → ℕ
 parent_at state n = option_map_or parent_in (row_at state.rows n) 0
 
 -- whether some task, a zombie too, is in the process group or in the session with the root number, as the kind says
-abbrev pub has_members : Kind → State → ℕ → Bool
-has_members kind state n = list_any (λ row. root_number (name_by kind row) == n) state.rows
+abbrev pub has_members_as : Kind → State → ℕ → Bool
+has_members_as kind state n = list_any (λ row. root_number (name_by kind row) == n) state.rows
 
 -- whether the namespace with the id is there
 abbrev pub is_space : State → ℕ → Bool
 is_space state id = is_some (space_at state.spaces id)
 
 -- whether it takes tasks: it has not fallen
-abbrev pub stands : State → ℕ → Bool
-stands state id = option_map_or (λ space. not space.fallen) (space_at state.spaces id) false
+abbrev pub takes_tasks : State → ℕ → Bool
+takes_tasks state id = option_map_or (λ space. not space.fallen) (space_at state.spaces id) false
 
 -- the effect, where the test holds
 abbrev pub where_so : Bool → Effect → List Effect
@@ -55,9 +55,9 @@ where_lost so old new n effect = where_so (so old n && not (so new n)) effect
 -- what became of the task: it lives no more, it has another parent, it is there no more
 abbrev pub fate : State → State → ℕ → List Effect
 fate old new n =
-    where_lost lives old new n (HasEnded n (end_at new n))
-    ++ (where_so (is_there old n && (is_there new n && not (parent_at new n == parent_at old n))) (Adopted n (parent_at new n))
-    ++ where_lost is_there old new n (Gone n))
+    where_lost is_alive old new n (HasEnded n (end_at new n))
+    ++ (where_so (has_task old n && (has_task new n && not (parent_at new n == parent_at old n))) (Adopted n (parent_at new n))
+    ++ where_lost has_task old new n (Gone n))
 
 -- the end of what has the number: a task, a process group or a session
 abbrev pub gone_as : Kind → ℕ → Effect
@@ -67,11 +67,11 @@ gone_as Session n = SessionGone n
 
 -- what became of the process group or of the session: it has no members any more
 abbrev pub fate_of_members : Kind → State → State → ℕ → List Effect
-fate_of_members kind old new n = where_lost (has_members kind) old new n (gone_as kind n)
+fate_of_members kind old new n = where_lost (has_members_as kind) old new n (gone_as kind n)
 
 -- what became of the namespace: it has fallen, it is there no more
 abbrev pub fate_of_space : State → State → ℕ → List Effect
-fate_of_space old new id = where_lost stands old new id (SpaceFell id) ++ where_lost is_space old new id (SpaceGone id)
+fate_of_space old new id = where_lost takes_tasks old new id (SpaceFell id) ++ where_lost is_space old new id (SpaceGone id)
 
 -- the effects by rising numbers, each once, and none is left out
 pub record Collects (fates : ℕ → List Effect) (effects : List Effect) : Type 0 where

@@ -7,11 +7,11 @@ use Rattle.call_effects.specs.declared.effect.Effect.{Effect}
 use Rattle.call_effects.specs.declared.effect.Effect.TheVariants.{SpaceFell, SpaceGone}
 use Rattle.call_effects.specs.declared.spaces.WatchedSpace.{WatchedSpace}
 use Rattle.call_effects.specs.declared.tasks.Watched.{Watched}
-use Rattle.call_effects.specs.Effects.{is_space, stands}
+use Rattle.call_effects.specs.Effects.{is_space, takes_tasks}
 
 -- the namespaces of the task's own name, of its group's and of its session's
-abbrev pub spaces_of : Watched → List ℕ
-spaces_of w = w.before.space ∷ w.before.group_space ∷ w.before.session_space ∷ []
+abbrev pub watched_spaces : Watched → List ℕ
+watched_spaces w = w.before.space ∷ w.before.group_space ∷ w.before.session_space ∷ []
 
 -- the namespace and those around it, innermost first, but the root namespace
 abbrev pub inner_path : State → ℕ → List ℕ
@@ -19,7 +19,7 @@ inner_path state id = filter (nat_lt 0) (path_up state.spaces id)
 
 -- the fall of one that stood
 abbrev pub ending_of_space : State → WatchedSpace → Option Effect
-ending_of_space new w = if w.stood && not (stands new w.id) then Some (SpaceFell w.id) else None
+ending_of_space new w = if w.stood && not (takes_tasks new w.id) then Some (SpaceFell w.id) else None
 
 -- the end of one that was there
 abbrev pub going_of_space : State → WatchedSpace → Option Effect

@@ -12,7 +12,7 @@ use Rattle.pid_types.specs.State.{State}
 use Rattle.translate.specs.Relations.{relations_of, relations_at}
 use Rattle.call_effects.specs.declared.spaces.WatchedSpace.{WatchedSpace}
 use Rattle.call_effects.specs.declared.tasks.Watched.{Watched}
-use Rattle.call_effects.specs.Effects.{has_members, is_space, stands}
+use Rattle.call_effects.specs.Effects.{has_members_as, is_space, takes_tasks}
 
 -- whether the call may touch a task's life, its parent, its group or its session
 abbrev pub is_touching : Call → Bool
@@ -30,8 +30,8 @@ pub record Touches (old new : State) (numbers : List ℕ) : Type 0 where
       → relations_at new.rows (root_number row.name) ≡ Some (relations_of row)
 
 -- a namespace that is there before and behind has its parent of before, and has fallen where it had
-abbrev pub KeepsSpaces : State → State → Type 0
-KeepsSpaces old new =
+abbrev pub KeepsParents : State → State → Type 0
+KeepsParents old new =
     (id : ℕ) (s t : Space) → space_at old.spaces id ≡ Some s → space_at new.spaces id ≡ Some t
     → (t.parent ≡ s.parent) × (s.fallen ≡ true → t.fallen ≡ true)
 
@@ -49,7 +49,7 @@ pub record MayEnd (so : State → ℕ → Bool) (old new : State) (numbers : Lis
 -- namespaces with the ids, each as it stands
 pub record AreWatchedSpaces (state : State) (ids : List ℕ) (spaces : List WatchedSpace) : Type 0 where
   pub numbered : map (λ (w : WatchedSpace). w.id) spaces ≡ ids
-  pub before : (w : WatchedSpace) → IsIn w spaces → stands state w.id ≡ w.stood
+  pub before : (w : WatchedSpace) → IsIn w spaces → takes_tasks state w.id ≡ w.stood
 
 -- the tasks that a call may touch, and the process groups, the sessions and the namespaces that may end with that
 pub record Watching : Type 0 where
@@ -63,11 +63,11 @@ pub record Watches (old new : State) (w : Watching) : Type 0 where
   pub numbers : List ℕ
   pub touches : Touches old new numbers
   pub watched : AreWatched old numbers w.tasks
-  pub groups : MayEnd (has_members Group) old new w.groups
-  pub sessions : MayEnd (has_members Session) old new w.sessions
+  pub groups : MayEnd (has_members_as Group) old new w.groups
+  pub sessions : MayEnd (has_members_as Session) old new w.sessions
   pub ids : List ℕ
   pub spaces : MayEnd is_space old new ids
-  pub standing : (id : ℕ) → stands old id ≡ true → (IsIn id ids → ⊥) → stands new id ≡ true
+  pub standing : (id : ℕ) → takes_tasks old id ≡ true → (IsIn id ids → ⊥) → takes_tasks new id ≡ true
   pub watched_spaces : AreWatchedSpaces old ids w.spaces
 
 -- how many effects there are at most: two on each task and each namespace, one on each group and each session

@@ -7,12 +7,12 @@ use Rattle.pid_types.specs.Names.{root_number, live_row}
 use Rattle.pid_types.specs.Queries.{self_or_task}
 use Rattle.pid_types.specs.State.{State}
 use Rattle.translate.specs.declared.page.Whom.{Whom}
-use Rattle.translate.specs.Pages.{numbers_asked, AreListed}
+use Rattle.translate.specs.Pages.{numbers_asked, AreListedFrom}
 
 -- the one number or none
-abbrev pub list_of : Option ℕ → List ℕ
-list_of None = []
-list_of (Some n) = n ∷ []
+abbrev pub none_or_one : Option ℕ → List ℕ
+none_or_one None = []
+none_or_one (Some n) = n ∷ []
 
 -- whether the reply is the number
 abbrev pub is_number : ℕ → Reply → Bool
@@ -32,4 +32,4 @@ target_seen state n (negsuc m) = None
 -- the list has the numbers that the root init asks for, in rising order
 abbrev pub IsRootList : State → Whom → ℕ → List ℕ → Type 0
 IsRootList state whom number listed =
-    (root : Row) → live_row state.rows 1 ≡ Some root → AreListed (numbers_asked state root whom number) 0 listed
+    (root : Row) → live_row state.rows 1 ≡ Some root → AreListedFrom (numbers_asked state root whom number) 0 listed

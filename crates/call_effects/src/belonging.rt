@@ -1,9 +1,8 @@
 //! The process groups and sessions of tasks, and which of them have no members any more.
 
 ghost use Rattle.std.specs.Prelude.{◌≡◌, ◌+◌, ◌≤◌, ◌++◌, flat_map, length, map, vec_len, vec_capacity, IfOk};
-ghost use Rattle.call_effects.specs.Belonging.{gone_in, owner_by};
-ghost use Rattle.call_effects.specs.Effects.{gone_as, has_members};
-ghost use Rattle.translate.specs.Pages.{AreListed};
+ghost use Rattle.call_effects.specs.{Belonging.{gone_in, owner_by}, Effects.{gone_as, has_members_as}};
+ghost use Rattle.translate.specs.Pages.{AreListedFrom};
 
 use crate::asked::{ROOT_INIT, is_number};
 use crate::distinct::sort_distinct;
@@ -32,7 +31,7 @@ pub(crate) fn list_owners(
     kind: Kind,
     tasks: &[Watched],
 ) -> Result<Vec<Pid>, AllocError>
-    ensures listed { IfOk result (λ r. AreListed (map (owner_by kind) tasks.now) 0 r.items) }
+    ensures listed { IfOk result (λ r. AreListedFrom (map (owner_by kind) tasks.now) 0 r.items) }
     ensures few { IfOk result (λ r. vec_len r ≤ length tasks.now) }
 {
     let mut owners = Vec::with_capacity(table.allocator(), tasks.len())?;
@@ -45,7 +44,7 @@ pub(crate) fn list_owners(
 
 /// Whether some task is in the process group or in the session.
 fn any_member(table: &PidTable, kind: Kind, number: Pid) -> bool
-    ensures { result ≡ has_members kind table.now number }
+    ensures { result ≡ has_members_as kind table.now number }
 {
     table.laws();
     let mut reply = Reply::Done;

@@ -1,12 +1,14 @@
 //! The namespaces of tasks and of the names of their groups and sessions, and what became of them.
 
-ghost use Rattle.std.specs.Prelude.{◌≡◌, ◌+◌, ◌≤◌, ◌++◌, ℕ, flat_map, length, vec_len, vec_capacity};
-ghost use Rattle.std.specs.Prelude.{IfOk, IsTrue, OnOk};
-ghost use Rattle.pid_types.specs.Membership.{IsIn};
-ghost use Rattle.translate.specs.Pages.{AreListed};
-ghost use Rattle.call_effects.specs.Effects.{is_space, stands};
-ghost use Rattle.call_effects.specs.Spaces.{ending_of_space, going_of_space, changes_of_space, inner_path, spaces_of};
-ghost use Rattle.call_effects.specs.Touched.{AreWatchedSpaces};
+ghost use Rattle.std.specs.Prelude.{◌≡◌, ◌+◌, ◌≤◌, ◌++◌, ℕ, flat_map, length, vec_len, vec_capacity, IfOk, IsTrue};
+ghost use Rattle.std.specs.Prelude.{OnOk};
+ghost use Rattle.{
+  pid_types.specs.Membership.{IsIn},
+  translate.specs.Pages.{AreListedFrom},
+  call_effects.specs.Effects.{is_space, takes_tasks},
+  call_effects.specs.Spaces.{ending_of_space, going_of_space, changes_of_space, inner_path, watched_spaces},
+  call_effects.specs.Touched.{AreWatchedSpaces},
+};
 
 use crate::distinct::sort_distinct;
 use crate::effect::Effect;
@@ -23,7 +25,7 @@ pub struct WatchedSpace {
 
 /// The namespaces of the tasks and of the names of their groups and sessions, each once. The error is want of memory.
 fn list_own(table: &PidTable, tasks: &[Watched]) -> Result<Vec<u64>, AllocError>
-    ensures { IfOk result (λ r. AreListed (flat_map spaces_of tasks.now) 0 r.items) }
+    ensures { IfOk result (λ r. AreListedFrom (flat_map watched_spaces tasks.now) 0 r.items) }
 {
     let mut ids = Vec::new(table.allocator());
     for watched in tasks {
@@ -54,9 +56,9 @@ fn add_path(table: &PidTable, id: u64, ids: &mut Vec<u64>) -> Result<(), AllocEr
 /// The namespaces that may fall or go where the tasks are touched, each once, by rising ids: those of their names and
 /// all around these, but the root namespace. The error is want of memory.
 pub(crate) fn list_spaces(table: &PidTable, tasks: &[Watched]) -> Result<Vec<u64>, AllocError>
-    requires { (id : ℕ) → IsIn id (flat_map spaces_of tasks.now) → IsTrue (is_space table.now id) }
-    ensures { IfOk result (λ r. (own : _) × AreListed (flat_map spaces_of tasks.now) 0 own
-        × AreListed (flat_map (inner_path table.now) own) 0 r.items) }
+    requires { (id : ℕ) → IsIn id (flat_map watched_spaces tasks.now) → IsTrue (is_space table.now id) }
+    ensures { IfOk result (λ r. (own : _) × AreListedFrom (flat_map watched_spaces tasks.now) 0 own
+        × AreListedFrom (flat_map (inner_path table.now) own) 0 r.items) }
 {
     let own = list_own(table, tasks)?;
     let mut ids = Vec::new(table.allocator());
@@ -83,7 +85,7 @@ pub(crate) fn watch_spaces(table: &PidTable, ids: &[u64]) -> Result<Vec<WatchedS
 
 /// Whether the namespace is there and has not fallen.
 fn is_standing(table: &PidTable, id: u64) -> bool
-    ensures { result ≡ stands table.now id }
+    ensures { result ≡ takes_tasks table.now id }
 {
     match table.space(id) {
         Some(space) => !space.fallen,

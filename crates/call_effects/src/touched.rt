@@ -1,14 +1,12 @@
 //! Those whom a call may touch, before it is made and behind it, and what may end with that.
 
 ghost use Rattle.std.specs.Prelude.{◌≡◌, ◌+◌, ◌<◌, ◌≤◌, ℕ, [], length, IfOk, IfSome, IsSome, IsTrue, OnErr};
-ghost use Rattle.pid_types.specs.Membership.{IsIn};
-ghost use Rattle.pid_types.specs.Sound.{IsBelow, IsRising, IsSound};
-ghost use Rattle.pid_types.specs.State.{State};
-ghost use Rattle.pid_types.specs.Step.{step};
-ghost use Rattle.translate.specs.Relations.{relations_at};
-ghost use Rattle.call_effects.specs.Effects.{AreEffects};
-ghost use Rattle.call_effects.specs.Touched.{is_touching, most_in, most_of, AreWatched, KeepsSpaces};
-ghost use Rattle.call_effects.specs.Touched.{Touches, Watches};
+ghost use Rattle.{
+  pid_types.specs.{Membership.{IsIn}, Sound.{IsBelow, IsRising, IsSound}, State.{State}, Step.{step}},
+  translate.specs.Relations.{relations_at},
+  call_effects.specs.Effects.{AreEffects},
+  call_effects.specs.Touched.{is_touching, most_in, most_of, AreWatched, KeepsParents, Touches, Watches},
+};
 
 use crate::belonging::{add_gone, list_owners};
 use crate::effect::Effect;
@@ -99,7 +97,7 @@ impl Touched {
         requires rising { IsRising numbers.now }
         requires there { (n : ℕ) → IsIn n numbers.now → IsSome (relations_at table.now.rows n) }
         ensures watches { IfOk result (λ w. (new : State) → IsSound new → Touches table.now new numbers.now
-            → KeepsSpaces table.now new → Watches table.now new w) }
+            → KeepsParents table.now new → Watches table.now new w) }
         ensures few { IfOk result (λ w. most_of w ≤ most_in table.now) }
     {
         table.laws();

@@ -2,14 +2,11 @@
 //! into another group or session. No other call touches a task's life, its parent, its group or its session.
 
 ghost use Rattle.std.specs.Prelude.{◌≡◌, ◌↔◌, true, IfOk, Some};
-ghost use Rattle.pid_types.specs.Exit.{is_init};
-ghost use Rattle.pid_types.specs.Names.{live_row};
-ghost use Rattle.pid_types.specs.Sound.{IsBelow};
-ghost use Rattle.pid_types.specs.Step.{step};
-ghost use Rattle.pid_types.specs.declared.call.Call.TheVariants as calls;
+ghost use Rattle.pid_types.specs.{Exit.{is_init}, Names.{live_row}, Sound.{IsBelow}, Step.{step}};
 ghost use Rattle.pid_types.specs.declared.plain.Row.{Row};
 ghost use Rattle.call_effects.specs.Touched.{is_touching, Touches};
-ghost use Rattle.call_effects.specs.Whom.{list_of, root_seen, target_seen, IsRootList};
+ghost use Rattle.call_effects.specs.Whom.{none_or_one, root_seen, target_seen, IsRootList};
+ghost use Rattle.pid_types.specs.declared.call.Call.TheVariants as calls;
 
 use crate::asked::{ROOT_INIT, is_number};
 use pid_table::PidTable;
@@ -62,7 +59,7 @@ fn target_root(table: &PidTable, caller: Pid, pid: i32) -> Option<Pid>
 
 /// The one number or none, in a list. The error is want of memory.
 fn list_one(table: &PidTable, number: Option<Pid>) -> Result<Vec<Pid>, AllocError>
-    ensures { IfOk result (λ r. r.items ≡ list_of number) }
+    ensures { IfOk result (λ r. r.items ≡ none_or_one number) }
 {
     let mut numbers = Vec::new(table.allocator());
     if let Some(number) = number {

@@ -5,7 +5,7 @@ use Rattle.std.proofs.lemmas.List.{get_or_past}
 use Rattle.std.proofs.lemmas.List.FromFn.{get_or-map-range_with_len, length-map-range_with_len}
 use Rattle.std.proofs.lemmas.Bool.{cases_eq, cases_lt, false≢true, false_from_ne_true}
 use Rattle.std.proofs.lemmas.Bool.Decides.{nat_tests}
-use Rattle.index_array.specs.Place.{Place, Entry, bare, place_at, entry_at, is_prepared, with_mark, WritesEntry, KeepsEntries, KeepsPrepared, SwapsLeaf}
+use Rattle.index_array.specs.Place.{Place, Entry, bare_place, place_at, entry_at, is_prepared, with_mark, WritesEntry, KeepsEntries, KeepsPrepared, SwapsLeaf}
 use Rattle.cyclic_ids.specs.Ids.{entry_beside, place_beside, places_beside}
 
 -- a test of two numbers
@@ -31,11 +31,11 @@ module _ {T : Type 0} (ready : Bool) (block : ℕ) (leaf tree : List (Place T)) 
   unfolding places_beside
   beside n =
       elim (cases_lt n (max (length tree) ((block + 1) * 64))) [
-        | inl below ↦ get_or-map-range_with_len (place_beside ready block leaf tree) 0 (max (length tree) ((block + 1) * 64)) n n bare below (omega arith)
+        | inl below ↦ get_or-map-range_with_len (place_beside ready block leaf tree) 0 (max (length tree) ((block + 1) * 64)) n n bare_place below (omega arith)
         | inr past ↦
             (let far : length tree ≤ n = omega (arith, past) in
             let end : (block + 1) * 64 ≤ n = omega (arith, past) in
-            get_or_past _ n bare (omega (arith, length-map-range_with_len (place_beside ready block leaf tree) 0 (max (length tree) ((block + 1) * 64)), past)) ∙ sym (in_tree-place_beside n (λ e. absurd (omega (arith, e, end))) ∙ get_or_past tree n bare far))
+            get_or_past _ n bare_place (omega (arith, length-map-range_with_len (place_beside ready block leaf tree) 0 (max (length tree) ((block + 1) * 64)), past)) ∙ sym (in_tree-place_beside n (λ e. absurd (omega (arith, e, end))) ∙ get_or_past tree n bare_place far))
       ]
 
   -- the place of a number of the block, and of another
@@ -150,9 +150,9 @@ module _ {T : Type 0} (ready : Bool) (block n : ℕ) (leaf leaf1 leaf2 tree tree
 
 -- with no entry in the tree and none in the leaf there is none
 pub none_beside : {T : Type 0} (ready : Bool) (block : ℕ) (leaf tree : List (Place T)) → ((k : ℕ) → entry_at leaf k ≡ None) → ((n : ℕ) → entry_at tree n ≡ None) → (n : ℕ) → entry_at (places_beside ready block leaf tree) n ≡ None
-none_beside ready block leaf tree bare none n =
+none_beside ready block leaf tree bare_place none n =
     elim (cases_eq (n / 64) block) [
-      | inl same ↦ entry_in_leaf ready block leaf tree n same ∙ bare (n % 64)
+      | inl same ↦ entry_in_leaf ready block leaf tree n same ∙ bare_place (n % 64)
       | inr other ↦ entry_in_tree ready block leaf tree n other ∙ none n
     ]
 
@@ -173,14 +173,14 @@ some_in_leaf ready block leaf tree s below some =
     (block * 64 + s, ap is_some (entry_in_leaf ready block leaf tree (block * 64 + s) at ∙ ap (entry_at leaf) slot) ∙ some)
 
 pub empty_beside : {T : Type 0} (ready : Bool) (block : ℕ) (leaf tree : List (Place T)) (b : Bool) → ((k : ℕ) → k < 64 → is_some (entry_at leaf k) ≡ false) → ((n : ℕ) → n / 64 ≡ block → entry_at tree n ≡ None) → MatchBool b ((n : ℕ) → entry_at tree n ≡ None) ((n : ℕ) × (is_some (entry_at tree n) ≡ true)) → MatchBool b ((n : ℕ) → entry_at (places_beside ready block leaf tree) n ≡ None) ((n : ℕ) × (is_some (entry_at (places_beside ready block leaf tree) n) ≡ true))
-empty_beside ready block leaf tree true bare apart none = λ n.
+empty_beside ready block leaf tree true empty apart none = λ n.
     elim (cases_eq (n / 64) block) [
-      | inl same ↦ entry_in_leaf ready block leaf tree n same ∙ no_entry (entry_at leaf (n % 64)) (bare (n % 64) (omega arith))
+      | inl same ↦ entry_in_leaf ready block leaf tree n same ∙ no_entry (entry_at leaf (n % 64)) (empty (n % 64) (omega arith))
       | inr other ↦ entry_in_tree ready block leaf tree n other ∙ none n
     ]
   where
     no_entry : {X : Type 0} (o : Option X) → is_some o ≡ false → o ≡ None
     no_entry None h = refl
     no_entry (Some x) h = absurd (false≢true (sym h))
-empty_beside ready block leaf tree false bare apart some =
+empty_beside ready block leaf tree false empty apart some =
     (some.0, ap is_some (entry_in_tree ready block leaf tree some.0 (λ same. false≢true (ap is_some (sym (apart some.0 same)) ∙ some.1))) ∙ some.1)

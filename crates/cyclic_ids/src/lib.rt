@@ -10,13 +10,13 @@
 #![tactic(auto)]
 
 ghost use Rattle.std.specs.Prelude.{◌≡◌, ℕ, ◌+◌, ◌*◌, ◌/◌, ◌<◌, ◌≤◌, Option, Some, None, OnOk, IfSome, MatchBool, true};
-ghost use Rattle.std.specs.Prelude.{false, not, is_some, [], ◌∷◌};
-ghost use Rattle.std.specs.Option.{option_copied, option_map};
-ghost use Rattle.index_array.specs.Place.{index_count, entry_at, is_prepared, value_at, is_marked, with_mark};
-ghost use Rattle.index_array.specs.Place.{IsLeastIndex, WritesEntry, KeepsEntries, KeepsPrepared};
-ghost use Rattle.pid_types.specs.Draw.{restart};
-ghost use Rattle.pid_types.specs.Settings.{HasGoodPidMax};
-ghost use Rattle.cyclic_ids.specs.Ids.{Ids, planned, entry_beside, lesser, AreInRange};
+ghost use Rattle.std.specs.{Prelude.{false, not, is_some, [], ◌∷◌}, Option.{option_copied, option_map}};
+ghost use Rattle.{
+  index_array.specs.Place.{index_count, entry_at, is_prepared, value_at, is_marked, with_mark, IsLeastIndex},
+  index_array.specs.Place.{WritesEntry, KeepsEntries, KeepsPrepared},
+  pid_types.specs.{Draw.{restart}, Settings.{HasGoodPidMax}},
+  cyclic_ids.specs.Ids.{Ids, planned, entry_beside, lesser, AreInRange},
+};
 
 use index_array::{IndexArray, Leaf};
 use pid_types::keys::Pid;

@@ -3,14 +3,14 @@ use Rattle.std.proofs.Common.{ℕ, ◌+◌, ◌<◌, List, [], ◌∷◌, ◌++�
 use Rattle.std.proofs.lemmas.List.{take_more}
 use Rattle.kept_table.specs.Chronicle.{Chronicle}
 use Rattle.saved_form.specs.declared.numbers.EntryNumbers.{EntryNumbers}
-use Rattle.foreign_calls.specs.Replays.{IsSameAgain, Replays}
+use Rattle.foreign_calls.specs.Replays.{IsSameAgain, ReplaysSaved}
 
 pub replays_more : (c : Chronicle) (before : List EntryNumbers) (m d : Chronicle) (saved : EntryNumbers)
-    → Replays c before m → IsSameAgain m saved d → Replays c (before ++ saved ∷ []) d
+    → ReplaysSaved c before m → IsSameAgain m saved d → ReplaysSaved c (before ++ saved ∷ []) d
 replays_more c [] m d saved made again = (d, subst (λ (t : Chronicle). IsSameAgain t saved d) made again, refl)
 replays_more c (first ∷ rest) m d saved made again = (made.0, made.1, replays_more made.0 rest m d saved made.2 again)
 
 pub replays_next : (c : Chronicle) (saved : List EntryNumbers) (m d : Chronicle) (i : ℕ) (none : EntryNumbers) → i < length saved
-    → Replays c (take i saved) m → IsSameAgain m (get_or saved i none) d → Replays c (take (i + 1) saved) d
+    → ReplaysSaved c (take i saved) m → IsSameAgain m (get_or saved i none) d → ReplaysSaved c (take (i + 1) saved) d
 replays_next c saved m d i none within made again =
-    subst (λ (xs : List EntryNumbers). Replays c xs d) (sym (take_more saved i none within)) (replays_more c (take i saved) m d (get_or saved i none) made again)
+    subst (λ (xs : List EntryNumbers). ReplaysSaved c xs d) (sym (take_more saved i none within)) (replays_more c (take i saved) m d (get_or saved i none) made again)

@@ -4,7 +4,7 @@ use Rattle.kept_table.specs.Chronicle.{Chronicle}
 use Rattle.saved_form.specs.declared.numbers.CallNumbers.{CallNumbers}
 use Rattle.saved_form.specs.declared.numbers.ReplyNumbers.{ReplyNumbers}
 use Rattle.saved_form.specs.declared.numbers.EntryNumbers.{EntryNumbers}
-use Rattle.foreign_calls.specs.Replays.{IsSameAgain, Replays}
+use Rattle.foreign_calls.specs.Replays.{IsSameAgain, ReplaysSaved}
 use Rattle.foreign_calls.specs.Turns.{turn, turns}
 use Rattle.foreign_calls.proofs.Replaying.{replays_more}
 
@@ -19,8 +19,8 @@ turns_more worker (call ∷ calls) (first ∷ replies) (suc i) none reply within
 
 pub turns_next : (c : Chronicle) (worker : ℕ) (calls : List CallNumbers) (replies : List ReplyNumbers) (m d : Chronicle) (i : ℕ) (none : CallNumbers) (reply : ReplyNumbers)
     → i < length calls → i < length replies
-    → Replays c (take i (turns worker calls replies)) m → IsSameAgain m (turn worker (get_or calls i none) reply) d
-    → Replays c (take (i + 1) (turns worker calls (set replies i reply))) d
+    → ReplaysSaved c (take i (turns worker calls replies)) m → IsSameAgain m (turn worker (get_or calls i none) reply) d
+    → ReplaysSaved c (take (i + 1) (turns worker calls (set replies i reply))) d
 turns_next c worker calls replies m d i none reply within room made again =
-    rw add-one (subst (λ (es : List EntryNumbers). Replays c es d) (sym (turns_more worker calls replies i none reply within room))
+    rw add-one (subst (λ (es : List EntryNumbers). ReplaysSaved c es d) (sym (turns_more worker calls replies i none reply within room))
     (replays_more c (take i (turns worker calls replies)) m d (turn worker (get_or calls i none) reply) made again))

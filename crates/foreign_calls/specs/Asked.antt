@@ -19,7 +19,7 @@ abbrev pub query_of : CallNumbers → Option Call
 query_of n = only_query (call_of n)
 
 -- the call that numbers say, if they say one, has this answer of what is held; or the numbers of the reply stay as they were
-pub record Answers {X : Type 0}
+pub record TellsAnswer {X : Type 0}
     (held : Option X) (answer : X → Call → Reply) (said : Option Call) (old new : ReplyNumbers) (status : ℕ) : Type 0 where
   pub done : status ≡ DONE → (asked : Call) × (said ≡ Some asked) × Has held (λ x. new ≡ numbers_of (answer x asked))
   pub not_done : status ≢ DONE → new ≡ old

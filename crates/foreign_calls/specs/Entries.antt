@@ -23,5 +23,5 @@ TellsEntry c ordinal None = ⊥
 TellsEntry c ordinal (Some n) = IsEntry c ordinal n.worker n.call n.reply
 
 -- the ordinal is that of a kept entry, or of the next call
-abbrev pub IsWithin : ℕ → Chronicle → Type 0
-IsWithin ordinal c = (c.first_kept ≤ ordinal) × (ordinal ≤ total c)
+abbrev pub IsKeptOrNext : ℕ → Chronicle → Type 0
+IsKeptOrNext ordinal c = (c.first_kept ≤ ordinal) × (ordinal ≤ total c)

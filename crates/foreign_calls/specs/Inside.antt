@@ -10,12 +10,12 @@ use Rattle.foreign_numbers.specs.declared.status.TheConstants.{DONE, OUT_OF_RANG
 use Rattle.foreign_calls.specs.Records.{Has}
 
 -- the tree
-abbrev pub tree_of : ℕ → Option Tree
-tree_of choice = if choice == 0 then Some Spaces else (if choice == 1 then Some Controls else None)
+abbrev pub tree_chosen : ℕ → Option Tree
+tree_chosen choice = if choice == 0 then Some Spaces else (if choice == 1 then Some Controls else None)
 
 -- what is asked, if the number of the tree is one
 abbrev pub inside_by : ℕ → ℕ → ℕ → Option Inside
-inside_by tree id from = option_map (λ t. record { tree = t; id = id; from = from }) (tree_of tree)
+inside_by tree id from = option_map (λ t. record { tree = t; id = id; from = from }) (tree_chosen tree)
 
 -- the ids are in the room, and their number is told; or room and count stay as they were, where the tree has no such id
 pub record AnswersInside {X : Type 0}

@@ -3,7 +3,7 @@ use Rattle.std.specs.Prelude.{◌≡◌, ◌≢◌, ◌↔◌, ◌<◌, ◌≤�
 use Rattle.pid_types.specs.declared.call.Call.{Call}
 use Rattle.pid_types.specs.Settings.{HasGoodPidMax}
 use Rattle.pid_types.specs.Step.{may_grow}
-use Rattle.kept_table.specs.Calls.{after_call, begun, cut_at, to_cut, IsWithoutFirst}
+use Rattle.kept_table.specs.Calls.{after_recorded, begun, cut_at, to_cut, IsWithoutFirst}
 use Rattle.kept_table.specs.Chronicle.{Chronicle, total, recorded, next_stamp}
 use Rattle.foreign_numbers.specs.declared.status.TheConstants.{DONE, OUT_OF_RANGE, SPENT, NO_MEMORY}
 use Rattle.foreign_calls.specs.Held.{IsDoneOr, NeedsOpen}
@@ -39,12 +39,12 @@ IsBounded keep c d = (length d.entries ≤ keep) ⊎ (length d.entries < length 
 
 -- the worker's call was made and recorded, once, at this place of the history
 pub record IsRecorded (c : Chronicle) (worker : ℕ) (call : Call) (ordinal : ℕ) (new : Option Chronicle) : Type 0 where
-  pub left : without_room new ≡ Some (after_call c worker call)
+  pub left : without_room new ≡ Some (after_recorded c worker call)
   pub place : ordinal ≡ total c
 
 -- the same, and then first entries were cut away, where more than so many are kept: two at most, or all
 pub record IsRecordedKeeping (keep : ℕ) (c : Chronicle) (worker : ℕ) (call : Call) (ordinal : ℕ) (d : Chronicle) : Type 0 where
-  pub cut : IsWithoutFirst (to_cut (after_call c worker call) keep) (after_call c worker call) d
+  pub cut : IsWithoutFirst (to_cut (after_recorded c worker call) keep) (after_recorded c worker call) d
   pub bound : IsBounded keep c d
   pub place : ordinal ≡ total c
 

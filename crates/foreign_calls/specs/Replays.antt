@@ -1,7 +1,7 @@
 -- Saved entries, whose calls are made again.
 use Rattle.std.specs.Prelude.{◌≡◌, ◌≢◌, ◌<◌, ◌≤◌, ◌⊎◌, ℕ, List, [], ◌∷◌, length, take, slice_get, Some, None}
 use Rattle.pid_types.specs.declared.call.Call.{Call}
-use Rattle.kept_table.specs.Calls.{after_call, outcome}
+use Rattle.kept_table.specs.Calls.{after_recorded, outcome}
 use Rattle.kept_table.specs.Chronicle.{Chronicle}
 use Rattle.saved_form.specs.declared.numbers.ReplyNumbers.{ReplyNumbers}
 use Rattle.saved_form.specs.declared.numbers.EntryNumbers.{EntryNumbers}
@@ -13,7 +13,7 @@ pub record IsMadeAgain (c : Chronicle) (saved : EntryNumbers) (reply : ReplyNumb
   pub call : Call
   pub read : call_of saved.call ≡ Some call
   pub known : saved.worker < length c.cut
-  pub left : d ≡ after_call c saved.worker call
+  pub left : d ≡ after_recorded c saved.worker call
   pub answer : reply ≡ numbers_of (outcome c call).reply
 
 -- the reply is the saved one
@@ -25,9 +25,9 @@ abbrev pub IsOtherNow : Chronicle → EntryNumbers → Chronicle → Type 0
 IsOtherNow c saved d = (reply : ReplyNumbers) × IsMadeAgain c saved reply d × (reply ≢ saved.reply)
 
 -- the calls of the saved entries, made one after another, had the saved replies, and leave this
-abbrev pub Replays : Chronicle → List EntryNumbers → Chronicle → Type 0
-Replays c [] d = d ≡ c
-Replays c (saved ∷ rest) d = (m : Chronicle) × IsSameAgain c saved m × Replays m rest d
+abbrev pub ReplaysSaved : Chronicle → List EntryNumbers → Chronicle → Type 0
+ReplaysSaved c [] d = d ≡ c
+ReplaysSaved c (saved ∷ rest) d = (m : Chronicle) × IsSameAgain c saved m × ReplaysSaved m rest d
 
 -- the numbers say no call, or there is no such worker
 abbrev pub CannotMake : Chronicle → EntryNumbers → Type 0
@@ -35,10 +35,10 @@ CannotMake c saved = (call_of saved.call ≡ None) ⊎ (length c.cut ≤ saved.w
 
 -- those before the place had the saved replies, and nothing else was made
 abbrev pub StopsBefore : Chronicle → List EntryNumbers → ℕ → Chronicle → Type 0
-StopsBefore c saved place d = (place < length saved) × Replays (roomless c) (take place saved) (roomless d)
+StopsBefore c saved place d = (place < length saved) × ReplaysSaved (roomless c) (take place saved) (roomless d)
 
 -- so had they, and the one at the place was made, had another reply, and is the last one made
 abbrev pub StopsAt : Chronicle → List EntryNumbers → ℕ → Chronicle → Type 0
 StopsAt c saved place d =
-    (m : Chronicle) × Replays (roomless c) (take place saved) m
+    (m : Chronicle) × ReplaysSaved (roomless c) (take place saved) m
     × Has (slice_get saved place) (λ n. IsOtherNow m n (roomless d))

@@ -6,7 +6,7 @@ use Rattle.replica.specs.Laws.{Applies}
 use Rattle.replica.specs.Log.{Log, Hosted}
 use Rattle.replica.specs.Replicas.{replica_of}
 use Rattle.replica.specs.declared.outcome.Applied.{Applied}
-use Rattle.replica.specs.Snapshots.{IsSnapshot, Restores, Fails, head_text}
+use Rattle.replica.specs.Snapshots.{IsSnapshot, Restores, FailsAtHead, head_text}
 use Rattle.replica.specs.declared.outcome.ReplicaFault.{ReplicaFault}
 use Rattle.replica.specs.declared.snapshot.HeadFault.{HeadFault}
 use Rattle.stamped_table.specs.Stamped.{Stamped}
@@ -70,15 +70,15 @@ pub record IsRestored (text : List ℕ) (h h' : Hosted) (used : ℕ) : Type 0 wh
   pub answers : h'.answers ≡ []
 
 -- the head was refused for this reason, which has its status
-pub record IsUnread (text : List ℕ) (h : Hosted) (status : ℕ) : Type 0 where
+pub record IsHeadRefused (text : List ℕ) (h : Hosted) (status : ℕ) : Type 0 where
   pub fault : HeadFault
   pub status_is : status ≡ head_status fault
-  pub fails : Fails text h.log.pid_max h.log.model fault
+  pub fails : FailsAtHead text h.log.pid_max h.log.model fault
 
 -- a replica got what the head of a snapshot says, or the status says why not
 pub record ReadsHead (text : List ℕ) (h h' : Hosted) (before used status : ℕ) : Type 0 where
   pub done : status ≡ DONE → IsRestored text h h' used
-  pub unread : status ≢ DONE → IsUnread text h status
+  pub unread : status ≢ DONE → IsHeadRefused text h status
   pub same : status ≢ DONE → (h' ≡ h) × (used ≡ before)
 
 -- the same of what is held

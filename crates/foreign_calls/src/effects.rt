@@ -1,12 +1,13 @@
 //! Calls that tell beside the reply what they did to others.
 ghost use Rattle.std.specs.Prelude.{◌≡◌, ◌≢◌, ◌↔◌, [], ◌∷◌, map, length};
-ghost use Rattle.translate.specs.Pages.{with_front};
-ghost use Rattle.kept_table.specs.Calls.{outcome};
-ghost use Rattle.foreign_numbers.specs.Effects.{effect_numbers};
-ghost use Rattle.stamped_table.specs.Stamped.{after_call, reply_to};
-ghost use Rattle.foreign_calls.specs.Effects.{MayWant, RecordsTold, TellsEffects, WantsRoom};
-ghost use Rattle.foreign_calls.specs.Held.{IsDoneOr};
-ghost use Rattle.foreign_calls.specs.Made.{IsSpent, TellsReply};
+ghost use Rattle.{
+  translate.specs.Pages.{with_front},
+  kept_table.specs.Calls.{outcome},
+  foreign_numbers.specs.Effects.{effect_numbers},
+  stamped_table.specs.Stamped.{after_call, reply_to},
+  foreign_calls.specs.{Effects.{MayWant, RecordsTold, TellsEffects, WantsRoom}, Held.{IsDoneOr}},
+  foreign_calls.specs.Made.{IsSpent, TellsReply},
+};
 
 use crate::record_calls::call_on;
 use crate::table_calls::call_table;

@@ -1,10 +1,10 @@
 //! The history of a record: its kept entries, cutting them away, and the lists of its states.
 ghost use Rattle.std.specs.Prelude.{◌≡◌, ◌≢◌, ◌↔◌, [], ◌∷◌, None, IfOk};
-ghost use Rattle.kept_table.specs.Chronicle.{total, kept_entry};
-ghost use Rattle.foreign_calls.specs.Entries.{IsEntry};
-ghost use Rattle.table_lines.specs.Listed.{list_of_state};
-ghost use Rattle.foreign_calls.specs.Held.{IsDoneOr};
-ghost use Rattle.foreign_calls.specs.Records.{CutsIfDone};
+ghost use Rattle.{
+  kept_table.specs.Chronicle.{total, kept_entry},
+  foreign_calls.specs.{Entries.{IsEntry}, Held.{IsDoneOr}, Records.{CutsIfDone}},
+  table_lines.specs.Listed.{list_of_state},
+};
 
 use foreign_numbers::call_numbers::tell_call;
 use foreign_numbers::numbers::{CallNumbers, ReplyNumbers, put_reply};

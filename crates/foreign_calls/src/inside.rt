@@ -1,9 +1,7 @@
 //! What is directly inside a namespace or a control group, by ids.
 ghost use Rattle.std.specs.Prelude.{◌≡◌, ◌≢◌, ◌↔◌, [], ◌∷◌, Some, None, is_some};
-ghost use Rattle.translate.specs.Inside.{ids_inside};
-ghost use Rattle.translate.specs.Listed.{TellsList};
-ghost use Rattle.foreign_calls.specs.Held.{IsDoneOr};
-ghost use Rattle.foreign_calls.specs.Inside.{tree_of, inside_by};
+ghost use Rattle.translate.specs.{Inside.{ids_inside}, Listed.{TellsList}};
+ghost use Rattle.foreign_calls.specs.{Held.{IsDoneOr}, Inside.{tree_chosen, inside_by}};
 
 use foreign_numbers::choices;
 use foreign_numbers::status::{DONE, NO_MEMORY, OUT_OF_RANGE};
@@ -12,7 +10,7 @@ pub use translate::inside::{Inside, Tree};
 
 /// The tree that the number says.
 fn read_tree(choice: u32) -> Option<Tree>
-    ensures { result ≡ tree_of choice }
+    ensures { result ≡ tree_chosen choice }
 {
     match choice {
         choices::SPACES => Some(Tree::Spaces),

@@ -1,12 +1,12 @@
 //! Many calls of one worker on a record, in one turn.
 ghost use Rattle.std.specs.Prelude.{◌≡◌, ◌≢◌, ◌<◌, ◌≤◌, ◌↔◌, ◌⊎◌, ◌+◌, [], ◌∷◌, All, IsSome, IsTrue, length, drop};
-ghost use Rattle.pid_types.specs.Step.{may_grow};
-ghost use Rattle.kept_table.specs.Chronicle.{total, next_stamp};
-ghost use Rattle.foreign_numbers.specs.Numbers.{call_of};
-ghost use Rattle.foreign_calls.specs.Held.{IsDoneOr};
-ghost use Rattle.foreign_calls.specs.Records.{Has, roomless};
-ghost use Rattle.foreign_calls.specs.Replays.{IsSameAgain};
-ghost use Rattle.foreign_calls.specs.Turns.{turn, AreMade, CanMakeAll, MayGrowAt};
+ghost use Rattle.{
+  pid_types.specs.Step.{may_grow},
+  kept_table.specs.Chronicle.{total, next_stamp},
+  foreign_numbers.specs.Numbers.{call_of},
+  foreign_calls.specs.{Held.{IsDoneOr}, Records.{Has, roomless}, Replays.{IsSameAgain}},
+  foreign_calls.specs.Turns.{turn, AreMade, CanMakeAll, MayGrowAt},
+};
 
 use crate::record_calls::{make_on, put_told};
 use foreign_numbers::numbers::{CallNumbers, ReplyNumbers, read_call};

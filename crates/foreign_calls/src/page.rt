@@ -1,7 +1,6 @@
 //! Pages: who belongs to a task, a process group or a session, or is in a namespace, as numbers.
 ghost use Rattle.std.specs.Prelude.{◌≡◌, ◌≢◌, [], ◌∷◌};
-ghost use Rattle.foreign_calls.specs.Held.{IsDoneOr};
-ghost use Rattle.foreign_calls.specs.Paged.{page_by, PutsPage};
+ghost use Rattle.foreign_calls.specs.{Held.{IsDoneOr}, Paged.{page_by, PutsPage}};
 
 use foreign_numbers::numbers::{ReplyNumbers, put_reply};
 use foreign_numbers::status::{DONE, NO_MEMORY};

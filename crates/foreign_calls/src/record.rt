@@ -1,7 +1,6 @@
 //! A table with its history, which a caller holds.
 ghost use Rattle.std.specs.Prelude.{◌≡◌, Some, None, IfOk, is_some};
-ghost use Rattle.foreign_calls.specs.Held.{Takes};
-ghost use Rattle.foreign_calls.specs.Records.{roomless, opened};
+ghost use Rattle.foreign_calls.specs.{Held.{Takes}, Records.{roomless, opened}};
 
 use foreign_handles::handle::null;
 use foreign_handles::loose::Loose;

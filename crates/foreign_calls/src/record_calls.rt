@@ -1,12 +1,12 @@
 //! Calls on a record, as numbers and as lines.
 ghost use Rattle.std.specs.Prelude.{◌≡◌, ◌≢◌, ◌+◌, ◌≤◌, Some, IsSome, length, take, option_map};
-ghost use Rattle.pid_script.specs.Answers.{reply_text};
-ghost use Rattle.kept_table.specs.Calls.{outcome};
-ghost use Rattle.kept_table.specs.Chronicle.{last_reply};
-ghost use Rattle.foreign_calls.specs.Made.{TellsReply, IsReplyToLast};
-ghost use Rattle.foreign_numbers.specs.Numbers.{numbers_of};
-ghost use Rattle.foreign_calls.specs.Records.{roomless, IsRecordedKeeping, IsWorkerStatus, RecordsCall};
-ghost use Rattle.foreign_calls.specs.Rooms.{KeepsRoom};
+ghost use Rattle.{
+  pid_script.specs.Answers.{reply_text},
+  kept_table.specs.{Calls.{outcome}, Chronicle.{last_reply}},
+  foreign_calls.specs.Made.{TellsReply, IsReplyToLast},
+  foreign_calls.specs.{Records.{roomless, IsRecordedKeeping, IsWorkerStatus, RecordsCall}, Rooms.{KeepsRoom}},
+  foreign_numbers.specs.Numbers.{numbers_of},
+};
 
 use crate::texts::write_reply;
 use foreign_numbers::numbers::{ReplyNumbers, put_list, put_reply, put_short};

@@ -1,9 +1,10 @@
 //! Saved entries on a record: their calls are made again, and their replies compared.
 ghost use Rattle.std.specs.Prelude.{◌≡◌, ◌≢◌, ◌↔◌, [], ◌∷◌, IsTrue, length, slice_get};
-ghost use Rattle.kept_table.specs.Chronicle.{next_stamp};
-ghost use Rattle.foreign_calls.specs.Held.{IsDoneOr};
-ghost use Rattle.foreign_calls.specs.Records.{Has, roomless};
-ghost use Rattle.foreign_calls.specs.Replays.{IsSameAgain, IsOtherNow, Replays, CannotMake, StopsBefore, StopsAt};
+ghost use Rattle.{
+  kept_table.specs.Chronicle.{next_stamp},
+  foreign_calls.specs.{Held.{IsDoneOr}, Records.{Has, roomless}},
+  foreign_calls.specs.Replays.{IsSameAgain, IsOtherNow, ReplaysSaved, CannotMake, StopsBefore, StopsAt},
+};
 
 use crate::read::EntryNumbers;
 use crate::record_calls::make_on;
@@ -47,7 +48,7 @@ fn replay_one(held: &mut Kept, saved: &EntryNumbers) -> u32
 /// result is the status.
 pub fn replay_on(held: &mut Kept, saved: &[EntryNumbers], place: &mut usize) -> u32
     ensures done { result ≡ DONE
-        → (place.new ≡ length saved.now) × Replays (roomless held.old) saved.now (roomless held.new) }
+        → (place.new ≡ length saved.now) × ReplaysSaved (roomless held.old) saved.now (roomless held.new) }
     ensures differs { result ≡ DIFFERS → StopsAt held.old saved.now place.new held.new }
     ensures not_made { result ≢ DONE → result ≢ DIFFERS → StopsBefore held.old saved.now place.new held.new }
     ensures out_of_range { result ≢ DONE → result ≢ DIFFERS → (result ≡ OUT_OF_RANGE)

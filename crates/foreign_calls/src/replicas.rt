@@ -1,8 +1,7 @@
 //! A replica of a log, which a caller holds beside its table.
 ghost use Rattle.std.specs.Prelude.{◌≡◌, ◌↔◌, ◌⊎◌, [], ◌∷◌, Some, None, Err, IfOk, IfErr, OnOk, false, is_some};
-ghost use Rattle.replica.specs.Applied.{IsNew};
+ghost use Rattle.replica.specs.{Applied.{IsNewLog}, Snapshots.{IsSnapshot, head_text}};
 ghost use Rattle.foreign_calls.specs.Held.{IsDoneOr, Takes};
-ghost use Rattle.replica.specs.Snapshots.{IsSnapshot, head_text};
 ghost use Rattle.foreign_calls.specs.Replicas.{AppliesEntry, ReadsHead, TellsFound, digest_at, last_of};
 
 use foreign_handles::handle::null;
@@ -66,7 +65,7 @@ impl PidtabReplica {
 
 /// A new replica on the heap, of a log that has not begun. The error is want of memory.
 pub fn boxed_host(alloc: Global, pid_max: u64, model: u64) -> Result<Box<Host>, AllocError>
-    ensures new { IfOk result (λ held. IsNew pid_max model held.value.log) }
+    ensures new { IfOk result (λ held. IsNewLog pid_max model held.value.log) }
     ensures answers { IfOk result (λ held. held.value.answers ≡ []) }
 {
     let held = Host::new(alloc, pid_max, model)?;

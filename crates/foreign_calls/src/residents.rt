@@ -1,7 +1,6 @@
 //! The live tasks directly in a control group, as numbers.
 ghost use Rattle.std.specs.Prelude.{◌≡◌, ◌≢◌, [], ◌∷◌};
-ghost use Rattle.foreign_calls.specs.Held.{IsDoneOr};
-ghost use Rattle.foreign_calls.specs.Residents.{PutsControlTasks};
+ghost use Rattle.foreign_calls.specs.{Held.{IsDoneOr}, Residents.{PutsControlTasks}};
 
 use foreign_numbers::numbers::{ReplyNumbers, put_reply};
 use foreign_numbers::status::{DONE, NO_MEMORY};

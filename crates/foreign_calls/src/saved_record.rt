@@ -1,15 +1,13 @@
 //! A record as a text: the text of its present state is made, and a record goes on from such a text.
 ghost use Rattle.std.specs.Prelude.{◌≡◌, ◌≢◌, ◌<◌, ◌≤◌, ◌⊎◌, [], ◌∷◌, None, IfOk, IfErr, OnOk, sum, true};
-ghost use Rattle.pid_types.specs.Sound.{IsBelow};
-ghost use Rattle.table_load.specs.Texts.{IsTextOfNoTable};
-ghost use Rattle.table_text.specs.Reading.{saved_state, IsNoText};
-ghost use Rattle.table_text.specs.Texts.{text_of};
-ghost use Rattle.kept_table.specs.Calls.{resumed};
-ghost use Rattle.kept_table.specs.Chronicle.{next_stamp};
-ghost use Rattle.foreign_calls.specs.Held.{Opens};
-ghost use Rattle.foreign_calls.specs.Records.{Has};
-ghost use Rattle.foreign_calls.specs.Saved.{no_fault, HasWorkers, HasTooManyCalls, TellsTooManyCalls};
-ghost use Rattle.foreign_calls.specs.Saved.{IsResumed, TellsFault};
+ghost use Rattle.{
+  pid_types.specs.Sound.{IsBelow},
+  table_load.specs.Texts.{IsTextOfNoTable},
+  table_text.specs.{Reading.{saved_state, IsNoText}, Texts.{text_of}},
+  kept_table.specs.{Calls.{resumed}, Chronicle.{next_stamp}},
+  foreign_calls.specs.{Held.{Opens}, Records.{Has}},
+  foreign_calls.specs.Saved.{no_fault, HasWorkers, HasTooManyCalls, TellsTooManyCalls, IsResumed, TellsFault},
+};
 
 use crate::record::{MOST_WORKERS, PidtabRecord};
 use crate::saved_table::{FaultNumbers, put_fault};

@@ -1,14 +1,11 @@
 //! A table that is opened as a text says, and why one is not.
 ghost use Rattle.std.specs.Prelude.{◌≡◌, ◌≢◌, ◌≤◌, ◌↔◌, ◌⊎◌, [], ◌∷◌, IfOk, IfErr};
-ghost use Rattle.table_load.specs.declared.fault.RestoreFault.TheVariants.{NoMemory};
-ghost use Rattle.table_load.specs.Faults.{IsOfForm};
-ghost use Rattle.table_load.specs.Texts.{IsTextOfNoTable};
-ghost use Rattle.table_text.specs.Reading.{IsNoText};
-ghost use Rattle.table_text.specs.Texts.{text_of};
-ghost use Rattle.foreign_calls.specs.Held.{Opens};
-ghost use Rattle.foreign_calls.specs.Records.{Has};
-ghost use Rattle.foreign_calls.specs.Saved.{no_fault, fault_numbers, TellsFault};
-ghost use Rattle.stamped_table.specs.Stamped.{IsInOrder};
+ghost use Rattle.{
+  table_load.specs.{declared.fault.RestoreFault.TheVariants.{NoMemory}, Faults.{IsOfForm}, Texts.{IsTextOfNoTable}},
+  table_text.specs.{Reading.{IsNoText}, Texts.{text_of}},
+  foreign_calls.specs.{Held.{Opens}, Records.{Has}, Saved.{no_fault, fault_numbers, TellsFault}},
+  stamped_table.specs.Stamped.{IsInOrder},
+};
 
 use crate::table::Pidtab;
 use crate::table_texts::of_loaded;

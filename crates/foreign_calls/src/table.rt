@@ -1,8 +1,7 @@
 //! A table without a history, which a caller holds.
 ghost use Rattle.std.specs.Prelude.{◌≡◌, ◌↔◌, ◌⊎◌, Some, None, Err, IfOk, IfErr, OnOk, is_some};
 ghost use Rattle.foreign_calls.specs.Held.{Takes};
-ghost use Rattle.pid_types.specs.Settings.{HasGoodPidMax};
-ghost use Rattle.pid_types.specs.State.{root_state};
+ghost use Rattle.pid_types.specs.{Settings.{HasGoodPidMax}, State.{root_state}};
 
 use foreign_handles::handle::{Handle, null};
 use foreign_handles::loose::Loose;

@@ -1,9 +1,10 @@
 //! Calls on a table without a history, as numbers and as lines.
 ghost use Rattle.std.specs.Prelude.{◌≡◌, ◌≢◌, ◌≤◌, length, take};
-ghost use Rattle.pid_script.specs.Answers.{reply_text};
-ghost use Rattle.foreign_calls.specs.Made.{IsCallStatus, TellsReply};
-ghost use Rattle.foreign_calls.specs.Rooms.{KeepsRoom};
-ghost use Rattle.stamped_table.specs.Stamped.{after_call, reply_to};
+ghost use Rattle.{
+  pid_script.specs.Answers.{reply_text},
+  foreign_calls.specs.{Made.{IsCallStatus, TellsReply}, Rooms.{KeepsRoom}},
+  stamped_table.specs.Stamped.{after_call, reply_to},
+};
 
 use crate::texts::write_reply;
 use foreign_numbers::numbers::{ReplyNumbers, put_reply, put_short};

@@ -1,9 +1,11 @@
 //! The texts of a table without a history, and the table that was loaded from one.
 ghost use Rattle.std.specs.Prelude.{◌≡◌, IfOk};
-ghost use Rattle.pid_types.specs.Sound.{IsSound, IsBelow};
-ghost use Rattle.stamped_table.specs.Stamped.{IsInOrder};
-ghost use Rattle.table_lines.specs.Listed.{list_of_state};
-ghost use Rattle.table_text.specs.Texts.{text_of};
+ghost use Rattle.{
+  pid_types.specs.Sound.{IsSound, IsBelow},
+  stamped_table.specs.Stamped.{IsInOrder},
+  table_lines.specs.Listed.{list_of_state},
+  table_text.specs.Texts.{text_of},
+};
 
 use stamped_table::StampedTable;
 use std::alloc::{AllocError, Global};

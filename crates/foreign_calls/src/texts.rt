@@ -1,11 +1,10 @@
 //! Text in the room that is given for it.
 ghost use Rattle.std.specs.Prelude.{◌≡◌, ◌<◌, ◌≤◌, ◌↔◌, [], ◌∷◌, length, take, drop};
-ghost use Rattle.pid_script.specs.Answers.{reply_text};
-ghost use Rattle.pid_script.specs.Lines.{line_of};
-ghost use Rattle.foreign_numbers.specs.Numbers.{call_of};
-ghost use Rattle.foreign_numbers.specs.Replies.{reply_in};
-ghost use Rattle.foreign_calls.specs.Held.{IsDoneOr};
-ghost use Rattle.foreign_calls.specs.Rooms.{KeepsRoom, PutsLine};
+ghost use Rattle.{
+  pid_script.specs.{Answers.{reply_text}, Lines.{line_of}},
+  foreign_numbers.specs.{Numbers.{call_of}, Replies.{reply_in}},
+  foreign_calls.specs.{Held.{IsDoneOr}, Rooms.{KeepsRoom, PutsLine}},
+};
 
 use arrayvec::ArrayVec;
 use foreign_numbers::numbers::{CallNumbers, ReplyNumbers, read_call};

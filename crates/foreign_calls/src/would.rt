@@ -1,13 +1,12 @@
 //! The reply that a call would get, and forks that are made only as they were foretold.
 ghost use Rattle.std.specs.Prelude.{◌≡◌, ◌≢◌, ◌<◌, ◌≤◌, ◌↔◌, ◌⊎◌, [], ◌∷◌, Some, true, length};
-ghost use Rattle.kept_table.specs.Calls.{outcome};
-ghost use Rattle.kept_table.specs.Chronicle.{next_stamp};
-ghost use Rattle.stamped_table.specs.Stamped.{after_call, reply_to};
-ghost use Rattle.foreign_numbers.specs.Numbers.{numbers_of};
-ghost use Rattle.foreign_calls.specs.Held.{IsDoneOr};
-ghost use Rattle.foreign_calls.specs.Made.{IsSpent, TellsReply};
-ghost use Rattle.foreign_calls.specs.Records.{roomless, IsRecorded};
-ghost use Rattle.foreign_calls.specs.Would.{wanted_call, wanted_reply, TellsFork};
+ghost use Rattle.{
+  kept_table.specs.{Calls.{outcome}, Chronicle.{next_stamp}},
+  stamped_table.specs.Stamped.{after_call, reply_to},
+  foreign_numbers.specs.Numbers.{numbers_of},
+  foreign_calls.specs.{Held.{IsDoneOr}, Made.{IsSpent, TellsReply}, Records.{roomless, IsRecorded}},
+  foreign_calls.specs.Would.{wanted_call, wanted_reply, TellsFork},
+};
 
 use crate::record_calls::call_on;
 use crate::table_calls::call_table;

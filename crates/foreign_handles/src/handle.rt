@@ -1,6 +1,5 @@
 //! The handle that crosses to C.
-ghost use Rattle.std.specs.Prelude.{◌≡◌, Option, Some, None, IsSome};
-ghost use Rattle.std.specs.Global.{Global};
+ghost use Rattle.std.specs.{Prelude.{◌≡◌, Option, Some, None, IsSome}, Global.{Global}};
 ghost use Rattle.stamped_table.specs.Stamped.{Stamped};
 
 use crate::loose::Loose;

@@ -1,6 +1,5 @@
 //! A box as its address.
-ghost use Rattle.std.specs.Prelude.{◌≡◌};
-ghost use Rattle.std.specs.Box.Ownership.{box_owns};
+ghost use Rattle.std.specs.{Prelude.{◌≡◌}, Box.Ownership.{box_owns}};
 
 use std::alloc::Allocator;
 use std::marker::Model;

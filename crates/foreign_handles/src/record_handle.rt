@@ -1,6 +1,5 @@
 //! The handle of a record that crosses to C.
-ghost use Rattle.std.specs.Prelude.{◌≡◌, Option, Some, None, IsSome};
-ghost use Rattle.std.specs.Global.{Global};
+ghost use Rattle.std.specs.{Prelude.{◌≡◌, Option, Some, None, IsSome}, Global.{Global}};
 ghost use Rattle.kept_table.specs.Chronicle.{Chronicle};
 
 use crate::loose::Loose;

@@ -1,6 +1,5 @@
 //! The handle of a replica that crosses to C.
-ghost use Rattle.std.specs.Prelude.{◌≡◌, Option, Some, None, IsSome};
-ghost use Rattle.std.specs.Global.{Global};
+ghost use Rattle.std.specs.{Prelude.{◌≡◌, Option, Some, None, IsSome}, Global.{Global}};
 ghost use Rattle.replica.specs.Log.{Hosted};
 
 use crate::loose::Loose;

@@ -78,8 +78,8 @@ call_of n =
     else control_call_of n))))))))
 
 -- a reply of the kind that tells nothing else
-abbrev pub blank : ℕ → ReplyNumbers
-blank kind = record { kind = kind; errno = 0; refusal = 0; count = 0; first = 0; second = 0; levels = replicate LEVELS 0 }
+abbrev pub blank_reply : ℕ → ReplyNumbers
+blank_reply kind = record { kind = kind; errno = 0; refusal = 0; count = 0; first = 0; second = 0; levels = replicate LEVELS 0 }
 
 -- the numbers, and zeroes behind them
 abbrev pub with_zeroes : List ℕ → List ℕ
@@ -87,7 +87,7 @@ with_zeroes numbers = numbers ++ drop (length numbers) (replicate LEVELS 0)
 
 -- the reply with a task's numbers
 abbrev pub levels_numbers : List ℕ → ReplyNumbers
-levels_numbers numbers = record (blank 3) { count = length numbers; levels = with_zeroes numbers }
+levels_numbers numbers = record (blank_reply 3) { count = length numbers; levels = with_zeroes numbers }
 
 -- the id of what refused the call
 abbrev pub refused_by : Refusal → ℕ
@@ -98,7 +98,7 @@ refused_by _ = 0
 -- the error and the number of the refusal, and the id of what refused
 abbrev pub refusal_numbers : Refusal → ReplyNumbers
 refusal_numbers refusal =
-    record (blank 9) {
+    record (blank_reply 9) {
       errno = (errno_entry (refusal_entry refusal).error).value;
       refusal = (refusal_entry refusal).number;
       first = refused_by refusal;
@@ -106,14 +106,14 @@ refusal_numbers refusal =
 
 -- the reply as numbers
 unfoldable pub numbers_of : Reply → ReplyNumbers
-numbers_of (Forked child root) = record (blank 0) { first = child; second = root }
-numbers_of Done = blank 1
-numbers_of (Number number) = record (blank 2) { first = number }
+numbers_of (Forked child root) = record (blank_reply 0) { first = child; second = root }
+numbers_of Done = blank_reply 1
+numbers_of (Number number) = record (blank_reply 2) { first = number }
 numbers_of (Levels numbers) = levels_numbers numbers.items
-numbers_of (Reaped child (Exited status)) = record (blank 4) { first = child; second = status }
-numbers_of (Reaped child Killed) = record (blank 4) { first = child; second = 256 }
-numbers_of NoneYet = blank 5
-numbers_of (Counted count) = record (blank 6) { first = count }
-numbers_of (Control id) = record (blank 7) { first = id }
-numbers_of End = blank 8
+numbers_of (Reaped child (Exited status)) = record (blank_reply 4) { first = child; second = status }
+numbers_of (Reaped child Killed) = record (blank_reply 4) { first = child; second = 256 }
+numbers_of NoneYet = blank_reply 5
+numbers_of (Counted count) = record (blank_reply 6) { first = count }
+numbers_of (Control id) = record (blank_reply 7) { first = id }
+numbers_of End = blank_reply 8
 numbers_of (Refused refusal) = refusal_numbers refusal

@@ -19,8 +19,8 @@ abbrev pub forked_of : ℕ → ℕ → Option Reply
 forked_of first second = option_and_then (λ child. option_map (λ root. Forked child root) (short_of second)) (short_of first)
 
 -- a task's numbers: no more than there are levels
-abbrev pub levels_of : ReplyNumbers → Option Reply
-levels_of n = if nat_le n.count LEVELS then Some (Levels (record { items = take n.count n.levels })) else None
+abbrev pub levels_told : ReplyNumbers → Option Reply
+levels_told n = if nat_le n.count LEVELS then Some (Levels (record { items = take n.count n.levels })) else None
 
 -- how a child ended: by an exit, or killed
 abbrev pub ended_of : ℕ → Option Ended
@@ -47,7 +47,7 @@ reply_in n =
     if n.kind == 0 then forked_of n.first n.second
     else (if n.kind == 1 then Some Done
     else (if n.kind == 2 then option_map (λ number. Number number) (short_of n.first)
-    else (if n.kind == 3 then levels_of n
+    else (if n.kind == 3 then levels_told n
     else (if n.kind == 4 then reaped_of n.first n.second
     else (if n.kind == 5 then Some NoneYet
     else (if n.kind == 6 then Some (Counted n.first)

@@ -1,8 +1,8 @@
 //! A call as numbers, from which the call can be read again.
 ghost use Rattle.std.specs.Prelude.{◌≡◌, Some};
-ghost use Rattle.pid_types.specs.declared.call.Call.TheVariants as says;
 ghost use Rattle.foreign_numbers.specs.CallNumbers.{call_blank, call_numbers, wait_numbers, limit_numbers};
 ghost use Rattle.foreign_numbers.specs.Numbers.{call_of};
+ghost use Rattle.pid_types.specs.declared.call.Call.TheVariants as says;
 
 use crate::numbers::CallNumbers;
 use crate::{choices, operations};

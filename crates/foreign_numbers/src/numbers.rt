@@ -1,10 +1,11 @@
 //! Calls and replies as numbers, for callers who would rather not read text. The numbers stay the same from release to
 //! release.
-ghost use Rattle.pid_types.specs.Short.{reply_of};
 ghost use Rattle.std.specs.Prelude.{◌≡◌, ◌≤◌, length};
-ghost use Rattle.foreign_numbers.specs.Numbers.{switch_of, which_of, kind_of, limit_of, status_of, call_of};
-ghost use Rattle.foreign_numbers.specs.Numbers.{control_call_of, later_call_of, blank, with_zeroes, levels_numbers};
-ghost use Rattle.foreign_numbers.specs.Numbers.{refusal_numbers, numbers_of};
+ghost use Rattle.{
+  pid_types.specs.Short.{reply_of},
+  foreign_numbers.specs.Numbers.{switch_of, which_of, kind_of, limit_of, status_of, call_of, control_call_of},
+  foreign_numbers.specs.Numbers.{later_call_of, blank_reply, with_zeroes, levels_numbers, refusal_numbers, numbers_of},
+};
 
 use crate::{choices, kinds, operations};
 use arrayvec::ArrayVec;
@@ -150,7 +151,7 @@ fn read_later_call(n: &CallNumbers) -> Option<Call>
 
 /// Writes a reply of the kind that tells one value or two.
 fn put_values(reply: &mut ReplyNumbers, kind: u32, first: u64, second: u64)
-    ensures { reply.new ≡ record (blank kind) { first = first; second = second } }
+    ensures { reply.new ≡ record (blank_reply kind) { first = first; second = second } }
 {
     reply.kind = kind;
     reply.errno = 0;

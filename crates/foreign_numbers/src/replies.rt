@@ -1,10 +1,10 @@
 //! A reply, read from the numbers that tell it. What its kind does not tell is not looked at.
 ghost use Rattle.std.specs.Prelude.{◌≡◌, Some};
-ghost use Rattle.foreign_numbers.specs.Numbers.{levels_numbers, numbers_of};
-ghost use Rattle.pid_types.specs.declared.plain.Ended.TheVariants.{Exited};
-ghost use Rattle.pid_types.specs.declared.reply.Reply.TheVariants.{Levels};
-ghost use Rattle.foreign_numbers.specs.Replies.{short_of, forked_of, levels_of, ended_of, reaped_of, refusal_of};
-ghost use Rattle.foreign_numbers.specs.Replies.{reply_in};
+ghost use Rattle.{
+  foreign_numbers.specs.Numbers.{levels_numbers, numbers_of},
+  foreign_numbers.specs.Replies.{short_of, forked_of, levels_told, ended_of, reaped_of, refusal_of, reply_in},
+  pid_types.specs.{declared.plain.Ended.TheVariants.{Exited}, declared.reply.Reply.TheVariants.{Levels}},
+};
 
 use crate::kinds;
 use crate::numbers::ReplyNumbers;
@@ -34,7 +34,7 @@ fn read_forked(first: u64, second: u64) -> Option<Reply>
 
 /// A task's numbers.
 fn read_levels(n: &ReplyNumbers) -> Option<Reply>
-    ensures { result ≡ levels_of n.now }
+    ensures { result ≡ levels_told n.now }
 {
     let count = n.count as usize;
     if count > LEVELS {
@@ -135,7 +135,7 @@ fn status_fits(status: u8)
 
 /// So are a task's numbers.
 fn levels_fit(numbers: &ArrayVec<u32, LEVELS>)
-    ensures { levels_of (levels_numbers numbers.now.items) ≡ Some (Levels numbers.now) }
+    ensures { levels_told (levels_numbers numbers.now.items) ≡ Some (Levels numbers.now) }
 {
     let _numbers = numbers.as_slice();
 }

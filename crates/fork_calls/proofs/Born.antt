@@ -16,7 +16,7 @@ use Rattle.pid_numbers.specs.Numbering.{Numbering, Namespace, Identifier, namesp
 use Rattle.task_tree.specs.declared.Task.{Task}
 use Rattle.task_tree.specs.Tree.{task_at, parent_of}
 use Rattle.groups_sessions.specs.Membership.{Membership, membership_at}
-use Rattle.pids_charge.specs.Charges.{Home, home_at, id_at as home_id}
+use Rattle.pids_charge.specs.Charges.{Home, home_at, home_id}
 use Rattle.task_table.specs.Store.{Store, Begins, bare}
 use Rattle.task_table.specs.View.{name_of, name_at, row_of, row_with, spaces_of, state_of}
 use Rattle.task_table.specs.Lawful.{IsLawful}

@@ -4,7 +4,7 @@ use Rattle.std.specs.Option.{option_map_or}
 use Rattle.pid_types.specs.declared.reply.Refusal.TheVariants.{PidsLimit}
 use Rattle.pid_types.specs.Controls.{control_path, is_limited_below, passed_limit, count as count_in}
 use Rattle.model_laws.proofs.Lists.{find-same}
-use Rattle.pids_charge.specs.Charges.{charge_refusal, is_full, limit_of}
+use Rattle.pids_charge.specs.Charges.{charge_refusal, is_full, control_limit}
 use Rattle.task_table.specs.Store.{Store}
 use Rattle.task_table.specs.View.{state_of}
 use Rattle.task_table.specs.Lawful.{IsLawful}
@@ -15,4 +15,4 @@ pub limit-is : (s : Store) → IsLawful s → (home : ℕ) → charge_refusal s.
 unfolding passed_limit
 limit-is s l home =
     ap (option_map PidsLimit) (find-same (is_full s.charges) (λ c. is_limited_below (state_of s) (count_in (state_of s) c + 1) c) (control_path s.charges.controls home)
-    (λ c i. ap (λ n. option_map_or (λ limit. nat_lt limit (n + 1)) (limit_of s.charges c) false) (count-is s l c)))
+    (λ c i. ap (λ n. option_map_or (λ limit. nat_lt limit (n + 1)) (control_limit s.charges c) false) (count-is s l c)))

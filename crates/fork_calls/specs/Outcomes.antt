@@ -1,5 +1,5 @@
 -- What a fork comes to.
-use Rattle.std.specs.Prelude.{◌≡◌, ◌≢◌, ℕ, Bool, not, ◌==◌, nat_le, Option, Some, None, MatchOption, if◌then◌else◌}
+use Rattle.std.specs.Prelude.{◌≡◌, ◌≢◌, ℕ, Bool, not, ◌==◌, nat_le, Option, Some, None, MatchOption, if◌then◌else◌, Result, OnOk, IfOk}
 use Rattle.std.specs.Option.{option_map_or}
 use Rattle.pid_types.specs.declared.plain.Row.{Row}
 use Rattle.pid_types.specs.declared.reply.Refusal.{Refusal}
@@ -15,6 +15,8 @@ use Rattle.pid_numbers.specs.Numbering.{Numbering, id_at}
 use Rattle.task_tree.specs.declared.Task.{Task}
 use Rattle.task_table.specs.Store.{Store}
 use Rattle.task_table.specs.View.{row_of, state_of}
+use Rattle.pid_types.specs.declared.reply.ShortReply.{ShortReply}
+use Rattle.pid_types.specs.Short.{reply_of}
 
 -- the caller's child in a namespace of the planned state, or why there can be none
 abbrev pub forked_into : State → State → Row → ℕ → Outcome
@@ -28,6 +30,14 @@ child_there s key task = forked_into (state_of s) (state_of s) (row_of s key tas
 abbrev pub child_below : Store → ℕ → Task → ℕ → Outcome
 child_below s key task stamp =
     forked_into (state_of s) (with_space (state_of s) task.children_space stamp) (row_of s key task) stamp
+
+-- the store is as the outcome leaves it, unless memory was wanting
+abbrev pub LeavesOutcome : {A E : Type 0} → Result A E → Store → Outcome → Type 0
+LeavesOutcome result s outcome = OnOk result (state_of s ≡ outcome.state)
+
+-- the reply is the outcome's, unless memory was wanting
+abbrev pub Replies : {E : Type 0} → Result ShortReply E → Outcome → Type 0
+Replies result outcome = IfOk result (λ reply. reply_of reply ≡ outcome.reply)
 
 -- the reply to a fork whose child gets these numbers, in the caller's namespace and in the root, where the limits do not refuse it
 abbrev pub planned_reply : Option Refusal → ℕ → ℕ → Reply

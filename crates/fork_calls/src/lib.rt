@@ -6,27 +6,18 @@
 #![tactic(auto)]
 
 ghost use Rattle.std.specs.Prelude.{◌≡◌, ℕ, Some, None, true, false, map, find, is_none, option_map, unwrap_or, IfOk};
-ghost use Rattle.std.specs.Prelude.{IfErr, IfSome, OnOk, OnErr, IsSome, nat_le, ◌∷◌, ◌==◌, ◌<◌, length, reverse};
-ghost use Rattle.std.specs.Prelude.{slice_index};
-ghost use Rattle.pid_types.specs.Bounds.{deepest_space};
-ghost use Rattle.pid_types.specs.Outcome.{unless_found};
-ghost use Rattle.pid_types.specs.Names.{level, number_or_zero, root_number};
-ghost use Rattle.pid_types.specs.declared.plain.Life.{Life};
-ghost use Rattle.pid_types.specs.declared.reply.Reply.{Reply};
-ghost use Rattle.fork_calls.specs.Outcomes.{child_there, child_below, space_refusal, IsKeyOf};
-ghost use Rattle.fork_calls.specs.Outcomes.{nest_refusal as nest_refusal_of};
-ghost use Rattle.pid_types.specs.Controls.{passed_limit as passed_limit_of};
-ghost use Rattle.pid_types.specs.Fork.{fork as fork_of, forked, is_gone};
-ghost use Rattle.pid_types.specs.Sound.{IsBelow};
-ghost use Rattle.pid_types.specs.declared.reply.Refusal.{Refusal};
-ghost use Rattle.pid_types.specs.Short.{reply_of};
-ghost use Rattle.pid_numbers.specs.Numbering.{id_at, path_at, draw_in, has_fallen_at, namespace_at, number_of};
-ghost use Rattle.pid_numbers.specs.Numbering.{identifier_at, Identifier};
-ghost use Rattle.task_tree.specs.declared.Task.{Task};
-ghost use Rattle.task_tree.specs.Tree.{task_at};
-ghost use Rattle.task_table.specs.View.{name_at, row_of, state_of};
-ghost use Rattle.task_table.specs.Found.{IsCaller, IsFound};
-ghost use Rattle.task_table.specs.Whole.{IsWhole, HasParents};
+ghost use Rattle.std.specs.Prelude.{IfErr, OnOk, OnErr, IsSome, nat_le, ◌∷◌, ◌==◌, ◌<◌};
+ghost use Rattle.{
+  pid_types.specs.{Bounds.{deepest_space}, Names.{level, number_or_zero, root_number}, declared.plain.Life.{Life}},
+  pid_types.specs.{declared.reply.Reply.{Reply}, Controls.{passed_limit as passed_limit_of}},
+  pid_types.specs.{Fork.{fork as fork_of, is_gone}, Sound.{IsBelow}, declared.reply.Refusal.{Refusal}},
+  pid_types.specs.Short.{reply_of},
+  fork_calls.specs.Outcomes.{child_there, child_below, space_refusal, IsKeyOf, nest_refusal as nest_refusal_of},
+  fork_calls.specs.Outcomes.{LeavesOutcome, Replies},
+  pid_numbers.specs.Numbering.{id_at, path_at, draw_in, namespace_at, number_of, identifier_at, Identifier},
+  task_tree.specs.{declared.Task.{Task}, Tree.{task_at}},
+  task_table.specs.{View.{name_at, row_of, state_of}, Found.{IsCaller, IsFound}, Whole.{IsWhole, HasParents}},
+};
 
 mod would;
 
@@ -124,9 +115,8 @@ fn fork_planned(
     requires all { find (λ s. is_none (draw_in store.old.numbering s)) (path_at store.old.numbering space) ≡ None }
     requires planned { numbers.now ≡ map (λ s. unwrap_or (draw_in store.old.numbering s) 0)
         (path_at store.old.numbering space) }
-    ensures state { OnOk result (state_of store.new ≡ (child_there store.old found.now.key found.now.task).state) }
-    ensures reply { IfOk result (λ reply. reply_of reply
-        ≡ (child_there store.old found.now.key found.now.task).reply) }
+    ensures state { LeavesOutcome result store.new (child_there store.old found.now.key found.now.task) }
+    ensures reply { Replies result (child_there store.old found.now.key found.now.task) }
     ensures err { OnErr result (state_of store.new ≡ state_of store.old) }
     ensures parents { HasParents store.new }
 {
@@ -145,9 +135,8 @@ fn fork_into(store: &mut Tasks, found: &Found, space: SpaceKey) -> Result<ShortR
     requires whole { IsWhole store.old }
     requires caller { IsCaller store.old found.now }
     requires id { id_at store.old.numbering space ≡ Some found.now.task.children_space }
-    ensures state { OnOk result (state_of store.new ≡ (child_there store.old found.now.key found.now.task).state) }
-    ensures reply { IfOk result (λ reply. reply_of reply
-        ≡ (child_there store.old found.now.key found.now.task).reply) }
+    ensures state { LeavesOutcome result store.new (child_there store.old found.now.key found.now.task) }
+    ensures reply { Replies result (child_there store.old found.now.key found.now.task) }
     ensures err { OnErr result (state_of store.new ≡ state_of store.old) }
     ensures parents { HasParents store.new }
 {
@@ -165,9 +154,8 @@ fn fork_into_root(store: &mut Tasks, found: &Found) -> Result<ShortReply, AllocE
     requires whole { IsWhole store.old }
     requires caller { IsCaller store.old found.now }
     requires id { id_at store.old.numbering 0 ≡ Some found.now.task.children_space }
-    ensures state { OnOk result (state_of store.new ≡ (child_there store.old found.now.key found.now.task).state) }
-    ensures reply { IfOk result (λ reply. reply_of reply
-        ≡ (child_there store.old found.now.key found.now.task).reply) }
+    ensures state { LeavesOutcome result store.new (child_there store.old found.now.key found.now.task) }
+    ensures reply { Replies result (child_there store.old found.now.key found.now.task) }
     ensures err { OnErr result (state_of store.new ≡ state_of store.old) }
     ensures parents { HasParents store.new }
 {
@@ -196,10 +184,8 @@ fn fork_new_planned(
         ≡ None }
     requires planned { numbers.now ≡ 1 ∷ map (λ s. unwrap_or (draw_in store.old.numbering s) 0)
         (path_at store.old.numbering found.now.space) }
-    ensures state { OnOk result (state_of store.new
-        ≡ (child_below store.old found.now.key found.now.task stamp).state) }
-    ensures reply { IfOk result (λ reply. reply_of reply
-        ≡ (child_below store.old found.now.key found.now.task stamp).reply) }
+    ensures state { LeavesOutcome result store.new (child_below store.old found.now.key found.now.task stamp) }
+    ensures reply { Replies result (child_below store.old found.now.key found.now.task stamp) }
     ensures err { OnErr result (state_of store.new ≡ state_of store.old) }
     ensures parents { HasParents store.new }
 {
@@ -222,10 +208,8 @@ fn fork_inside(store: &mut Tasks, found: &Found, stamp: u64) -> Result<ShortRepl
     requires id { id_at store.old.numbering found.now.space ≡ Some found.now.task.children_space }
     requires stands { is_gone (state_of store.old) found.now.task.children_space ≡ false }
     requires shallow { nat_le deepest_space (level (state_of store.old).spaces found.now.task.children_space) ≡ false }
-    ensures state { OnOk result (state_of store.new
-        ≡ (child_below store.old found.now.key found.now.task stamp).state) }
-    ensures reply { IfOk result (λ reply. reply_of reply
-        ≡ (child_below store.old found.now.key found.now.task stamp).reply) }
+    ensures state { LeavesOutcome result store.new (child_below store.old found.now.key found.now.task stamp) }
+    ensures reply { Replies result (child_below store.old found.now.key found.now.task stamp) }
     ensures err { OnErr result (state_of store.new ≡ state_of store.old) }
     ensures parents { HasParents store.new }
 {

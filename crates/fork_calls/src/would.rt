@@ -1,17 +1,13 @@
 //! The reply that a fork would get. It is planned as a fork is, and nothing is made of the plan.
 ghost use Rattle.std.specs.Prelude.{◌≡◌, ◌-◌, ◌<◌, Some, false, option_map, unwrap_or, length, slice_index, nat_le};
-ghost use Rattle.pid_types.specs.Bounds.{deepest_space};
-ghost use Rattle.pid_types.specs.Names.{level};
-ghost use Rattle.pid_types.specs.Controls.{passed_limit as passed_limit_of};
-ghost use Rattle.pid_types.specs.Fork.{fork as fork_of, is_gone};
-ghost use Rattle.pid_types.specs.Short.{reply_of};
-ghost use Rattle.pid_types.specs.Sound.{IsBelow};
-ghost use Rattle.pid_types.specs.declared.reply.Refusal.{Refusal};
-ghost use Rattle.pid_numbers.specs.Numbering.{id_at, draw_in};
-ghost use Rattle.task_table.specs.Found.{IsCaller};
-ghost use Rattle.task_table.specs.View.{row_of, state_of};
-ghost use Rattle.task_table.specs.Whole.{IsWhole};
-ghost use Rattle.fork_calls.specs.Outcomes.{child_there, child_below, planned_reply};
+ghost use Rattle.{
+  pid_types.specs.{Bounds.{deepest_space}, Names.{level}, Controls.{passed_limit as passed_limit_of}},
+  pid_types.specs.{Fork.{fork as fork_of, is_gone}, Short.{reply_of}, Sound.{IsBelow}},
+  pid_types.specs.declared.reply.Refusal.{Refusal},
+  pid_numbers.specs.Numbering.{id_at, draw_in},
+  task_table.specs.{Found.{IsCaller}, View.{row_of, state_of}, Whole.{IsWhole}},
+  fork_calls.specs.Outcomes.{child_there, child_below, planned_reply},
+};
 
 use crate::{id_of, namespace_for, passed_limit};
 use arrayvec::ArrayVec;

@@ -3,7 +3,7 @@ use Rattle.std.proofs.Common.{◌≡◌, ◌≢◌, ◌⊎◌, inl, inr, ℕ, �
 use Rattle.std.proofs.lemmas.Bool.{cases_eq}
 use Rattle.std.proofs.lemmas.List.{get_or-set_same, get_or-set_other, length-set}
 use Rattle.member_lists.specs.Owners.{owner_of}
-use Rattle.groups_sessions.specs.Membership.{IsJoined, IsKept}
+use Rattle.groups_sessions.specs.Membership.{IsJoined, AreMemberships}
 
 -- the same, but that the group that a task was in may have a session though nobody is left in it
 pub record IsKeptBut (groups sessions : List (Option ℕ)) (old : Option ℕ) : Type 0 where
@@ -22,7 +22,7 @@ pub record IsForgotten (groups sessions sessions' : List (Option ℕ)) (group : 
   pub room : length sessions' ≡ length sessions
 
 -- who entered was in no group before
-pub IsKept-from_none : (groups sessions : List (Option ℕ)) → IsKeptBut groups sessions None → IsKept groups sessions
+pub IsKept-from_none : (groups sessions : List (Option ℕ)) → IsKeptBut groups sessions None → AreMemberships groups sessions
 IsKept-from_none groups sessions w = record {
   room = w.room;
   few = w.few;
@@ -57,7 +57,7 @@ module _ (groups sessions sessions' : List (Option ℕ)) (old : ℕ) (f : IsForg
     | inr other ↦ w.joined g s (λ z. other (sym (let y : old ≡ g = cc in y))) (was w g s e)
   ]
 
-  pub IsKept-forgotten : IsKeptBut groups sessions (Some old) → IsKept groups sessions'
+  pub IsKept-forgotten : IsKeptBut groups sessions (Some old) → AreMemberships groups sessions'
   IsKept-forgotten w = record {
     room = let a = w.room in let b = f.room in omega (arith, a, b);
     few = w.few;
@@ -67,7 +67,7 @@ module _ (groups sessions sessions' : List (Option ℕ)) (old : ℕ) (f : IsForg
     session_room = λ g s e. w.session_room g s (was w g s e);
   }
 
-module _ (groups sessions : List (Option ℕ)) (w : IsKept groups sessions) (t : ℕ) (task : t < length groups) where
+module _ (groups sessions : List (Option ℕ)) (w : AreMemberships groups sessions) (t : ℕ) (task : t < length groups) where
   -- who else was in a group is still in it
   stayed : (o : Option ℕ) (k h : ℕ) → owner_of groups t ≢ Some h → owner_of groups k ≡ Some h → owner_of (set groups t o) k ≡ Some h
   stayed o k h another mine = get_or-set_other groups t k o None (λ same. another (ap (owner_of groups) (sym same) ∙ mine)) ∙ mine
@@ -153,10 +153,10 @@ in_range [] k g e = absurd (cc)
 in_range (x ∷ xs) zero g e = omega arith
 in_range (x ∷ xs) (suc k) g e = let h = in_range xs k g e in omega (arith, h)
 
-module _ (groups sessions : List (Option ℕ)) (w : IsKept groups sessions) (t : ℕ) where
+module _ (groups sessions : List (Option ℕ)) (w : AreMemberships groups sessions) (t : ℕ) where
   -- a task entered its first group
   pub IsKept-entered : t < length groups → owner_of groups t ≡ None → (g s : ℕ) → g < length groups → s < length groups
-      → IsKept (set groups t (Some g)) (set sessions g (Some s))
+      → AreMemberships (set groups t (Some g)) (set sessions g (Some s))
   IsKept-entered task free g s group session =
       IsKept-from_none (set groups t (Some g)) (set sessions g (Some s))
       (subst (λ (o : Option ℕ). IsKeptBut (set groups t (Some g)) (set sessions g (Some s)) o) free (IsKeptBut-put groups sessions w t task g s group session))
@@ -164,7 +164,7 @@ module _ (groups sessions : List (Option ℕ)) (w : IsKept groups sessions) (t :
   module _ (old : ℕ) (mine : owner_of groups t ≡ Some old) where
     -- a task went to another group, and the old one from its session if it was the last
     pub IsKept-moved : (g s : ℕ) → g < length groups → s < length groups → (groups' sessions' sessions'' : List (Option ℕ))
-        → groups' ≡ set groups t (Some g) → sessions' ≡ set sessions g (Some s) → IsForgotten groups' sessions' sessions'' old → IsKept groups' sessions''
+        → groups' ≡ set groups t (Some g) → sessions' ≡ set sessions g (Some s) → IsForgotten groups' sessions' sessions'' old → AreMemberships groups' sessions''
     IsKept-moved g s group session groups' sessions' sessions'' same_groups same_sessions f =
         let but : IsKeptBut (set groups t (Some g)) (set sessions g (Some s)) (Some old) =
         subst (λ (o : Option ℕ). IsKeptBut (set groups t (Some g)) (set sessions g (Some s)) o) mine
@@ -173,16 +173,16 @@ module _ (groups sessions : List (Option ℕ)) (w : IsKept groups sessions) (t :
 
     -- a task left its group, and that one went from its session if it was the last
     pub IsKept-left : (groups' sessions' : List (Option ℕ)) → groups' ≡ set groups t None → IsForgotten groups' sessions sessions' old
-        → IsKept groups' sessions'
+        → AreMemberships groups' sessions'
     IsKept-left groups' sessions' same_groups f =
         let but : IsKeptBut (set groups t None) sessions (Some old) =
         subst (λ (o : Option ℕ). IsKeptBut (set groups t None) sessions o) mine (IsKeptBut-left groups sessions w t (in_range groups t old mine)) in
         IsKept-forgotten groups' sessions sessions' old f (rw same_groups but)
 
 -- more room, and nobody moved
-pub IsKept-grown : (groups groups' sessions sessions' : List (Option ℕ)) → IsKept groups sessions → length groups' ≤ length sessions'
+pub IsKept-grown : (groups groups' sessions sessions' : List (Option ℕ)) → AreMemberships groups sessions → length groups' ≤ length sessions'
     → length groups' ≤ 1073741824 → length groups ≤ length groups' → ((k : ℕ) → owner_of groups' k ≡ owner_of groups k)
-    → ((g : ℕ) → owner_of sessions' g ≡ owner_of sessions g) → IsKept groups' sessions'
+    → ((g : ℕ) → owner_of sessions' g ≡ owner_of sessions g) → AreMemberships groups' sessions'
 IsKept-grown groups groups' sessions sessions' w room few more same_groups same_sessions = record {
   room = room;
   few = few;

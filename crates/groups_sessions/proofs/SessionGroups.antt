@@ -5,7 +5,7 @@ use Rattle.std.proofs.lemmas.Bool.{eq-eqb, eqb-true}
 use Rattle.pid_types.proofs.General.{both, some_number}
 use Rattle.pid_numbers.specs.Numbering.{Numbering, number_of}
 use Rattle.groups_sessions.specs.Membership.{Membership, membership_at, HasMembers, AreInSession, IsSessionOf}
-use Rattle.groups_sessions.specs.Setpgid.{is_numbered, session_group}
+use Rattle.groups_sessions.specs.Setpgid.{has_number, session_group_key}
 
 module _ (p : Membership → Bool) where
   -- what is found is at some key
@@ -34,61 +34,61 @@ module _ (p : Membership → Bool) where
 
 module _ (members : List (Option Membership)) (numbers : Numbering) (session space n : ℕ) where
   -- the group has the number, and some task of the session is in it
-  pub session_group-some : (i : ℕ) → session_group members numbers session space n ≡ Some i
+  pub session_group-some : (i : ℕ) → session_group_key members numbers session space n ≡ Some i
       → (number_of numbers i space ≡ Some n) × ((k : ℕ) × (membership_at members k ≡ Some (record { group = i; session = session })))
-  unfolding session_group
+  unfolding session_group_key
   session_group-some i is = go (find passes (filter_map (λ o. o) members)) refl is
     where
       passes : Membership → Bool
-      passes m = (m.session == session) && is_numbered numbers m.group space n
+      passes m = (m.session == session) && has_number numbers m.group space n
 
       go : (o : Option Membership) → find passes (filter_map (λ o. o) members) ≡ o → option_map (λ (m : Membership). m.group) o ≡ Some i
           → (number_of numbers i space ≡ Some n) × ((k : ℕ) × (membership_at members k ≡ Some (record { group = i; session = session })))
       go None e is = absurd (cc)
       go (Some m) e is =
           let at = found passes members m e in
-          let test = both (m.session == session) (is_numbered numbers m.group space n) at.0 in
+          let test = both (m.session == session) (has_number numbers m.group space n) at.0 in
           let group : m.group ≡ i = cc in
           let mine : m.session ≡ session = eqb-true m.session session test.0 in
           let as_told : m ≡ record { group = i; session = session } = ap (λ (g : ℕ). record { group = g; session = m.session }) group ∙ ap (λ (t : ℕ). record { group = i; session = t }) mine in
           (sym (ap (λ (g : ℕ). number_of numbers g space) group) ∙ some_number (number_of numbers m.group space) n test.1, ((at.1).0, (at.1).1 ∙ ap Some as_told))
 
   -- no task of the session is in a group with the number
-  pub session_group-none : session_group members numbers session space n ≡ None → (k : ℕ) (m : Membership) → membership_at members k ≡ Some m → m.session ≡ session
+  pub session_group-none : session_group_key members numbers session space n ≡ None → (k : ℕ) (m : Membership) → membership_at members k ≡ Some m → m.session ≡ session
       → number_of numbers m.group space ≢ Some n
-  unfolding session_group
+  unfolding session_group_key
   session_group-none none k m at mine has = go (find passes (filter_map (λ o. o) members)) refl none
     where
       passes : Membership → Bool
-      passes x = (x.session == session) && is_numbered numbers x.group space n
+      passes x = (x.session == session) && has_number numbers x.group space n
 
       go : (o : Option Membership) → find passes (filter_map (λ o. o) members) ≡ o → option_map (λ (x : Membership). x.group) o ≡ None → ⊥
       go (Some x) e none = absurd (cc)
       go None e none =
           let off = missing passes members e k m at in
           let one = eq-eqb m.session session mine in
-          let two : is_numbered numbers m.group space n ≡ true = ap (λ o. option_eq ◌==◌ o (Some n)) has ∙ eq-eqb n n refl in
+          let two : has_number numbers m.group space n ≡ true = ap (λ o. option_eq ◌==◌ o (Some n)) has ∙ eq-eqb n n refl in
           let on : passes m ≡ true = rw (one, two) refl in
           absurd (cc)
 
   -- where nobody has the number there is no such group
-  pub session_group-unknown : ((i : ℕ) → number_of numbers i space ≢ Some n) → session_group members numbers session space n ≡ None
-  session_group-unknown free = go (session_group members numbers session space n) refl
+  pub session_group-unknown : ((i : ℕ) → number_of numbers i space ≢ Some n) → session_group_key members numbers session space n ≡ None
+  session_group-unknown free = go (session_group_key members numbers session space n) refl
     where
-      go : (o : Option ℕ) → session_group members numbers session space n ≡ o → session_group members numbers session space n ≡ None
+      go : (o : Option ℕ) → session_group_key members numbers session space n ≡ o → session_group_key members numbers session space n ≡ None
       go None e = e
       go (Some j) e = absurd (free j (session_group-some j e).0)
 
   module _ (distinct : (i j s m : ℕ) → number_of numbers i s ≡ Some m → number_of numbers j s ≡ Some m → i ≡ j) (i : ℕ) (has : number_of numbers i space ≡ Some n) where
     seen : (k : ℕ) (o : Option Membership) → membership_at members k ≡ o → option_map (λ (m : Membership). m.group) o ≡ Some i → option_map (λ (m : Membership). m.session) o ≡ Some session
-        → session_group members numbers session space n ≢ None
+        → session_group_key members numbers session space n ≢ None
     seen k None at group mine none = absurd (cc)
     seen k (Some m) at group mine none =
         let same : m.group ≡ i = cc in
         let session_same : m.session ≡ session = cc in
         session_group-none none k m at session_same (ap (λ (g : ℕ). number_of numbers g space) same ∙ has)
 
-    here : HasMembers members i → AreInSession members i session → (o : Option ℕ) → session_group members numbers session space n ≡ o → session_group members numbers session space n ≡ Some i
+    here : HasMembers members i → AreInSession members i session → (o : Option ℕ) → session_group_key members numbers session space n ≡ o → session_group_key members numbers session space n ≡ Some i
     here some together None e = absurd (seen some.0 (membership_at members some.0) refl some.1 (together some.0 some.1) e)
     here some together (Some j) e = e ∙ ap Some (distinct j i space n (session_group-some j e).0 has)
 
@@ -100,8 +100,8 @@ module _ (members : List (Option Membership)) (numbers : Numbering) (session spa
         let on = eq-eqb s session same in
         absurd (cc)
 
-    none_here : (o : Option ℕ) → option_eq ◌==◌ o (Some session) ≡ false → IsSessionOf members i o → (t : Option ℕ) → session_group members numbers session space n ≡ t
-        → session_group members numbers session space n ≡ None
+    none_here : (o : Option ℕ) → option_eq ◌==◌ o (Some session) ≡ false → IsSessionOf members i o → (t : Option ℕ) → session_group_key members numbers session space n ≡ t
+        → session_group_key members numbers session space n ≡ None
     none_here o differs told None e = e
     none_here o differs told (Some j) e =
         let at = session_group-some j e in
@@ -109,12 +109,12 @@ module _ (members : List (Option Membership)) (numbers : Numbering) (session spa
         absurd (away o differs told (at.1).0 ((at.1).1 ∙ ap (λ (g : ℕ). Some (record { group = g; session = session })) same))
 
     -- who has the number is the group, if those in it are of the session
-    pub session_group-same : (o : Option ℕ) → IsSessionOf members i o → option_eq ◌==◌ o (Some session) ≡ true → session_group members numbers session space n ≡ Some i
+    pub session_group-same : (o : Option ℕ) → IsSessionOf members i o → option_eq ◌==◌ o (Some session) ≡ true → session_group_key members numbers session space n ≡ Some i
     session_group-same o told same =
         let P : Option ℕ → Type 0 = λ t. IsSessionOf members i t in
         let all = subst P (some_number o session same) told in
-        here all.0 all.1 (session_group members numbers session space n) refl
+        here all.0 all.1 (session_group_key members numbers session space n) refl
 
     -- and else there is none
-    pub session_group-other : (o : Option ℕ) → IsSessionOf members i o → option_eq ◌==◌ o (Some session) ≡ false → session_group members numbers session space n ≡ None
-    session_group-other o told differs = none_here o differs told (session_group members numbers session space n) refl
+    pub session_group-other : (o : Option ℕ) → IsSessionOf members i o → option_eq ◌==◌ o (Some session) ≡ false → session_group_key members numbers session space n ≡ None
+    session_group-other o told differs = none_here o differs told (session_group_key members numbers session space n) refl

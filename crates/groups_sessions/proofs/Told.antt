@@ -3,10 +3,10 @@ use Rattle.std.proofs.Common.{◌≡◌, ℕ, List, [], ◌∷◌, Option, Some,
 use Rattle.std.specs.List.{AllByRecursion}
 use Rattle.pid_types.proofs.General.{held}
 use Rattle.member_lists.specs.Owners.{owner_of, AreMembers}
-use Rattle.groups_sessions.specs.Membership.{Membership, membership_at, IsSessionOf, AreGroupsOf, membership_in, memberships_of, IsKept}
+use Rattle.groups_sessions.specs.Membership.{Membership, membership_at, IsSessionOf, AreGroupsOf, membership_in, memberships_of, AreMemberships}
 use Rattle.groups_sessions.proofs.Views.{membership_at-is, group_of-is, in_session, told}
 
-module _ (groups sessions : List (Option ℕ)) (w : IsKept groups sessions) where
+module _ (groups sessions : List (Option ℕ)) (w : AreMemberships groups sessions) where
   -- the session that the lists have for a group
   pub session_told : (g : ℕ) → IsSessionOf (memberships_of groups sessions) g (owner_of sessions g)
   session_told g = go (owner_of sessions g) refl

@@ -4,7 +4,7 @@ use Rattle.std.proofs.lemmas.Bool.{cases_eq}
 use Rattle.std.proofs.lemmas.List.{ext_get_or, get_or-set_same, get_or-set_other, length-map, length-set}
 use Rattle.std.proofs.Math.ListN.{get_or-map}
 use Rattle.member_lists.specs.Owners.{owner_of}
-use Rattle.groups_sessions.specs.Membership.{Membership, membership_at, group_of, session_of, groups_of, AreInSession, AreOthersInSession, membership_in, memberships_of, IsKept}
+use Rattle.groups_sessions.specs.Membership.{Membership, membership_at, group_of, session_of, groups_of, AreInSession, AreOthersInSession, membership_in, memberships_of, AreMemberships}
 
 -- the session of a group
 abbrev pub session_at : List (Option ℕ) → ℕ → ℕ
@@ -102,7 +102,7 @@ with_group v t g s is = go (membership_at v t) is
     go (Some m) e = let same : m.session ≡ s = cc in ap (λ i. Some (record { group = g; session = i })) same
 
 -- the same, of a value seen from outside
-pub entered : (groups : List (Option ℕ)) (sessions : List (Option ℕ)) (v : List (Option Membership)) → memberships_of groups sessions ≡ v → IsKept groups sessions
+pub entered : (groups : List (Option ℕ)) (sessions : List (Option ℕ)) (v : List (Option Membership)) → memberships_of groups sessions ≡ v → AreMemberships groups sessions
     → (t g s : ℕ) → g < length v → AreOthersInSession v t g s → memberships_of (set groups t (Some g)) (set sessions g (Some s)) ≡ set v t (Some (record { group = g; session = s }))
 entered groups sessions v is kept t g s room together =
     let long = ap length is in

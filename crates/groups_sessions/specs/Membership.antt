@@ -59,7 +59,7 @@ abbrev pub IsJoined : List (Option ℕ) → ℕ → Type 0
 IsJoined groups group = (k : ℕ) × (owner_of groups k ≡ Some group)
 
 -- a group has a session exactly where somebody is in the group. Where memory ended, the sessions alone have grown
-pub record IsKept (groups sessions : List (Option ℕ)) : Type 0 where
+pub record AreMemberships (groups sessions : List (Option ℕ)) : Type 0 where
   pub room : length groups ≤ length sessions
   pub few : length groups ≤ 1073741824
   pub inside : (k g : ℕ) → owner_of groups k ≡ Some g → g < length groups

@@ -1,7 +1,6 @@
 //! What `setpgid(2)` asks.
 
-ghost use Rattle.std.specs.Prelude.{◌≡◌};
-ghost use Rattle.std.specs.Result.{result_err};
+ghost use Rattle.std.specs.{Prelude.{◌≡◌}, Result.{result_err}};
 ghost use Rattle.groups_sessions.specs.Setpgid.{target_refusal};
 
 use pid_types::keys::{IdentKey, SpaceKey};

@@ -7,12 +7,12 @@
 
 ghost use Rattle.std.specs.Prelude.{◌≡◌, ◌≢◌, ℕ, ◌<◌, ◌≤◌, ◌^◌, ◌↔◌, [], length, option_map, Some, None, IsSome};
 ghost use Rattle.std.specs.Prelude.{IsTrue, OnOk, MatchResult, slice_set};
-ghost use Rattle.member_lists.specs.Owners.{AreMembers};
-ghost use Rattle.groups_sessions.specs.Membership.{Membership, membership_at, group_of, session_of, groups_of};
-ghost use Rattle.groups_sessions.specs.Membership.{HasMembers, AreInSession, AreOthersInSession};
-ghost use Rattle.groups_sessions.specs.Membership.{IsSessionOf, AreGroupsOf};
-ghost use Rattle.groups_sessions.specs.Setpgid.{session_group as session_group_of, group_for as group_for_of};
-ghost use Rattle.groups_sessions.specs.Setpgid.{setpgid_answer};
+ghost use Rattle.{
+  member_lists.specs.Owners.{AreMembers},
+  groups_sessions.specs.Membership.{Membership, membership_at, group_of, session_of, groups_of, HasMembers},
+  groups_sessions.specs.Membership.{AreInSession, AreOthersInSession, IsSessionOf, AreGroupsOf},
+  groups_sessions.specs.Setpgid.{session_group_key, group_key_for, setpgid_answer},
+};
 
 mod ask;
 mod group_session;
@@ -51,13 +51,13 @@ impl Drop for Members {
 
 impl Model for Members {
     ghost use Rattle.std.specs.Prelude.{List, Option};
-    ghost use Rattle.groups_sessions.specs.Membership.{Membership, memberships_of, IsKept};
+    ghost use Rattle.groups_sessions.specs.Membership.{Membership, memberships_of, AreMemberships};
 
     ghost Value = { List (Option Membership) };
 
     ghost view = { λ a. memberships_of a.groups a.sessions };
 
-    ghost invariant = { λ a. IsKept a.groups a.sessions };
+    ghost invariant = { λ a. AreMemberships a.groups a.sessions };
 }
 
 impl Members {
@@ -219,7 +219,7 @@ impl Members {
         space: SpaceKey,
         n: Pid,
     ) -> Option<IdentKey>
-        ensures { result ≡ session_group_of self.now numbers.now session space n }
+        ensures { result ≡ session_group_key self.now numbers.now session space n }
     {
         numbers.laws();
         let Some(ident) = numbers.find(space, n) else {
@@ -234,7 +234,7 @@ impl Members {
 
     /// The group that the number names for the target.
     fn group_for(&self, numbers: &Numbers, ask: &GroupAsk, target: &Target) -> Option<IdentKey>
-        ensures { result ≡ group_for_of self.now numbers.now ask.now target.now ask.now.pgid }
+        ensures { result ≡ group_key_for self.now numbers.now ask.now target.now ask.now.pgid }
     {
         let n = u32::try_from(ask.pgid).ok()?;
         if n == 0 || numbers.number_in(target.ident, ask.space) == Some(n) {

@@ -2,7 +2,7 @@
 
 ghost use Rattle.std.specs.Prelude.{◌≡◌, ◌≢◌, ℕ, ◌<◌, ◌≤◌, ◌^◌, length, Some, IsTrue, false, OnOk};
 ghost use Rattle.member_lists.specs.Owners.{owner_of};
-ghost use Rattle.groups_sessions.specs.Membership.{IsKept, IsJoined};
+ghost use Rattle.groups_sessions.specs.Membership.{AreMemberships, IsJoined};
 
 use member_lists::MemberLists;
 use pid_types::keys::IdentKey;
@@ -30,8 +30,8 @@ pub(crate) fn grow(
 ) -> Result<(), AllocError>
     requires more { length groups.old ≤ keys }
     requires few { keys ≤ 2 ^ 30 }
-    requires kept { IsKept groups.old sessions.old }
-    ensures kept { IsKept groups.new sessions.new }
+    requires kept { AreMemberships groups.old sessions.old }
+    ensures kept { AreMemberships groups.new sessions.new }
     ensures groups { (k : ℕ) → owner_of groups.new k ≡ owner_of groups.old k }
     ensures sessions { (g : ℕ) → owner_of sessions.new g ≡ owner_of sessions.old g }
     ensures longer { length groups.old ≤ length groups.new }

@@ -5,7 +5,7 @@ use Rattle.std.proofs.lemmas.Bool.{cases_eq, eq-eqb, eqb-true, ne_eqb}
 use Rattle.std.proofs.lemmas.List.{length-append, get_or_default}
 use Rattle.id_slab.specs.declared.Entry.{Entry}
 use Rattle.id_slab.specs.Ids.{key_of, without, AreBelow, AreRising}
-use Rattle.id_slab.specs.Entries.{before, live, Rise, EndsLive}
+use Rattle.id_slab.specs.Entries.{put_before, live, Rise, EndsLive}
 
 -- the entry of a place past all
 abbrev pub none : Entry
@@ -16,7 +16,7 @@ weaken P Q f [] all = tt
 weaken P Q f (x ∷ xs) all = (f x all.0, weaken P Q f xs all.1)
 
 -- one id before others
-key-other : (e id : ℕ) (key : Option ℕ) (rest : List (ℕ × ℕ)) → e ≢ id → key_of (before e key rest) id ≡ key_of rest id
+key-other : (e id : ℕ) (key : Option ℕ) (rest : List (ℕ × ℕ)) → e ≢ id → key_of (put_before e key rest) id ≡ key_of rest id
 key-other e id None rest differs = refl
 key-other e id (Some k) rest differs = go (e == id) refl
   where
@@ -24,15 +24,15 @@ key-other e id (Some k) rest differs = go (e == id) refl
     go true is = absurd (differs (grind (arith, is)))
     go false is = refl
 
-key-same : (e id : ℕ) (key : Option ℕ) (rest : List (ℕ × ℕ)) → e ≡ id → key_of rest id ≡ None → key_of (before e key rest) id ≡ key
+key-same : (e id : ℕ) (key : Option ℕ) (rest : List (ℕ × ℕ)) → e ≡ id → key_of rest id ≡ None → key_of (put_before e key rest) id ≡ key
 key-same e id None rest same gone = gone
 key-same e id (Some k) rest same gone = rw (eq-eqb e id same) refl
 
-without-other : (e id : ℕ) (key : Option ℕ) (rest : List (ℕ × ℕ)) → e ≢ id → without (before e key rest) id ≡ before e key (without rest id)
+without-other : (e id : ℕ) (key : Option ℕ) (rest : List (ℕ × ℕ)) → e ≢ id → without (put_before e key rest) id ≡ put_before e key (without rest id)
 without-other e id None rest differs = refl
 without-other e id (Some k) rest differs = rw (ne_eqb e id differs) refl
 
-without-same : (e id : ℕ) (key : Option ℕ) (rest : List (ℕ × ℕ)) → e ≡ id → without (before e key rest) id ≡ without rest id
+without-same : (e id : ℕ) (key : Option ℕ) (rest : List (ℕ × ℕ)) → e ≡ id → without (put_before e key rest) id ≡ without rest id
 without-same e id None rest same = refl
 without-same e id (Some k) rest same = rw (eq-eqb e id same) refl
 
@@ -43,7 +43,7 @@ key-absent id (e ∷ es) all = key-other e.id id e.key (live es) all.0 ∙ key-a
 
 pub without-absent : (id : ℕ) (es : List Entry) → AllByRecursion (λ f. f.id ≢ id) es → without (live es) id ≡ live es
 without-absent id [] all = refl
-without-absent id (e ∷ es) all = without-other e.id id e.key (live es) all.0 ∙ ap (λ rest. before e.id e.key rest) (without-absent id es all.1)
+without-absent id (e ∷ es) all = without-other e.id id e.key (live es) all.0 ∙ ap (λ rest. put_before e.id e.key rest) (without-absent id es all.1)
 
 pub absent : (id : ℕ) (es : List Entry) → ((k : ℕ) → k < length es → (get_or es k none).id ≢ id) → AllByRecursion (λ f. f.id ≢ id) es
 absent id [] at = tt
@@ -72,7 +72,7 @@ without-place id (e ∷ es) zero w lt same x = sym (without-same e.id id e.key (
 without-place id (e ∷ es) (suc i) w lt same x =
     let lt' : i < length es = omega (arith, lt) in
     let less = all_at (λ f. e.id < f.id) es i w.0 lt' in
-    ap (λ rest. before e.id e.key rest) (without-place id es i w.1 lt' same x) ∙ sym (without-other e.id id e.key (live es) (λ z. omega (arith, z, same, less)))
+    ap (λ rest. put_before e.id e.key rest) (without-place id es i w.1 lt' same x) ∙ sym (without-other e.id id e.key (live es) (λ z. omega (arith, z, same, less)))
 
 all_set : (P : Entry → Type 0) (es : List Entry) (i : ℕ) (f : Entry) → AllByRecursion P es → P f → AllByRecursion P (set es i f)
 all_set P [] i f all p = tt
@@ -123,14 +123,14 @@ pub live-kept : (es : List Entry) → live (filter has_key es) ≡ live es
 live-kept [] = refl
 live-kept (e ∷ es) = go e.key refl (live-kept es)
   where
-    go : (key : Option ℕ) → e.key ≡ key → live (filter has_key es) ≡ live es → live (cond (is_some e.key) (e ∷ filter has_key es) (filter has_key es)) ≡ before e.id e.key (live es)
+    go : (key : Option ℕ) → e.key ≡ key → live (filter has_key es) ≡ live es → live (cond (is_some e.key) (e ∷ filter has_key es) (filter has_key es)) ≡ put_before e.id e.key (live es)
     go None is rest = rw is rest
     go (Some k) is rest = rw is (ap (λ ids. (e.id, k) ∷ ids) rest)
 
 -- a mark behind all others
 pub live-mark : (es : List Entry) (f : Entry) → f.key ≡ None → live (es ++ f ∷ []) ≡ live es
 live-mark [] f gone = rw gone refl
-live-mark (e ∷ es) f gone = ap (λ rest. before e.id e.key rest) (live-mark es f gone)
+live-mark (e ∷ es) f gone = ap (λ rest. put_before e.id e.key rest) (live-mark es f gone)
 
 all_front : (P : Entry → Type 0) (es : List Entry) (f : Entry) → AllByRecursion P (es ++ f ∷ []) → AllByRecursion P es
 all_front P [] f all = tt
@@ -147,11 +147,11 @@ EndsLive-last (e ∷ []) f some = some
 EndsLive-last (e ∷ g ∷ es) f some = EndsLive-last (g ∷ es) f some
 
 -- an id above all that are there
-below-rest : (id : ℕ) (key : Option ℕ) (rest : List (ℕ × ℕ)) (b : ℕ) → AreBelow (before id key rest) b → AreBelow rest b
+below-rest : (id : ℕ) (key : Option ℕ) (rest : List (ℕ × ℕ)) (b : ℕ) → AreBelow (put_before id key rest) b → AreBelow rest b
 below-rest id None rest b all = all
 below-rest id (Some k) rest b all = all.1
 
-below-one : (id : ℕ) (key : Option ℕ) (b : ℕ) → IsSome key → AreBelow (before id key []) b → id < b
+below-one : (id : ℕ) (key : Option ℕ) (b : ℕ) → IsSome key → AreBelow (put_before id key []) b → id < b
 below-one id None b some all = absurd (none_some some)
   where
     key_none : Option ℕ
@@ -176,20 +176,20 @@ pub Rise-push : (es : List Entry) (f : Entry) → Rise es → AllByRecursion (λ
 Rise-push [] f w below = (tt, tt)
 Rise-push (e ∷ es) f w below = (all_push (λ g. e.id < g.id) es f w.0 below.0, Rise-push es f w.1 below.1)
 
-before-append : (id : ℕ) (key : Option ℕ) (xs ys : List (ℕ × ℕ)) → before id key (xs ++ ys) ≡ before id key xs ++ ys
+before-append : (id : ℕ) (key : Option ℕ) (xs ys : List (ℕ × ℕ)) → put_before id key (xs ++ ys) ≡ put_before id key xs ++ ys
 before-append id None xs ys = refl
 before-append id (Some k) xs ys = refl
 
 pub live-push : (es : List Entry) (id key : ℕ) → live (es ++ (record { id = id; key = Some key }) ∷ []) ≡ live es ++ (id, key) ∷ []
 live-push [] id key = refl
-live-push (e ∷ es) id key = ap (λ rest. before e.id e.key rest) (live-push es id key) ∙ before-append e.id e.key (live es) ((id, key) ∷ [])
+live-push (e ∷ es) id key = ap (λ rest. put_before e.id e.key rest) (live-push es id key) ∙ before-append e.id e.key (live es) ((id, key) ∷ [])
 
 -- the ids rise
-rising-before : (id : ℕ) (key : Option ℕ) (rest : List (ℕ × ℕ)) → AllByRecursion (λ q. id < q.0) rest → AreRising rest → AreRising (before id key rest)
+rising-before : (id : ℕ) (key : Option ℕ) (rest : List (ℕ × ℕ)) → AllByRecursion (λ q. id < q.0) rest → AreRising rest → AreRising (put_before id key rest)
 rising-before id None rest above w = w
 rising-before id (Some k) rest above w = (above, w)
 
-above-before : (b id : ℕ) (key : Option ℕ) (rest : List (ℕ × ℕ)) → b < id → AllByRecursion (λ q. b < q.0) rest → AllByRecursion (λ q. b < q.0) (before id key rest)
+above-before : (b id : ℕ) (key : Option ℕ) (rest : List (ℕ × ℕ)) → b < id → AllByRecursion (λ q. b < q.0) rest → AllByRecursion (λ q. b < q.0) (put_before id key rest)
 above-before b id None rest less all = all
 above-before b id (Some k) rest less all = (less, all)
 
@@ -290,7 +290,7 @@ pub below-last : (id : ℕ) (es : List Entry) → Rise es → ((k : ℕ) → suc
 below-last id [] w last = tt
 below-last id (e ∷ []) w last = go e.key
   where
-    go : (key : Option ℕ) → AreBelow (before e.id key []) id
+    go : (key : Option ℕ) → AreBelow (put_before e.id key []) id
     go None = tt
     go (Some k) = (last 0 refl, tt)
 below-last id (e ∷ f ∷ es) w last = go e.key (below-last id (f ∷ es) w.1 (λ k is. last (suc k) (ap suc is)))
@@ -298,7 +298,7 @@ below-last id (e ∷ f ∷ es) w last = go e.key (below-last id (f ∷ es) w.1 (
     less : e.id < id
     less = let a = last (suc (length es)) refl in let b = all_at (λ g. e.id < g.id) (f ∷ es) (length es) w.0 (omega arith) in omega (arith, a, b)
 
-    go : (key : Option ℕ) → AreBelow (live (f ∷ es)) id → AreBelow (before e.id key (live (f ∷ es))) id
+    go : (key : Option ℕ) → AreBelow (live (f ∷ es)) id → AreBelow (put_before e.id key (live (f ∷ es))) id
     go None rest = rest
     go (Some k) rest = (less, rest)
 
@@ -307,7 +307,7 @@ pub live-few : (es : List Entry) → length (live es) ≤ length es
 live-few [] = omega arith
 live-few (e ∷ es) = go e.key (live-few es)
   where
-    go : (key : Option ℕ) → length (live es) ≤ length es → length (before e.id key (live es)) ≤ suc (length es)
+    go : (key : Option ℕ) → length (live es) ≤ length es → length (put_before e.id key (live es)) ≤ suc (length es)
     go None few = omega (arith, few)
     go (Some k) few = omega (arith, few)
 

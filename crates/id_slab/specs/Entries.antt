@@ -4,14 +4,14 @@ use Rattle.id_slab.specs.Ids.{Rises}
 use Rattle.id_slab.specs.declared.Entry.{Entry}
 
 -- an id with its key before others, where it has one
-abbrev pub before : ℕ → Option ℕ → List (ℕ × ℕ) → List (ℕ × ℕ)
-before id None ids = ids
-before id (Some key) ids = (id, key) ∷ ids
+abbrev pub put_before : ℕ → Option ℕ → List (ℕ × ℕ) → List (ℕ × ℕ)
+put_before id None ids = ids
+put_before id (Some key) ids = (id, key) ∷ ids
 
 -- the ids that were not removed
 abbrev pub live : List Entry → List (ℕ × ℕ)
 live [] = []
-live (e ∷ entries) = before e.id e.key (live entries)
+live (e ∷ entries) = put_before e.id e.key (live entries)
 
 -- each id is above those before it
 abbrev pub Rise : List Entry → Type 0

@@ -1,7 +1,6 @@
 //! The walk over the ids in their order.
 
-ghost use Rattle.std.specs.Prelude.{◌≡◌};
-ghost use Rattle.std.specs.Iterator.{YieldsFirst, item_count};
+ghost use Rattle.std.specs.{Prelude.{◌≡◌}, Iterator.{YieldsFirst, item_count}};
 ghost use Rattle.id_slab.specs.Entries.{live};
 
 use crate::Entry;

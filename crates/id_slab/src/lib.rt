@@ -6,8 +6,7 @@
 #![tactic(auto)]
 
 ghost use Rattle.std.specs.Prelude.{◌≡◌, length, IsTrue, OnOk, OnErr, [], ◌∷◌, ◌++◌};
-ghost use Rattle.id_slab.specs.Ids.{key_of, without, AreBelow, AreRising};
-ghost use Rattle.id_slab.specs.Entries.{live, Rise, EndsLive, IsPlaceOf};
+ghost use Rattle.id_slab.specs.{Ids.{key_of, without, AreBelow, AreRising}, Entries.{live, Rise, EndsLive, IsPlaceOf}};
 
 mod iter;
 mod room;

@@ -3,7 +3,7 @@ use Rattle.std.proofs.Common.{ℕ, ◌≡◌, ◌≢◌, ◌+◌, ◌/◌, ◌%�
 use Rattle.std.proofs.Math.ListN.{set}
 use Rattle.std.proofs.lemmas.List.{get_or_past}
 use Rattle.std.proofs.lemmas.Bool.{cases_lt, false≢true}
-use Rattle.index_array.specs.Place.{Place, bare, place_at, entry_at, is_prepared, KeepsPrepared, HasRoom, SwapsLeaf}
+use Rattle.index_array.specs.Place.{Place, bare_place, place_at, entry_at, is_prepared, KeepsPrepared, HasRoom, SwapsLeaf}
 use Rattle.index_array.specs.Tree.{Tree, places_of, IsNode}
 use Rattle.index_array.specs.declared.bits.Words.{Words}
 use Rattle.index_array.proofs.Powers.{each_height}
@@ -74,7 +74,7 @@ past_leaf = each_height (λ h. (i j : ℕ) → 64 ^ (h + 1) ≤ i → j / 64 ≡
     four i j b e = omega (arith, b, e)
 
 -- where there is no leaf, an empty one is exchanged for nothing
-pub swaps_nothing : {T : Type 0} (ps leaf : List (Place T)) (i : ℕ) → ((j : ℕ) → j / 64 ≡ i / 64 → place_at ps j ≡ bare) → HasRoom ps i leaf → SwapsLeaf ps ps i leaf leaf
+pub swaps_nothing : {T : Type 0} (ps leaf : List (Place T)) (i : ℕ) → ((j : ℕ) → j / 64 ≡ i / 64 → place_at ps j ≡ bare_place) → HasRoom ps i leaf → SwapsLeaf ps ps i leaf leaf
 swaps_nothing ps leaf i none room =
     let empty = room (ap (λ (p : Place _). p.prepared) (none i refl)) in
     record {
@@ -87,12 +87,12 @@ swaps_nothing ps leaf i none room =
 -- past the end of a node there is no leaf
 pub swaps_past : {T : Type 0} (h : ℕ) → h < 4 → (ps leaf : List (Place T)) (i : ℕ) → length ps ≡ 64 ^ (h + 1) → 64 ^ (h + 1) ≤ i → HasRoom ps i leaf → SwapsLeaf ps ps i leaf leaf
 swaps_past h low ps leaf i whole past room =
-    swaps_nothing ps leaf i (λ j same. get_or_past ps j bare (omega (arith, whole, past_leaf h low i j past same))) room
+    swaps_nothing ps leaf i (λ j same. get_or_past ps j bare_place (omega (arith, whole, past_leaf h low i j past same))) room
 
 -- two leaves
 module _ {T : Type 0} (ps qs : List (Place T)) (i : ℕ) (below : i < 64) (p64 : length ps ≡ 64) (q64 : length qs ≡ 64) (there : (j : ℕ) → j < 64 → is_prepared qs j ≡ true) where
   past_both : (j : ℕ) → 64 ≤ j → place_at qs j ≡ place_at ps j
-  past_both j far = get_or_past qs j bare (omega (arith, q64, far)) ∙ sym (get_or_past ps j bare (omega (arith, p64, far)))
+  past_both j far = get_or_past qs j bare_place (omega (arith, q64, far)) ∙ sym (get_or_past ps j bare_place (omega (arith, p64, far)))
 
   pub swaps_leaves : SwapsLeaf ps qs i qs ps
   swaps_leaves = record {

@@ -7,7 +7,7 @@ use Rattle.std.proofs.Math.ListN as listn
 use Rattle.std.proofs.lemmas.List.{get_or-set_same, get_or-set_other, length-set, set-get_or, get_or_past, length-map, ext_get_or}
 use Rattle.std.proofs.lemmas.Bool.{cases_eq, cases_lt, false≢true}
 use Rattle.index_array.specs.Words.{has_bit, word_of, bit_of}
-use Rattle.index_array.specs.Place.{Place, Entry, bare, place_at, entry_at, value_at, is_prepared, is_marked, entry_with, with_mark, carries, WritesEntry, KeepsPrepared}
+use Rattle.index_array.specs.Place.{Place, Entry, bare_place, place_at, entry_at, value_at, is_prepared, is_marked, entry_with, with_mark, carries, WritesEntry, KeepsPrepared}
 use Rattle.index_array.specs.Tree.{Tree, marks_of, leaf_place, places_of, slot_places, IsNode}
 use Rattle.index_array.specs.declared.bits.Sought.{Sought}
 use Rattle.index_array.specs.declared.bits.Sought.TheVariants.{Present, Gap, Mark}
@@ -89,8 +89,8 @@ module _ {T : Type 0} (w w' : Words) (h : ℕ) (es : List (Option T)) (cs : List
             ];
       }
 
-  past : (u : Words) (xs : List (Option T)) → IsNode u h xs cs → (j : ℕ) → 64 ≤ j → place_at (places_of u h xs cs) j ≡ bare
-  past u xs is j far = get_or_past (places_of u h xs cs) j bare (rw (length_places u h xs cs is, z) far)
+  past : (u : Words) (xs : List (Option T)) → IsNode u h xs cs → (j : ℕ) → 64 ≤ j → place_at (places_of u h xs cs) j ≡ bare_place
+  past u xs is j far = get_or_past (places_of u h xs cs) j bare_place (rw (length_places u h xs cs is, z) far)
 
   pub leaf_written : SlotWritten w w' h es (set es i v) cs i (entry_with v bits.marks)
   leaf_written =

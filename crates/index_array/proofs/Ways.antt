@@ -1,7 +1,7 @@
 -- The way down from an inner node: the slot of an index, and what stands there.
 use Rattle.std.proofs.Common.{ℕ, ◌≡◌, ◌+◌, ◌/◌, ◌%◌, ◌^◌, ◌<◌, sym, ap, ◌∙◌, subst, List, get_or, Option, Some, None}
 use Rattle.std.proofs.Math.Nat.{mod-lt}
-use Rattle.index_array.specs.Place.{bare, place_at}
+use Rattle.index_array.specs.Place.{bare_place, place_at}
 use Rattle.index_array.specs.Tree.{Tree, places_of, IsNode}
 use Rattle.index_array.specs.declared.bits.Words.{Words}
 use Rattle.index_array.proofs.Powers.{slot_below, pow_pos_64}
@@ -40,7 +40,7 @@ module _ {T : Type 0} (w : Words) (h : ℕ) (es : List (Option T)) (cs : List (O
   pub way_child : (i k : ℕ) (b : Tree T) → Way h cs i k (Some b) → place_at (places_of w h es cs) i ≡ place_at b.places (i % 64 ^ h)
   way_child i k b way = place_child w h es cs node way.up i b way.slot
 
-  pub way_empty : (i k : ℕ) → Way h cs i k None → place_at (places_of w h es cs) i ≡ bare
+  pub way_empty : (i k : ℕ) → Way h cs i k None → place_at (places_of w h es cs) i ≡ bare_place
   way_empty i k way = place_empty w h es cs node way.up i way.slot
 
   -- the rest of the index stands in the child

@@ -5,7 +5,7 @@ use Rattle.std.specs.Option.{option_map}
 use Rattle.std.proofs.Common.{Box}
 use Rattle.std.specs.declared.alloc.Global.{Global}
 use Rattle.index_array.specs.Words.{has_bit, word_of}
-use Rattle.index_array.specs.Place.{Place, bare, place_at, entry_at, is_prepared, entry_with, carries, KeepsEntries, KeepsPrepared}
+use Rattle.index_array.specs.Place.{Place, bare_place, place_at, entry_at, is_prepared, entry_with, carries, KeepsEntries, KeepsPrepared}
 use Rattle.index_array.specs.declared.bits.Sought.{Sought}
 use Rattle.index_array.specs.declared.bits.Words.{Words}
 
@@ -38,7 +38,7 @@ slots_from present k (v ∷ vs) = (if has_bit present k then Some v else None) �
 
 -- the places below a slot of an inner node of height h
 abbrev pub below : {T : Type 0} → ℕ → Option (Tree T) → List (Place T)
-below h None = replicate (64 ^ h) bare
+below h None = replicate (64 ^ h) bare_place
 below h (Some b) = b.places
 
 -- the places of a node: a leaf has entries, an inner node children
@@ -51,12 +51,12 @@ slot_places w zero es cs k = leaf_place w k (slice_index_or es k None) ∷ []
 slot_places w (suc h) es cs k = below (suc h) (slice_index_or cs k None)
 
 -- a child of a node of height h has the next lower height and 64 ^ h places
-pub record IsChild {T : Type 0} (h : ℕ) (t : Tree T) : Type 0 where
+pub record IsChildNode {T : Type 0} (h : ℕ) (t : Tree T) : Type 0 where
   pub height : t.height + 1 ≡ h
   pub whole : length t.places ≡ 64 ^ h
 
 -- what is at index i of these places is at index r of a child
-pub record IsBelow {T : Type 0} (ps : List (Place T)) (i : ℕ) (child : Tree T) (r : ℕ) : Type 0 where
+pub record IsInChild {T : Type 0} (ps : List (Place T)) (i : ℕ) (child : Tree T) (r : ℕ) : Type 0 where
   pub place : place_at ps i ≡ place_at child.places r
   pub covered : r < 64 ^ (child.height + 1)
 
@@ -77,7 +77,7 @@ pub record IsNode {T : Type 0} (w : Words) (h : ℕ) (es : List (Option T)) (cs 
   pub low : h < 4
   pub leaf : h ≡ 0 → (length es ≡ 64) × (cs ≡ [])
   pub inner : 0 < h → (length cs ≡ 64) × (es ≡ [])
-  pub children : (k : ℕ) (b : Tree T) → slice_index_or cs k None ≡ Some b → IsChild h b
+  pub children : (k : ℕ) (b : Tree T) → slice_index_or cs k None ≡ Some b → IsChildNode h b
   pub words : (s : Sought) (k : ℕ) → k < 64 → has_bit (word_of s w) k ≡ list_any (carries s) (slot_places w h es cs k)
 
 -- a node of this height, of at most four levels, with a place at each index below it

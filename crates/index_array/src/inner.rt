@@ -1,13 +1,12 @@
 //! The nodes with children.
 
 ghost use Rattle.std.specs.Prelude.{◌≡◌, ℕ, ◌<◌, ◌≤◌, ◌+◌, ◌^◌, ◌/◌, ◌%◌, ◌*◌, length, Option, None, MatchOption, IfOk};
-ghost use Rattle.std.specs.Prelude.{IsSome, IsNone, true, false, [], ◌∷◌};
-ghost use Rattle.std.specs.List.{list_any};
-ghost use Rattle.index_array.specs.Words.{IsSought};
-ghost use Rattle.index_array.specs.Place.{index_count, bare, place_at, entry_at, is_prepared, value_at, entry_with};
-ghost use Rattle.index_array.specs.Place.{carries, IsFirst, WritesEntry, KeepsEntries, KeepsPrepared};
-ghost use Rattle.index_array.specs.Tree.{Tree, IsNew, IsChild, IsBelow};
-ghost use Rattle.index_array.specs.declared.bits.Sought.{Sought};
+ghost use Rattle.std.specs.Prelude.{false, []};
+ghost use Rattle.{
+  index_array.specs.{Words.{IsSought}, Place.{index_count, bare_place, place_at, value_at, entry_with, IsFirst}},
+  index_array.specs.Place.{WritesEntry, KeepsEntries, KeepsPrepared, ClearsMarks, HasPlace, SaysChange, HasNoEntry},
+  index_array.specs.{Tree.{Tree, IsNew, IsChildNode, IsInChild}, declared.bits.Sought.{Sought}},
+};
 
 use crate::bits::{SlotBits, Sought, Words, has_bit, next_bit};
 use crate::block::{Block, Parent, Written};
@@ -81,8 +80,8 @@ impl<C: Block> Inner<C> {
     #[inline(always)]
     fn below(&self, i: u32) -> Option<(&C, u32)>
         requires { i < 64 ^ (self.now.height + 1) }
-        ensures { MatchOption result (place_at self.now.places i ≡ bare)
-            (λ p. IsBelow self.now.places i (C.tree p.0.now) p.1) }
+        ensures { MatchOption result (place_at self.now.places i ≡ bare_place)
+            (λ p. IsInChild self.now.places i (C.tree p.0.now) p.1) }
     {
         let _words = &self.words;
         let height = C::height() + 1;
@@ -170,16 +169,14 @@ impl<C: Block> Block for Inner<C> {
     #[inline(always)]
     fn put(&mut self, i: u32, value: Option<u32>, marks: [bool; 3]) -> Written
         requires covered { i < 64 ^ (self.old.height + 1) }
-        requires prepared { IsSome value → is_prepared self.old.places i ≡ true }
-        requires unmarked { IsNone value → marks ≡ false ∷ false ∷ false ∷ [] }
+        requires prepared { HasPlace value self.old.places i }
+        requires unmarked { ClearsMarks value marks }
         ensures height { self.new.height ≡ self.old.height }
         ensures whole { length self.new.places ≡ length self.old.places }
         ensures writes { WritesEntry self.old.places self.new.places i (entry_with value marks) }
         ensures keeps { KeepsPrepared self.old.places self.new.places }
         ensures answer { result.old ≡ value_at self.old.places i }
-        ensures same { result.changed ≡ false → (s : Sought)
-            → list_any (carries s) self.new.places
-            ≡ list_any (carries s) self.old.places }
+        ensures same { SaysChange result.changed self.old.places self.new.places }
     {
         let _words = &self.words;
         let height = C::height() + 1;
@@ -279,8 +276,8 @@ impl<C: Block> Block for Inner<C> {
 
 impl<C: Block> Parent<C> for Inner<C> {
     fn adopt(&mut self, child: Box<C>)
-        requires child { IsChild self.old.height (C.tree child.value) }
-        requires empty { (j : ℕ) → entry_at self.old.places j ≡ None }
+        requires child { IsChildNode self.old.height (C.tree child.value) }
+        requires empty { HasNoEntry self.old.places }
         ensures height { self.new.height ≡ self.old.height }
         ensures whole { length self.new.places ≡ length self.old.places }
         ensures entries { KeepsEntries (C.tree child.value).places self.new.places }

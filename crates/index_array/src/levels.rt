@@ -3,11 +3,9 @@
 //! Each is a type of its own, and not an `Inner` of an `Inner` of a leaf: what is proved of a call names
 //! each type in it several times, and so would double with each height.
 
-ghost use Rattle.std.specs.Prelude.{◌≡◌, ℕ, ◌<◌, ◌+◌, ◌^◌, length, None, IsSome, IsNone, true, false, [], ◌∷◌};
-ghost use Rattle.std.specs.List.{list_any};
-ghost use Rattle.index_array.specs.Place.{entry_at, is_prepared, value_at, entry_with, carries, WritesEntry};
-ghost use Rattle.index_array.specs.Place.{KeepsEntries, KeepsPrepared};
-ghost use Rattle.index_array.specs.Tree.{IsChild};
+ghost use Rattle.std.specs.Prelude.{◌≡◌, ◌<◌, ◌+◌, ◌^◌, length};
+ghost use Rattle.index_array.specs.Place.{value_at, entry_with, WritesEntry, KeepsEntries, KeepsPrepared, ClearsMarks};
+ghost use Rattle.index_array.specs.{Place.{HasPlace, SaysChange, HasNoEntry}, Tree.{IsChildNode}};
 ghost use Rattle.index_array.specs.declared.bits.Sought.{Sought};
 
 use crate::bits::{SlotBits, Sought};
@@ -58,16 +56,14 @@ impl Block for Node1 {
     #[inline(always)]
     fn put(&mut self, i: u32, value: Option<u32>, marks: [bool; 3]) -> Written
         requires covered { i < 64 ^ (self.old.0.height + 1) }
-        requires prepared { IsSome value → is_prepared self.old.0.places i ≡ true }
-        requires unmarked { IsNone value → marks ≡ false ∷ false ∷ false ∷ [] }
+        requires prepared { HasPlace value self.old.0.places i }
+        requires unmarked { ClearsMarks value marks }
         ensures height { self.new.0.height ≡ self.old.0.height }
         ensures whole { length self.new.0.places ≡ length self.old.0.places }
         ensures writes { WritesEntry self.old.0.places self.new.0.places i (entry_with value marks) }
         ensures keeps { KeepsPrepared self.old.0.places self.new.0.places }
         ensures answer { result.old ≡ value_at self.old.0.places i }
-        ensures same { result.changed ≡ false → (s : Sought)
-            → list_any (carries s) self.new.0.places
-            ≡ list_any (carries s) self.old.0.places }
+        ensures same { SaysChange result.changed self.old.0.places self.new.0.places }
     {
         self.0.put(i, value, marks)
     }
@@ -96,8 +92,8 @@ impl Block for Node1 {
 impl Parent<Leaf> for Node1 {
     #[inline(always)]
     fn adopt(&mut self, child: Box<Leaf>)
-        requires child { IsChild self.old.0.height child.value }
-        requires empty { (j : ℕ) → entry_at self.old.0.places j ≡ None }
+        requires child { IsChildNode self.old.0.height child.value }
+        requires empty { HasNoEntry self.old.0.places }
         ensures height { self.new.0.height ≡ self.old.0.height }
         ensures whole { length self.new.0.places ≡ length self.old.0.places }
         ensures entries { KeepsEntries child.value.places self.new.0.places }
@@ -149,16 +145,14 @@ impl Block for Node2 {
     #[inline(always)]
     fn put(&mut self, i: u32, value: Option<u32>, marks: [bool; 3]) -> Written
         requires covered { i < 64 ^ (self.old.0.height + 1) }
-        requires prepared { IsSome value → is_prepared self.old.0.places i ≡ true }
-        requires unmarked { IsNone value → marks ≡ false ∷ false ∷ false ∷ [] }
+        requires prepared { HasPlace value self.old.0.places i }
+        requires unmarked { ClearsMarks value marks }
         ensures height { self.new.0.height ≡ self.old.0.height }
         ensures whole { length self.new.0.places ≡ length self.old.0.places }
         ensures writes { WritesEntry self.old.0.places self.new.0.places i (entry_with value marks) }
         ensures keeps { KeepsPrepared self.old.0.places self.new.0.places }
         ensures answer { result.old ≡ value_at self.old.0.places i }
-        ensures same { result.changed ≡ false → (s : Sought)
-            → list_any (carries s) self.new.0.places
-            ≡ list_any (carries s) self.old.0.places }
+        ensures same { SaysChange result.changed self.old.0.places self.new.0.places }
     {
         self.0.put(i, value, marks)
     }
@@ -187,8 +181,8 @@ impl Block for Node2 {
 impl Parent<Node1> for Node2 {
     #[inline(always)]
     fn adopt(&mut self, child: Box<Node1>)
-        requires child { IsChild self.old.0.height child.value.0 }
-        requires empty { (j : ℕ) → entry_at self.old.0.places j ≡ None }
+        requires child { IsChildNode self.old.0.height child.value.0 }
+        requires empty { HasNoEntry self.old.0.places }
         ensures height { self.new.0.height ≡ self.old.0.height }
         ensures whole { length self.new.0.places ≡ length self.old.0.places }
         ensures entries { KeepsEntries child.value.0.places self.new.0.places }
@@ -240,16 +234,14 @@ impl Block for Node3 {
     #[inline(always)]
     fn put(&mut self, i: u32, value: Option<u32>, marks: [bool; 3]) -> Written
         requires covered { i < 64 ^ (self.old.0.height + 1) }
-        requires prepared { IsSome value → is_prepared self.old.0.places i ≡ true }
-        requires unmarked { IsNone value → marks ≡ false ∷ false ∷ false ∷ [] }
+        requires prepared { HasPlace value self.old.0.places i }
+        requires unmarked { ClearsMarks value marks }
         ensures height { self.new.0.height ≡ self.old.0.height }
         ensures whole { length self.new.0.places ≡ length self.old.0.places }
         ensures writes { WritesEntry self.old.0.places self.new.0.places i (entry_with value marks) }
         ensures keeps { KeepsPrepared self.old.0.places self.new.0.places }
         ensures answer { result.old ≡ value_at self.old.0.places i }
-        ensures same { result.changed ≡ false → (s : Sought)
-            → list_any (carries s) self.new.0.places
-            ≡ list_any (carries s) self.old.0.places }
+        ensures same { SaysChange result.changed self.old.0.places self.new.0.places }
     {
         self.0.put(i, value, marks)
     }
@@ -278,8 +270,8 @@ impl Block for Node3 {
 impl Parent<Node2> for Node3 {
     #[inline(always)]
     fn adopt(&mut self, child: Box<Node2>)
-        requires child { IsChild self.old.0.height child.value.0 }
-        requires empty { (j : ℕ) → entry_at self.old.0.places j ≡ None }
+        requires child { IsChildNode self.old.0.height child.value.0 }
+        requires empty { HasNoEntry self.old.0.places }
         ensures height { self.new.0.height ≡ self.old.0.height }
         ensures whole { length self.new.0.places ≡ length self.old.0.places }
         ensures entries { KeepsEntries child.value.0.places self.new.0.places }

@@ -11,12 +11,11 @@
 ghost use Rattle.std.specs.Prelude.{◌≡◌, ◌≢◌, ℕ, ◌<◌, ◌≤◌, min, Option, Some, None, MatchOption, MatchBool, IfOk};
 ghost use Rattle.std.specs.Prelude.{IfErr, OnOk, OnErr, Err, ◌↔◌, true, false, not, is_some, List, length, ◌*◌};
 ghost use Rattle.std.specs.Option.{option_copied};
-ghost use Rattle.index_array.specs.Place.{Place, bare, place_at, entry_at, is_prepared, value_at, is_marked, with_mark};
-ghost use Rattle.index_array.specs.Place.{IsLeastIndex, IsFirst, WritesEntry, KeepsEntries, KeepsPrepared, HasRoom};
-ghost use Rattle.index_array.specs.Place.{SwapsLeaf};
-ghost use Rattle.index_array.specs.Tree.{IsInLeaf};
-ghost use Rattle.index_array.specs.Words.{IsSought};
-ghost use Rattle.index_array.specs.declared.bits.Sought.{Sought};
+ghost use Rattle.{
+  index_array.specs.Place.{Place, bare_place, place_at, entry_at, is_prepared, value_at, is_marked, with_mark},
+  index_array.specs.Place.{IsLeastIndex, IsFirst, WritesEntry, KeepsEntries, KeepsPrepared, HasRoom, SwapsLeaf},
+  index_array.specs.{Place.{HasNoEntry}, Tree.{IsInLeaf}, Words.{IsSought}, declared.bits.Sought.{Sought}},
+};
 
 mod bits;
 mod block;
@@ -76,8 +75,7 @@ impl Drop for IndexArray {
 
 impl Model for IndexArray {
     ghost use Rattle.std.specs.Prelude.{ℕ, List};
-    ghost use Rattle.index_array.specs.Place.{Place};
-    ghost use Rattle.index_array.specs.Root.{root_places, IsRoot};
+    ghost use Rattle.index_array.specs.{Place.{Place}, Root.{root_places, IsRoot}};
 
     ghost Value = { List (Place ℕ) };
 
@@ -118,7 +116,7 @@ impl IndexArray {
     /// The leaf that an index is in, with the slot of the index in it; none where there is no such leaf.
     #[inline(always)]
     fn leaf(&self, i: u32) -> Option<(&Leaf, u32)>
-        ensures { MatchOption result (place_at self.now i ≡ bare) (λ p. IsInLeaf self.now i p.0.now p.1) }
+        ensures { MatchOption result (place_at self.now i ≡ bare_place) (λ p. IsInLeaf self.now i p.0.now p.1) }
     {
         match &self.root {
             Root::Empty => None,
@@ -358,7 +356,7 @@ impl IndexArray {
     /// entry, and says whether an entry is left anywhere.
     fn give_back_below(&mut self, i: u32) -> bool
         ensures entries { KeepsEntries self.old self.new }
-        ensures empty { result ≡ false → (j : ℕ) → entry_at self.new j ≡ None }
+        ensures empty { result ≡ false → HasNoEntry self.new }
     {
         match &mut self.root {
             Root::Empty => false,

@@ -6,7 +6,7 @@ use Rattle.std.proofs.lemmas.Option.{slice_get-map, slice_get_read}
 use Rattle.pid_types.specs.declared.entry.Entry.{Entry}
 use Rattle.pid_types.specs.declared.reply.Reply.{Reply}
 use Rattle.kept_past.specs.declared.ring.Slot.{Slot}
-use Rattle.kept_past.specs.Stored.{entry_in, entries_in, reply_in, replies_of}
+use Rattle.kept_past.specs.Stored.{entry_in, entries_in, kept_reply, replies_of}
 
 -- a kept entry is behind those that wait
 pub kept-at : (ring : List Entry) (lag place : ℕ) → slice_get (drop lag ring) place ≡ slice_get ring (lag + place)
@@ -29,7 +29,7 @@ kept-last ring lag some =
 
 -- it is the one in the last slot
 pub last-slot : (slots : List Slot) (slot : Slot) (all : ℕ) → all ≡ length slots → 0 < all → slot ≡ get_or slots (all - 1) slot
-    → slice_get (replies_of (entries_in slots)) (length (entries_in slots) - 1) ≡ Some (reply_in slot.reply)
+    → slice_get (replies_of (entries_in slots)) (length (entries_in slots) - 1) ≡ Some (kept_reply slot.reply)
 last-slot slots slot all many some at =
     let place : length (entries_in slots) - 1 ≡ all - 1 = ap (λ n. n - 1) (length-map slots entry_in ∙ sym many) in
     ap (slice_get (replies_of (entries_in slots))) place

@@ -4,19 +4,14 @@
 //! in two steps. From the first on it is no longer kept, and it waits at the front of the ring. In the second its call
 //! is made on what is held, and it is dropped. Contracts see the state that the calls which wait will lead to. So
 //! nothing is seen of the second step, which may find no memory.
-ghost use Rattle.std.specs.Prelude.{◌≡◌, ◌≢◌, ◌+◌, ◌-◌, ◌<◌, ◌≤◌, ◌^◌, ◌↔◌, IsTrue, IfOk, IfSome};
-ghost use Rattle.std.specs.Prelude.{OnOk, OnErr, ◌⊎◌, true, false, not};
-ghost use Rattle.std.specs.Prelude.{[], ◌∷◌, ◌++◌, length, slice_get, Some, None};
+ghost use Rattle.std.specs.Prelude.{◌≡◌, ◌≢◌, ◌+◌, ◌-◌, ◌<◌, ◌≤◌, ◌^◌, ◌↔◌, IsTrue, IfOk, IfSome, OnOk, OnErr, ◌⊎◌};
+ghost use Rattle.std.specs.Prelude.{true, false, not, [], ◌∷◌, ◌++◌, length, slice_get, Some, None};
 ghost use Rattle.std.specs.Option.{option_map};
-ghost use Rattle.pid_types.specs.declared.entry.Entry.{Entry};
-ghost use Rattle.pid_types.specs.Replay.{state_after, calls_of};
-ghost use Rattle.pid_types.specs.Short.{reply_of};
-ghost use Rattle.pid_types.specs.Shown.{Shows};
-ghost use Rattle.pid_types.specs.Sound.{IsBelow};
-ghost use Rattle.pid_types.specs.State.{State, root_state};
-ghost use Rattle.pid_types.specs.Step.{step, may_grow};
-ghost use Rattle.kept_past.specs.Stored.{list_reply, replies_of};
-ghost use Rattle.kept_past.specs.Past.{held_fixed, moves_or, opening_of, IsCutOnce};
+ghost use Rattle.{
+  pid_types.specs.{declared.entry.Entry.{Entry}, Replay.{state_after, calls_of}, Shown.{Shows}, Sound.{IsBelow}},
+  pid_types.specs.{State.{State, root_state}, Step.{step, may_grow}},
+  kept_past.specs.{Stored.{list_reply, replies_of, TellsIfShort}, Past.{held_fixed, moves_or, opening_of, IsCutOnce}},
+};
 
 use crate::opening::Opening;
 use crate::ring::Ring;
@@ -249,8 +244,7 @@ impl History {
         requires begun { self.old.opening ≢ None }
         requires fits { self.old.stamp < 2 ^ 64 }
         ensures state { OnOk result (table.new ≡ (step table.old stamp call).state) }
-        ensures reply { IfOk result (λ told.
-            IfSome told (λ short. reply_of short ≡ (step table.old stamp call).reply)) }
+        ensures reply { TellsIfShort result (step table.old stamp call).reply }
         ensures entry { OnOk result (self.new ≡ record self.old {
           entries = self.old.entries
               ++ record { worker = worker; call = call; reply = (step table.old stamp call).reply } ∷ [];
@@ -444,8 +438,7 @@ fn enter_call(
     requires below { IsBelow stamp table.old }
     requires room { 0 < ring.old.room }
     ensures state { OnOk result (table.new ≡ (step table.old stamp call).state) }
-    ensures reply { IfOk result (λ told.
-        IfSome told (λ short. reply_of short ≡ (step table.old stamp call).reply)) }
+    ensures reply { TellsIfShort result (step table.old stamp call).reply }
     ensures ring { OnOk result (ring.new.entries ≡ ring.old.entries
         ++ record { worker = worker; call = call; reply = (step table.old stamp call).reply } ∷ []) }
     ensures left { ring.old.room ≤ ring.new.room + 1 }
@@ -473,8 +466,7 @@ fn enter_list(
     requires below { IsBelow stamp table.old }
     requires room { 0 < ring.old.room }
     ensures state { OnOk result (table.new ≡ (step table.old stamp call).state) }
-    ensures reply { IfOk result (λ told.
-        IfSome told (λ short. reply_of short ≡ (step table.old stamp call).reply)) }
+    ensures reply { TellsIfShort result (step table.old stamp call).reply }
     ensures ring { OnOk result (ring.new.entries ≡ ring.old.entries
         ++ record { worker = worker; call = call; reply = (step table.old stamp call).reply } ∷ []) }
     ensures left { ring.old.room ≤ ring.new.room + 1 }

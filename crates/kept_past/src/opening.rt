@@ -1,10 +1,7 @@
 //! The state that a record's kept history begins in.
 ghost use Rattle.std.specs.Prelude.{◌≡◌, IfOk, OnOk, OnErr, true, false};
-ghost use Rattle.pid_types.specs.Shown.{Shows};
-ghost use Rattle.pid_types.specs.Sound.{IsBelow};
-ghost use Rattle.pid_types.specs.State.{root_state};
-ghost use Rattle.pid_types.specs.Step.{step};
-ghost use Rattle.kept_past.specs.Opening.{held_in, state_of, IsHeldWell};
+ghost use Rattle.pid_types.specs.{Shown.{Shows}, Sound.{IsBelow}, State.{root_state}, Step.{step}};
+ghost use Rattle.kept_past.specs.Opening.{held_in, state_shown, IsHeldWell};
 
 use pid_table::PidTable;
 use pid_types::call::Call;
@@ -101,8 +98,8 @@ impl Opening {
 
 /// A copy of a snapshot. The error is want of memory.
 fn copy_plain(plain: &Plain) -> Result<Plain, AllocError>
-    requires { Shows (state_of plain.now) plain.now }
-    ensures { IfOk result (Shows (state_of plain.now)) }
+    requires { Shows (state_shown plain.now) plain.now }
+    ensures { IfOk result (Shows (state_shown plain.now)) }
 {
     Ok(Plain {
         pid_max: plain.pid_max,

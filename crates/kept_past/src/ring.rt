@@ -1,11 +1,9 @@
 //! The entries of a history, at 64 bytes each. Where a reply is a list of numbers, these stand beside the entry, in
 //! memory that is there before the call is made.
-ghost use Rattle.std.specs.Prelude.{◌≡◌, ◌+◌, ◌-◌, ◌<◌, ◌≤◌, [], ◌∷◌, ◌++◌, length, drop, slice_get, vec_len};
-ghost use Rattle.std.specs.Prelude.{OnOk, OnErr, IfSome, Some};
-ghost use Rattle.std.specs.Option.{option_map};
-ghost use Rattle.pid_types.specs.declared.entry.Entry.{Entry};
-ghost use Rattle.pid_types.specs.Short.{reply_of};
-ghost use Rattle.kept_past.specs.Stored.{reply_in, list_reply, replies_of};
+ghost use Rattle.std.specs.Prelude.{◌≡◌, ◌+◌, ◌-◌, ◌<◌, ◌≤◌, [], ◌∷◌, ◌++◌, length, drop, slice_get, vec_len, OnOk};
+ghost use Rattle.std.specs.{Prelude.{OnErr, IfSome, Some}, Option.{option_map}};
+ghost use Rattle.pid_types.specs.{declared.entry.Entry.{Entry}, Short.{reply_of}};
+ghost use Rattle.kept_past.specs.Stored.{kept_reply, list_reply, replies_of};
 
 use arrayvec::ArrayVec;
 use pid_types::call::Call;
@@ -65,8 +63,7 @@ pub(crate) struct Ring {
 }
 
 impl Model for Ring {
-    ghost use Rattle.std.specs.Prelude.{◌-◌, min, vec_len};
-    ghost use Rattle.std.specs.VecDeque.{deque_len, deque_capacity};
+    ghost use Rattle.std.specs.{Prelude.{◌-◌, min, vec_len}, VecDeque.{deque_len, deque_capacity}};
     ghost use Rattle.kept_past.specs.Stored.{Stored, entries_in};
 
     ghost Value = { Stored };
@@ -245,7 +242,7 @@ impl Few {
 impl SlotReply {
     /// The whole reply.
     fn told(&self) -> Reply
-        ensures { result ≡ reply_in self.now }
+        ensures { result ≡ kept_reply self.now }
     {
         match self {
             SlotReply::Short(short) => {
@@ -260,7 +257,7 @@ impl SlotReply {
 
     /// The reply, where it is no list.
     fn short(&self) -> Option<ShortReply>
-        ensures { IfSome result (λ short. reply_of short ≡ reply_in self.now) }
+        ensures { IfSome result (λ short. reply_of short ≡ kept_reply self.now) }
     {
         match self {
             SlotReply::Short(short) => Some(*short),
@@ -270,7 +267,7 @@ impl SlotReply {
 
     /// The numbers, where it is a list.
     fn list(&self) -> Option<&[Pid]>
-        ensures list { IfSome result (λ list. reply_in self.now ≡ list_reply list.now) }
+        ensures list { IfSome result (λ list. kept_reply self.now ≡ list_reply list.now) }
         ensures fits { IfSome result (λ list. length list.now ≤ LEVELS) }
     {
         match self {
@@ -284,7 +281,7 @@ impl SlotReply {
 /// What a slot has of the reply. The numbers of a list go into spare memory.
 fn slot_reply(reply: &Reply, spare: &mut Vec<Box<ArrayVec<Pid, LEVELS>>>) -> SlotReply
     requires { 0 < vec_len spare.old }
-    ensures reply { reply_in result ≡ reply.now }
+    ensures reply { kept_reply result ≡ reply.now }
     ensures spare { vec_len spare.old ≤ vec_len spare.new + 1 }
 {
     let short = match reply {
@@ -312,7 +309,7 @@ fn slot_reply(reply: &Reply, spare: &mut Vec<Box<ArrayVec<Pid, LEVELS>>>) -> Slo
 fn slot_list(numbers: &[Pid], spare: &mut Vec<Box<ArrayVec<Pid, LEVELS>>>) -> SlotReply
     requires spare { 0 < vec_len spare.old }
     requires fits { length numbers.now ≤ LEVELS }
-    ensures reply { reply_in result ≡ list_reply numbers.now }
+    ensures reply { kept_reply result ≡ list_reply numbers.now }
     ensures spare { vec_len spare.old ≤ vec_len spare.new + 1 }
 {
     if numbers.len() <= FEW {

@@ -4,7 +4,7 @@ use Rattle.std.specs.Prelude.{◌-◌, ◌⊎◌, nat_lt, if◌then◌else◌}
 use Rattle.std.proofs.lemmas.Bool.{lt-ltb, le-ltb, ltb-true, ltb-false}
 use Rattle.std.proofs.Math.Nat.{min-eq_left, min-eq_right}
 use Rattle.pid_types.specs.declared.call.Call.{Call}
-use Rattle.kept_table.specs.Calls.{after_call, counted, entry_of, outcome, IsWithoutFirst, to_cut, to_cut_once}
+use Rattle.kept_table.specs.Calls.{after_recorded, counted, entry_of, outcome, IsWithoutFirst, to_cut, to_cut_once}
 use Rattle.kept_table.specs.Chronicle.{Chronicle}
 use Rattle.kept_table.proofs.Cuts.{without-after}
 
@@ -52,8 +52,8 @@ in_two c d keep w =
 
 -- the same behind a call
 pub kept-behind : (old made d : Chronicle) (worker : ℕ) (call : Call) (keep : ℕ) → made ≡ counted old made.entries made.present made.room → made.entries ≡ old.entries ++ entry_of old worker call ∷ [] → made.present ≡ (outcome old call).state
-    → IsWithoutFirst (to_cut made keep) made d → IsWithoutFirst (to_cut (after_call old worker call) keep) (after_call old worker call) d
+    → IsWithoutFirst (to_cut made keep) made d → IsWithoutFirst (to_cut (after_recorded old worker call) keep) (after_recorded old worker call) d
 kept-behind old made d worker call keep is entries present w =
-    let many : to_cut made keep ≡ to_cut (after_call old worker call) keep =
+    let many : to_cut made keep ≡ to_cut (after_recorded old worker call) keep =
     ap (λ b. twice b (length made.entries) keep) (ap (λ (x : Chronicle). x.by_steps) is) ∙ ap (λ es. twice old.by_steps (length es) keep) entries in
-    subst (λ n. IsWithoutFirst n (after_call old worker call) d) many (without-after (to_cut made keep) old made d worker call is entries present w)
+    subst (λ n. IsWithoutFirst n (after_recorded old worker call) d) many (without-after (to_cut made keep) old made d worker call is entries present w)

@@ -12,7 +12,7 @@ use Rattle.pid_types.specs.Settings.{Settings}
 use Rattle.pid_types.specs.State.{State}
 use Rattle.pid_types.specs.Step.{step}
 use Rattle.model_laws.specs.StepLaws.{BoundStays, RunsKeepSoundness}
-use Rattle.kept_table.specs.Calls.{after_call, counted, entry_of, outcome, IsWithoutFirst}
+use Rattle.kept_table.specs.Calls.{after_recorded, counted, entry_of, outcome, IsWithoutFirst}
 use Rattle.kept_table.specs.Chronicle.{Chronicle, IsKept, by_worker, first_kept_stamp}
 use Rattle.kept_table.specs.Whole.{IsKeptCounted, IsKeptWhole, is_fresh, one_of, room_of, told}
 use Rattle.kept_past.specs.Past.{IsCutOnce, Past, moves_or, opening_of}
@@ -197,9 +197,9 @@ ends-of past config resumed first cut calls present k opening is =
 
 -- some are cut away behind a call
 pub without-after : (n : ℕ) (old made d : Chronicle) (worker : ℕ) (call : Call) → made ≡ counted old made.entries made.present made.room → made.entries ≡ old.entries ++ entry_of old worker call ∷ [] → made.present ≡ (outcome old call).state
-    → IsWithoutFirst n made d → IsWithoutFirst n (after_call old worker call) d
+    → IsWithoutFirst n made d → IsWithoutFirst n (after_recorded old worker call) d
 without-after n old made d worker call is entries present w =
-    let same : record made { room = 0 } ≡ after_call old worker call =
+    let same : record made { room = 0 } ≡ after_recorded old worker call =
     ap (λ (c : Chronicle). record c { room = 0 }) is
     ∙ (ap (λ (es : List Entry). counted old es made.present 0) entries
     ∙ ap (λ (s : State). counted old (old.entries ++ entry_of old worker call ∷ []) s 0) present) in

@@ -52,8 +52,8 @@ abbrev pub counted : Chronicle → List Entry → State → ℕ → Chronicle
 counted c entries present room = record c { entries = entries; present = present; booked = c.booked + 1; room = room }
 
 -- what a recorded call leaves: the state after the model's step, and one entry more, with the model's reply
-abbrev pub after_call : Chronicle → ℕ → Call → Chronicle
-after_call c worker call = counted c (c.entries ++ entry_of c worker call ∷ []) (outcome c call).state 0
+abbrev pub after_recorded : Chronicle → ℕ → Call → Chronicle
+after_recorded c worker call = counted c (c.entries ++ entry_of c worker call ∷ []) (outcome c call).state 0
 
 -- the record with the history cut away, so many calls being counted before it
 abbrev pub cut_at : Chronicle → ℕ → List ℕ → ℕ → Chronicle

@@ -44,13 +44,13 @@ abbrev pub recorded : Chronicle → ℕ → ℕ
 recorded c worker = slice_index c.cut worker + by_worker worker c.entries
 
 -- f of each number below n, added up
-abbrev pub sum_below : ℕ → (ℕ → ℕ) → ℕ
-sum_below zero f = 0
-sum_below (suc n) f = sum_below n f + f n
+abbrev pub sum_to : ℕ → (ℕ → ℕ) → ℕ
+sum_to zero f = 0
+sum_to (suc n) f = sum_to n f + f n
 
 -- the recorded calls of all workers
 abbrev pub recorded_by_all : ℕ → Chronicle → ℕ
-recorded_by_all workers c = sum_below workers (recorded c)
+recorded_by_all workers c = sum_to workers (recorded c)
 
 -- the kept entry with the ordinal
 abbrev pub kept_entry : Chronicle → ℕ → Option Entry

@@ -1,27 +1,22 @@
 //! The table, its history, and how many calls of each worker were recorded. The history grows by an entry of 64
 //! bytes with each [`Kept::make_call`], and by the numbers of a list, until a [`Kept::checkpoint`] empties it.
 //! [`Kept::make_call_keeping`] bounds it.
-ghost use Rattle.std.specs.Prelude.{◌≡◌, ℕ, ◌+◌, ◌-◌, ◌^◌, ◌<◌, ◌≤◌, ◌==◌, [], ◌∷◌, ◌++◌, ◌↔◌, length, All, IsTrue};
-ghost use Rattle.std.specs.Prelude.{sum, slice_index, slice_get, replicate, IfOk, OnOk, OnErr, IsOk, IfSome, Some};
-ghost use Rattle.std.specs.Prelude.{None, Err, vec_len, vec_capacity};
-ghost use Rattle.std.specs.Prelude.{◌≢◌, ◌⊎◌, true, false};
-ghost use Rattle.pid_types.specs.declared.plain.Control.{Control};
-ghost use Rattle.pid_types.specs.Membership.{IsIn};
-ghost use Rattle.pid_types.specs.declared.entry.Entry.{Entry};
-ghost use Rattle.pid_types.specs.Short.{reply_of};
-ghost use Rattle.pid_types.specs.Shown.{Shows};
-ghost use Rattle.pid_types.specs.Sound.{IsBelow};
-ghost use Rattle.pid_types.specs.Step.{step, may_grow};
-ghost use Rattle.translate.specs.Stat.{stat_at, glimpse_in, IsSeen};
-ghost use Rattle.call_effects.specs.Touched.{is_touching, most_in, most_of, Watches};
-ghost use Rattle.kept_past.specs.Stored.{list_reply};
-ghost use Rattle.kept_table.specs.Calls.{begun, resumed, outcome, entry_of, after_call, counted, cut_at};
-ghost use Rattle.kept_table.specs.Calls.{IsWithoutFirst, to_cut, to_cut_once};
-ghost use Rattle.kept_table.specs.Chronicle.{Chronicle, total, next_stamp, recorded, recorded_by_all, kept_entry};
-ghost use Rattle.kept_table.specs.Chronicle.{last_reply, by_worker};
-ghost use Rattle.kept_table.specs.Promise.{IsSubtreeCount, KeepsPromise};
-ghost use Rattle.model_laws.specs.Refusals.{is_query};
-ghost use Rattle.kept_table.specs.Whole.{one_of, is_fresh};
+ghost use Rattle.std.specs.Prelude.{◌≡◌, ℕ, ◌+◌, ◌-◌, ◌^◌, ◌<◌, ◌≤◌, ◌==◌, [], ◌∷◌, ◌++◌, ◌↔◌, length, IsTrue, sum};
+ghost use Rattle.std.specs.Prelude.{slice_index, IfOk, OnOk, OnErr, IsOk, IfSome, Some, None, Err, ◌≢◌, ◌⊎◌, true};
+ghost use Rattle.std.specs.Prelude.{false};
+ghost use Rattle.{
+  pid_types.specs.{declared.plain.Control.{Control}, Membership.{IsIn}, declared.entry.Entry.{Entry}, Shown.{Shows}},
+  pid_types.specs.{Sound.{IsBelow}, Step.{step, may_grow}, Short.{reply_of}},
+  translate.specs.Stat.{stat_at, glimpse_in, IsSeen},
+  call_effects.specs.Touched.{is_touching, most_in, most_of, Watches},
+  kept_past.specs.Stored.{list_reply, TellsIfShort},
+  kept_table.specs.Calls.{begun, resumed, outcome, entry_of, after_recorded, counted, cut_at, IsWithoutFirst, to_cut},
+  kept_table.specs.Calls.{to_cut_once},
+  kept_table.specs.Chronicle.{Chronicle, total, next_stamp, recorded, recorded_by_all, kept_entry, last_reply},
+  kept_table.specs.{Promise.{IsSubtreeCount, KeepsPromise}, Whole.{one_of, is_fresh}},
+  model_laws.specs.Refusals.{is_query},
+  pid_table.specs.Lists.{answers_list},
+};
 
 use call_effects::Touched;
 use kept_past::History;
@@ -67,8 +62,7 @@ impl Drop for Kept {
 }
 
 impl Model for Kept {
-    ghost use Rattle.kept_table.specs.Chronicle.{Chronicle};
-    ghost use Rattle.kept_table.specs.Whole.{told, IsKeptWhole};
+    ghost use Rattle.kept_table.specs.{Chronicle.{Chronicle}, Whole.{told, IsKeptWhole}};
 
     ghost Value = { Chronicle };
 
@@ -320,6 +314,17 @@ impl Kept {
         self.table.ask(call, reply);
     }
 
+    /// Answers a query as [`Kept::ask`] does, where that is answered by no list
+    /// ([`answers_list`](pid_table::answers_list)).
+    #[inline(always)]
+    pub fn ask_short(&self, call: Call) -> ShortReply
+        requires asks { IsTrue (is_query call) }
+        requires short { answers_list call ≡ false }
+        ensures { reply_of result ≡ (outcome self.now call).reply }
+    {
+        self.table.ask_short(call)
+    }
+
     /// Writes the reply that the call would get as the next one: [`PidTable::would`]. It is not recorded, and nothing
     /// that is held changes. The error is `Spent`, where the stamps are used up; then the reply stays.
     pub fn would(&self, call: Call, reply: &mut Reply) -> Result<(), CallFault>
@@ -411,7 +416,7 @@ impl Kept {
         requires { worker < length self.old.cut }
         ensures step { OnOk result (self.new.present ≡ (outcome self.old call).state) }
         ensures reply { OnOk result (last_reply self.new ≡ Some (outcome self.old call).reply) }
-        ensures short { IfOk result (λ told. IfSome told (λ short. reply_of short ≡ (outcome self.old call).reply)) }
+        ensures short { TellsIfShort result (outcome self.old call).reply }
         ensures history { OnOk result (self.new.entries ≡ self.old.entries ++ entry_of self.old worker call ∷ []) }
         ensures others { OnOk result (self.new ≡ counted self.old self.new.entries self.new.present self.new.room) }
         ensures room { self.old.room ≤ self.new.room + 1 }
@@ -466,8 +471,8 @@ impl Kept {
         requires { worker < length self.old.cut }
         ensures step { OnOk result (self.new.present ≡ (outcome self.old call).state) }
         ensures reply { OnOk result (reply.new ≡ (outcome self.old call).reply) }
-        ensures cut { OnOk result (IsWithoutFirst (to_cut (after_call self.old worker call) keep)
-            (after_call self.old worker call) self.new) }
+        ensures cut { OnOk result (IsWithoutFirst (to_cut (after_recorded self.old worker call) keep)
+            (after_recorded self.old worker call) self.new) }
         ensures bound { OnOk result
             ((length self.new.entries ≤ keep) ⊎ (length self.new.entries < length self.old.entries)) }
 

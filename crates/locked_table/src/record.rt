@@ -4,21 +4,16 @@
 //! [`crate::Shared`], whose guard lends it. The history grows by an entry of 64 bytes with each
 //! call, and by the numbers of a list, until a [`Record::checkpoint`] empties it. [`Record::make_call_keeping`] bounds
 //! it.
-ghost use Rattle.std.specs.Prelude.{◌≡◌, ℕ, ◌+◌, ◌^◌, ◌<◌, ◌≤◌, [], ◌∷◌, ◌++◌, ◌↔◌, IsTrue};
-ghost use Rattle.std.specs.Prelude.{IfOk, OnOk, OnErr, IsOk, IfSome, Some, None, Err};
-ghost use Rattle.std.specs.Prelude.{◌≢◌, ◌⊎◌, true, length, sum};
-ghost use Rattle.pid_types.specs.declared.plain.Control.{Control};
-ghost use Rattle.pid_types.specs.Membership.{IsIn};
-ghost use Rattle.pid_types.specs.Shown.{Shows};
-ghost use Rattle.pid_types.specs.Sound.{IsBelow};
-ghost use Rattle.pid_types.specs.Step.{may_grow};
-ghost use Rattle.kept_table.specs.Calls.{begun, resumed, outcome, entry_of, after_call, counted, cut_at};
-ghost use Rattle.kept_table.specs.Calls.{IsWithoutFirst, to_cut};
-ghost use Rattle.kept_table.specs.Chronicle.{Chronicle, total, next_stamp, recorded, recorded_by_all, kept_entry};
-ghost use Rattle.kept_table.specs.Chronicle.{last_reply};
-ghost use Rattle.kept_table.specs.Promise.{IsSubtreeCount, KeepsPromise};
-ghost use Rattle.kept_table.specs.Whole.{one_of};
-ghost use Rattle.locked_table.specs.SeatState.{AreSeats, AreCounted, AreRecorded, AreNew, calls_of_seats};
+ghost use Rattle.std.specs.Prelude.{◌≡◌, ℕ, ◌+◌, ◌^◌, ◌<◌, ◌≤◌, [], ◌∷◌, ◌++◌, ◌↔◌, IsTrue, IfOk, OnOk, OnErr, IsOk};
+ghost use Rattle.std.specs.Prelude.{IfSome, Some, None, Err, ◌≢◌, ◌⊎◌, true, length, sum};
+ghost use Rattle.{
+  pid_types.specs.{declared.plain.Control.{Control}, Membership.{IsIn}, Shown.{Shows}, Sound.{IsBelow}},
+  pid_types.specs.Step.{may_grow},
+  kept_table.specs.Calls.{begun, resumed, outcome, entry_of, after_recorded, counted, cut_at, IsWithoutFirst, to_cut},
+  kept_table.specs.Chronicle.{Chronicle, total, next_stamp, recorded, recorded_by_all, kept_entry, last_reply},
+  kept_table.specs.{Promise.{IsSubtreeCount, KeepsPromise}, Whole.{one_of}},
+  locked_table.specs.SeatState.{AreSeats, AreCounted, AreRecorded, AreNew, calls_of_seats},
+};
 
 use crate::seat::Seat;
 use kept_table::Kept;
@@ -322,8 +317,8 @@ impl<L: Ledger, const N: usize> Record<L, N> {
     ) -> Result<(), CallFault>
         ensures step { OnOk result (self.new.present ≡ (outcome self.old call).state) }
         ensures reply { OnOk result (reply.new ≡ (outcome self.old call).reply) }
-        ensures cut { OnOk result (IsWithoutFirst (to_cut (after_call self.old seat.old.worker call) keep)
-            (after_call self.old seat.old.worker call) self.new) }
+        ensures cut { OnOk result (IsWithoutFirst (to_cut (after_recorded self.old seat.old.worker call) keep)
+            (after_recorded self.old seat.old.worker call) self.new) }
         ensures bound { OnOk result
             ((length self.new.entries ≤ keep) ⊎ (length self.new.entries < length self.old.entries)) }
         ensures seat { OnOk result (seat.new ≡ record seat.old { calls = seat.old.calls + 1 }) }

@@ -6,7 +6,7 @@ use Rattle.std.proofs.lemmas.List.{get_or-set_same, get_or-set_other, length-set
 use Rattle.member_lists.proofs.Owners.{times-later}
 use Rattle.member_lists.specs.declared.Link.{Link}
 use Rattle.member_lists.specs.Owners.{owner_of, times, AreMembers}
-use Rattle.member_lists.specs.Links.{nil, link_at, owner_in, chain, AreTold, Ends}
+use Rattle.member_lists.specs.Links.{nil, link_at, owner_in, chain, AreTold, ReachesNil}
 use Rattle.member_lists.proofs.Linked.{owner_of-links, some_link, link_some}
 use Rattle.member_lists.proofs.Walks as walks
 
@@ -19,16 +19,16 @@ pub record IsTelling (ls ls' : List Link) (from to first at last : ℕ) : Type 0
   pub here : (k : ℕ) → (link_at ls k).owner ≡ from → (link_at ls' k ≡ with_owner to (link_at ls k)) ⊎ ((link_at ls' k ≡ link_at ls k) × (times k (chain ls at (length ls)) ≡ 1))
   pub others : (k : ℕ) → (link_at ls k).owner ≢ from → link_at ls' k ≡ link_at ls k
   pub len : length ls' ≡ length ls
-  pub ends : Ends ls at (length ls)
+  pub ends : ReachesNil ls at (length ls)
   pub owned : AllByRecursion (λ k. owner_of (map owner_in ls) k ≡ Some from) (chain ls at (length ls))
   pub ending : (at ≡ first) ⊎ (((link_at ls last).owner ≡ from) × ((link_at ls last).next ≡ at))
 
 -- the first of the keys still to come is a member
-here_owned : (ls : List Link) (from at n : ℕ) → Ends ls at n → at ≢ nil → AllByRecursion (λ k. owner_of (map owner_in ls) k ≡ Some from) (chain ls at n)
+here_owned : (ls : List Link) (from at n : ℕ) → ReachesNil ls at n → at ≢ nil → AllByRecursion (λ k. owner_of (map owner_in ls) k ≡ Some from) (chain ls at n)
     → ((link_at ls at).owner ≡ from) × (from ≢ nil) × AllByRecursion (λ k. owner_of (map owner_in ls) k ≡ Some from) (chain ls (link_at ls at).next n)
 here_owned ls from at n ends some all = grind (arith, walks.step, some_link, owner_of-links)
 
-pub begins : (ls : List Link) (from to first : ℕ) → first ≢ nil → Ends ls first (length ls) → AreMembers (map owner_in ls) from (chain ls first (length ls)) → IsTelling ls ls from to first first first
+pub begins : (ls : List Link) (from to first : ℕ) → first ≢ nil → ReachesNil ls first (length ls) → AreMembers (map owner_in ls) from (chain ls first (length ls)) → IsTelling ls ls from to first first first
 begins ls from to first there ends all =
     let some : from ≢ nil = (here_owned ls from first (length ls) ends there all.owned).1 in
     record {

@@ -7,7 +7,7 @@ use Rattle.std.proofs.lemmas.Map.Steps.{length-le_from_distinct_below}
 use Rattle.member_lists.proofs.Owners.{times-cons, times-here, times-later}
 use Rattle.member_lists.specs.declared.Link.{Link}
 use Rattle.member_lists.specs.Owners.{owner_of, times, AreMembers}
-use Rattle.member_lists.specs.Links.{nil, link_at, head_at, owner_in, IsLinked, chain, Ends}
+use Rattle.member_lists.specs.Links.{nil, link_at, head_at, owner_in, IsLinked, chain, ReachesNil}
 use Rattle.member_lists.proofs.Linked.{within, owner_of-links, some_link, link_some}
 
 module _ (ls : List Link) where
@@ -20,24 +20,24 @@ module _ (ls : List Link) where
   chain-some : (k n : ℕ) → k ≢ nil → chain ls k (suc n) ≡ k ∷ chain ls (next k) n
   chain-some k n some = grind arith
 
-  chain-more : (k n : ℕ) → Ends ls k n → chain ls k (suc n) ≡ chain ls k n
+  chain-more : (k n : ℕ) → ReachesNil ls k n → chain ls k (suc n) ≡ chain ls k n
   chain-more k zero none = chain-nil k (suc zero) none
   chain-more k (suc n) ends = elim (cases_eq k nil) [
     | inl none ↦ chain-nil k (suc (suc n)) none ∙ sym (chain-nil k (suc n) none)
     | inr some ↦ chain-some k (suc n) some ∙ ap (λ xs. k ∷ xs) (chain-more (next k) n (ends some).1) ∙ sym (chain-some k n some)
   ]
 
-  ends-more : (k n : ℕ) → Ends ls k n → Ends ls k (suc n)
+  ends-more : (k n : ℕ) → ReachesNil ls k n → ReachesNil ls k (suc n)
   ends-more k zero none = λ some. absurd (some none)
   ends-more k (suc n) ends = λ some. ((ends some).0, ends-more (next k) n (ends some).1)
 
   -- one step of a walk
   pub record Step (k n : ℕ) : Type 0 where
     pub inside : k < length ls
-    pub ends : Ends ls (next k) n
+    pub ends : ReachesNil ls (next k) n
     pub rest : chain ls k n ≡ k ∷ chain ls (next k) n
 
-  pub step : (k n : ℕ) → Ends ls k n → k ≢ nil → Step k n
+  pub step : (k n : ℕ) → ReachesNil ls k n → k ≢ nil → Step k n
   step k n none some = grind (arith, ends-more, chain-some, chain-more)
 
   pub over : (k n : ℕ) → k ≡ nil → chain ls k n ≡ []
@@ -94,7 +94,7 @@ module _ (hs : List ℕ) (ls : List Link) (w : IsLinked hs ls) (h : ℕ) (room :
   ]
 
   -- a chain that does not end is as long as may be
-  ends_or_full : (n k : ℕ) → (k ≢ nil → Owned k) → Ends ls k n ⊎ (length (chain ls k (suc n)) ≡ suc n)
+  ends_or_full : (n k : ℕ) → (k ≢ nil → Owned k) → ReachesNil ls k n ⊎ (length (chain ls k (suc n)) ≡ suc n)
   ends_or_full zero k start = grind (arith, cases_eq, chain-some)
   ends_or_full (suc n) k start = elim (cases_eq k nil) [
     | inl none ↦ inl (λ some. absurd (some none))
@@ -118,7 +118,7 @@ module _ (hs : List ℕ) (ls : List Link) (w : IsLinked hs ls) (h : ℕ) (room :
   first_owned : head_at hs h ≢ nil → Owned (head_at hs h)
   first_owned some = (w.head h some).0
 
-  pub all_end : Ends ls (head_at hs h) (length ls)
+  pub all_end : ReachesNil ls (head_at hs h) (length ls)
   all_end = elim (ends_or_full (length ls) (head_at hs h) first_owned) [
     | inl ending ↦ ending
     | inr full ↦ let s = short (suc (length ls)) (head_at hs h) first_owned in absurd (omega (arith, full, s))
@@ -135,14 +135,14 @@ module _ (hs : List ℕ) (ls : List Link) (w : IsLinked hs ls) (h : ℕ) (room :
       go : (times j xs ≡ 1 → P j) → (b : Bool) → (x == j) ≡ b → (if b then 1 else 0) + times j xs ≡ 1 → P j
       go rest b e once = grind arith
 
-  times-first : (n k : ℕ) → Owned k → Ends ls k n → times k (chain ls k n) ≡ 1
+  times-first : (n k : ℕ) → Owned k → ReachesNil ls k n → times k (chain ls k n) ≡ 1
   times-first zero k mine none = absurd (not_nil k mine none)
   times-first (suc n) k mine more =
       let rest = none_of k (chain ls (next ls k) n) (behind n k mine) in
       rw (chain-some ls k n (not_nil k mine)) (times-here k (chain ls (next ls k) n) ∙ ap (λ m. 1 + m) rest)
 
   -- the key behind one that comes once does so
-  times-next : (n k j : ℕ) → (k ≢ nil → Owned k) → Ends ls k n → times j (chain ls k n) ≡ 1 → next ls j ≢ nil → times (next ls j) (chain ls k n) ≡ 1
+  times-next : (n k j : ℕ) → (k ≢ nil → Owned k) → ReachesNil ls k n → times j (chain ls k n) ≡ 1 → next ls j ≢ nil → times (next ls j) (chain ls k n) ≡ 1
   times-next zero k j start stop once more = cc
   times-next (suc n) k j start stop once more = elim (cases_eq k nil) [
     | inl none ↦ let e : times j [] ≡ 1 = rw (chain-nil ls k (suc n) none) at once in cc

@@ -43,9 +43,9 @@ chain links k zero = []
 chain links k (suc n) = if k == 4294967295 then [] else k ∷ chain links (link_at links k).next n
 
 -- from a key on there are no more keys than that
-abbrev pub Ends : List Link → ℕ → ℕ → Type 0
-Ends links k zero = k ≡ nil
-Ends links k (suc n) = k ≢ nil → (k < length links) × Ends links (link_at links k).next n
+abbrev pub ReachesNil : List Link → ℕ → ℕ → Type 0
+ReachesNil links k zero = k ≡ nil
+ReachesNil links k (suc n) = k ≢ nil → (k < length links) × ReachesNil links (link_at links k).next n
 
 -- the members of one owner are told another, and nothing else changes
 pub record AreTold (links links' : List Link) (from to : ℕ) : Type 0 where

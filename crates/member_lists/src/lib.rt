@@ -7,7 +7,7 @@
 ghost use Rattle.std.specs.Prelude.{◌≡◌, ◌≢◌, ℕ, ◌+◌, ◌<◌, ◌≤◌, ◌^◌, length, map, Some, None, MatchOption, OnOk, OnErr};
 ghost use Rattle.std.specs.Prelude.{slice_set, option_map, IsSome, [], ◌++◌, replicate};
 ghost use Rattle.member_lists.specs.Owners.{owner_of, AreMembers, HasMoreRoom, handed};
-ghost use Rattle.member_lists.specs.Links.{nil, lone, link_at, head_at, owner_in, chain, AreTold, Ends, IsLinked};
+ghost use Rattle.member_lists.specs.Links.{nil, lone, link_at, head_at, owner_in, chain, AreTold, ReachesNil, IsLinked};
 
 mod members;
 
@@ -130,7 +130,7 @@ fn put_first(heads: &mut Vec<u32>, links: &mut Vec<Link>, key: u32, owner: u32)
 /// Tells the members of one owner, from the first on, another owner. It answers the last of them.
 fn tell_owner(links: &mut Vec<Link>, first: u32, owner: u32) -> u32
     requires some { first ≢ nil }
-    requires ends { Ends links.old.items first (length links.old.items) }
+    requires ends { ReachesNil links.old.items first (length links.old.items) }
     requires members { AreMembers (map owner_in links.old.items) (link_at links.old.items first).owner
         (chain links.old.items first (length links.old.items)) }
     ensures told { AreTold links.old.items links.new.items (link_at links.old.items first).owner owner }

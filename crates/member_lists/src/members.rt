@@ -1,8 +1,7 @@
 //! The walk over the members of one owner.
 
-ghost use Rattle.std.specs.Prelude.{◌≡◌, length};
-ghost use Rattle.std.specs.Iterator.{YieldsFirst, item_count};
-ghost use Rattle.member_lists.specs.Links.{chain, Ends};
+ghost use Rattle.std.specs.{Prelude.{◌≡◌, length}, Iterator.{YieldsFirst, item_count}};
+ghost use Rattle.member_lists.specs.Links.{chain, ReachesNil};
 
 use crate::{Link, NIL};
 use std::marker::Model;
@@ -21,17 +20,17 @@ impl<'a> Model for Members<'a> {
 
     ghost Value = { List ℕ };
 
-    ghost use Rattle.member_lists.specs.Links.{chain, Ends};
+    ghost use Rattle.member_lists.specs.Links.{chain, ReachesNil};
 
     ghost view = { λ a. chain a.links.now a.at (length a.links.now) };
 
-    ghost invariant = { λ a. Ends a.links.now a.at (length a.links.now) };
+    ghost invariant = { λ a. ReachesNil a.links.now a.at (length a.links.now) };
 }
 
 impl<'a> Members<'a> {
     /// The keys from one on.
     pub(crate) fn from(links: &'a [Link], at: u32) -> Self
-        requires { Ends links.now at (length links.now) }
+        requires { ReachesNil links.now at (length links.now) }
         ensures { result ≡ chain links.now at (length links.now) }
     {
         Members { links, at }

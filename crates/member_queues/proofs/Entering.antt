@@ -5,7 +5,7 @@ use Rattle.std.proofs.lemmas.List.{get_or-set_same, get_or-set_other, length-set
 use Rattle.member_lists.proofs.Rooms.{get_or-append-replicate}
 use Rattle.member_queues.specs.declared.Node.{Node}
 use Rattle.member_queues.specs.Ranks.{ranked}
-use Rattle.member_queues.specs.Heap.{nil, blank, node_at, root_at, member_in, IsBelow, IsHeap, IsSinking}
+use Rattle.member_queues.specs.Heap.{nil, blank, node_at, root_at, member_in, HasBelow, IsHeap, IsSinking}
 use Rattle.member_queues.proofs.Trees.{is_some, has_room, ranked-nodes, some_member}
 
 -- so many more keys and owners
@@ -47,7 +47,7 @@ module _ (rs : List ℕ) (ns : List Node) (k p r : ℕ) (w : IsHeap rs ns nil) (
 
   above_entered : (j : ℕ) → j ≢ k → (node_at ns j).owner ≢ nil → root_at rs (node_at ns j).owner ≢ j
       → ((node_at (set ns k node) (node_at (set ns k node) j).above).owner ≡ (node_at (set ns k node) j).owner)
-      × ((node_at (set ns k node) (node_at (set ns k node) j).above).rank < (node_at (set ns k node) j).rank) × IsBelow (set ns k node) (node_at (set ns k node) j).above j
+      × ((node_at (set ns k node) (node_at (set ns k node) j).above).rank < (node_at (set ns k node) j).rank) × HasBelow (set ns k node) (node_at (set ns k node) j).above j
   above_entered j differs owned away = grind (arith, some_key, other, not_k)
 
   pub IsHeap-entered : IsHeap rs (set ns k node) k

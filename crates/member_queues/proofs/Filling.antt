@@ -3,7 +3,7 @@ use Rattle.std.proofs.Common.{◌≡◌, ◌≢◌, ◌⊎◌, inl, inr, ℕ, �
 use Rattle.std.proofs.lemmas.Bool.{cases_eq}
 use Rattle.std.proofs.lemmas.List.{get_or_past, get_or-set_same, get_or-set_other, length-set}
 use Rattle.member_queues.specs.declared.Node.{Node}
-use Rattle.member_queues.specs.Heap.{nil, blank, node_at, root_at, IsBelow, AreSides, AreRanked, IsTree, IsHeap, IsSinking}
+use Rattle.member_queues.specs.Heap.{nil, blank, node_at, root_at, HasBelow, AreSides, AreRanked, IsHeapTree, IsHeap, IsSinking}
 use Rattle.member_queues.proofs.Trees.{within, is_some, side_after, AreRanked-kept}
 
 -- what taking a key k out of its place makes of the roots and the other nodes, where b comes there
@@ -34,10 +34,10 @@ module _ (rs : List ℕ) (ns : List Node) (k b o : ℕ) (w : IsHeap rs ns nil) (
   k_some : k ≢ nil
   k_some = is_some ns k w.ranked.few owned
 
-  b_below : IsBelow ns k b
+  b_below : HasBelow ns k b
   b_below = elim both [ inl s ↦ inl s.0 | inr s ↦ inr s.1 ]
 
-  o_below : IsBelow ns k o
+  o_below : HasBelow ns k o
   o_below = elim both [ inl s ↦ inr s.1 | inr s ↦ inl s.0 ]
 
   b_down : b ≢ nil → ((node_at ns b).owner ≡ p) × ((node_at ns b).above ≡ k) × (b ≢ nil) × (root_at rs (node_at ns b).owner ≢ b)
@@ -49,7 +49,7 @@ module _ (rs : List ℕ) (ns : List Node) (k b o : ℕ) (w : IsHeap rs ns nil) (
   b_not_o : b ≢ nil → b ≢ o
   b_not_o some e = grind arith
 
-  only : (j : ℕ) → IsBelow ns k j → (j ≡ b) ⊎ (j ≡ o)
+  only : (j : ℕ) → HasBelow ns k j → (j ≡ b) ⊎ (j ≡ o)
   only j below = grind arith
 
   b_higher : b ≢ nil → (node_at ns k).rank < (node_at ns b).rank
@@ -64,7 +64,7 @@ module _ (rs : List ℕ) (ns : List Node) (k b o : ℕ) (w : IsHeap rs ns nil) (
   pub o_not_k : o ≢ nil → o ≢ k
   o_not_k some e = let lt = o_higher some in let same = ap (λ i. (node_at ns i).rank) e in omega (arith, lt, same)
 
-  u_up : root_at rs p ≢ k → ((node_at ns u).owner ≡ p) × ((node_at ns u).rank < (node_at ns k).rank) × IsBelow ns u k
+  u_up : root_at rs p ≢ k → ((node_at ns u).owner ≡ p) × ((node_at ns u).rank < (node_at ns k).rank) × HasBelow ns u k
   u_up = w.tree.above k owned k_some
 
   pub u_not_k : root_at rs p ≢ k → u ≢ k
@@ -78,7 +78,7 @@ module _ (rs : List ℕ) (ns : List Node) (k b o : ℕ) (w : IsHeap rs ns nil) (
     there j gone mine = is_some ns j w.ranked.few (was j gone mine)
 
     -- who is below a key now: b below the one that was over k, or one that was
-    back : (j m : ℕ) → j ≢ k → (node_at ns' j).owner ≢ nil → m ≢ nil → IsBelow ns' j m → ((m ≡ b) × (j ≡ u) × (root_at rs p ≢ k)) ⊎ (IsBelow ns j m × (m ≢ k))
+    back : (j m : ℕ) → j ≢ k → (node_at ns' j).owner ≢ nil → m ≢ nil → HasBelow ns' j m → ((m ≡ b) × (j ≡ u) × (root_at rs p ≢ k)) ⊎ (HasBelow ns j m × (m ≢ k))
     back j m gone mine some below = elim (cases_eq (root_at rs p) k) [
       | inl first ↦ grind (arith, was)
       | inr away ↦ elim (cases_eq j u) [
@@ -88,10 +88,10 @@ module _ (rs : List ℕ) (ns : List Node) (k b o : ℕ) (w : IsHeap rs ns nil) (
     ]
 
     -- who was below a key still is, but for k
-    into : (j m : ℕ) → j ≢ k → m ≢ k → IsBelow ns j m → IsBelow ns' j m
+    into : (j m : ℕ) → j ≢ k → m ≢ k → HasBelow ns j m → HasBelow ns' j m
     into j m other differs below = grind (arith, cases_eq, u_up)
 
-    b_into : root_at rs p ≢ k → IsBelow ns' u b
+    b_into : root_at rs p ≢ k → HasBelow ns' u b
     b_into away = elim (cases_eq (node_at ns u).next k) [ inl at ↦ inl (f.next away at).0 | inr at ↦ inr (f.beside away at).1 ]
 
     -- an owner that has its root as before, or k's, which b is
@@ -114,14 +114,14 @@ module _ (rs : List ℕ) (ns : List Node) (k b o : ℕ) (w : IsHeap rs ns nil) (
 
     up_spliced : (j : ℕ) → j ≢ k → (node_at ns' j).owner ≢ nil → j ≢ o → root_at rs' (node_at ns' j).owner ≢ j
         → ((node_at ns' (node_at ns' j).above).owner ≡ (node_at ns' j).owner)
-        × ((node_at ns' (node_at ns' j).above).rank < (node_at ns' j).rank) × IsBelow ns' (node_at ns' j).above j
+        × ((node_at ns' (node_at ns' j).above).rank < (node_at ns' j).rank) × HasBelow ns' (node_at ns' j).above j
     up_spliced j gone mine free away = elim (cases_eq j b) [
       | inl same ↦ grind (arith, there, b_root, u_up, u_not_k, b_down, b_not_k, b_higher, b_into)
       | inr differs ↦
           let e = f.above j gone differs in
           let m = (node_at ns j).above in
           let a = w.tree.above j (was j gone mine) (there j gone mine) (was_away j gone away) in
-          let m_not_k : m ≢ k = λ z. let below : IsBelow ns k j = rw z at a.2 in elim (only j below) [ inl y ↦ differs y | inr y ↦ free y ] in
+          let m_not_k : m ≢ k = λ z. let below : HasBelow ns k j = rw z at a.2 in elim (only j below) [ inl y ↦ differs y | inr y ↦ free y ] in
           rw e (
             f.own m m_not_k ∙ a.0 ∙ sym (f.own j gone),
             (let r1 = f.ranks m in let r2 = f.ranks j in omega (arith, r1, r2, a.1)),
@@ -132,7 +132,7 @@ module _ (rs : List ℕ) (ns : List Node) (k b o : ℕ) (w : IsHeap rs ns nil) (
     tops_spliced : (q : ℕ) → root_at rs' q ≢ nil → ((node_at ns' (root_at rs' q)).owner ≡ q) × (root_at rs' q ≢ o) × (root_at rs' q ≢ k)
     tops_spliced q some = grind (arith, roots_now, b_not_k, b_down, b_not_o, root_not_k, o_down)
 
-    down_spliced : (j m : ℕ) → j ≢ k → (node_at ns' j).owner ≢ nil → m ≢ nil → IsBelow ns' j m
+    down_spliced : (j m : ℕ) → j ≢ k → (node_at ns' j).owner ≢ nil → m ≢ nil → HasBelow ns' j m
         → ((node_at ns' m).owner ≡ (node_at ns' j).owner) × ((node_at ns' m).above ≡ j) × (m ≢ o) × (m ≢ k) × (root_at rs' (node_at ns' m).owner ≢ m)
     down_spliced j m gone mine some below = elim (back j m gone mine some below) [
       | inl new ↦ grind (arith, b_down, b_not_k, u_up, u_not_k, b_not_o)
@@ -147,7 +147,7 @@ module _ (rs : List ℕ) (ns : List Node) (k b o : ℕ) (w : IsHeap rs ns nil) (
       gone : (j : ℕ) → (node_at ns' j).owner ≢ nil → j ≢ k
       gone j mine e = mine (ap (λ i. (node_at ns' i).owner) e ∙ here)
 
-      tree_filled : IsTree rs' ns' o
+      tree_filled : IsHeapTree rs' ns' o
       tree_filled = record {
         above = λ j mine free away. up_spliced j (gone j mine) mine free away;
         tops = λ q some. let t = tops_spliced q some in (t.0, t.1);
@@ -170,7 +170,7 @@ module _ (rs : List ℕ) (ns : List Node) (k b o : ℕ) (w : IsHeap rs ns nil) (
       IsSinking-filled order = grind (arith, ranked_filled, tree_filled, b_down, b_not_k, o_not_k, o_down)
 
     -- the key keeps its owner and its other side, and is held
-    module _ (mine : (node_at ns' k).owner ≡ p) (left : (m : ℕ) → m ≢ nil → IsBelow ns' k m → m ≡ o) (has : o ≢ nil → IsBelow ns' k o)
+    module _ (mine : (node_at ns' k).owner ≡ p) (left : (m : ℕ) → m ≢ nil → HasBelow ns' k m → m ≡ o) (has : o ≢ nil → HasBelow ns' k o)
         (one : (node_at ns' k).next ≢ nil → (node_at ns' k).next ≢ (node_at ns' k).beside) where
       own_all : (j : ℕ) → (node_at ns' j).owner ≡ (node_at ns j).owner
       own_all j = elim (cases_eq j k) [ inl same ↦ rw same mine | inr differs ↦ f.own j differs ]
@@ -184,7 +184,7 @@ module _ (rs : List ℕ) (ns : List Node) (k b o : ℕ) (w : IsHeap rs ns nil) (
       o_owner : o ≢ nil → (node_at ns' o).owner ≡ (node_at ns' k).owner
       o_owner some = f.own o (o_not_k some) ∙ (o_down some).0 ∙ sym mine
 
-      tree_cut : IsTree rs' ns' k
+      tree_cut : IsHeapTree rs' ns' k
       tree_cut = record {
         above = grind (arith, cases_eq, up_spliced, there, o_above, o_owner, o_higher);
         tops = λ q some. let t = tops_spliced q some in (t.0, t.2);
@@ -298,7 +298,7 @@ module _ (rs rs' : List ℕ) (ns n1 n2 : List Node) (k b o : ℕ) (l x : Node) (
   written = (Spliced-set, at_k, own_k, next_k)
 
 -- a side of a key, where there is one
-pub side_within : (rs : List ℕ) (ns : List Node) (k m : ℕ) → IsHeap rs ns nil → (node_at ns k).owner ≢ nil → IsBelow ns k m → m ≢ nil → m < length ns
+pub side_within : (rs : List ℕ) (ns : List Node) (k m : ℕ) → IsHeap rs ns nil → (node_at ns k).owner ≢ nil → HasBelow ns k m → m ≢ nil → m < length ns
 side_within rs ns k m w owned below some = within ns m (λ z. owned (sym (w.tree.down k m owned some below).0 ∙ z))
 
 pub by_within : (rs : List ℕ) (ns : List Node) (k b o : ℕ) → IsHeap rs ns nil → (node_at ns k).owner ≢ nil → AreSides (node_at ns k) b o → b ≢ nil → b < length ns

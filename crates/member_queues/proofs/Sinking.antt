@@ -6,7 +6,7 @@ use Rattle.std.proofs.Math.Seq.{map-set_same}
 use Rattle.member_queues.specs.declared.Node.{Node}
 use Rattle.member_queues.specs.declared.Side.{Side}
 use Rattle.member_queues.specs.declared.Side.TheVariants.{Next, Beside}
-use Rattle.member_queues.specs.Heap.{nil, blank, node_at, root_at, member_in, key_on, with_side, IsBelow, IsTree, IsSinking}
+use Rattle.member_queues.specs.Heap.{nil, blank, node_at, root_at, member_in, key_on, with_side, HasBelow, IsHeapTree, IsSinking}
 use Rattle.member_queues.proofs.Trees.{within, node_is, side_after, AreRanked-kept}
 
 -- the side that is not this one
@@ -109,13 +109,13 @@ module _ (rs : List ℕ) (ns ns' : List Node) (s : Side) (at held : ℕ) (w : Is
   on_other = ap (key_on (other s)) t.here ∙ other-with s held (node_at ns at)
 
   -- who is below a key now: the held one, or one that was
-  back : (j k : ℕ) → IsBelow ns' j k → ((j ≡ at) × (k ≡ held)) ⊎ (IsBelow ns j k × (j ≡ at → key_on (other s) (node_at ns at) ≡ k))
+  back : (j k : ℕ) → HasBelow ns' j k → ((j ≡ at) × (k ≡ held)) ⊎ (HasBelow ns j k × (j ≡ at → key_on (other s) (node_at ns at) ≡ k))
   back j k b = elim (cases_eq j at) [
     | inl same ↦ grind (arith, split, on_here, on_other, whole)
     | inr differs ↦ let d = sides j differs in inr (rw (d.0, d.1) at b, λ z. absurd (differs z))
   ]
 
-  into : (j k : ℕ) → IsBelow ns j k → k ≢ r → IsBelow ns' j k
+  into : (j k : ℕ) → HasBelow ns j k → k ≢ r → HasBelow ns' j k
   into j k b away = grind (arith, cases_eq, whole, split, on_other, sides)
 
   r_down : r ≢ nil → ((node_at ns r).owner ≡ (node_at ns at).owner) × ((node_at ns r).above ≡ at) × (r ≢ held) × (root_at rs (node_at ns r).owner ≢ r)
@@ -124,7 +124,7 @@ module _ (rs : List ℕ) (ns ns' : List Node) (s : Side) (at held : ℕ) (w : Is
   held_away : root_at rs (node_at ns held).owner ≢ held
   held_away z = (w.heap.tree.tops (node_at ns held).owner (λ y. some (sym z ∙ y))).1 z
 
-  hung_tree : IsTree rs ns' r
+  hung_tree : IsHeapTree rs ns' r
   hung_tree = record {
     above = grind (arith, cases_eq, own, ranks, whole, on_here, was, up, into);
     tops = grind (arith, own, r_down);

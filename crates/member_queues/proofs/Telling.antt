@@ -8,18 +8,18 @@ use Rattle.member_lists.proofs.Owners.{handed-from, handed-other, times-cons, ti
 use Rattle.member_lists.specs.Owners.{times, handed}
 use Rattle.member_queues.specs.declared.Node.{Node}
 use Rattle.member_queues.specs.Ranks.{ranked, holder, AreRankedMembers}
-use Rattle.member_queues.specs.Heap.{nil, blank, node_at, root_at, member_in, told, IsBelow, IsHeap}
+use Rattle.member_queues.specs.Heap.{nil, blank, node_at, root_at, member_in, retold, HasBelow, IsHeap}
 use Rattle.member_queues.proofs.Trees.{within, is_some, ranked-nodes, member_some, some_member, none_member}
 
 -- a key with its owner told
 abbrev with_owner : ℕ → Node → Node
 with_owner to node = record node { owner = to }
 
-told-len : (to : ℕ) (ns : List Node) (keys : List ℕ) → length (told to ns keys) ≡ length ns
+told-len : (to : ℕ) (ns : List Node) (keys : List ℕ) → length (retold to ns keys) ≡ length ns
 told-len to ns [] = refl
 told-len to ns (k ∷ keys) = told-len to (set ns k (with_owner to (node_at ns k))) keys ∙ length-set ns k (with_owner to (node_at ns k))
 
-told-other : (to : ℕ) (ns : List Node) (keys : List ℕ) (j : ℕ) → times j keys ≡ 0 → node_at (told to ns keys) j ≡ node_at ns j
+told-other : (to : ℕ) (ns : List Node) (keys : List ℕ) (j : ℕ) → times j keys ≡ 0 → node_at (retold to ns keys) j ≡ node_at ns j
 told-other to ns [] j none = refl
 told-other to ns (k ∷ keys) j none = elim (cases_eq k j) [
   | inl same ↦
@@ -35,7 +35,7 @@ all_below : (m n : ℕ) (keys : List ℕ) → n ≡ m → AllByRecursion (λ k. 
 all_below m n keys e all = grind arith
 
 told-here : (to : ℕ) (ns : List Node) (keys : List ℕ) (j : ℕ) → AllByRecursion (λ k. k < length ns) keys → times j keys ≡ 1
-    → node_at (told to ns keys) j ≡ with_owner to (node_at ns j)
+    → node_at (retold to ns keys) j ≡ with_owner to (node_at ns j)
 told-here to ns [] j all once = cc
 told-here to ns (k ∷ keys) j all once =
     let ns' : List Node = set ns k (with_owner to (node_at ns k)) in
@@ -78,7 +78,7 @@ pub record Told (ns ns' : List Node) (from to : ℕ) : Type 0 where
   pub others : (k : ℕ) → (node_at ns k).owner ≢ from → node_at ns' k ≡ node_at ns k
   pub len : length ns' ≡ length ns
 
-pub Told-all : (ns : List Node) (from to : ℕ) (keys : List ℕ) → from ≢ nil → AreRankedMembers (map member_in ns) from keys → Told ns (told to ns keys) from to
+pub Told-all : (ns : List Node) (from to : ℕ) (keys : List ℕ) → from ≢ nil → AreRankedMembers (map member_in ns) from keys → Told ns (retold to ns keys) from to
 Told-all ns from to keys some all = record {
   here = λ k mine. told-here to ns keys k (all_within ns from keys all.owned) (all.once k (owner_member ns k from mine some));
   others = λ k other. told-other to ns keys k (none_of ns from keys k other all.owned);
@@ -117,10 +117,10 @@ module _ (rs : List ℕ) (ns ns' : List Node) (from to : ℕ) (w : IsHeap rs ns 
   was : (k : ℕ) → (node_at ns' k).owner ≢ nil → (node_at ns k).owner ≢ nil
   was k owned z = owned (own k ∙ ap (handed from to) z ∙ handed-other from to nil (λ e. from_some (sym e)))
 
-  into : (j k : ℕ) → IsBelow ns j k → IsBelow ns' j k
+  into : (j k : ℕ) → HasBelow ns j k → HasBelow ns' j k
   into j k given = grind (arith, nexts, besides)
 
-  back : (j k : ℕ) → IsBelow ns' j k → IsBelow ns j k
+  back : (j k : ℕ) → HasBelow ns' j k → HasBelow ns j k
   back j k given = grind (arith, nexts, besides)
 
   same_owner : (j k : ℕ) → (node_at ns j).owner ≡ (node_at ns k).owner → (node_at ns' j).owner ≡ (node_at ns' k).owner
@@ -160,7 +160,7 @@ module _ (rs : List ℕ) (ns ns' : List Node) (from to : ℕ) (w : IsHeap rs ns 
   tops_told : (p : ℕ) → root_at (set rs from nil) p ≢ nil → ((node_at ns' (root_at (set rs from nil) p)).owner ≡ p) × (root_at (set rs from nil) p ≢ root_at rs from)
   tops_told p some = grind (arith, cases_eq, gone, kept, own_other, first)
 
-  down_told : (j k : ℕ) → (node_at ns' j).owner ≢ nil → k ≢ nil → IsBelow ns' j k
+  down_told : (j k : ℕ) → (node_at ns' j).owner ≢ nil → k ≢ nil → HasBelow ns' j k
       → ((node_at ns' k).owner ≡ (node_at ns' j).owner) × ((node_at ns' k).above ≡ j) × (k ≢ root_at rs from) × (root_at (set rs from nil) (node_at ns' k).owner ≢ k)
   down_told j k owned some b =
       let o = w.tree.down j k (was j owned) some (back j k b) in (
@@ -172,7 +172,7 @@ module _ (rs : List ℕ) (ns ns' : List Node) (from to : ℕ) (w : IsHeap rs ns 
 
   above_told : (k : ℕ) → (node_at ns' k).owner ≢ nil → root_at rs (node_at ns k).owner ≢ k
       → ((node_at ns' (node_at ns' k).above).owner ≡ (node_at ns' k).owner)
-      × ((node_at ns' (node_at ns' k).above).rank < (node_at ns' k).rank) × IsBelow ns' (node_at ns' k).above k
+      × ((node_at ns' (node_at ns' k).above).rank < (node_at ns' k).rank) × HasBelow ns' (node_at ns' k).above k
   above_told k owned away = grind (arith, was, is_some, up, same_owner, ranks, into)
 
   apart_told : (j : ℕ) → (node_at ns' j).owner ≢ nil → (node_at ns' j).next ≢ nil → (node_at ns' j).next ≢ (node_at ns' j).beside

@@ -5,7 +5,7 @@ use Rattle.std.proofs.lemmas.List.{get_or_past, get_or_default}
 use Rattle.std.proofs.Math.ListN.{get_or-map}
 use Rattle.member_queues.specs.declared.Node.{Node}
 use Rattle.member_queues.specs.Ranks.{ranked, IsLeast}
-use Rattle.member_queues.specs.Heap.{nil, blank, node_at, root_at, member_in, IsBelow, AreRanked, IsHeap}
+use Rattle.member_queues.specs.Heap.{nil, blank, node_at, root_at, member_in, HasBelow, AreRanked, IsHeap}
 
 -- a key with an owner has a node
 pub within : (ns : List Node) (k : ℕ) → (node_at ns k).owner ≢ nil → k < length ns
@@ -81,7 +81,7 @@ IsHeap-marked rs ns ns' w t = record {
     was j owned z = owned (t.own j ∙ z)
 
 -- a key's side has its owner and ranks higher
-pub side_after : (rs : List ℕ) (ns : List Node) (held j k : ℕ) → IsHeap rs ns held → (node_at ns j).owner ≢ nil → k ≢ nil → IsBelow ns j k
+pub side_after : (rs : List ℕ) (ns : List Node) (held j k : ℕ) → IsHeap rs ns held → (node_at ns j).owner ≢ nil → k ≢ nil → HasBelow ns j k
     → ((node_at ns k).owner ≡ (node_at ns j).owner) × ((node_at ns j).rank < (node_at ns k).rank)
 side_after rs ns held j k w owned some b = grind arith
 

@@ -1,13 +1,10 @@
 -- For each owner a tree of its members, in which each key's rank is above that of the key over it.
 use Rattle.std.specs.Prelude.{◌≡◌, ◌≢◌, ◌⊎◌, ℕ, ◌<◌, ◌≤◌, ◌==◌, List, [], ◌∷◌, length, map, Option, Some, None, if◌then◌else◌, slice_index_or, slice_set}
+pub use Rattle.member_lists.specs.Links.{nil}
 use Rattle.member_queues.specs.declared.Forest.{Forest}
 use Rattle.member_queues.specs.declared.Node.{Node}
 use Rattle.member_queues.specs.declared.Side.{Side}
 use Rattle.member_queues.specs.declared.Side.TheVariants.{Next, Beside}
-
--- no key and no owner
-abbrev pub nil : ℕ
-nil = 4294967295
 
 -- a key that has no owner
 abbrev pub blank : Node
@@ -36,13 +33,13 @@ with_side Next k node = record node { next = k }
 with_side Beside k node = record node { beside = k }
 
 -- the nodes after keys were told another owner, one after the other
-abbrev pub told : ℕ → List Node → List ℕ → List Node
-told to nodes [] = nodes
-told to nodes (k ∷ keys) = told to (slice_set nodes k (record (node_at nodes k) { owner = to })) keys
+abbrev pub retold : ℕ → List Node → List ℕ → List Node
+retold to nodes [] = nodes
+retold to nodes (k ∷ keys) = retold to (slice_set nodes k (record (node_at nodes k) { owner = to })) keys
 
 -- one key is on a side of another
-abbrev pub IsBelow : List Node → ℕ → ℕ → Type 0
-IsBelow nodes j k = ((node_at nodes j).next ≡ k) ⊎ ((node_at nodes j).beside ≡ k)
+abbrev pub HasBelow : List Node → ℕ → ℕ → Type 0
+HasBelow nodes j k = ((node_at nodes j).next ≡ k) ⊎ ((node_at nodes j).beside ≡ k)
 
 -- the two sides of a key, in one order or the other
 abbrev pub AreSides : Node → ℕ → ℕ → Type 0
@@ -58,19 +55,23 @@ pub record AreRanked (roots : List ℕ) (nodes : List Node) : Type 0 where
       → (node_at nodes j).rank ≡ (node_at nodes k).rank → j ≡ k
 
 -- each key but the held one is its owner's root or below a key of the same owner and a lesser rank
-pub record IsTree (roots : List ℕ) (nodes : List Node) (held : ℕ) : Type 0 where
+pub record IsHeapTree (roots : List ℕ) (nodes : List Node) (held : ℕ) : Type 0 where
   pub above : (k : ℕ) → (node_at nodes k).owner ≢ nil → k ≢ held → root_at roots (node_at nodes k).owner ≢ k
       → ((node_at nodes (node_at nodes k).above).owner ≡ (node_at nodes k).owner)
-      × ((node_at nodes (node_at nodes k).above).rank < (node_at nodes k).rank) × IsBelow nodes (node_at nodes k).above k
+      × ((node_at nodes (node_at nodes k).above).rank < (node_at nodes k).rank) × HasBelow nodes (node_at nodes k).above k
   pub tops : (p : ℕ) → root_at roots p ≢ nil → ((node_at nodes (root_at roots p)).owner ≡ p) × (root_at roots p ≢ held)
-  pub down : (j k : ℕ) → (node_at nodes j).owner ≢ nil → k ≢ nil → IsBelow nodes j k
+  pub down : (j k : ℕ) → (node_at nodes j).owner ≢ nil → k ≢ nil → HasBelow nodes j k
       → ((node_at nodes k).owner ≡ (node_at nodes j).owner) × ((node_at nodes k).above ≡ j) × (k ≢ held)
       × (root_at roots (node_at nodes k).owner ≢ k)
   pub apart : (j : ℕ) → (node_at nodes j).owner ≢ nil → (node_at nodes j).next ≢ nil → (node_at nodes j).next ≢ (node_at nodes j).beside
 
 pub record IsHeap (roots : List ℕ) (nodes : List Node) (held : ℕ) : Type 0 where
   pub ranked : AreRanked roots nodes
-  pub tree : IsTree roots nodes held
+  pub tree : IsHeapTree roots nodes held
+
+-- no key is held, and all is as it should be
+abbrev pub IsWholeForest : Forest → Type 0
+IsWholeForest forest = IsHeap forest.roots.items forest.nodes.items nil
 
 -- the runs after a call: a heap again, of the same members, and of as many keys and owners
 pub record Keeps (old new : Forest) (held : ℕ) : Type 0 where

@@ -10,10 +10,11 @@
 ghost use Rattle.std.specs.Prelude.{◌≡◌, ◌≢◌, ◌⊎◌, ℕ, ◌+◌, ◌<◌, ◌≤◌, ◌^◌, length, map, Some, None, MatchOption, OnOk};
 ghost use Rattle.std.specs.Prelude.{OnErr, [], ◌++◌, replicate, IsSome, IsTrue, ◌↔◌, slice_set, option_map};
 ghost use Rattle.std.specs.List.{AllByRecursion};
-ghost use Rattle.member_lists.specs.Owners.{handed};
-ghost use Rattle.member_queues.specs.Ranks.{ranked, IsLeast, AreRankedMembers};
-ghost use Rattle.member_queues.specs.Heap.{nil, node_at, root_at, member_in, told, key_on, with_side, AreSides, IsHeap};
-ghost use Rattle.member_queues.specs.Heap.{IsSinking, Keeps};
+ghost use Rattle.{
+  member_lists.specs.Owners.{handed},
+  member_queues.specs.{Ranks.{ranked, IsLeast, AreRankedMembers}, Heap.{nil, node_at, root_at, member_in, retold}},
+  member_queues.specs.Heap.{key_on, with_side, AreSides, IsHeap, IsSinking, Keeps, IsWholeForest},
+};
 
 use member_lists::Members;
 use std::alloc::{AllocError, Global};
@@ -77,11 +78,11 @@ impl Model for MemberQueues {
 
     ghost Value = { List (Option (ℕ × ℕ)) };
 
-    ghost use Rattle.member_queues.specs.Heap.{nil, member_in, IsHeap};
+    ghost use Rattle.member_queues.specs.Heap.{member_in, IsWholeForest};
 
     ghost view = { λ a. map member_in a.forest.nodes.items };
 
-    ghost invariant = { λ a. IsHeap a.forest.roots.items a.forest.nodes.items nil };
+    ghost invariant = { λ a. IsWholeForest a.forest };
 }
 
 /// The key on one side of another.
@@ -218,7 +219,7 @@ fn set_above(nodes: &mut Vec<Node>, at: u32, above: u32)
 
 /// Tells a key, where there is one, its run's level.
 fn set_level(forest: &mut Forest, at: u32, level: u32)
-    requires heap { IsHeap forest.old.roots.items forest.old.nodes.items nil }
+    requires heap { IsWholeForest forest.old }
     requires at { at ≢ nil → at < length forest.old.nodes.items }
     ensures { Keeps forest.old forest.new nil }
 {
@@ -229,7 +230,7 @@ fn set_level(forest: &mut Forest, at: u32, level: u32)
 
 /// Tells the root of an owner which member came last.
 fn set_latest(forest: &mut Forest, owner: u32, key: u32)
-    requires heap { IsHeap forest.old.roots.items forest.old.nodes.items nil }
+    requires heap { IsWholeForest forest.old }
     requires owner { owner < length forest.old.roots.items }
     ensures { Keeps forest.old forest.new nil }
 {
@@ -239,12 +240,12 @@ fn set_latest(forest: &mut Forest, owner: u32, key: u32)
 
 /// Takes a key out of its tree: one of those below it comes into its place, and the other one below that.
 fn fill(forest: &mut Forest, key: u32, by: u32, other: u32)
-    requires heap { IsHeap forest.old.roots.items forest.old.nodes.items nil }
+    requires heap { IsWholeForest forest.old }
     requires owned { (node_at forest.old.nodes.items key).owner ≢ nil }
     requires sides { AreSides (node_at forest.old.nodes.items key) by other }
     requires order { other ≢ nil → (by ≢ nil) × ((node_at forest.old.nodes.items by).rank <
         (node_at forest.old.nodes.items other).rank) }
-    ensures heap { IsHeap forest.new.roots.items forest.new.nodes.items nil }
+    ensures heap { IsWholeForest forest.new }
     ensures members { map member_in forest.new.nodes.items ≡ slice_set (map member_in forest.old.nodes.items) key None }
     ensures len { length forest.new.nodes.items ≡ length forest.old.nodes.items }
 {
@@ -257,7 +258,7 @@ fn fill(forest: &mut Forest, key: u32, by: u32, other: u32)
 
 /// Takes a run out of those of its owner, and holds it. The run beside comes into its place.
 fn cut(forest: &mut Forest, key: u32)
-    requires heap { IsHeap forest.old.roots.items forest.old.nodes.items nil }
+    requires heap { IsWholeForest forest.old }
     requires owned { (node_at forest.old.nodes.items key).owner ≢ nil }
     ensures { Keeps forest.old forest.new key }
 {
@@ -274,7 +275,7 @@ fn cut(forest: &mut Forest, key: u32)
 
 /// Makes one run of two, the second of which begins with a higher rank, and tells it its level.
 fn join(forest: &mut Forest, run: u32, other: u32, level: u32)
-    requires heap { IsHeap forest.old.roots.items forest.old.nodes.items nil }
+    requires heap { IsWholeForest forest.old }
     requires owned { (node_at forest.old.nodes.items run).owner ≢ nil }
     requires same { (node_at forest.old.nodes.items other).owner ≡ (node_at forest.old.nodes.items run).owner }
     requires lower { (node_at forest.old.nodes.items run).rank < (node_at forest.old.nodes.items other).rank }
@@ -287,7 +288,7 @@ fn join(forest: &mut Forest, run: u32, other: u32, level: u32)
 
 /// The first run of a level from one on, if there is one.
 fn run_of(forest: &Forest, first: u32, level: u32) -> u32
-    requires heap { IsHeap forest.now.roots.items forest.now.nodes.items nil }
+    requires heap { IsWholeForest forest.now }
     requires owned { first ≢ nil → (node_at forest.now.nodes.items first).owner ≢ nil }
     ensures first { result ≢ nil → first ≢ nil }
     ensures same { result ≢ nil → (node_at forest.now.nodes.items result).owner
@@ -304,7 +305,7 @@ fn run_of(forest: &Forest, first: u32, level: u32) -> u32
 
 /// Whether an owner has more than `LEVELS` runs.
 fn is_long(forest: &Forest, owner: u32) -> bool
-    requires heap { IsHeap forest.now.roots.items forest.now.nodes.items nil }
+    requires heap { IsWholeForest forest.now }
     requires owner { owner < length forest.now.roots.items }
 {
     let mut at = forest.roots[owner as usize];
@@ -319,7 +320,7 @@ fn is_long(forest: &Forest, owner: u32) -> bool
 
 /// Makes one run of two of a level. It answers whether there are two.
 fn join_two(forest: &mut Forest, owner: u32, level: u32) -> bool
-    requires heap { IsHeap forest.old.roots.items forest.old.nodes.items nil }
+    requires heap { IsWholeForest forest.old }
     requires owner { owner < length forest.old.roots.items }
     requires level { level < 32 }
     ensures { Keeps forest.old forest.new nil }
@@ -338,7 +339,7 @@ fn join_two(forest: &mut Forest, owner: u32, level: u32) -> bool
 
 /// Makes one run of two of the lowest level, and of each level above it that then has two.
 fn settle(forest: &mut Forest, owner: u32)
-    requires heap { IsHeap forest.old.roots.items forest.old.nodes.items nil }
+    requires heap { IsWholeForest forest.old }
     requires owner { owner < length forest.old.roots.items }
     ensures { Keeps forest.old forest.new nil }
 {
@@ -351,7 +352,7 @@ fn settle(forest: &mut Forest, owner: u32)
 
 /// Makes one run of two of a level, as long as it has two.
 fn settle_level(forest: &mut Forest, owner: u32, level: u32)
-    requires heap { IsHeap forest.old.roots.items forest.old.nodes.items nil }
+    requires heap { IsWholeForest forest.old }
     requires owner { owner < length forest.old.roots.items }
     requires level { level < 32 }
     ensures { Keeps forest.old forest.new nil }
@@ -365,7 +366,7 @@ fn settle_level(forest: &mut Forest, owner: u32, level: u32)
 
 /// Makes one run of two on each level, as long as it has two.
 fn settle_all(forest: &mut Forest, owner: u32)
-    requires heap { IsHeap forest.old.roots.items forest.old.nodes.items nil }
+    requires heap { IsWholeForest forest.old }
     requires owner { owner < length forest.old.roots.items }
     ensures { Keeps forest.old forest.new nil }
 {
@@ -392,7 +393,7 @@ fn meld(forest: &mut Forest, owner: u32, held: u32)
 
 /// Puts a key that is among its owner's runs before the run that begins above it. Where there is none it is a run.
 fn place(forest: &mut Forest, owner: u32, key: u32)
-    requires heap { IsHeap forest.old.roots.items forest.old.nodes.items nil }
+    requires heap { IsWholeForest forest.old }
     requires owner { owner < length forest.old.roots.items }
     requires mine { (node_at forest.old.nodes.items key).owner ≡ owner }
     ensures { Keeps forest.old forest.new nil }
@@ -429,12 +430,12 @@ fn add(forest: &mut Forest, owner: u32, key: u32)
 /// Makes a key one's member: the first of all, or one more.
 #[inline(always)]
 fn enter(forest: &mut Forest, key: u32, owner: u32, rank: u32)
-    requires heap { IsHeap forest.old.roots.items forest.old.nodes.items nil }
+    requires heap { IsWholeForest forest.old }
     requires key { key < length forest.old.nodes.items }
     requires owner { owner < length forest.old.roots.items }
     requires free { ranked (map member_in forest.old.nodes.items) key ≡ None }
     requires distinct { (k : ℕ) → ranked (map member_in forest.old.nodes.items) k ≢ Some (owner, rank) }
-    ensures heap { IsHeap forest.new.roots.items forest.new.nodes.items nil }
+    ensures heap { IsWholeForest forest.new }
     ensures members { map member_in forest.new.nodes.items
         ≡ slice_set (map member_in forest.old.nodes.items) key (Some (owner, rank)) }
 {
@@ -456,7 +457,7 @@ fn enter(forest: &mut Forest, key: u32, owner: u32, rank: u32)
 /// Tells keys another owner, one after the other.
 fn tell_owner(nodes: &mut Vec<Node>, keys: Members<'_>, owner: u32)
     requires { AllByRecursion (λ k. k < length nodes.old.items) keys }
-    ensures { nodes.new.items ≡ told owner nodes.old.items keys.entry }
+    ensures { nodes.new.items ≡ retold owner nodes.old.items keys.entry }
 {
     for key in keys {
         nodes[key as usize].owner = owner;
@@ -466,7 +467,7 @@ fn tell_owner(nodes: &mut Vec<Node>, keys: Members<'_>, owner: u32)
 /// Takes the runs of one owner out, as runs of the other's that are to be joined with its own. It answers the first
 /// of them all, if there is one.
 fn detach(forest: &mut Forest, from: u32, to: u32, members: Members<'_>) -> u32
-    requires heap { IsHeap forest.old.roots.items forest.old.nodes.items nil }
+    requires heap { IsWholeForest forest.old }
     requires differ { from ≢ to }
     requires from { from < length forest.old.roots.items }
     requires to { to < length forest.old.roots.items }

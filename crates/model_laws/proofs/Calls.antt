@@ -1,5 +1,5 @@
 -- What a call comes to: an answer that changes nothing, or one of the changes that a call can make.
-use Rattle.model_laws.proofs.Words.{◌≡◌, ℕ, ℤ, Bool, true, false, not, ◌&&◌, ◌||◌, ◌==◌, Option, Some, None, ap, find, length, is_none, nat_lt, nat_le, option_map_or, greatest_limit, Call, Fork, Exec, Exit, Wait, SetPgid, SetSid, MakeControl, RemoveControl, SetLimit, Move, Join, SetSubreaper, Which, Name, Row, Control, Reply, Forked, Done, Number, Reaped, NoneYet, ControlMade, State, path_up, level, root_number, number_or_zero, same_name, is_parent, is_live, live_row, task_at, with_row, draw, control_at, control_path, passed_limit, Outcome, answered, changed, forked, with_space, is_gone, is_init, rows_after_exit, fall, least_row, end_of, without_row, ended_children, target_of, group_for, set_group, has_members, start_session, set_executed, with_control, is_busy, without_control, with_limit, set_home, set_children_space, set_mark}
+use Rattle.model_laws.proofs.Words.{◌≡◌, ℕ, ℤ, Bool, true, false, not, ◌&&◌, ◌||◌, ◌==◌, Option, Some, None, ap, find, length, is_none, nat_lt, nat_le, option_map_or, greatest_limit, Call, Fork, Exec, Exit, Wait, SetPgid, SetSid, MakeControl, RemoveControl, SetLimit, Move, Join, SetSubreaper, Which, Name, Row, Control, Reply, Forked, Done, Number, Reaped, NoneYet, ControlMade, State, path_up, level, root_number, number_or_zero, same_name, is_parent, is_live, live_row, task_numbered, with_row, draw, control_at, control_path, passed_limit, Outcome, answered, changed, forked, with_space, is_gone, is_init, rows_after_exit, fall, least_row, end_of, without_row, ended_children, target_of, group_for, set_group, has_members, start_session, set_executed, with_control, is_busy, without_control, with_limit, set_home, set_children_space, set_mark}
 
 -- each namespace from t to the root has a number to give, and no control group from the caller's home up is at its limit
 pub record MayFork (state : State) (caller : Row) (t : ℕ) : Type 0 where
@@ -58,7 +58,7 @@ pub data Comes (state : State) (stamp : ℕ) : Call → Outcome → Type 0 where
       → option_map_or (nat_lt greatest_limit) limit false ≡ false → Comes state stamp (SetLimit id limit) (changed (with_limit state id limit) Done)
   moved : (n id : ℕ) (task : Row) (c : Control) → live_row state.rows n ≡ Some task → control_at state.controls id ≡ Some c
       → Comes state stamp (Move n id) (changed (with_row state task.name (set_home id)) Done)
-  joined : (n target : ℕ) (caller row : Row) → live_row state.rows n ≡ Some caller → task_at state caller.name.space target ≡ Some row
+  joined : (n target : ℕ) (caller row : Row) → live_row state.rows n ≡ Some caller → task_numbered state caller.name.space target ≡ Some row
       → is_live row ≡ true
       → Comes state stamp (Join n target) (changed (with_row state caller.name (set_children_space row.name.space)) Done)
   marked : (n : ℕ) (on : Bool) (caller : Row) → live_row state.rows n ≡ Some caller

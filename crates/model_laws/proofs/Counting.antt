@@ -1,7 +1,7 @@
 -- What changes a control group's count.
 use Rattle.model_laws.proofs.Words.{◌≡◌, ℕ, ◌+◌, ◌<◌, Bool, true, false, not, ◌&&◌, ◌==◌, List, [], ◌∷◌, map, length, Some, refl, sym, ap, ◌∙◌, inl, inr, arith, filter, if◌then◌else◌, option_map_or, not-true, eqb-true, eqb-false, not_from_false, false_from_ne_true, cond_both, same_from_decides, Call, Fork, Exit, Wait, Move, Name, Row, Exited, Control, Forked, Done, Reaped, contains, State, root_number, same_name, is_live, live_row, number_or_zero, on_row, with_row, control_at, control_path, count, is_below, Outcome, sweep, with_space, is_init, goes_in_fall, row_after_exit, rows_after_exit, row_after_fall, rows_after_fall, new_parent, fall, without_row, set_group, start_session, set_executed, with_control, is_busy, rehome, without_control, limited, with_limit, set_home, set_children_space, set_mark, IsIn, IsRising, IsTreeOfControls, IsSound}
 use Rattle.model_laws.proofs.Ground.{IsIn-map, IsIn-from_filter, IsIn-from_contains, contains-from_IsIn, filter-same, filter-all, on_row-keeps, same_name-true, same_name-refl, control_to_root, control_at-Some, live_row-Some}
-use Rattle.model_laws.specs.CountLaws.{one_if, may_change_counts, ForkCountsOne, ReapingCountsOneLess, FallCountsTaken, MoveCountsBoth, NothingElseCounts}
+use Rattle.model_laws.specs.CountLaws.{one_where, may_change_counts, ForkCountsOne, ReapingCountsOneLess, FallCountsTaken, MoveCountsBoth, NothingElseCounts}
 use Rattle.model_laws.proofs.Refusals.{step_comes}
 use Rattle.model_laws.proofs.Calls.{Comes, still, born, born_first, fell, handed_on, waits, reaped, grouped, led, executed, control_made, control_removed, limit_set, moved, joined, marked, no_answer}
 use Rattle.model_laws.proofs.EndsKept.{reaped_row}
@@ -23,7 +23,7 @@ length-filter-split p t (r ∷ rows) = grind (arith, length-filter-split p t row
 
 -- of rising rows the one that has the name
 length-filter-without : (p : Row → Bool) (rows : List Row) → IsRising (map (λ r. root_number r.name) rows) → (x : Row) → IsIn x rows
-    → length (filter p rows) ≡ length (filter p (filter (λ r. not (same_name r.name x.name)) rows)) + one_if (p x)
+    → length (filter p rows) ≡ length (filter p (filter (λ r. not (same_name r.name x.name)) rows)) + one_where (p x)
 length-filter-without p [] rise x i = elim i [ ]
 length-filter-without p (r ∷ rows) rise x (inl same) =
     let others : filter (λ y. not (same_name y.name x.name)) rows ≡ rows = filter-all (λ y. not (same_name y.name x.name)) rows (λ y j.
@@ -52,12 +52,12 @@ pub fork_counts_one : ForkCountsOne
 unfolding count
 fork_counts_one state stamp n new_space caller child root found told c = go new_space _ (step_comes state stamp (Fork n new_space)) told
   where
-    born_of : (other : Row) → live_row state.rows n ≡ Some other → (k : ℕ) → k ≡ count state c + one_if (is_below state.controls other.home c)
-        → k ≡ count state c + one_if (is_below state.controls caller.home c)
+    born_of : (other : Row) → live_row state.rows n ≡ Some other → (k : ℕ) → k ≡ count state c + one_where (is_below state.controls other.home c)
+        → k ≡ count state c + one_where (is_below state.controls caller.home c)
     born_of other there k e = let same : other ≡ caller = cc in rw same at e
 
     go : (b : Bool) (o : Outcome) → Comes state stamp (Fork n b) o → o.reply ≡ Forked child root
-        → count o.state c ≡ count state c + one_if (is_below state.controls caller.home c)
+        → count o.state c ≡ count state c + one_where (is_below state.controls caller.home c)
     go b o (still _ reply answer) told = absurd (no_answer reply (Forked child root) answer refl told)
     go b o (born _ _ other plain there stands may) told = born_of other there _ (count-forked state other other.children_space c)
     go b o (born_first _ other there _ _ _ _) told = born_of other there _ (count-forked (with_space state other.children_space stamp) other stamp c)
@@ -71,7 +71,7 @@ reaping_counts_one_less state stamp n which caller child ended sound found told 
   where
     go : (o : Outcome) → Comes state stamp (Wait n which) o → o.reply ≡ Reaped child ended
         → (row : Row) × IsIn row state.rows × (is_live row ≡ false) × (number_or_zero state.spaces row.name caller.name.space ≡ child)
-        × ((c : ℕ) → count state c ≡ count o.state c + one_if (is_below state.controls row.home c))
+        × ((c : ℕ) → count state c ≡ count o.state c + one_where (is_below state.controls row.home c))
     go o (still _ reply answer) told = absurd (no_answer reply (Reaped child ended) answer refl told)
     go o (waits _ _ other there none) told = absurd (cc)
     go o (reaped _ _ other row there least) told =
@@ -102,21 +102,21 @@ fall_counts_taken state stamp n status init found first told c = go _ (step_come
 
 -- those who are not the task count as before
 count-moved : (state : State) → IsSound state → (task : Row) (id c : ℕ) → IsIn task state.rows
-    → count (with_row state task.name (set_home id)) c + one_if (is_below state.controls task.home c) ≡ count state c + one_if (is_below state.controls id c)
+    → count (with_row state task.name (set_home id)) c + one_where (is_below state.controls task.home c) ≡ count state c + one_where (is_below state.controls id c)
 unfolding count with_row
 count-moved state sound task id c i =
     let here : ℕ → Bool = λ home. is_below state.controls home c in
     let before : Row → Bool = λ r. here r.home in
     let after : Row → Bool = λ r. here (on_row task.name (set_home id) r).home in
     let others : List Row = filter (λ r. not (same_name r.name task.name)) state.rows in
-    let a : length (filter before state.rows) ≡ length (filter before others) + one_if (before task) = length-filter-without before state.rows sound.coherent.rows_rise task i in
-    let b : length (filter after state.rows) ≡ length (filter after others) + one_if (after task) = length-filter-without after state.rows sound.coherent.rows_rise task i in
+    let a : length (filter before state.rows) ≡ length (filter before others) + one_where (before task) = length-filter-without before state.rows sound.coherent.rows_rise task i in
+    let b : length (filter after state.rows) ≡ length (filter after others) + one_where (after task) = length-filter-without after state.rows sound.coherent.rows_rise task i in
     let m : length (filter before (map (on_row task.name (set_home id)) state.rows)) ≡ length (filter after state.rows) = length-filter-map before (on_row task.name (set_home id)) state.rows in
     let same : filter after others ≡ filter before others = filter-same after before others (λ r j.
     let f = IsIn-from_filter (λ r. not (same_name r.name task.name)) r state.rows j in
     ap (λ x. here (if x then set_home id r else r).home) (not-true (same_name r.name task.name) f.1)) in
     let l : length (filter after others) ≡ length (filter before others) = ap length same in
-    let new : one_if (after task) ≡ one_if (here id) = ap (λ x. one_if (here (if x then set_home id task else task).home)) (same_name-refl task.name task.name refl) in
+    let new : one_where (after task) ≡ one_where (here id) = ap (λ x. one_where (here (if x then set_home id task else task).home)) (same_name-refl task.name task.name refl) in
     omega arith
 
 -- so does every move that is answered
@@ -124,7 +124,7 @@ pub move_counts_both : MoveCountsBoth
 move_counts_both state stamp n id task sound found told c = go _ (step_comes state stamp (Move n id)) told
   where
     go : (o : Outcome) → Comes state stamp (Move n id) o → o.reply ≡ Done
-        → count o.state c + one_if (is_below state.controls task.home c) ≡ count state c + one_if (is_below state.controls id c)
+        → count o.state c + one_where (is_below state.controls task.home c) ≡ count state c + one_where (is_below state.controls id c)
     go o (still _ reply answer) told = absurd (no_answer reply Done answer refl told)
     go o (moved _ _ other g there at) told =
         let same : other ≡ task = cc in

@@ -1,5 +1,5 @@
 -- Queries are answered from what the caller's namespace sees.
-use Rattle.model_laws.proofs.Words.{◌≡◌, ℕ, zero, suc, Bool, true, false, ◌||◌, ◌&&◌, ◌==◌, ◌<◌, ◌≤◌, List, [], ◌∷◌, map, reverse, Option, Some, None, refl, sym, ap, ◌∙◌, subst, arith, inl, inr, nat_lt, nat_le, find, filter, filter_map, is_some, unwrap_or, option_map, slice_index, if◌then◌else◌, option_eq, option_map_or, fun_ext, false_from_ne_true, lt-ltb, ltb-true, eqb-true, ne_eqb, eqb-false, and_parts, nat_tests, Name, Row, Kind, Reply, Number, LevelList, End, least_of, State, number, number_or_zero, numbers_from, beside, beside_from, is_numbered, live_row, task_at, path_up, names_in_use, of_task, self_or_task, name_by, get_pid, get_ppid, get_pgid, get_sid, ns_pid, next, Glimpse, sight, seen, is_seen, glimpse_of, glimpse_at, self_or_glimpse, number_by, of_glimpse, step, IsIn, IsCoherent}
+use Rattle.model_laws.proofs.Words.{◌≡◌, ℕ, zero, suc, Bool, true, false, ◌||◌, ◌&&◌, ◌==◌, ◌<◌, ◌≤◌, List, [], ◌∷◌, map, reverse, Option, Some, None, refl, sym, ap, ◌∙◌, subst, arith, inl, inr, nat_lt, nat_le, find, filter, filter_map, is_some, unwrap_or, option_map, slice_index, if◌then◌else◌, option_eq, option_map_or, fun_ext, false_from_ne_true, lt-ltb, ltb-true, eqb-true, ne_eqb, eqb-false, and_parts, nat_tests, Name, Row, Kind, Reply, Number, LevelList, End, least_of, State, number, number_or_zero, numbers_from, beside, beside_from, is_numbered, live_row, task_numbered, path_up, names_in_use, of_task, self_or_task, name_by, get_pid, get_ppid, get_pgid, get_sid, ns_pid, next, Glimpse, sight, seen, is_seen, glimpse_of, glimpse_at, self_or_glimpse, number_by, of_glimpse, step, IsIn, IsCoherent}
 use Rattle.model_laws.proofs.Ground.{IsIn-map, IsIn-from_map, IsIn-filter, IsIn-from_filter, find-Some, find-None, find-none, find-only, number-within, is_numbered-true, own_name_in_use, group_in_use, session_in_use, same_row, live_row-Some, task_at-own}
 use Rattle.pid_types.specs.declared.call.Kind.TheVariants.{Task, Group, Session}
 use Rattle.model_laws.specs.SightLaws.{Query, IsQuery, own_number, parent_number, group_of, session_of, numbers_of, next_from, SeesSame, QueriesAnswerSeen, SameSightSameAnswers}
@@ -34,8 +34,8 @@ one_test a b None n h = rw (ne_eqb 0 n (λ e. omega arith)) (rw (and-false (nat_
 one_test a b (Some m) n h = rw (lt-ltb 0 n h) refl
 
 -- what is seen under a number is what is seen of the task with the number
-pub glimpse_at-sight : (state : State) (s n : ℕ) → 0 < n → glimpse_at (sight state s) n ≡ option_map (glimpse_of state s) (task_at state s n)
-unfolding sight task_at
+pub glimpse_at-sight : (state : State) (s n : ℕ) → 0 < n → glimpse_at (sight state s) n ≡ option_map (glimpse_of state s) (task_numbered state s n)
+unfolding sight task_numbered
 glimpse_at-sight state s n h =
     find-map-filter (λ g. nat_lt 0 n && (slice_index g.numbers 0 == n)) (glimpse_of state s) (is_seen state s) state.rows
     ∙ ap (λ p. option_map (glimpse_of state s) (find p state.rows)) (fun_ext (λ row.
@@ -61,12 +61,12 @@ module _ (state : State) (sound : IsCoherent state) (root : ℕ) (caller : Row) 
   own_above_zero = above_zero caller.name (own_name_in_use state.rows caller there) caller.name.space n own
 
   -- the caller's own number names the caller
-  pub own_task : task_at state caller.name.space n ≡ Some caller
+  pub own_task : task_numbered state caller.name.space n ≡ Some caller
   own_task = task_at-own state sound caller there caller.name.space n own
 
   -- no task has number 0
-  no_task : task_at state caller.name.space 0 ≡ None
-  unfolding task_at
+  no_task : task_numbered state caller.name.space 0 ≡ None
+  unfolding task_numbered
   no_task = find-none (λ row. is_numbered state.spaces row.name caller.name.space 0) state.rows (λ row i. false_from_ne_true _ (λ e.
       let l : 0 < 0 = above_zero row.name (own_name_in_use state.rows row i) caller.name.space 0
       (is_numbered-true state.spaces row.name caller.name.space 0 e) in omega arith))
@@ -77,13 +77,13 @@ module _ (state : State) (sound : IsCoherent state) (root : ℕ) (caller : Row) 
   self_seen pid = go (pid == 0) refl
     where
       go : (b : Bool) → (pid == 0) ≡ b
-          → glimpse_at (sight state caller.name.space) (if b then n else pid) ≡ option_map (glimpse_of state caller.name.space) (if b then Some caller else task_at state caller.name.space pid)
+          → glimpse_at (sight state caller.name.space) (if b then n else pid) ≡ option_map (glimpse_of state caller.name.space) (if b then Some caller else task_numbered state caller.name.space pid)
       go true e = glimpse_at-sight state caller.name.space n own_above_zero ∙ ap (option_map (glimpse_of state caller.name.space)) own_task
       go false e = let differs : pid ≡ 0 → ⊥ = eqb-false pid 0 e in glimpse_at-sight state caller.name.space pid (omega arith)
 
   -- whom a number names is seen so
   target_seen : (target : ℕ)
-      → glimpse_at (sight state caller.name.space) target ≡ option_map (glimpse_of state caller.name.space) (task_at state caller.name.space target)
+      → glimpse_at (sight state caller.name.space) target ≡ option_map (glimpse_of state caller.name.space) (task_numbered state caller.name.space target)
   target_seen zero = glimpse_at-zero (sight state caller.name.space) ∙ ap (option_map (glimpse_of state caller.name.space)) (sym no_task)
   target_seen (suc target) = glimpse_at-sight state caller.name.space (suc target) (omega arith)
 
@@ -137,7 +137,7 @@ module _ (state : State) (sound : IsCoherent state) (root : ℕ) (caller : Row) 
   query_seen stamp query (group_of pid) = rw live (about (λ g. Number g.group) (self_or_task state caller pid) _ (self_seen pid))
   query_seen stamp query (session_of pid) = rw live (about (λ g. Number g.session) (self_or_task state caller pid) _ (self_seen pid))
   query_seen stamp query (numbers_of target) =
-      rw live (about (λ g. LevelList (record { items = g.numbers })) (task_at state caller.name.space target) _ (target_seen target))
+      rw live (about (λ g. LevelList (record { items = g.numbers })) (task_numbered state caller.name.space target) _ (target_seen target))
   query_seen stamp query (next_from kind from) = rw live (ap (λ ns. option_map_or Number (least_of ns) End) (next_seen kind from state.rows (λ row i. i)))
 
   -- of whom a number above 0 is seen

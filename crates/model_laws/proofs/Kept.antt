@@ -1,5 +1,5 @@
 -- Calls that change fields of rows leave a sound state.
-use Rattle.model_laws.proofs.Words.{◌≡◌, ℕ, ℤ, pos, negsuc, ◌+◌, ◌<◌, true, false, ◌&&◌, ◌||◌, not, Some, refl, sym, ap, ◌∙◌, subst, ◌⊎◌, inl, inr, arith, if◌then◌else◌, cases_Bool, Name, Row, State, is_live, path_up, same_name, is_parent, task_at, names_in_use, on_row, with_row, sweep, target_of, set_group, group_for, has_members, set_children_space, IsIn, IsCoherent, IsSound, IsBelow, not_from_Decides}
+use Rattle.model_laws.proofs.Words.{◌≡◌, ℕ, ℤ, pos, negsuc, ◌+◌, ◌<◌, true, false, ◌&&◌, ◌||◌, not, Some, refl, sym, ap, ◌∙◌, subst, ◌⊎◌, inl, inr, arith, if◌then◌else◌, cases_Bool, Name, Row, State, is_live, path_up, same_name, is_parent, task_numbered, names_in_use, on_row, with_row, sweep, target_of, set_group, group_for, has_members, set_children_space, IsIn, IsCoherent, IsSound, IsBelow, not_from_Decides}
 use Rattle.model_laws.proofs.Ground.{on_row-keeps, on_row-both, same_name-true, same_name-refl, own_name_in_use, group_in_use, session_in_use, number-within, space_at-Some, same_row, path_first}
 use Rattle.model_laws.specs.Refusals.{IsGroupFor}
 use Rattle.model_laws.specs.StepLaws.{StaysSound}
@@ -37,7 +37,7 @@ row_leaves state name change sound own rows = own_leaves state (on_row name chan
 -- ---- join
 
 -- a join leaves a coherent state
-pub join_leaves : (state : State) (target : ℕ) (caller row : Row) → IsCoherent state → task_at state caller.name.space target ≡ Some row
+pub join_leaves : (state : State) (target : ℕ) (caller row : Row) → IsCoherent state → task_numbered state caller.name.space target ≡ Some row
     → Leaves state (with_row state caller.name (set_children_space row.name.space))
 join_leaves state target caller row sound there =
     let seen = (task_found state caller target).some row there in

@@ -4,26 +4,26 @@ use Rattle.model_laws.proofs.Ground.{find-None, find-key, row_at-listed}
 use Rattle.model_laws.proofs.Inserts.{IsIn-insert_new}
 use Rattle.model_laws.proofs.Calls.{MayFork, Comes, still, born, born_first, no_answer}
 use Rattle.model_laws.proofs.Refusals.{step_comes}
-use Rattle.model_laws.specs.CountLaws.{one_if}
+use Rattle.model_laws.specs.CountLaws.{one_where}
 use Rattle.model_laws.specs.LimitLaws.{ForkKeepsLimits}
 use Rattle.model_laws.proofs.StepKept.{step_keeps}
 
 -- ---- counts after a fork
 
 -- one more passes a test after the insertion, if the new row does
-length-filter-insert : (p : Row → Bool) (new : Row) (rows : List Row) → length (filter p (insert_row new rows)) ≡ length (filter p rows) + one_if (p new)
+length-filter-insert : (p : Row → Bool) (new : Row) (rows : List Row) → length (filter p (insert_row new rows)) ≡ length (filter p rows) + one_where (p new)
 length-filter-insert p new [] = grind arith
 length-filter-insert p new (row ∷ rows) = grind (arith, length-filter-insert p new rows)
 
 -- a fork that is made counts one more up from the caller's home
 pub count-forked : (state : State) (caller : Row) (t c : ℕ)
-    → count (forked state caller t).state c ≡ count state c + one_if (is_below state.controls caller.home c)
+    → count (forked state caller t).state c ≡ count state c + one_where (is_below state.controls caller.home c)
 unfolding count sweep
 count-forked state caller t c =
     length-filter-insert (λ row. is_below state.controls row.home c) (child_of state caller t) state.rows
 
 -- which is no more than one
-one_at_most : (b : Bool) → one_if b ≤ 1
+one_at_most : (b : Bool) → one_where b ≤ 1
 one_at_most b = grind arith
 
 -- a limit that is not below the greater number is not below the smaller one

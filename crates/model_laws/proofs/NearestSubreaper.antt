@@ -1,5 +1,5 @@
 -- Who takes the children of a task that ends: the nearest subreaper, or else the init.
-use Rattle.model_laws.proofs.Words.{◌≡◌, ℕ, zero, suc, ◌+◌, ◌<◌, Bool, true, false, ◌&&◌, ◌==◌, [], length, Option, Some, None, refl, sym, ap, ◌∙◌, subst, inl, inr, arith, find, option_map, drop, option_map_or, cases_Bool, false_from_ne_true, Row, IsIn, climb, State, root_number, is_live, row_at, task_at, parent_number, ancestors, is_subreaper_in, nearest_subreaper, new_parent, IsCoherent, number, path_up, Decides, Decides-at, Decides-and, Decides-eqb}
+use Rattle.model_laws.proofs.Words.{◌≡◌, ℕ, zero, suc, ◌+◌, ◌<◌, Bool, true, false, ◌&&◌, ◌==◌, [], length, Option, Some, None, refl, sym, ap, ◌∙◌, subst, inl, inr, arith, find, option_map, drop, option_map_or, cases_Bool, false_from_ne_true, Row, IsIn, climb, State, root_number, is_live, row_at, task_numbered, parent_number, ancestors, is_subreaper_in, nearest_subreaper, new_parent, IsCoherent, number, path_up, Decides, Decides-at, Decides-and, Decides-eqb}
 use Rattle.model_laws.proofs.Ground.{Climbs, in_climb, climb_in, find-None, own_name_in_use, number-on_path, option_both, row_at-listed, path_first, space_at-Some, task_at-own}
 use Rattle.model_laws.specs.ParentLaws.{IsAbove, HasNoSubreaper, TakesOrphans}
 use Rattle.model_laws.proofs.Ancestry.{parent_number-at, top_row, row_parent, one_step, nearer}
@@ -131,7 +131,7 @@ pub takes_orphans : (state : State) (task : Row) → IsCoherent state → IsIn t
 unfolding new_parent
 takes_orphans state task sound i lives =
     option_both (nearest_subreaper state.rows task) (λ o. (heir : Row)
-    × (option_map (λ (r : Row). r.name) (option_map_or (row_at state.rows) o (task_at state task.name.space 1)) ≡ Some heir.name)
+    × (option_map (λ (r : Row). r.name) (option_map_or (row_at state.rows) o (task_numbered state task.name.space 1)) ≡ Some heir.name)
     × TakesOrphans state task heir)
     (λ e.
     let b = init_beside state sound task i lives in

@@ -1,5 +1,5 @@
 -- Refusals come in their order, and change nothing.
-use Rattle.model_laws.proofs.Words.{◌↔◌, ◌≡◌, ℕ, suc, ◌+◌, ◌<◌, ◌≤◌, ℤ, pos, negsuc, max, Bool, true, false, not, ◌&&◌, ◌||◌, ◌==◌, List, [], ◌∷◌, length, Option, Some, None, cond, Decides, refl, sym, ap, ◌∙◌, subst, inl, inr, arith, if◌then◌else◌, find, filter, is_none, nat_lt, nat_le, option_map, IsTrue, ◌⊎◌, option_map_or, option_eq, list_any, eqb-true, eq-eqb, ne_eqb, and_parts, and_from, not-true, not_from_false, ltb-true, lt-ltb, leb-true, le-leb, Decides-eqb, Decides-ltb, Decides-and, Decides-or, Decides-not, Decides-like, not_from_Decides, not-false, cond_both, Call, Fork, GetPid, NsPid, Exec, Exit, Wait, GetPpid, SetPgid, SetSid, MakeControl, RemoveControl, SetLimit, Move, Count, GetPgid, GetSid, Next, Join, SetSubreaper, Which, Name, Row, Space, Reply, Number, Reaped, NoneYet, End, Refused, Control, Refusal, NoCaller, NoTask, NoChild, NoNumber, PidsLimit, SpaceFallen, TooDeep, Elsewhere, BadGroup, OtherSession, IsLeader, NoGroup, Executed, RootInit, NoControl, ControlBusy, RootControl, BadLimit, ControlDepth, deepest_space, deepest_control, greatest_limit, IsIn, least_of, State, space_at, path_up, level, number, root_number, number_or_zero, is_numbered, same_name, is_parent, is_live, live_row, task_at, taken, restart, cyclic_draw, cursor_of, draw, control_at, control_path, count, is_limited_below, passed_limit, Outcome, answered, changed, for_found, unless_found, refuse_if, fork, forked, no_room, with_space, is_gone, is_init, ended_children, exit, is_selected, matching, least_row, end_of, without_row, wait, is_negative, target_of, session_group, group_for, has_members, set_group_of, set_pgid, set_sid, self_or_task, numbers_by, get_pid, get_ppid, get_pgid, get_sid, ns_pid, next, is_busy, exec, make_control, remove_control, set_limit, move_task, count_tasks, join, set_subreaper, step}
+use Rattle.model_laws.proofs.Words.{◌↔◌, ◌≡◌, ℕ, suc, ◌+◌, ◌<◌, ◌≤◌, ℤ, pos, negsuc, max, Bool, true, false, not, ◌&&◌, ◌||◌, ◌==◌, List, [], ◌∷◌, length, Option, Some, None, cond, Decides, refl, sym, ap, ◌∙◌, subst, inl, inr, arith, if◌then◌else◌, find, filter, is_none, nat_lt, nat_le, option_map, IsTrue, ◌⊎◌, option_map_or, option_eq, list_any, eqb-true, eq-eqb, ne_eqb, and_parts, and_from, not-true, not_from_false, ltb-true, lt-ltb, leb-true, le-leb, Decides-eqb, Decides-ltb, Decides-and, Decides-or, Decides-not, Decides-like, not_from_Decides, not-false, cond_both, Call, Fork, GetPid, NsPid, Exec, Exit, Wait, GetPpid, SetPgid, SetSid, MakeControl, RemoveControl, SetLimit, Move, Count, GetPgid, GetSid, Next, Join, SetSubreaper, Which, Name, Row, Space, Reply, Number, Reaped, NoneYet, End, Refused, Control, Refusal, NoCaller, NoTask, NoChild, NoNumber, PidsLimit, SpaceFallen, TooDeep, Elsewhere, BadGroup, OtherSession, IsLeader, NoGroup, Executed, RootInit, NoControl, ControlBusy, RootControl, BadLimit, ControlDepth, deepest_space, deepest_control, greatest_limit, IsIn, least_of, State, space_at, path_up, level, number, root_number, number_or_zero, is_numbered, same_name, is_parent, is_live, live_row, task_numbered, taken, restart, cyclic_draw, cursor_of, draw, control_at, control_path, count, is_limited_below, passed_limit, Outcome, answered, changed, for_found, unless_found, refuse_if, fork, forked, no_room, with_space, is_gone, is_init, ended_children, exit, is_selected, matching, least_row, end_of, without_row, wait, is_negative, target_of, session_group, group_for, has_members, set_group_of, set_pgid, set_sid, self_or_task, numbers_by, get_pid, get_ppid, get_pgid, get_sid, ns_pid, next, is_busy, exec, make_control, remove_control, set_limit, move_task, count_tasks, join, set_subreaper, step}
 use Rattle.model_laws.proofs.Ground.{IsIn-filter, IsIn-from_filter, find-Some, find-None, some_passes, list_any-from_one, option_eq-true, is_parent-true, is_parent-from, same_name-true, same_name-refl, is_numbered-true, is_numbered-from}
 use Rattle.pid_types.specs.declared.call.Which.TheVariants.{Any, Pid, OwnGroup, Group}
 use Rattle.model_laws.specs.Draws.{IsCyclicDraw, IsLeastFree}
@@ -105,8 +105,8 @@ live_found state n = finds (IsLiveTask state n) (λ row. (root_number row.name =
     (λ row t. (t.0, and_from _ _ (eq-eqb _ _ t.1) t.2))
 
 -- the task with the number
-pub task_found : (state : State) (caller : Row) (n : ℕ) → IsFound (IsTaskTo state caller n) (task_at state caller.name.space n)
-unfolding task_at
+pub task_found : (state : State) (caller : Row) (n : ℕ) → IsFound (IsTaskTo state caller n) (task_numbered state caller.name.space n)
+unfolding task_numbered
 task_found state caller n = finds (IsTaskTo state caller n) (λ row. is_numbered state.spaces row.name caller.name.space n) state.rows
     (λ row i e. (i, (Decides-number state caller row.name n).0 e)) (λ row t. (t.0, (Decides-number state caller row.name n).1 t.1))
 
@@ -119,7 +119,7 @@ found_or reason false x o fits d f = record { some = λ y e. grind (arith, f.som
 -- where 0 is the caller
 self_found : (state : State) (caller : Row) (n : ℕ) → IsFound (IsSelfOrTask state caller n) (self_or_task state caller n)
 self_found state caller n =
-    found_or (n ≡ 0) (n == 0) caller (task_at state caller.name.space n) (IsTaskTo state caller n) (Decides-eqb n 0) (task_found state caller n)
+    found_or (n ≡ 0) (n == 0) caller (task_numbered state caller.name.space n) (IsTaskTo state caller n) (Decides-eqb n 0) (task_found state caller n)
 
 -- whom setpgid names
 pub target_found : (state : State) (caller : Row) (pid : ℤ) → IsFound (IsTarget state caller pid) (target_of state caller pid)

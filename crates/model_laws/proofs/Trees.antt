@@ -1,5 +1,5 @@
 -- The trees of namespaces and control groups, and rows by their root numbers.
-use Rattle.model_laws.proofs.Words.{◌≡◌, ℕ, true, ◌&&◌, ◌==◌, List, map, Some, None, ap, eqb-true, and_parts, Name, Row, Space, Control, space_at, parent_space, path_up, root_number, row_at, is_live, live_row, control_at, parent_control, control_path, IsIn, IsRising, IsWellNumbered, IsTreeOfSpaces, IsTreeOfControls, State, IsCoherent, number, task_at, is_numbered}
+use Rattle.model_laws.proofs.Words.{◌≡◌, ℕ, true, ◌&&◌, ◌==◌, List, map, Some, None, ap, eqb-true, and_parts, Name, Row, Space, Control, space_at, parent_space, path_up, root_number, row_at, is_live, live_row, control_at, parent_control, control_path, IsIn, IsRising, IsWellNumbered, IsTreeOfSpaces, IsTreeOfControls, State, IsCoherent, number, task_numbered, is_numbered}
 use Rattle.model_laws.proofs.Lists.{find-Some, find-only}
 use Rattle.model_laws.proofs.Chains.{Stops-at_root, IsIn-climb_first, climb_trans, climb_antisym}
 use Rattle.model_laws.proofs.Rising.{unique_key, find-key, find-key_at}
@@ -97,8 +97,8 @@ live_row-Some rows n row h =
 
 -- the task with a number in a namespace is found by it
 pub task_at-own : (state : State) → IsCoherent state → (row : Row) → IsIn row state.rows → (s n : ℕ) → number state.spaces row.name s ≡ Some n
-    → task_at state s n ≡ Some row
-unfolding task_at
+    → task_numbered state s n ≡ Some row
+unfolding task_numbered
 task_at-own state sound row i s n e =
     find-only (λ r. is_numbered state.spaces r.name s n) state.rows row i (is_numbered-from state.spaces row.name s n e) (λ r j f.
     same_row state.rows sound.rows_rise r row j i (sound.distinct r.name row.name (own_name_in_use state.rows r j) (own_name_in_use state.rows row i) s n

@@ -16,7 +16,7 @@ pub use Rattle.pid_types.specs.Chains.{least_of, contains}
 unfoldable pub use Rattle.pid_types.specs.Chains.{climb}
 pub use Rattle.pid_types.specs.State.{State, root_state, root_init, root_name}
 pub use Rattle.pid_types.specs.Names.{parent_space, beside, root_number, is_live, row_at, number_or_zero, same_name, is_parent, live_row, on_row, is_within, is_member, is_numbered, names_in_use, space_at, beside_from}
-unfoldable pub use Rattle.pid_types.specs.Names.{path_up, number, with_row, level, task_at, numbers_from, taken}
+unfoldable pub use Rattle.pid_types.specs.Names.{path_up, number, with_row, level, task_numbered, numbers_from, taken}
 pub use Rattle.pid_types.specs.Exit.{parent_number, is_init, goes_in_fall, row_after_exit, row_after_fall, has_parent_within, fallen_below, ancestors, is_subreaper_in, nearest_subreaper}
 unfoldable pub use Rattle.pid_types.specs.Exit.{fall, rows_after_exit, exit, new_parent, rows_after_fall}
 pub use Rattle.pid_types.specs.Membership.{IsIn}

@@ -17,16 +17,16 @@ use Rattle.pid_types.specs.Sound.{IsSound, IsBelow}
 use Rattle.pid_types.specs.Membership.{IsIn}
 
 -- 1 where it holds, and else 0
-abbrev pub one_if : Bool → ℕ
-one_if true = 1
-one_if false = 0
+abbrev pub one_where : Bool → ℕ
+one_where true = 1
+one_where false = 0
 
 -- a fork counts one more in each control group from the caller's home to the root, and in no other
 abbrev pub ForkCountsOne : Type 0
 ForkCountsOne =
     (state : State) (stamp n : ℕ) (new_space : Bool) (caller : Row) (child root : ℕ)
     → live_row state.rows n ≡ Some caller → (step state stamp (Fork n new_space)).reply ≡ Forked child root
-    → (c : ℕ) → count (step state stamp (Fork n new_space)).state c ≡ count state c + one_if (is_below state.controls caller.home c)
+    → (c : ℕ) → count (step state stamp (Fork n new_space)).state c ≡ count state c + one_where (is_below state.controls caller.home c)
 
 -- a reaping counts one less in each control group from the reaped task's home to the root, and in no other
 abbrev pub ReapingCountsOneLess : Type 0
@@ -34,7 +34,7 @@ ReapingCountsOneLess =
     (state : State) (stamp n : ℕ) (which : Which) (caller : Row) (child : ℕ) (ended : Ended)
     → IsSound state → live_row state.rows n ≡ Some caller → (step state stamp (Wait n which)).reply ≡ Reaped child ended
     → (row : Row) × IsIn row state.rows × (is_live row ≡ false) × (number_or_zero state.spaces row.name caller.name.space ≡ child)
-    × ((c : ℕ) → count state c ≡ count (step state stamp (Wait n which)).state c + one_if (is_below state.controls row.home c))
+    × ((c : ℕ) → count state c ≡ count (step state stamp (Wait n which)).state c + one_where (is_below state.controls row.home c))
 
 -- a fall counts as many less as it takes rows away whose homes are in the subtree
 abbrev pub FallCountsTaken : Type 0
@@ -50,8 +50,8 @@ abbrev pub MoveCountsBoth : Type 0
 MoveCountsBoth =
     (state : State) (stamp n id : ℕ) (task : Row)
     → IsSound state → live_row state.rows n ≡ Some task → (step state stamp (Move n id)).reply ≡ Done
-    → (c : ℕ) → count (step state stamp (Move n id)).state c + one_if (is_below state.controls task.home c)
-    ≡ count state c + one_if (is_below state.controls id c)
+    → (c : ℕ) → count (step state stamp (Move n id)).state c + one_where (is_below state.controls task.home c)
+    ≡ count state c + one_where (is_below state.controls id c)
 
 -- whether the call is a fork, a wait, a move or an exit by which a namespace falls
 abbrev pub may_change_counts : State → Call → Bool

@@ -6,7 +6,7 @@ use Rattle.pid_types.specs.declared.call.Which.TheVariants.{Any}
 use Rattle.pid_types.specs.declared.plain.Ended.TheVariants.{Exited}
 use Rattle.pid_types.specs.declared.reply.Reply.TheVariants.{Forked, Done, Number, Reaped, Counted, Control as ControlMade, End}
 use Rattle.pid_types.specs.State.{root_state, root_init, root_name}
-use Rattle.model_laws.specs.Script.{AnswersScript, EndsSound, named}
+use Rattle.model_laws.specs.Script.{AnswersScript, EndsSound, name_with}
 
 -- the members of a namespace end with its init
 abbrev pub FallTakesMembers : Type 0
@@ -40,7 +40,7 @@ GroupKeepsSpaceEnd =
     EndsSound 32768 (Fork 1 false ∷ Fork 2 true ∷ SetPgid 3 (pos 0) (pos 0) ∷ SetPgid 2 (pos 0) (pos 3) ∷ Exit 3 0 ∷ Wait 2 Any
     ∷ Next 1 Group 2 ∷ [])
     (record (root_state 32768) {
-      rows = root_init ∷ record root_init { name = named 0 (2 ∷ []); parent = Some root_name; group = named 2 (3 ∷ 1 ∷ []) } ∷ [];
+      rows = root_init ∷ record root_init { name = name_with 0 (2 ∷ []); parent = Some root_name; group = name_with 2 (3 ∷ 1 ∷ []) } ∷ [];
       spaces =
           record { id = 0; parent = None; cursor = 4; fallen = false }
           ∷ record { id = 2; parent = Some 0; cursor = 2; fallen = true }
@@ -65,7 +65,7 @@ GroupLetsSpaceGoEnd =
     EndsSound 32768 (Fork 1 false ∷ Fork 2 true ∷ SetPgid 3 (pos 0) (pos 0) ∷ SetPgid 2 (pos 0) (pos 3) ∷ Exit 3 0 ∷ Wait 2 Any
     ∷ Next 1 Group 2 ∷ SetPgid 2 (pos 0) (pos 1) ∷ Next 1 Group 2 ∷ [])
     (record (root_state 32768) {
-      rows = root_init ∷ record root_init { name = named 0 (2 ∷ []); parent = Some root_name } ∷ [];
+      rows = root_init ∷ record root_init { name = name_with 0 (2 ∷ []); parent = Some root_name } ∷ [];
       spaces = record { id = 0; parent = None; cursor = 4; fallen = false } ∷ [];
     })
 

@@ -5,7 +5,7 @@ use Rattle.pid_types.specs.declared.call.Kind.TheVariants.{Task, Group}
 use Rattle.pid_types.specs.declared.reply.Reply.TheVariants.{Forked, Number, Levels as LevelList, End, Refused}
 use Rattle.pid_types.specs.declared.reply.Refusal.TheVariants.{NoCaller, NoTask}
 use Rattle.pid_types.specs.State.{root_state, root_init, root_name}
-use Rattle.model_laws.specs.Script.{AnswersScript, SeesAlike, EndsSound, named}
+use Rattle.model_laws.specs.Script.{AnswersScript, SeesAlike, EndsSound, name_with}
 
 -- a fork, and the number of the new task
 abbrev pub ForkAndGetPid : Type 0
@@ -38,8 +38,8 @@ ForkIntoNewSpaceEnd =
     (record (root_state 32768) {
       rows =
           root_init
-          ∷ record root_init { name = named 1 (2 ∷ 1 ∷ []); parent = Some root_name; children_space = 1 }
-          ∷ record root_init { name = named 1 (3 ∷ 2 ∷ []); parent = Some (named 1 (2 ∷ 1 ∷ [])); children_space = 1 }
+          ∷ record root_init { name = name_with 1 (2 ∷ 1 ∷ []); parent = Some root_name; children_space = 1 }
+          ∷ record root_init { name = name_with 1 (3 ∷ 2 ∷ []); parent = Some (name_with 1 (2 ∷ 1 ∷ [])); children_space = 1 }
           ∷ [];
       spaces =
           record { id = 0; parent = None; cursor = 4; fallen = false }

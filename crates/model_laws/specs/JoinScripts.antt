@@ -6,7 +6,7 @@ use Rattle.pid_types.specs.declared.plain.Ended.TheVariants.{Exited, Killed}
 use Rattle.pid_types.specs.declared.reply.Reply.TheVariants.{Forked, Done, Number, Levels as LevelList, Reaped, Refused}
 use Rattle.pid_types.specs.declared.reply.Refusal.TheVariants.{NoTask, SpaceFallen, Elsewhere}
 use Rattle.pid_types.specs.State.{root_state, root_init, root_name}
-use Rattle.model_laws.specs.Script.{AnswersScript, EndsSound, named}
+use Rattle.model_laws.specs.Script.{AnswersScript, EndsSound, name_with}
 
 -- children below their parent's namespace, and its fall
 abbrev pub JoinAndFall : Type 0
@@ -34,8 +34,8 @@ JoinAndFallEnd =
     (record (root_state 32768) {
       rows =
           root_init
-          ∷ record root_init { name = named 0 (2 ∷ []); parent = Some root_name }
-          ∷ record root_init { name = named 0 (6 ∷ []); parent = Some (named 0 (2 ∷ [])) }
+          ∷ record root_init { name = name_with 0 (2 ∷ []); parent = Some root_name }
+          ∷ record root_init { name = name_with 0 (6 ∷ []); parent = Some (name_with 0 (2 ∷ [])) }
           ∷ [];
       spaces = record { id = 0; parent = None; cursor = 7; fallen = false } ∷ [];
     })

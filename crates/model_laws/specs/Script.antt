@@ -17,8 +17,8 @@ abbrev pub SeesAlike : List Call → ℕ → List Call → ℕ → Type 0
 SeesAlike calls s others t = sight (state_after (root_state 32768) 1 calls) s ≡ sight (state_after (root_state 32768) 1 others) t
 
 -- the name in the namespace that has these numbers, the root's first
-abbrev pub named : ℕ → List ℕ → Name
-named space numbers = record { space = space; numbers = record { items = numbers } }
+abbrev pub name_with : ℕ → List ℕ → Name
+name_with space numbers = record { space = space; numbers = record { items = numbers } }
 
 -- the calls end in the state, and it is sound
 pub record EndsSound (pid_max : ℕ) (calls : List Call) (end : State) : Type 0 where

@@ -25,7 +25,7 @@ pub data IsQuery : Query → Type 0 where
   next_from : (kind : Kind) (from : ℕ) → IsQuery (λ caller. Next caller kind from)
 
 -- in a sound state the root number names a live task with this row, whose number in its own namespace is n
-pub record IsCaller (state : State) (root : ℕ) (caller : Row) (n : ℕ) : Type 0 where
+pub record IsLiveCaller (state : State) (root : ℕ) (caller : Row) (n : ℕ) : Type 0 where
   pub sound : IsSound state
   pub live : live_row state.rows root ≡ Some caller
   pub own : number state.spaces caller.name caller.name.space ≡ Some n
@@ -33,7 +33,7 @@ pub record IsCaller (state : State) (root : ℕ) (caller : Row) (n : ℕ) : Type
 -- a query of a live task is answered from what its namespace sees, and its own number, alone
 abbrev pub QueriesAnswerSeen : Type 0
 QueriesAnswerSeen =
-    (state : State) (stamp root : ℕ) (caller : Row) (n : ℕ) (query : Query) → IsCaller state root caller n → IsQuery query
+    (state : State) (stamp root : ℕ) (caller : Row) (n : ℕ) (query : Query) → IsLiveCaller state root caller n → IsQuery query
     → (step state stamp (query root)).reply ≡ seen (sight state caller.name.space) n (query root)
 
 -- two namespaces see the same: order and repetition do not count
@@ -44,6 +44,6 @@ SeesSame a b = (g : Glimpse) → IsIn g a ↔ IsIn g b
 abbrev pub SameSightSameAnswers : Type 0
 SameSightSameAnswers =
     (one other : State) (stamp later root elsewhere n : ℕ) (caller like : Row) (query : Query)
-    → IsCaller one root caller n → IsCaller other elsewhere like n
+    → IsLiveCaller one root caller n → IsLiveCaller other elsewhere like n
     → SeesSame (sight one caller.name.space) (sight other like.name.space) → IsQuery query
     → (step one stamp (query root)).reply ≡ (step other later (query elsewhere)).reply

@@ -1,11 +1,11 @@
 //! Laws of single calls: numbers, refusals, limits, and that no number is handed out twice.
-ghost use Rattle.model_laws.specs.Draws.{DrawIsLeast};
-ghost use Rattle.model_laws.specs.LimitLaws.{ForkKeepsLimits, RunsKeepLimits};
-ghost use Rattle.model_laws.specs.NumberLaws.{LevelsAreBounded, NamesHaveNumbers, NoNumberNamesTwo, NumberIsAtLevel};
-ghost use Rattle.model_laws.specs.NumberLaws.{NumbersFromLevel, SoundNeedsNoSweep, SweepKeepsNumbered};
-ghost use Rattle.model_laws.specs.Refusals.{FirstRefusalAnswers, NoneYetChangesNothing, QueryChangesNothing};
-ghost use Rattle.model_laws.specs.Refusals.{RefusalChangesNothing};
-ghost use Rattle.model_laws.specs.ReuseLaws.{NoReuse};
+ghost use Rattle.{
+  model_laws.specs.{Draws.{DrawIsLeast}, LimitLaws.{ForkKeepsLimits, RunsKeepLimits}, NumberLaws.{LevelsAreBounded}},
+  model_laws.specs.NumberLaws.{NamesHaveNumbers, NoNumberNamesTwo, NumberIsAtLevel, NumbersFromLevel},
+  model_laws.specs.NumberLaws.{SoundNeedsNoSweep, SweepKeepsNumbered},
+  model_laws.specs.Refusals.{FirstRefusalAnswers, NoneYetChangesNothing, QueryChangesNothing, RefusalChangesNothing},
+  model_laws.specs.ReuseLaws.{NoReuse},
+};
 
 /// A namespace gives the least free number from its cursor on, or else from the restart on.
 #[tactic(auto, using(crate::proofs::Draws::draw_is_least))]

@@ -1,9 +1,10 @@
 //! What the definitions that compute mean: paths, counts, who takes orphans, what a fall does, what a
 //! wait reaps.
-ghost use Rattle.model_laws.specs.PathLaws.{CountIsOfSubtree, CountsAreOfSubtrees, PathsAreChains, SubtreeIsTold};
-ghost use Rattle.model_laws.specs.ParentLaws.{NewParentIsNearest};
-ghost use Rattle.model_laws.specs.FallLaws.{ExitOfInitFalls};
-ghost use Rattle.model_laws.specs.WaitLaws.{NoneYetHasEnded, WaitReapsLeast};
+ghost use Rattle.{
+  model_laws.specs.PathLaws.{CountIsOfSubtree, CountsAreOfSubtrees, PathsAreChains, SubtreeIsTold},
+  model_laws.specs.{ParentLaws.{NewParentIsNearest}, FallLaws.{ExitOfInitFalls}},
+  model_laws.specs.WaitLaws.{NoneYetHasEnded, WaitReapsLeast},
+};
 
 /// In a sound state the path of a namespace or a control group is its chain of parents up to the root.
 #[tactic(auto, using(crate::proofs::Subtrees::paths_are_chains))]

@@ -1,16 +1,15 @@
 //! Worked scripts. The checker computes each answer from the definitions.
-ghost use Rattle.model_laws.specs.ForkScripts.{ForkAndGetPid, ThreeForks, ForkIntoNewSpace, ForkIntoNewSpaceEnd};
-ghost use Rattle.model_laws.specs.ForkScripts.{OneWorld, OtherWorld, WorldsSeenAlike};
-ghost use Rattle.model_laws.specs.GroupScripts.{SetPgidInOrder, SetSidOnce};
-ghost use Rattle.model_laws.specs.WaitScripts.{WaitSelects, OrphansGoToInit};
-ghost use Rattle.model_laws.specs.FallScripts.{FallTakesMembers, FallTakesMembersEnd, GroupKeepsSpace};
-ghost use Rattle.model_laws.specs.FallScripts.{GroupKeepsSpaceEnd, GroupLetsSpaceGo, GroupLetsSpaceGoEnd};
-ghost use Rattle.model_laws.specs.FallScripts.{FallUncharges};
-ghost use Rattle.model_laws.specs.ControlScripts.{LimitsAndMoves, ZombiesGoUp, ControlRefusals, NearestLimitFirst};
-ghost use Rattle.model_laws.specs.DepthScripts.{ControlDepthIs64};
-ghost use Rattle.model_laws.specs.JoinScripts.{JoinAndFall, JoinAndFallEnd, NoForkIntoDropped, OrphanOfJoined};
-ghost use Rattle.model_laws.specs.SubreaperScripts.{SubreaperTakesChildren, MarkKeptOverExec, MarkOfOtherSpace};
-ghost use Rattle.model_laws.specs.SubreaperScripts.{MarkOfJoined};
+ghost use Rattle.{
+  model_laws.specs.ForkScripts.{ForkAndGetPid, ThreeForks, ForkIntoNewSpace, ForkIntoNewSpaceEnd, OneWorld, OtherWorld},
+  model_laws.specs.{ForkScripts.{WorldsSeenAlike}, GroupScripts.{SetPgidInOrder, SetSidOnce}},
+  model_laws.specs.{WaitScripts.{WaitSelects, OrphansGoToInit}, FallScripts.{FallTakesMembers, FallTakesMembersEnd}},
+  model_laws.specs.FallScripts.{GroupKeepsSpace, GroupKeepsSpaceEnd, GroupLetsSpaceGo, GroupLetsSpaceGoEnd},
+  model_laws.specs.FallScripts.{FallUncharges},
+  model_laws.specs.ControlScripts.{LimitsAndMoves, ZombiesGoUp, ControlRefusals, NearestLimitFirst},
+  model_laws.specs.DepthScripts.{ControlDepthIs64},
+  model_laws.specs.JoinScripts.{JoinAndFall, JoinAndFallEnd, NoForkIntoDropped, OrphanOfJoined},
+  model_laws.specs.SubreaperScripts.{SubreaperTakesChildren, MarkKeptOverExec, MarkOfOtherSpace, MarkOfJoined},
+};
 
 /// Worked scripts of fork and the queries of numbers.
 #[tactic(auto, unfolding(crate::proofs::Computed::computed))]

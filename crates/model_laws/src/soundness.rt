@@ -1,7 +1,6 @@
 //! Every call leaves a sound state.
-ghost use Rattle.model_laws.specs.StepLaws.{PlainCallsMakeNoId};
-ghost use Rattle.model_laws.specs.StepLaws.{BoundStays, RootInitLives, RootNeverFalls, RootStateIsSound};
-ghost use Rattle.model_laws.specs.StepLaws.{RunsKeepSoundness, StepKeepsSoundness};
+ghost use Rattle.model_laws.specs.StepLaws.{PlainCallsMakeNoId, BoundStays, RootInitLives, RootNeverFalls};
+ghost use Rattle.model_laws.specs.StepLaws.{RootStateIsSound, RunsKeepSoundness, StepKeepsSoundness};
 
 /// The state that a table begins with is sound.
 pub fn root_state_is_sound()

@@ -14,7 +14,7 @@ use Rattle.pid_types.specs.Names.{same_name}
 use Rattle.pid_types.specs.Exit.{row_after_exit, rows_after_exit}
 use Rattle.pid_types.specs.Outcome.{sweep}
 use Rattle.pid_numbers.specs.Numbering.{Identifier, identifier_at, number_of}
-use Rattle.pids_charge.specs.Charges.{Home, home_at, ChangesHome, id_at as home_id}
+use Rattle.pids_charge.specs.Charges.{Home, home_at, ChangesHome, home_id}
 use Rattle.task_tree.specs.declared.Task.{Task}
 use Rattle.task_tree.specs.Tree.{task_at, parent_of, lives, handed}
 use Rattle.groups_sessions.specs.Membership.{group_of, session_of}

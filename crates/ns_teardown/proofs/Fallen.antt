@@ -17,7 +17,7 @@ use Rattle.pid_types.specs.Names.{same_name, is_within, is_member as is_visible}
 use Rattle.pid_types.specs.Exit.{has_parent_within as parent_visible, goes_in_fall, row_after_fall, rows_after_fall, fallen_below, fall}
 use Rattle.pid_types.specs.Outcome.{sweep}
 use Rattle.pid_numbers.specs.Numbering.{Numbering, Namespace, Identifier, namespace_at, id_at, identifier_at, number_of, path_at, has_fallen_at, fallen_within}
-use Rattle.pids_charge.specs.Charges.{Home, id_at as home_id}
+use Rattle.pids_charge.specs.Charges.{Home, home_id}
 use Rattle.task_tree.specs.declared.Task.{Task}
 use Rattle.task_tree.specs.Tree.{task_at, parent_of, lives}
 use Rattle.task_table.specs.Store.{Store, IsLess}
@@ -31,7 +31,7 @@ use Rattle.task_table.proofs.InUse.{homed}
 use Rattle.task_table.proofs.Rows.{rows-both}
 use Rattle.task_table.proofs.Sweeps.{name-less}
 use Rattle.task_table.proofs.Changed.{row-left, swept}
-use Rattle.ns_teardown.specs.Fall.{Slot, slot_at, is_member, has_parent_within, member_after_fall, slot_after_fall, life_after_fall, FallsWithin, KeepsHomes}
+use Rattle.ns_teardown.specs.Fall.{Slot, slot_at, is_visible_in, has_parent_inside, member_after_fall, slot_after_fall, life_after_fall, FallsWithin, KeepsHomes}
 use Rattle.ns_teardown.proofs.Marked.{path-marked, number-marked, outer-parent}
 use Rattle.ns_teardown.proofs.Within.{within-is, member-is}
 use Rattle.ns_teardown.proofs.Good.{good-tasks}
@@ -107,14 +107,14 @@ module _ (s s' : Store) (l : IsLawful s) (l' : IsLawful s') (w : IsWhole s) (ini
   own = space-id s l init u is
 
   -- members by their rows and by their keys
-  visible_is : (k : ℕ) (v : Task) → task_at s.tree k ≡ Some v → is_visible (state_of s).spaces id (row_of s k v) ≡ is_member s.numbering u.space k
+  visible_is : (k : ℕ) (v : Task) → task_at s.tree k ≡ Some v → is_visible (state_of s).spaces id (row_of s k v) ≡ is_visible_in s.numbering u.space k
   visible_is k v e = let x = named s l k v e in ap is_some (number-is_key s.numbering l.numbering u.space id k x.0 own x.1)
 
-  within_is : (k : ℕ) (v : Task) → parent_visible (state_of s) id (row_of s k v) ≡ has_parent_within s u.space k
+  within_is : (k : ℕ) (v : Task) → parent_visible (state_of s) id (row_of s k v) ≡ has_parent_inside s u.space k
   within_is k v = go (parent_of s.tree k) refl
     where
       go : (o : Option ℕ) → parent_of s.tree k ≡ o
-          → option_map_or (λ (parent : Name). is_within (state_of s).spaces parent.space id) (option_map (name_at s.numbering) o) false ≡ option_map_or (is_member s.numbering u.space) o false
+          → option_map_or (λ (parent : Name). is_within (state_of s).spaces parent.space id) (option_map (name_at s.numbering) o) false ≡ option_map_or (is_visible_in s.numbering u.space) o false
       go None e = refl
       go (Some p) e =
           let y = held (task_at s.tree p) (w.parents k p e) in
@@ -125,22 +125,22 @@ module _ (s s' : Store) (l : IsLawful s) (l' : IsLawful s') (w : IsWhole s) (ini
   name_is k v e = same-name s l k init (ap is_some (named s l k v e).1) (ap is_some (named s l init t at).1)
 
   -- who goes
-  goes_is : (k : ℕ) (v : Task) → task_at s.tree k ≡ Some v → goes_in_fall (state_of s) row (row_of s k v) ≡ (is_member s.numbering u.space k && has_parent_within s u.space k)
+  goes_is : (k : ℕ) (v : Task) → task_at s.tree k ≡ Some v → goes_in_fall (state_of s) row (row_of s k v) ≡ (is_visible_in s.numbering u.space k && has_parent_inside s u.space k)
   goes_is k v e =
       ap (λ b. not b && is_visible (state_of s).spaces id (row_of s k v) && parent_visible (state_of s) id (row_of s k v)) (name_is k v e)
       ∙ ap (λ b. not (k == init) && b && parent_visible (state_of s) id (row_of s k v)) (visible_is k v e)
-      ∙ ap (λ b. not (k == init) && is_member s.numbering u.space k && b) (within_is k v)
+      ∙ ap (λ b. not (k == init) && is_visible_in s.numbering u.space k && b) (within_is k v)
       ∙ unless_init (cases_eq k init)
     where
       none : (a : Bool) → false ≡ (a && false)
       none true = refl
       none false = refl
 
-      unless_init : (k ≡ init) ⊎ (k ≢ init) → (not (k == init) && is_member s.numbering u.space k && has_parent_within s u.space k) ≡ (is_member s.numbering u.space k && has_parent_within s u.space k)
-      unless_init (inr m) = ap (λ b. not b && is_member s.numbering u.space k && has_parent_within s u.space k) (ne_eqb k init m)
+      unless_init : (k ≡ init) ⊎ (k ≢ init) → (not (k == init) && is_visible_in s.numbering u.space k && has_parent_inside s u.space k) ≡ (is_visible_in s.numbering u.space k && has_parent_inside s u.space k)
+      unless_init (inr m) = ap (λ b. not b && is_visible_in s.numbering u.space k && has_parent_inside s u.space k) (ne_eqb k init m)
       unless_init (inl same) =
-          ap (λ b. not b && is_member s.numbering u.space k && has_parent_within s u.space k) (eq-eqb k init same) ∙ none (is_member s.numbering u.space k)
-          ∙ sym (ap (λ b. is_member s.numbering u.space k && b) (ap (has_parent_within s u.space) same ∙ outer-parent s l (good-tasks s l w) init u is first))
+          ap (λ b. not b && is_visible_in s.numbering u.space k && has_parent_inside s u.space k) (eq-eqb k init same) ∙ none (is_visible_in s.numbering u.space k)
+          ∙ sym (ap (λ b. is_visible_in s.numbering u.space k && b) (ap (has_parent_inside s u.space) same ∙ outer-parent s l (good-tasks s l w) init u is first))
 
   -- who is left keeps the name, and the control group
   names_kept : (k : ℕ) (v : Identifier) → identifier_at s'.numbering k ≡ Some v → name_at s'.numbering k ≡ name_at s.numbering k
@@ -165,14 +165,14 @@ module _ (s s' : Store) (l : IsLawful s) (l' : IsLawful s') (w : IsWhole s) (ini
   stays r = not (goes_in_fall (state_of s) row r)
 
   -- the slot that is left of a task
-  slot_is : (k : ℕ) (m g : Bool) → is_member s.numbering u.space k ≡ m → has_parent_within s u.space k ≡ g
+  slot_is : (k : ℕ) (m g : Bool) → is_visible_in s.numbering u.space k ≡ m → has_parent_inside s u.space k ≡ g
       → slot_at s' k ≡ (if m then member_after_fall g (k == init) status (slot_at s k) else slot_at s k)
   slot_is k m g member within =
-      f.slots k ∙ ap (λ m. if m then member_after_fall (has_parent_within s u.space k) (k == init) status (slot_at s k) else slot_at s k) member
+      f.slots k ∙ ap (λ m. if m then member_after_fall (has_parent_inside s u.space k) (k == init) status (slot_at s k) else slot_at s k) member
       ∙ ap (λ g. if m then member_after_fall g (k == init) status (slot_at s k) else slot_at s k) within
 
   -- the life of a task that is left
-  life_is : (k : ℕ) (v : Task) → task_at s.tree k ≡ Some v → (m : Bool) → is_member s.numbering u.space k ≡ m
+  life_is : (k : ℕ) (v : Task) → task_at s.tree k ≡ Some v → (m : Bool) → is_visible_in s.numbering u.space k ≡ m
       → (after (row_of s k v)).life ≡ (if k == init then Zombie (Exited status) else (if m && lives v then Zombie Killed else v.life))
   life_is k v e m member =
       ap (λ b. if b then Zombie (Exited status) else (if is_visible (state_of s).spaces id (row_of s k v) && lives v then Zombie Killed else v.life)) (name_is k v e)
@@ -182,7 +182,7 @@ module _ (s s' : Store) (l : IsLawful s) (l' : IsLawful s') (w : IsWhole s) (ini
   with_life k v x same = λ i. record (row_of s k v) { life = same i }
 
   row_here : (k : ℕ) (v : Task) → task_at s.tree k ≡ Some v → row_with s' k ≡ option_map after (option_filter stays (Some (row_of s k v)))
-  row_here k v e = go (is_member s.numbering u.space k) refl (has_parent_within s u.space k) refl
+  row_here k v e = go (is_visible_in s.numbering u.space k) refl (has_parent_inside s u.space k) refl
     where
       keeps : (b : Bool) → goes_in_fall (state_of s) row (row_of s k v) ≡ b → option_filter stays (Some (row_of s k v)) ≡ (if not b then Some (row_of s k v) else None)
       keeps b goes = ap (λ b. if not b then Some (row_of s k v) else None) goes
@@ -190,21 +190,21 @@ module _ (s s' : Store) (l : IsLawful s) (l' : IsLawful s') (w : IsWhole s) (ini
       here : (life : Life) → slot_at s' k ≡ record (slot_at s k) { task = Some (record v { life = life }) } → life ≡ (after (row_of s k v)).life → row_with s' k ≡ Some (after (row_of s k v))
       here life slot same = ap (λ (x : Slot). option_map (row_of s' k) x.task) slot ∙ ap Some (left k v life slot ∙ with_life k v life same)
 
-      go : (m : Bool) → is_member s.numbering u.space k ≡ m → (g : Bool) → has_parent_within s u.space k ≡ g → row_with s' k ≡ option_map after (option_filter stays (Some (row_of s k v)))
+      go : (m : Bool) → is_visible_in s.numbering u.space k ≡ m → (g : Bool) → has_parent_inside s u.space k ≡ g → row_with s' k ≡ option_map after (option_filter stays (Some (row_of s k v)))
       go true member true within =
           ap (λ (x : Slot). option_map (row_of s' k) x.task) (slot_is k true true member within)
-          ∙ sym (ap (option_map after) (keeps true (goes_is k v e ∙ ap (λ m. m && has_parent_within s u.space k) member ∙ within)))
+          ∙ sym (ap (option_map after) (keeps true (goes_is k v e ∙ ap (λ m. m && has_parent_inside s u.space k) member ∙ within)))
       go true member false within =
           here (life_after_fall (k == init) status v)
           (slot_is k true false member within ∙ ap (λ o. record (slot_at s k) { task = option_map (λ (x : Task). record x { life = life_after_fall (k == init) status x }) o }) e)
           (sym (life_is k v e true member))
-          ∙ sym (ap (option_map after) (keeps false (goes_is k v e ∙ ap (λ m. m && has_parent_within s u.space k) member ∙ within)))
+          ∙ sym (ap (option_map after) (keeps false (goes_is k v e ∙ ap (λ m. m && has_parent_inside s u.space k) member ∙ within)))
       go false outside g within =
           here v.life (slot_is k false g outside within ∙ ap (λ o. record (slot_at s k) { task = o }) e) (sym (life_is k v e false outside ∙ never (cases_eq k init)))
-          ∙ sym (ap (option_map after) (keeps false (goes_is k v e ∙ ap (λ m. m && has_parent_within s u.space k) outside)))
+          ∙ sym (ap (option_map after) (keeps false (goes_is k v e ∙ ap (λ m. m && has_parent_inside s u.space k) outside)))
         where
           never : (k ≡ init) ⊎ (k ≢ init) → (if k == init then Zombie (Exited status) else v.life) ≡ v.life
-          never (inl same) = absurd (let z : true ≡ false = sym (ap (is_member s.numbering u.space) same ∙ ap is_some first) ∙ outside in cc)
+          never (inl same) = absurd (let z : true ≡ false = sym (ap (is_visible_in s.numbering u.space) same ∙ ap is_some first) ∙ outside in cc)
           never (inr m) = ap (λ b. if b then Zombie (Exited status) else v.life) (ne_eqb k init m)
 
   each_row : (k : ℕ) → row_with s' k ≡ option_map after (option_filter stays (row_with s k))
@@ -218,7 +218,7 @@ module _ (s s' : Store) (l : IsLawful s) (l' : IsLawful s') (w : IsWhole s) (ini
       go : (o : Option Task) → task_at s.tree k ≡ o → row_with s' k ≡ option_map after (option_filter stays (row_with s k))
       go None e =
           ap (λ (x : Slot). option_map (row_of s' k) x.task) (f.slots k)
-          ∙ ap (option_map (row_of s' k)) (vacant_slot e (is_member s.numbering u.space k) (has_parent_within s u.space k))
+          ∙ ap (option_map (row_of s' k)) (vacant_slot e (is_visible_in s.numbering u.space k) (has_parent_inside s u.space k))
           ∙ sym (ap (λ o. option_map after (option_filter stays (option_map (row_of s k) o))) e)
       go (Some v) e = row_here k v e ∙ sym (ap (λ o. option_map after (option_filter stays (option_map (row_of s k) o))) e)
 

@@ -11,7 +11,7 @@ use Rattle.task_table.specs.Store.{Store, IsStore, IsLess, one_if}
 use Rattle.task_table.proofs.Less as less
 use Rattle.task_table.specs.Lawful.{IsLawful}
 use Rattle.task_table.specs.Whole.{HasParents}
-use Rattle.ns_teardown.specs.Fall.{Slot, slot_at, vacant, is_member, has_parent_within, member_after_fall, slot_after_fall, parent_falls_at, is_passed, slot_midway}
+use Rattle.ns_teardown.specs.Fall.{Slot, slot_at, vacant, is_visible_in, has_parent_inside, member_after_fall, slot_after_fall, parent_falls_at, is_passed, slot_midway}
 use Rattle.ns_teardown.proofs.Visible as visible
 
 below_or : (n m : ℕ) → (n < m) ⊎ (m ≤ n)
@@ -49,7 +49,7 @@ task-found s w distinct space n key used has = used-task s w key (ap (λ k. is_u
 module _ (s : Store) (law : IsLawful s) (parents : HasParents s) (space init status : ℕ) where
   -- a key without a task is as the fall leaves it
   after-none : (k : ℕ) → task_at s.tree k ≡ None → slot_at s k ≡ slot_after_fall s space init status k
-  after-none k none = is ∙ sym (ap (λ x. if is_member s.numbering space k then member_after_fall (has_parent_within s space k) (k == init) status x else x) is ∙ go (is_member s.numbering space k) (has_parent_within s space k))
+  after-none k none = is ∙ sym (ap (λ x. if is_visible_in s.numbering space k then member_after_fall (has_parent_inside s space k) (k == init) status x else x) is ∙ go (is_visible_in s.numbering space k) (has_parent_inside s space k))
     where
       no_member : (o : Option Membership) → is_some o ≡ false → o ≡ None
       no_member None e = refl
@@ -99,19 +99,19 @@ module _ (s : Store) (law : IsLawful s) (parents : HasParents s) (space init sta
     no_number (Some n) e = absurd (cc)
 
     -- whether the parent falls is known from what is left of it
-    same_fall : (k : ℕ) → slot_at t k ≡ slot_at s k → parent_falls_at t space k ≡ has_parent_within s space k
-    same_fall k e = ap (λ o. option_map_or (λ p. is_none (task_at t.tree p) || is_member t.numbering space p) o false) (parent-same k e) ∙ go (parent_of s.tree k) refl
+    same_fall : (k : ℕ) → slot_at t k ≡ slot_at s k → parent_falls_at t space k ≡ has_parent_inside s space k
+    same_fall k e = ap (λ o. option_map_or (λ p. is_none (task_at t.tree p) || is_visible_in t.numbering space p) o false) (parent-same k e) ∙ go (parent_of s.tree k) refl
       where
-        at : (p : ℕ) → IsSome (task_at s.tree p) → (o : Option Task) → task_at t.tree p ≡ o → (b : Bool) → is_member s.numbering space p ≡ b → (is_none o || is_member t.numbering space p) ≡ is_member s.numbering space p
+        at : (p : ℕ) → IsSome (task_at s.tree p) → (o : Option Task) → task_at t.tree p ≡ o → (b : Bool) → is_visible_in s.numbering space p ≡ b → (is_none o || is_visible_in t.numbering space p) ≡ is_visible_in s.numbering space p
         at p some (Some x) is b m = ap is_some (number-same p space (ap is_some is))
         at p some None is true m = sym m
         at p some None is false m =
             let kept : task_at t.tree p ≡ task_at s.tree p = task-same p (as-was p (unseen cursor p (no_number (number_of s.numbering p space) m))) in
             absurd (let z = sym some ∙ ap is_some (sym kept ∙ is) in cc)
 
-        go : (o : Option ℕ) → parent_of s.tree k ≡ o → option_map_or (λ p. is_none (task_at t.tree p) || is_member t.numbering space p) o false ≡ option_map_or (is_member s.numbering space) o false
+        go : (o : Option ℕ) → parent_of s.tree k ≡ o → option_map_or (λ p. is_none (task_at t.tree p) || is_visible_in t.numbering space p) o false ≡ option_map_or (is_visible_in s.numbering space) o false
         go None is = refl
-        go (Some p) is = at p (parents k p is) (task_at t.tree p) refl (is_member s.numbering space p) refl
+        go (Some p) is = at p (parents k p is) (task_at t.tree p) refl (is_visible_in s.numbering space p) refl
 
     -- a task at a number that is not passed is in use there
     still-used : (k n : ℕ) → number_of s.numbering k space ≡ Some n → cursor ≤ n → IsSome (task_at s.tree k) → IsNumberUsedAs t.numbering AsTask space n
@@ -125,7 +125,7 @@ module _ (s : Store) (law : IsLawful s) (parents : HasParents s) (space init sta
     all-passed none k = go (number_of s.numbering k space) refl (task_at s.tree k) refl
       where
         go : (o : Option ℕ) → number_of s.numbering k space ≡ o → (x : Option Task) → task_at s.tree k ≡ x → slot_at t k ≡ slot_after_fall s space init status k
-        go None e x is = as-was k (unseen cursor k e) ∙ sym (ap (λ o. if is_some o then member_after_fall (has_parent_within s space k) (k == init) status (slot_at s k) else slot_at s k) e)
+        go None e x is = as-was k (unseen cursor k e) ∙ sym (ap (λ o. if is_some o then member_after_fall (has_parent_inside s space k) (k == init) status (slot_at s k) else slot_at s k) e)
         go (Some n) e x is = elim (below_or n cursor) [
           | inl below ↦ slots k ∙ midway cursor k true (passed cursor k n e true (lt_yes n cursor below))
           | inr from ↦ last x is from
@@ -155,8 +155,8 @@ module _ (s : Store) (law : IsLawful s) (parents : HasParents s) (space init sta
           mine : slot_at t' key ≡ slot_midway s space init status (number + 1) key
           mine =
               ended ∙ ap (λ g. member_after_fall g (key == init) status (slot_at t key)) (same_fall key next-same)
-              ∙ ap (member_after_fall (has_parent_within s space key) (key == init) status) next-same
-              ∙ sym (ap (λ o. if is_some o then member_after_fall (has_parent_within s space key) (key == init) status (slot_at s key) else slot_at s key) was-here)
+              ∙ ap (member_after_fall (has_parent_inside s space key) (key == init) status) next-same
+              ∙ sym (ap (λ o. if is_some o then member_after_fall (has_parent_inside s space key) (key == init) status (slot_at s key) else slot_at s key) was-here)
               ∙ sym (midway (number + 1) key true (passed (number + 1) key number was-here true (lt_yes number (number + 1) (omega arith))))
 
           other : k ≢ key → (o : Option ℕ) → number_of s.numbering k space ≡ o → slot_midway s space init status cursor k ≡ slot_midway s space init status (number + 1) k

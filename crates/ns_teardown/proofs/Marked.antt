@@ -16,7 +16,7 @@ use Rattle.task_table.proofs.Less as less
 use Rattle.task_table.specs.Lawful.{HasLaws, IsLawful}
 use Rattle.task_table.specs.Whole.{HasParents}
 use Rattle.ns_teardown.specs.GoodTasks.{HasGoodTasks}
-use Rattle.ns_teardown.specs.Fall.{Slot, FallsWithin, slot_at, is_member, member_after_fall, has_parent_within, slot_after_fall}
+use Rattle.ns_teardown.specs.Fall.{Slot, FallsWithin, slot_at, is_visible_in, member_after_fall, has_parent_inside, slot_after_fall}
 use Rattle.ns_teardown.proofs.Outer as outer
 use Rattle.ns_teardown.proofs.Visible as visible
 use Rattle.ns_teardown.proofs.Falling as falling
@@ -87,19 +87,19 @@ module _ (s t : Store) (space : ℕ) (f : FallsWithin space s.numbering t.number
   -- what is told from the tasks then is told from those before
   pub slot-marked : (init status k : ℕ) → slot_after_fall t space init status k ≡ slot_after_fall s space init status k
   slot-marked init status k =
-      ap (λ o. if is_some o then member_after_fall (has_parent_within t space k) (k == init) status (slot_at t k) else slot_at t k) (number-marked space s.numbering t.numbering f k space)
-      ∙ ap (λ g. if is_member s.numbering space k then member_after_fall g (k == init) status (slot_at t k) else slot_at t k) within
-      ∙ ap (λ x. if is_member s.numbering space k then member_after_fall (has_parent_within s space k) (k == init) status x else x) (ap (λ x. slot_at x k) rest)
+      ap (λ o. if is_some o then member_after_fall (has_parent_inside t space k) (k == init) status (slot_at t k) else slot_at t k) (number-marked space s.numbering t.numbering f k space)
+      ∙ ap (λ g. if is_visible_in s.numbering space k then member_after_fall g (k == init) status (slot_at t k) else slot_at t k) within
+      ∙ ap (λ x. if is_visible_in s.numbering space k then member_after_fall (has_parent_inside s space k) (k == init) status x else x) (ap (λ x. slot_at x k) rest)
     where
-      within : has_parent_within t space k ≡ has_parent_within s space k
-      within = ap (λ tree. option_map_or (is_member t.numbering space) (parent_of tree k) false) tree-same ∙ go (parent_of s.tree k)
+      within : has_parent_inside t space k ≡ has_parent_inside s space k
+      within = ap (λ tree. option_map_or (is_visible_in t.numbering space) (parent_of tree k) false) tree-same ∙ go (parent_of s.tree k)
         where
-          go : (o : Option ℕ) → option_map_or (is_member t.numbering space) o false ≡ option_map_or (is_member s.numbering space) o false
+          go : (o : Option ℕ) → option_map_or (is_visible_in t.numbering space) o false ≡ option_map_or (is_visible_in s.numbering space) o false
           go None = refl
           go (Some p) = ap is_some (number-marked space s.numbering t.numbering f p space)
 
 -- the init of a namespace is no child of a member
-pub outer-parent : (s : Store) → IsLawful s → HasGoodTasks s → (init : ℕ) (u : Identifier) → identifier_at s.numbering init ≡ Some u → number_of s.numbering init u.space ≡ Some 1 → has_parent_within s u.space init ≡ false
+pub outer-parent : (s : Store) → IsLawful s → HasGoodTasks s → (init : ℕ) (u : Identifier) → identifier_at s.numbering init ≡ Some u → number_of s.numbering init u.space ≡ Some 1 → has_parent_inside s u.space init ≡ false
 outer-parent s law good init u is first = go (parent_of s.tree init) refl
   where
     apart : (p : ℕ) → parent_of s.tree init ≡ Some p → (v : Identifier) → identifier_at s.numbering p ≡ Some v → (o : Option ℕ) → beside u.space (path_at s.numbering v.space) v.numbers ≡ o → is_some o ≡ false
@@ -109,21 +109,21 @@ outer-parent s law good init u is first = go (parent_of s.tree init) refl
         let inside = sym (ap (contains (path_at s.numbering v.space)) j.2) ∙ contains_at (path_at s.numbering v.space) j.0 j.1 in
         absurd (good.outside init p u v child is at first (outer.around-same s.numbering law.numbering u.space v.space (good.around init p u v child is at) inside))
 
-    go : (o : Option ℕ) → parent_of s.tree init ≡ o → option_map_or (is_member s.numbering u.space) o false ≡ false
+    go : (o : Option ℕ) → parent_of s.tree init ≡ o → option_map_or (is_visible_in s.numbering u.space) o false ≡ false
     go None child = refl
     go (Some p) child =
         let v = visible.named s law.agree p (good.parents init p child) in
         ap (λ o. is_some (number_in (path_at s.numbering) u.space o)) v.1 ∙ apart p child v.0 v.1 (beside u.space (path_at s.numbering v.0.space) v.0.numbers) refl
 
 -- so it stays
-pub init-left : (s : Store) (space init status : ℕ) → number_of s.numbering init space ≡ Some 1 → has_parent_within s space init ≡ false → slot_after_fall s space init status init ≡ member_after_fall false true status (slot_at s init)
+pub init-left : (s : Store) (space init status : ℕ) → number_of s.numbering init space ≡ Some 1 → has_parent_inside s space init ≡ false → slot_after_fall s space init status init ≡ member_after_fall false true status (slot_at s init)
 init-left s space init status first outer =
-    ap (λ o. if is_some o then member_after_fall (has_parent_within s space init) (init == init) status (slot_at s init) else slot_at s init) first
+    ap (λ o. if is_some o then member_after_fall (has_parent_inside s space init) (init == init) status (slot_at s init) else slot_at s init) first
     ∙ ap (λ g. member_after_fall g (init == init) status (slot_at s init)) outer
     ∙ ap (λ b. member_after_fall false b status (slot_at s init)) (eq-eqb init init refl)
 
 -- the child of a member is a member
-closed : (s : Store) → IsLawful s → HasGoodTasks s → (space k p : ℕ) → parent_of s.tree k ≡ Some p → is_member s.numbering space p ≡ true → is_member s.numbering space k ≡ true
+closed : (s : Store) → IsLawful s → HasGoodTasks s → (space k p : ℕ) → parent_of s.tree k ≡ Some p → is_visible_in s.numbering space p ≡ true → is_visible_in s.numbering space k ≡ true
 closed s law good space k p child member = go (beside space (path_at s.numbering v.0.space) v.0.numbers) refl (ap (λ o. is_some (number_in (path_at s.numbering) space o)) (sym v.1) ∙ member)
   where
     v : (v : Identifier) × (identifier_at s.numbering p ≡ Some v)
@@ -132,7 +132,7 @@ closed s law good space k p child member = go (beside space (path_at s.numbering
     u : (u : Identifier) × (identifier_at s.numbering k ≡ Some u)
     u = visible.named s law.agree k (child_is_task s law k p child)
 
-    go : (o : Option ℕ) → beside space (path_at s.numbering v.0.space) v.0.numbers ≡ o → is_some o ≡ true → is_member s.numbering space k ≡ true
+    go : (o : Option ℕ) → beside space (path_at s.numbering v.0.space) v.0.numbers ≡ o → is_some o ≡ true → is_visible_in s.numbering space k ≡ true
     go None e some = absurd (cc)
     go (Some n) e some =
         let j = beside-some space n (path_at s.numbering v.0.space) v.0.numbers e in
@@ -141,25 +141,25 @@ closed s law good space k p child member = go (beside space (path_at s.numbering
 
 -- parents are tasks after the fall too
 pub left-parents : (s t : Store) → IsLawful s → HasGoodTasks s → (space init status : ℕ) → ((k : ℕ) → slot_at t k ≡ slot_after_fall s space init status k) → HasParents t
-left-parents s t law good space init status slots k p child = go (is_member s.numbering space k) refl (has_parent_within s space k) refl
+left-parents s t law good space init status slots k p child = go (is_visible_in s.numbering space k) refl (has_parent_inside s space k) refl
   where
-    after : (j : ℕ) (m g : Bool) → is_member s.numbering space j ≡ m → has_parent_within s space j ≡ g → slot_at t j ≡ (if m then member_after_fall g (j == init) status (slot_at s j) else slot_at s j)
+    after : (j : ℕ) (m g : Bool) → is_visible_in s.numbering space j ≡ m → has_parent_inside s space j ≡ g → slot_at t j ≡ (if m then member_after_fall g (j == init) status (slot_at s j) else slot_at s j)
     after j m g member within =
-        slots j ∙ ap (λ m. if m then member_after_fall (has_parent_within s space j) (j == init) status (slot_at s j) else slot_at s j) member
+        slots j ∙ ap (λ m. if m then member_after_fall (has_parent_inside s space j) (j == init) status (slot_at s j) else slot_at s j) member
         ∙ ap (λ g. if m then member_after_fall g (j == init) status (slot_at s j) else slot_at s j) within
 
-    stays : parent_of s.tree k ≡ Some p → is_member s.numbering space p ≡ false → IsSome (task_at t.tree p)
-    stays was off = ap (λ (x : Slot). is_some x.task) (after p false (has_parent_within s space p) off refl) ∙ good.parents k p was
+    stays : parent_of s.tree k ≡ Some p → is_visible_in s.numbering space p ≡ false → IsSome (task_at t.tree p)
+    stays was off = ap (λ (x : Slot). is_some x.task) (after p false (has_parent_inside s space p) off refl) ∙ good.parents k p was
 
-    outer : parent_of s.tree k ≡ Some p → is_member s.numbering space k ≡ false → (b : Bool) → is_member s.numbering space p ≡ b → IsSome (task_at t.tree p)
+    outer : parent_of s.tree k ≡ Some p → is_visible_in s.numbering space k ≡ false → (b : Bool) → is_visible_in s.numbering space p ≡ b → IsSome (task_at t.tree p)
     outer was off true e = absurd (let z = sym off ∙ closed s law good space k p was e in cc)
     outer was off false e = stays was e
 
-    go : (m : Bool) → is_member s.numbering space k ≡ m → (g : Bool) → has_parent_within s space k ≡ g → IsSome (task_at t.tree p)
+    go : (m : Bool) → is_visible_in s.numbering space k ≡ m → (g : Bool) → has_parent_inside s space k ≡ g → IsSome (task_at t.tree p)
     go true member true within = absurd (let z = sym (ap (λ (x : Slot). x.parent) (after k true true member within)) ∙ child in cc)
     go true member false within =
         let was : parent_of s.tree k ≡ Some p = sym (ap (λ (x : Slot). x.parent) (after k true false member within)) ∙ child in
-        stays was (sym (ap (λ o. option_map_or (is_member s.numbering space) o false) was) ∙ within)
+        stays was (sym (ap (λ o. option_map_or (is_visible_in s.numbering space) o false) was) ∙ within)
     go false member g within =
         let was : parent_of s.tree k ≡ Some p = sym (ap (λ (x : Slot). x.parent) (after k false g member within)) ∙ child in
-        outer was member (is_member s.numbering space p) refl
+        outer was member (is_visible_in s.numbering space p) refl

@@ -14,13 +14,13 @@ use Rattle.task_tree.specs.Tree.{task_at, parent_of, lives, handed}
 use Rattle.task_table.specs.Store.{Store}
 use Rattle.task_table.specs.Lawful.{IsLawful}
 use Rattle.ns_teardown.specs.GoodTasks.{HasGoodTasks, HasInit}
-use Rattle.ns_teardown.specs.Heirs.{IsHeir, is_subreaper_in, ancestors, nearest_subreaper}
+use Rattle.ns_teardown.specs.Heirs.{IsHeir, is_subreaper_of, ancestor_keys, nearest_subreaper_key}
 use Rattle.pid_types.proofs.Ancestors.{climb-step}
 use Rattle.ns_teardown.proofs.Ancestors as above
 use Rattle.ns_teardown.proofs.Visible as visible
 
 -- a subreaper is a task of the namespace
-subreaper : (s : Store) (space k : ℕ) → is_subreaper_in s space k ≡ true → IsSome (task_at s.tree k) × (v : Identifier) × (identifier_at s.numbering k ≡ Some v) × (v.space ≡ space)
+subreaper : (s : Store) (space k : ℕ) → is_subreaper_of s space k ≡ true → IsSome (task_at s.tree k) × (v : Identifier) × (identifier_at s.numbering k ≡ Some v) × (v.space ≡ space)
 subreaper s space k e = go (task_at s.tree k) (identifier_at s.numbering k) (both _ _ e)
   where
     go : (t : Option Task) (u : Option Identifier) → (option_map_or (λ t. t.subreaper) t false ≡ true) × (option_map_or (λ u. u.space == space) u false ≡ true) → IsSome t × (v : Identifier) × (u ≡ Some v) × (v.space ≡ space)
@@ -69,9 +69,9 @@ module _ (s : Store) (law : IsLawful s) (good : HasGoodTasks s) where
       let x = visible.live_of (task_at s.tree key) live in
       let u = visible.named s law.agree key (ap is_some x.1) in
       let init = init_of key u.0 u.1 live in
-      go u.0 u.1 init (nearest_subreaper s u.0.space key) refl
+      go u.0 u.1 init (nearest_subreaper_key s u.0.space key) refl
     where
-      go : (u : Identifier) → identifier_at s.numbering key ≡ Some u → HasInit s u.space → (o : Option ℕ) → nearest_subreaper s u.space key ≡ o → (heir : ℕ) × IsHeir s key heir
+      go : (u : Identifier) → identifier_at s.numbering key ≡ Some u → HasInit s u.space → (o : Option ℕ) → nearest_subreaper_key s u.space key ≡ o → (heir : ℕ) × IsHeir s key heir
       go u is init None e =
           (init.key, record { identifier = u; named = is; found = subst (λ o. MatchOption o (number_of s.numbering init.key u.space ≡ Some 1) (λ a. init.key ≡ a)) (sym e) init.first })
       go u is init (Some a) e =
@@ -81,12 +81,12 @@ module _ (s : Store) (law : IsLawful s) (good : HasGoodTasks s) where
   pub heir-beside : (key heir : ℕ) → option_map_or lives (task_at s.tree key) false ≡ true
       → ((u : Identifier) → identifier_at s.numbering key ≡ Some u → number_of s.numbering key u.space ≢ Some 1) → IsHeir s key heir
       → (key ≢ heir) × IsSome (task_at s.tree heir) × (u : Identifier) × (v : Identifier) × (identifier_at s.numbering key ≡ Some u) × (identifier_at s.numbering heir ≡ Some v) × (u.space ≡ v.space)
-  heir-beside key heir live inner h = go (nearest_subreaper s h.identifier.space key) refl h.found
+  heir-beside key heir live inner h = go (nearest_subreaper_key s h.identifier.space key) refl h.found
     where
       space : ℕ
       space = h.identifier.space
 
-      go : (o : Option ℕ) → nearest_subreaper s space key ≡ o → MatchOption o (number_of s.numbering heir space ≡ Some 1) (λ a. heir ≡ a)
+      go : (o : Option ℕ) → nearest_subreaper_key s space key ≡ o → MatchOption o (number_of s.numbering heir space ≡ Some 1) (λ a. heir ≡ a)
           → (key ≢ heir) × IsSome (task_at s.tree heir) × (u : Identifier) × (v : Identifier) × (identifier_at s.numbering key ≡ Some u) × (identifier_at s.numbering heir ≡ Some v) × (u.space ≡ v.space)
       go None e first =
           let init = init_of key h.identifier h.named live in
@@ -100,11 +100,11 @@ module _ (s : Store) (law : IsLawful s) (good : HasGoodTasks s) where
             sym init.own,
           )
       go (Some a) e is =
-          let found = above.found-is (is_subreaper_in s space) (ancestors s key) a e in
-          let r = subreaper s space heir (ap (is_subreaper_in s space) is ∙ found.0) in
+          let found = above.found-is (is_subreaper_of s space) (ancestor_keys s key) a e in
+          let r = subreaper s space heir (ap (is_subreaper_of s space) is ∙ found.0) in
           let x = visible.live_of (task_at s.tree key) live in
           let end = good.chain key (ap is_some x.1) in (
-            another (parent_of s.tree) (length s.tree.tasks) (length s.tree.tasks) key end.0 heir end.1 end.2 (ap (contains (ancestors s key)) is ∙ found.1),
+            another (parent_of s.tree) (length s.tree.tasks) (length s.tree.tasks) key end.0 heir end.1 end.2 (ap (contains (ancestor_keys s key)) is ∙ found.1),
             r.0,
             h.identifier,
             r.1,

@@ -11,7 +11,7 @@ use Rattle.task_tree.specs.Tree.{task_at, parent_of}
 use Rattle.task_table.specs.Store.{Store}
 use Rattle.task_table.specs.Lawful.{HasLaws, IsLawful}
 use Rattle.ns_teardown.specs.GoodTasks.{HasGoodTasks}
-use Rattle.ns_teardown.specs.Heirs.{is_subreaper_in}
+use Rattle.ns_teardown.specs.Heirs.{is_subreaper_of}
 use Rattle.pid_types.proofs.Ancestors.{found_above}
 use Rattle.ns_teardown.proofs.Visible as visible
 
@@ -55,14 +55,14 @@ key_other (Some m) n e z =
     absurd (let f = e ∙ ap not on in cc)
 
 -- a subreaper of this namespace, by its mark and its namespace
-pub marked-here : (s : Store) (space k : ℕ) → option_map_or (λ t. t.subreaper) (task_at s.tree k) false ≡ true → option_map (λ (u : Identifier). u.space) (identifier_at s.numbering k) ≡ Some space → is_subreaper_in s space k ≡ true
+pub marked-here : (s : Store) (space k : ℕ) → option_map_or (λ t. t.subreaper) (task_at s.tree k) false ≡ true → option_map (λ (u : Identifier). u.space) (identifier_at s.numbering k) ≡ Some space → is_subreaper_of s space k ≡ true
 marked-here s space k mark own = ap (λ b. b && option_map_or (λ (u : Identifier). u.space == space) (identifier_at s.numbering k) false) mark ∙ go (identifier_at s.numbering k) own
   where
     go : (o : Option Identifier) → option_map (λ (u : Identifier). u.space) o ≡ Some space → option_map_or (λ (u : Identifier). u.space == space) o false ≡ true
     go None e = absurd (cc)
     go (Some u) e = eq-eqb u.space space (ap (λ o. option_map_or (λ n. n) o u.space) e)
 
-pub unmarked : (s : Store) (space k : ℕ) → option_map_or (λ t. t.subreaper) (task_at s.tree k) false ≡ false → is_subreaper_in s space k ≡ false
+pub unmarked : (s : Store) (space k : ℕ) → option_map_or (λ t. t.subreaper) (task_at s.tree k) false ≡ false → is_subreaper_of s space k ≡ false
 unmarked s space k mark = ap (λ b. b && option_map_or (λ (u : Identifier). u.space == space) (identifier_at s.numbering k) false) mark
 
 -- a task whose own namespace is another one around this one
@@ -86,7 +86,7 @@ module _ (s : Store) (law : IsLawful s) (good : HasGoodTasks s) (space : ℕ) wh
       }
 
   -- and is no subreaper of this one
-  pub outer-fails : (x : ℕ) → IsOuter s space x → is_subreaper_in s space x ≡ false
+  pub outer-fails : (x : ℕ) → IsOuter s space x → is_subreaper_of s space x ≡ false
   outer-fails x o =
       let m = o.differs in
       let off : (o.identifier.space == space) ≡ false = grind (arith, m) in
@@ -97,21 +97,21 @@ module _ (s : Store) (law : IsLawful s) (good : HasGoodTasks s) (space : ℕ) wh
       never true = refl
       never false = refl
 
-  pub outer-none : (most x : ℕ) → IsOuter s space x → found_above (parent_of s.tree) (is_subreaper_in s space) most x ≡ None
+  pub outer-none : (most x : ℕ) → IsOuter s space x → found_above (parent_of s.tree) (is_subreaper_of s space) most x ≡ None
   unfolding climb
   outer-none zero x o = go (parent_of s.tree x)
     where
-      go : (r : Option ℕ) → find (is_subreaper_in s space) (option_map_or (climb (parent_of s.tree) zero) r []) ≡ None
+      go : (r : Option ℕ) → find (is_subreaper_of s space) (option_map_or (climb (parent_of s.tree) zero) r []) ≡ None
       go None = refl
       go (Some p) = refl
   outer-none (suc most) x o = go (λ p. outer-none most p) (parent_of s.tree x) refl
     where
-      go : ((p : ℕ) → IsOuter s space p → found_above (parent_of s.tree) (is_subreaper_in s space) most p ≡ None) → (r : Option ℕ) → parent_of s.tree x ≡ r
-          → find (is_subreaper_in s space) (option_map_or (climb (parent_of s.tree) (suc most)) r []) ≡ None
+      go : ((p : ℕ) → IsOuter s space p → found_above (parent_of s.tree) (is_subreaper_of s space) most p ≡ None) → (r : Option ℕ) → parent_of s.tree x ≡ r
+          → find (is_subreaper_of s space) (option_map_or (climb (parent_of s.tree) (suc most)) r []) ≡ None
       go again None e = refl
       go again (Some p) e =
           let q = outer-parent x p o e in
-          ap (λ t. cond t (Some p) (found_above (parent_of s.tree) (is_subreaper_in s space) most p)) (outer-fails p q) ∙ again p q
+          ap (λ t. cond t (Some p) (found_above (parent_of s.tree) (is_subreaper_of s space) most p)) (outer-fails p q) ∙ again p q
 
   -- the parent of a task of this namespace is of it, or outer
   pub left-space : (x p : ℕ) → option_map (λ (u : Identifier). u.space) (identifier_at s.numbering x) ≡ Some space → parent_of s.tree x ≡ Some p

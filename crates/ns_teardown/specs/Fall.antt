@@ -25,12 +25,12 @@ abbrev pub vacant : Slot
 vacant = record { task = None; parent = None; membership = None }
 
 -- whether the identifier is visible in the namespace
-abbrev pub is_member : Numbering → ℕ → ℕ → Bool
-is_member b space k = is_some (number_of b k space)
+abbrev pub is_visible_in : Numbering → ℕ → ℕ → Bool
+is_visible_in b space k = is_some (number_of b k space)
 
 -- whether the task's parent is a member of the namespace
-abbrev pub has_parent_within : Store → ℕ → ℕ → Bool
-has_parent_within s space k = option_map_or (is_member s.numbering space) (parent_of s.tree k) false
+abbrev pub has_parent_inside : Store → ℕ → ℕ → Bool
+has_parent_inside s space k = option_map_or (is_visible_in s.numbering space) (parent_of s.tree k) false
 
 -- the init has ended by its exit, and every other live member is killed: pid_namespaces(7), "the kernel terminates all of the
 -- processes in the namespace via a SIGKILL signal"
@@ -47,7 +47,8 @@ member_after_fall goes is_init status x = if goes then vacant else record x { ta
 -- what is left at a key: a member goes if its parent is a member too, and who is no member stays as it was
 abbrev pub slot_after_fall : Store → ℕ → ℕ → ℕ → ℕ → Slot
 slot_after_fall s space init status k =
-    if is_member s.numbering space k then member_after_fall (has_parent_within s space k) (k == init) status (slot_at s k) else slot_at s k
+    if is_visible_in s.numbering space k then member_after_fall (has_parent_inside s space k) (k == init) status (slot_at s k)
+    else slot_at s k
 
 -- the namespace and all inside it have fallen, and nothing else has changed
 pub record FallsWithin (space : ℕ) (old new : Numbering) : Type 0 where
@@ -64,7 +65,7 @@ pub record KeepsHomes (old new : Charges) : Type 0 where
 
 -- whether the task goes with its parent, read while others have gone already: the parent is a member of the namespace, or was one
 abbrev pub parent_falls_at : Store → ℕ → ℕ → Bool
-parent_falls_at s space k = option_map_or (λ p. is_none (task_at s.tree p) || is_member s.numbering space p) (parent_of s.tree k) false
+parent_falls_at s space k = option_map_or (λ p. is_none (task_at s.tree p) || is_visible_in s.numbering space p) (parent_of s.tree k) false
 
 -- whether the task's number in the namespace is below the cursor
 abbrev pub is_passed : Numbering → ℕ → ℕ → ℕ → Bool

@@ -6,6 +6,7 @@ use Rattle.task_tree.specs.declared.Task.{Task}
 use Rattle.task_tree.specs.Tree.{task_at, parent_of, lives}
 use Rattle.task_table.specs.Store.{Store}
 use Rattle.task_table.specs.Whole.{HasParents}
+use Rattle.task_table.specs.declared.view.Found.{Found}
 
 -- a task whose own namespace this is has number 1 in it: pid_namespaces(7), "The namespace init process"
 pub record HasInit (s : Store) (space : ℕ) : Type 0 where
@@ -15,6 +16,16 @@ pub record HasInit (s : Store) (space : ℕ) : Type 0 where
   pub named : identifier_at s.numbering key ≡ Some identifier
   pub own : identifier.space ≡ space
   pub first : number_of s.numbering key space ≡ Some 1
+
+-- the task is not number 1 in its own namespace
+abbrev pub IsNoInit : Store → Found → Type 0
+IsNoInit s f = (u : Identifier) → identifier_at s.numbering f.key ≡ Some u → number_of s.numbering f.key u.space ≢ Some 1
+
+-- the task is number 1 in its own namespace, which is not the root
+abbrev pub IsInnerInit : Store → Found → Type 0
+IsInnerInit s f =
+    (u : Identifier) → identifier_at s.numbering f.key ≡ Some u
+    → (number_of s.numbering f.key u.space ≡ Some 1) × (u.space ≢ 0)
 
 pub record HasGoodTasks (s : Store) : Type 0 where
   -- a parent is a task

@@ -1,9 +1,10 @@
 //! Ancestors that are subreapers (`PR_SET_CHILD_SUBREAPER(2const)`).
 ghost use Rattle.std.specs.Prelude.{◌≡◌, Some, IsSome, option_map};
-ghost use Rattle.pid_numbers.specs.Numbering.{identifier_at};
-ghost use Rattle.task_tree.specs.Tree.{task_at, is_subreaper as is_subreaper_of};
-ghost use Rattle.ns_teardown.specs.GoodTasks.{HasGoodTasks};
-ghost use Rattle.ns_teardown.specs.Heirs.{nearest_subreaper as nearest_subreaper_of};
+ghost use Rattle.{
+  pid_numbers.specs.Numbering.{identifier_at},
+  task_tree.specs.Tree.{task_at, is_subreaper as is_subreaper_of},
+  ns_teardown.specs.{GoodTasks.{HasGoodTasks}, Heirs.{nearest_subreaper_key}},
+};
 
 use pid_types::keys::{SpaceKey, TaskKey};
 use task_table::Tasks;
@@ -26,7 +27,7 @@ fn climb_to_subreaper(store: &Tasks, space: SpaceKey, key: TaskKey) -> Option<Ta
     requires good { HasGoodTasks store.now }
     requires there { IsSome (task_at store.now.tree key) }
     requires own { option_map (λ u. u.space) (identifier_at store.now.numbering key) ≡ Some space }
-    ensures { result ≡ nearest_subreaper_of store.now space key }
+    ensures { result ≡ nearest_subreaper_key store.now space key }
 {
     laws(store);
     let mut at = key;
@@ -48,7 +49,7 @@ pub fn nearest_subreaper(store: &Tasks, space: SpaceKey, key: TaskKey) -> Option
     requires good { HasGoodTasks store.now }
     requires there { IsSome (task_at store.now.tree key) }
     requires own { option_map (λ u. u.space) (identifier_at store.now.numbering key) ≡ Some space }
-    ensures { result ≡ nearest_subreaper_of store.now space key }
+    ensures { result ≡ nearest_subreaper_key store.now space key }
 {
     if !store.tree().any_subreaper() {
         return None;

@@ -2,15 +2,14 @@
 //! init has ended (`pid_namespaces(7)`).
 #![tactic(auto)]
 
-ghost use Rattle.std.specs.Prelude.{◌≡◌, ◌≢◌, ◌==◌, Some, true, false};
-ghost use Rattle.std.specs.Option.{option_eq};
-ghost use Rattle.pid_types.specs.Outcome.{sweep};
-ghost use Rattle.pid_types.specs.Exit.{exit as exit_of, fall as fall_of, rows_after_exit};
-ghost use Rattle.pid_types.specs.Short.{reply_of};
-ghost use Rattle.pid_numbers.specs.Numbering.{Identifier, identifier_at, number_of};
-ghost use Rattle.task_tree.specs.Tree.{task_at, lives};
-ghost use Rattle.task_table.specs.View.{row_of, state_of};
-ghost use Rattle.task_table.specs.Whole.{HasParents, IsWhole};
+ghost use Rattle.std.specs.{Prelude.{◌≡◌, ◌==◌, Some, true, false}, Option.{option_eq}};
+ghost use Rattle.{
+  pid_types.specs.{Outcome.{sweep}, Exit.{exit as exit_of, fall as fall_of, rows_after_exit}, Short.{reply_of}},
+  pid_numbers.specs.Numbering.{number_of},
+  task_tree.specs.Tree.{task_at, lives},
+  task_table.specs.{View.{row_of, state_of}, Whole.{HasParents, IsWhole}, Found.{HasOwnSpace}},
+  ns_teardown.specs.GoodTasks.{IsNoInit, IsInnerInit},
+};
 
 mod heirs;
 mod members;
@@ -43,10 +42,8 @@ fn end_task(store: &mut Tasks, found: &Found, status: u8)
     requires whole { IsWhole store.old }
     requires there { task_at store.old.tree found.now.key ≡ Some found.now.task }
     requires live { lives found.now.task ≡ true }
-    requires own { (u : Identifier) → identifier_at store.old.numbering found.now.key ≡ Some u
-        → found.now.space ≡ u.space }
-    requires inner { (u : Identifier) → identifier_at store.old.numbering found.now.key ≡ Some u
-        → number_of store.old.numbering found.now.key u.space ≢ Some 1 }
+    requires own { HasOwnSpace store.old found.now }
+    requires inner { IsNoInit store.old found.now }
     ensures state { state_of store.new ≡ sweep (record (state_of store.old) {
       rows = rows_after_exit
           (state_of store.old) (row_of store.old found.now.key found.now.task) status;
@@ -63,10 +60,8 @@ fn end_init(store: &mut Tasks, init: &Found, status: u8)
     requires whole { IsWhole store.old }
     requires there { task_at store.old.tree init.now.key ≡ Some init.now.task }
     requires live { lives init.now.task ≡ true }
-    requires own { (u : Identifier) → identifier_at store.old.numbering init.now.key ≡ Some u
-        → init.now.space ≡ u.space }
-    requires top { (u : Identifier) → identifier_at store.old.numbering init.now.key ≡ Some u
-        → (number_of store.old.numbering init.now.key u.space ≡ Some 1) × (u.space ≢ 0) }
+    requires own { HasOwnSpace store.old init.now }
+    requires top { IsInnerInit store.old init.now }
     ensures state { state_of store.new
         ≡ sweep (fall_of (state_of store.old) (row_of store.old init.now.key init.now.task) status) }
     ensures parents { HasParents store.new }

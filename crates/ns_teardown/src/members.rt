@@ -1,12 +1,13 @@
 //! The end of the members of a namespace that has fallen (`pid_namespaces(7)`).
 ghost use Rattle.std.specs.Prelude.{◌≡◌, ◌≢◌, ℕ, ◌<◌, ◌==◌, length, Some, IsSome, true, false};
 ghost use Rattle.std.specs.Option.{option_map_or};
-ghost use Rattle.pid_types.specs.Settings.{HasGoodPidMax};
-ghost use Rattle.pid_numbers.specs.Numbering.{Identifier, identifier_at, number_of};
-ghost use Rattle.task_tree.specs.Tree.{task_at, parent_of, lives};
-ghost use Rattle.task_table.specs.Store.{IsLess};
-ghost use Rattle.task_table.specs.Whole.{HasParents};
-ghost use Rattle.ns_teardown.specs.Fall.{slot_at, member_after_fall, slot_after_fall, parent_falls_at, KeepsHomes};
+ghost use Rattle.{
+  pid_types.specs.Settings.{HasGoodPidMax},
+  pid_numbers.specs.Numbering.{Identifier, identifier_at, number_of},
+  task_tree.specs.Tree.{task_at, parent_of, lives},
+  task_table.specs.{Store.{IsLess}, Whole.{HasParents}},
+  ns_teardown.specs.Fall.{slot_at, member_after_fall, slot_after_fall, parent_falls_at, KeepsHomes},
+};
 
 use pid_types::call::Kind;
 use pid_types::keys::{SpaceKey, TaskKey};

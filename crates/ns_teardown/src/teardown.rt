@@ -11,18 +11,15 @@
 
 ghost use Rattle.std.specs.Prelude.{◌≡◌, ◌≢◌, ℕ, ◌+◌, ◌-◌, option_map, Some, true, false, slice_set};
 ghost use Rattle.std.specs.Option.{option_map_or};
-ghost use Rattle.pid_types.specs.Settings.{HasGoodPidMax};
-ghost use Rattle.pid_types.specs.declared.plain.Life.{Life};
-ghost use Rattle.pid_types.specs.declared.plain.Ended.{Ended};
-ghost use Rattle.pid_numbers.specs.Numbering.{Identifier, Numbering, identifier_at, number_of};
-ghost use Rattle.pids_charge.specs.Charges.{Home, home_at, ChangesHome};
-ghost use Rattle.task_tree.specs.Tree.{task_at, parent_of, lives, handed};
-ghost use Rattle.task_table.specs.Store.{IsLess};
-ghost use Rattle.task_table.specs.Lawful.{HasLaws};
-ghost use Rattle.task_table.specs.Whole.{HasParents};
-ghost use Rattle.ns_teardown.specs.GoodTasks.{HasGoodTasks};
-ghost use Rattle.ns_teardown.specs.Heirs.{IsHeir};
-ghost use Rattle.ns_teardown.specs.Fall.{slot_at, member_after_fall, slot_after_fall, FallsWithin, KeepsHomes};
+ghost use Rattle.{
+  pid_types.specs.{Settings.{HasGoodPidMax}, declared.plain.Life.{Life}, declared.plain.Ended.{Ended}},
+  pid_numbers.specs.Numbering.{Identifier, Numbering, identifier_at, number_of},
+  pids_charge.specs.Charges.{Home, home_at, ChangesHome},
+  task_tree.specs.Tree.{task_at, parent_of, lives, handed},
+  task_table.specs.{Store.{IsLess}, Lawful.{HasLaws}, Whole.{HasParents}, Found.{HasOwnSpace}},
+  ns_teardown.specs.{GoodTasks.{HasGoodTasks, IsNoInit, IsInnerInit}, Heirs.{IsHeir}},
+  ns_teardown.specs.Fall.{slot_at, member_after_fall, slot_after_fall, FallsWithin, KeepsHomes},
+};
 
 use crate::heirs::nearest_subreaper;
 use crate::members::end_members;
@@ -78,10 +75,8 @@ pub fn exit(store: &mut Tasks, found: &Found, status: u8)
     requires good { HasGoodTasks store.old }
     requires there { task_at store.old.tree found.now.key ≡ Some found.now.task }
     requires live { lives found.now.task ≡ true }
-    requires own { (u : Identifier) → identifier_at store.old.numbering found.now.key ≡ Some u
-        → found.now.space ≡ u.space }
-    requires inner { (u : Identifier) → identifier_at store.old.numbering found.now.key ≡ Some u
-        → number_of store.old.numbering found.now.key u.space ≢ Some 1 }
+    requires own { HasOwnSpace store.old found.now }
+    requires inner { IsNoInit store.old found.now }
     ensures tasks { store.new.tree.tasks ≡ slice_set store.old.tree.tasks found.now.key
         (Some (record found.now.task { life = Life.Zombie (Ended.Exited status) })) }
     ensures parents { (heir : ℕ) × IsHeir store.old found.now.key heir × ((k : ℕ) → parent_of store.new.tree k
@@ -108,10 +103,8 @@ pub fn fall(store: &mut Tasks, init: &Found, status: u8)
     requires good { HasGoodTasks store.old }
     requires bound { HasGoodPidMax store.old.numbering.pid_max }
     requires live { option_map_or lives (task_at store.old.tree init.now.key) false ≡ true }
-    requires own { (u : Identifier) → identifier_at store.old.numbering init.now.key ≡ Some u
-        → init.now.space ≡ u.space }
-    requires top { (u : Identifier) → identifier_at store.old.numbering init.now.key ≡ Some u
-        → (number_of store.old.numbering init.now.key u.space ≡ Some 1) × (u.space ≢ 0) }
+    requires own { HasOwnSpace store.old init.now }
+    requires top { IsInnerInit store.old init.now }
     ensures slots { (u : Identifier) → identifier_at store.old.numbering init.now.key ≡ Some u → (k : ℕ)
         → slot_at store.new k ≡ slot_after_fall store.old u.space init.now.key status k }
     ensures init { slot_at store.new init.now.key

@@ -2,7 +2,7 @@
 use Rattle.std.proofs.Common.{◌≡◌, ◌≢◌, ◌⊎◌, inl, inr, ℕ, zero, suc, ◌<◌, ◌≤◌, ◌==◌, true, false, List, [], ◌∷◌, length, get_or, refl, sym, ap, subst, ◌∙◌, arith, lit≤}
 use Rattle.std.proofs.lemmas.Bool.{cases_eq, eq-eqb, both_ways, or_parts, or_right}
 use Rattle.pid_types.specs.Chains.{contains}
-use Rattle.ns_tree.specs.Tree.{IsPath, IsTree}
+use Rattle.ns_tree.specs.Tree.{IsPath, IsPathTree}
 
 -- what is true of each path, where one alone is another
 each-way : (ways ways' : ℕ → List ℕ) (key : ℕ) → ((s : ℕ) → s ≢ key → ways' s ≡ ways s) → (P : ℕ → List ℕ → Type 0) → P key (ways' key) → ((s : ℕ) → s ≢ key → P s (ways s)) → (s : ℕ) → P s (ways' s)
@@ -16,7 +16,7 @@ module _ (ways : ℕ → List ℕ) (root : ways 0 ≡ 0 ∷ []) (others : (s : �
   each_path : (P : ℕ → List ℕ → Type 0) → P 0 (0 ∷ []) → ((s : ℕ) → P s []) → (s : ℕ) → P s (ways s)
   each_path P one none = each-way (λ _. []) ways 0 others P (subst (P 0) (sym root) one) (λ s m. none s)
 
-  pub tree-founded : IsTree ways
+  pub tree-founded : IsPathTree ways
   tree-founded = record {
     root = root;
     head = each_path (λ s p. (p ≡ []) ⊎ ((rest : List ℕ) × (p ≡ s ∷ rest))) (inr ([], refl)) (λ s. inl refl);
@@ -26,7 +26,7 @@ module _ (ways : ℕ → List ℕ) (root : ways 0 ≡ 0 ∷ []) (others : (s : �
   }
 
 -- a namespace more, at a key that had none
-module _ (ways ways' : ℕ → List ℕ) (tree : IsTree ways) (key parent : ℕ) (was : ways key ≡ []) (now : ways' key ≡ key ∷ ways parent) (others : (s : ℕ) → s ≢ key → ways' s ≡ ways s) where
+module _ (ways ways' : ℕ → List ℕ) (tree : IsPathTree ways) (key parent : ℕ) (was : ways key ≡ []) (now : ways' key ≡ key ∷ ways parent) (others : (s : ℕ) → s ≢ key → ways' s ≡ ways s) where
   -- none is on the path of another
   pub away-path : (p : List ℕ) → IsPath ways p → (j : ℕ) → j < length p → get_or p j 0 ≢ key
   away-path [] h j lt e = absurd (omega (arith, lt))
@@ -40,7 +40,7 @@ module _ (ways ways' : ℕ → List ℕ) (tree : IsTree ways) (key parent : ℕ)
   pub not_root : 0 ≢ key
   not_root e = let bad : 0 ∷ [] ≡ [] = sym tree.root ∙ ap ways e ∙ was in cc
 
-  pub tree-added : 0 < length (ways parent) → length (ways parent) < 33 → IsTree ways'
+  pub tree-added : 0 < length (ways parent) → length (ways parent) < 33 → IsPathTree ways'
   tree-added there few = record {
     root = others 0 not_root ∙ tree.root;
     head = each-way ways ways' key others (λ s p. (p ≡ []) ⊎ ((rest : List ℕ) × (p ≡ s ∷ rest))) (inr (ways parent, now)) (λ s m. tree.head s);
@@ -51,14 +51,14 @@ module _ (ways ways' : ℕ → List ℕ) (tree : IsTree ways) (key parent : ℕ)
   }
 
 -- a namespace less, which none is inside
-module _ (ways ways' : ℕ → List ℕ) (tree : IsTree ways) (key : ℕ) (inner : key ≢ 0) (bare : (s : ℕ) → s ≢ key → contains (ways s) key ≡ false) (gone : ways' key ≡ []) (others : (s : ℕ) → s ≢ key → ways' s ≡ ways s) where
+module _ (ways ways' : ℕ → List ℕ) (tree : IsPathTree ways) (key : ℕ) (inner : key ≢ 0) (bare : (s : ℕ) → s ≢ key → contains (ways s) key ≡ false) (gone : ways' key ≡ []) (others : (s : ℕ) → s ≢ key → ways' s ≡ ways s) where
   path_stays : (p : List ℕ) → contains p key ≡ false → IsPath ways p → IsPath ways' p
   path_stays [] off h = tt
   path_stays (s ∷ ss) off h =
       let r = or_parts (s == key) (contains ss key) off in
       (others s (λ e. both_ways (s == key) r.0 (eq-eqb s key e)) ∙ h.0, path_stays ss r.1 h.1)
 
-  pub tree-dropped : IsTree ways'
+  pub tree-dropped : IsPathTree ways'
   tree-dropped = record {
     root = others 0 (λ e. inner (sym e)) ∙ tree.root;
     head = each-way ways ways' key others (λ s p. (p ≡ []) ⊎ ((rest : List ℕ) × (p ≡ s ∷ rest))) (inl gone) (λ s m. tree.head s);

@@ -4,11 +4,11 @@ use Rattle.std.proofs.lemmas.List.{get_or-set_same, get_or-set_other}
 use Rattle.std.proofs.lemmas.Bool.{cases_eq, ne_eqb}
 use Rattle.member_lists.specs.Owners.{owner_of, AreMembers}
 use Rattle.pid_types.specs.Chains.{contains}
-use Rattle.ns_tree.specs.Tree.{IsTree, AreInside, grown, outer_of}
+use Rattle.ns_tree.specs.Tree.{IsPathTree, AreInside, grown, outer_of}
 use Rattle.ns_tree.proofs.Orders.{all-weaken}
 use Rattle.ns_tree.proofs.Paths.{own-first}
 
-module _ (ways : ℕ → List ℕ) (tree : IsTree ways) where
+module _ (ways : ℕ → List ℕ) (tree : IsPathTree ways) where
   -- what is on the path of one that is there, behind its key, begins with its key
   pub outer-new : (key parent : ℕ) → 0 < length (ways parent) → slice_get (key ∷ ways parent) 1 ≡ Some parent
   outer-new key parent some = elim (tree.head parent) [

@@ -4,8 +4,8 @@ use Rattle.std.specs.Option.{option_map_or}
 use Rattle.std.proofs.lemmas.List.{length-map}
 use Rattle.std.proofs.lemmas.Bool.{cases_lt}
 use Rattle.ns_tree.specs.declared.places.Place.{Place}
-use Rattle.ns_tree.specs.Tree.{Node, IsTree, node_in, way, id_in}
-use Rattle.ns_tree.specs.Places.{node_of, shown, nodes_of, IsKept}
+use Rattle.ns_tree.specs.Tree.{Node, IsPathTree, node_in, way, id_in}
+use Rattle.ns_tree.specs.Places.{node_of, occupant, nodes_of, IsSpaceTree}
 use Rattle.ns_tree.specs.Vacancy.{AreVacant}
 use Rattle.ns_tree.proofs.Filled as filled
 use Rattle.ns_tree.proofs.Orders as orders
@@ -17,7 +17,7 @@ path_len p = length p.path.items
 
 -- as many places as there are
 pub count : (places : List Place) → length (nodes_of places) ≡ length places
-count places = length-map places shown
+count places = length-map places occupant
 
 -- a namespace that is seen has a path
 pub some-path : (places : List Place) (s : ℕ) (t : Node) → node_in (nodes_of places) s ≡ Some t → 0 < length t.path
@@ -41,7 +41,7 @@ no-path places s none = go (node_in (nodes_of places) s) refl none
     go (Some t) at e = let up = some-path places s t at in let l = ap length e in absurd (omega (arith, up, l))
 
 -- a place in range, and what is behind all of them
-pub node-at : (places : List Place) (s : ℕ) (y : Place) → s < length places → y ≡ get_or places s y → node_in (nodes_of places) s ≡ shown y
+pub node-at : (places : List Place) (s : ℕ) (y : Place) → s < length places → y ≡ get_or places s y → node_in (nodes_of places) s ≡ occupant y
 node-at places s y lt e = filled.slot-in path_len node_of places s y lt e
 
 pub way-in : (places : List Place) (s : ℕ) → 0 < length (way (nodes_of places) s) → s < length places
@@ -54,7 +54,7 @@ way-in places s some = elim (cases_lt s (length places)) [
 pub way-at : (places : List Place) (s : ℕ) (y : Place) → s < length places → y ≡ get_or places s y → way (nodes_of places) s ≡ y.path.items
 way-at places s y lt e = ap (λ o. option_map_or (λ t. t.path) o []) (node-at places s y lt e) ∙ go y.path.items refl
   where
-    go : (p : List ℕ) → y.path.items ≡ p → option_map_or (λ (t : Node). t.path) (shown y) [] ≡ y.path.items
+    go : (p : List ℕ) → y.path.items ≡ p → option_map_or (λ (t : Node). t.path) (occupant y) [] ≡ y.path.items
     go [] is = ap (λ o. option_map_or (λ (t : Node). t.path) o []) (filled.show-none path_len node_of y (ap length is)) ∙ sym is
     go (k ∷ ks) is = ap (λ o. option_map_or (λ (t : Node). t.path) o []) (filled.show-some path_len node_of y (let l = ap length is in omega (arith, l)))
 
@@ -90,9 +90,9 @@ vacant-same old new len ways keys room v =
 
 -- where the paths and the ids stay, all that is known stays
 pub kept-same : (old new : List Place) → length new ≡ length old → ((s : ℕ) → way (nodes_of new) s ≡ way (nodes_of old) s) → ((s : ℕ) → id_in (nodes_of new) s ≡ id_in (nodes_of old) s)
-    → (vacant : List ℕ) (room : ℕ) (order : List (ℕ × ℕ)) (children : List (Option ℕ)) → IsKept old vacant room order children → IsKept new vacant room order children
+    → (vacant : List ℕ) (room : ℕ) (order : List (ℕ × ℕ)) (children : List (Option ℕ)) → IsSpaceTree old vacant room order children → IsSpaceTree new vacant room order children
 kept-same old new len ways ids vacant room order children k = record {
-  tree = subst IsTree (λ i s. sym (ways s) i) k.tree;
+  tree = subst IsPathTree (λ i s. sym (ways s) i) k.tree;
   listed = orders.listed-same (id_in (nodes_of old)) (id_in (nodes_of new)) order k.listed ids;
   vacancies = vacant-same old new len ways vacant room k.vacancies;
   owners = λ s. k.owners s ∙ ap (λ p. slice_get p 1) (sym (ways s));

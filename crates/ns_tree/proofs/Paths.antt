@@ -3,7 +3,7 @@ use Rattle.std.proofs.Common.{◌≡◌, ◌≢◌, inl, inr, ℕ, zero, suc, �
 use Rattle.std.proofs.lemmas.List.{get_or-drop}
 use Rattle.std.proofs.lemmas.Bool.{cases_eq, eq-eqb, ne_eqb, or_right, false_from_ne_true}
 use Rattle.pid_types.specs.Chains.{contains}
-use Rattle.ns_tree.specs.Tree.{IsPath, IsTree}
+use Rattle.ns_tree.specs.Tree.{IsPath, IsPathTree}
 use Rattle.ns_tree.specs.Vacancy.{IsDistinct}
 pub use Rattle.std.proofs.lemmas.Bool.{cases_Bool as cases}
 
@@ -52,7 +52,7 @@ distinct-path ways path h i j lo lt same =
     let y = length-drop j path in
     omega (arith, lo, lt, e, x, y)
 
-module _ (ways : ℕ → List ℕ) (tree : IsTree ways) where
+module _ (ways : ℕ → List ℕ) (tree : IsPathTree ways) where
   -- the path of a namespace that is there begins with it
   pub own-first : (s : ℕ) → 0 < length (ways s) → get_or (ways s) 0 0 ≡ s
   own-first s some = elim (tree.head s) [
@@ -73,7 +73,7 @@ module _ (ways : ℕ → List ℕ) (tree : IsTree ways) where
       (omega (arith, l, k_lt, lt), sym (get_or-drop j (ways t) k 0) ∙ ap (λ p. get_or p k 0) (sym e))
 
 -- where a namespace stands on the path of another
-module _ (ways : ℕ → List ℕ) (tree : IsTree ways) (key outer : ℕ) where
+module _ (ways : ℕ → List ℕ) (tree : IsPathTree ways) (key outer : ℕ) where
   pub within : contains (ways key) outer ≡ true → (0 < length (ways outer)) × (length (ways outer) ≤ length (ways key)) × (get_or (ways key) (length (ways key) - length (ways outer)) 0 ≡ outer)
   within e =
       let p = place_of (ways key) outer e in

@@ -14,7 +14,7 @@ pub record Node : Type 0 where
   pub path : List ℕ
 
 -- the namespaces by key, and in the order of their ids, each id with its key
-pub record Tree : Type 0 where
+pub record TreeOfSpaces : Type 0 where
   pub nodes : List (Option Node)
   pub order : List (ℕ × ℕ)
 
@@ -69,7 +69,7 @@ pub record AreInside (ways : ℕ → List ℕ) (outer : ℕ) (keys : List ℕ) :
   pub each : AllByRecursion (λ s. outer_of ways s ≡ Some outer) keys
 
 -- the paths are those of a tree below the namespace with key 0
-pub record IsTree (ways : ℕ → List ℕ) : Type 0 where
+pub record IsPathTree (ways : ℕ → List ℕ) : Type 0 where
   pub root : ways 0 ≡ 0 ∷ []
   pub head : (s : ℕ) → IsHead ways s
   pub paths : (s : ℕ) → IsPath ways (ways s)

@@ -4,15 +4,15 @@
 //! again, and the id may not.
 #![tactic(auto)]
 
-ghost use Rattle.std.specs.Prelude.{◌≡◌, ◌≢◌, ℕ, ◌+◌, ◌<◌, ◌≤◌, ◌++◌, length, option_map, Some, None};
-ghost use Rattle.std.specs.Prelude.{IsSome, IsTrue, IfOk, OnErr, MatchOption, is_some, nat_lt, slice_index_or};
-ghost use Rattle.std.specs.Prelude.{if◌then◌else◌, true, false, [], ◌∷◌, drop};
-ghost use Rattle.std.specs.List.{AllByRecursion, filter};
-ghost use Rattle.id_slab.specs.Ids.{AreBelow, AreRising};
-ghost use Rattle.pid_types.specs.Bounds.{deepest_space};
-ghost use Rattle.pid_types.specs.Chains.{contains};
-ghost use Rattle.ns_tree.specs.Tree.{node_in, new_node, way, id_in, fell, felled, felled_within, grown, IsTree};
-ghost use Rattle.ns_tree.specs.Tree.{AreListed, AreInside};
+ghost use Rattle.std.specs.Prelude.{◌≡◌, ◌≢◌, ℕ, ◌+◌, ◌<◌, ◌≤◌, ◌++◌, length, option_map, Some, None, IsSome, IsTrue};
+ghost use Rattle.std.specs.Prelude.{IfOk, OnErr, MatchOption, is_some, nat_lt, slice_index_or, if◌then◌else◌, true};
+ghost use Rattle.std.specs.{Prelude.{false, [], ◌∷◌, drop}, List.{AllByRecursion, filter}};
+ghost use Rattle.{
+  id_slab.specs.Ids.{AreBelow, AreRising},
+  pid_types.specs.{Bounds.{deepest_space}, Chains.{contains}},
+  ns_tree.specs.Tree.{node_in, new_node, way, id_in, fell, felled, felled_within, grown, IsPathTree, AreListed},
+  ns_tree.specs.Tree.{AreInside},
+};
 
 mod fall;
 mod places;
@@ -54,14 +54,13 @@ impl Drop for SpaceTree {
 
 impl Model for SpaceTree {
     ghost use Rattle.std.specs.Prelude.{vec_capacity};
-    ghost use Rattle.ns_tree.specs.Tree.{Tree};
-    ghost use Rattle.ns_tree.specs.Places.{nodes_of, IsKept};
+    ghost use Rattle.ns_tree.specs.{Tree.{TreeOfSpaces}, Places.{nodes_of, IsSpaceTree}};
 
-    ghost Value = { Tree };
+    ghost Value = { TreeOfSpaces };
 
     ghost view = { λ a. record { nodes = nodes_of a.places.items; order = a.order } };
 
-    ghost invariant = { λ a. IsKept a.places.items a.vacant.items (vec_capacity a.vacant) a.order a.children };
+    ghost invariant = { λ a. IsSpaceTree a.places.items a.vacant.items (vec_capacity a.vacant) a.order a.children };
 }
 
 impl SpaceTree {
@@ -94,7 +93,7 @@ impl SpaceTree {
     /// root, which has the key 0, with at most 33 levels. The order has the ids of all of them, rising.
     #[inline(always)]
     pub fn laws(&self)
-        ensures tree { IsTree (way self.now.nodes) }
+        ensures tree { IsPathTree (way self.now.nodes) }
         ensures some { (s : ℕ) → IsSome (node_in self.now.nodes s) → 0 < length (way self.now.nodes s) }
         ensures listed { AreListed (id_in self.now.nodes) self.now.order }
         ensures rising { AreRising self.now.order }

@@ -1,14 +1,12 @@
 //! The places of namespaces, and their paths.
 
 ghost use Rattle.std.specs.Prelude.{vec_capacity, ◌≡◌, ◌≢◌, ℕ, ◌+◌, ◌<◌, ◌≤◌, length, option_map, Some, None, IfOk};
-ghost use Rattle.std.specs.Prelude.{OnOk, slice_index_or, [], ◌∷◌, ◌^◌};
-ghost use Rattle.std.specs.Option.{option_copied};
-ghost use Rattle.member_lists.specs.Owners.{owner_of};
-ghost use Rattle.pid_types.specs.Bounds.{deepest_space};
-ghost use Rattle.pid_types.specs.Chains.{contains};
-ghost use Rattle.ns_tree.specs.Tree.{node_in, way, grown, IsTree};
-ghost use Rattle.ns_tree.specs.Places.{node_of, nodes_of};
-ghost use Rattle.ns_tree.specs.Vacancy.{next_place, AreVacant};
+ghost use Rattle.std.specs.{Prelude.{OnOk, slice_index_or, [], ◌∷◌, ◌^◌}, Option.{option_copied}};
+ghost use Rattle.{
+  member_lists.specs.Owners.{owner_of},
+  pid_types.specs.{Bounds.{deepest_space}, Chains.{contains}},
+  ns_tree.specs.{Tree.{node_in, way, grown, IsPathTree}, Places.{node_of, nodes_of}, Vacancy.{next_place, AreVacant}},
+};
 
 use arrayvec::ArrayVec;
 use member_lists::{MemberLists, keys_with_room};
@@ -154,7 +152,7 @@ pub(crate) fn fill_place(places: &mut Vec<Place>, vacant: &mut Vec<SpaceKey>, sp
 /// Whether the namespace is the other one or inside it.
 #[inline(always)]
 pub(crate) fn is_inside(places: &Vec<Place>, key: SpaceKey, outer: SpaceKey) -> bool
-    requires { IsTree (way (nodes_of places.now.items)) }
+    requires { IsPathTree (way (nodes_of places.now.items)) }
     ensures { result ≡ contains (way (nodes_of places.now.items) key) outer }
 {
     let from = levels_at(places, outer);

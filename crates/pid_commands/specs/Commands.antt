@@ -8,7 +8,7 @@ use Rattle.pid_types.specs.State.{State}
 use Rattle.pid_types.specs.Step.{may_grow}
 use Rattle.pid_types.specs.declared.call.Call.{Call}
 use Rattle.pid_types.specs.declared.reply.Reply.{Reply}
-use Rattle.script_session.specs.Job.{Refuses, Yields}
+use Rattle.script_session.specs.Job.{MeetsFault, Yields}
 use Rattle.script_session.specs.Progress.{start_of}
 use Rattle.script_session.specs.Session.{ended_at, Finishes, Leaves}
 use Rattle.script_session.specs.declared.job.JobFault.{JobFault}
@@ -80,7 +80,7 @@ abbrev pub FailsToReadFile : (List ℕ → Option (List ℕ) → Type 0) → Str
 FailsToReadFile holds name fault =
     (fault ≡ Unreadable name)
     ⊎ ((cause : JobFault) × (fault ≡ of_job name cause) × (from to : Option (List ℕ)) × (failed : Bool) × holds (string_bytes name) from
-    × Refuses from to failed cause)
+    × MeetsFault from to failed cause)
 
 -- the fault is that of one of the files, and all before it were read
 pub record FailsInFile (holds : List ℕ → Option (List ℕ) → Type 0) (names : List (String Global)) (fault : Fault) : Type 0 where

@@ -1,6 +1,5 @@
 //! What a command says of a fault.
-ghost use Rattle.std.specs.Prelude.{◌≡◌, OnOk};
-ghost use Rattle.std.specs.Io.KnownBytes.{Appends};
+ghost use Rattle.std.specs.{Prelude.{◌≡◌, OnOk}, Io.KnownBytes.{Appends}};
 ghost use Rattle.pid_script.specs.Script.{with_newline};
 ghost use Rattle.pid_commands.specs.Faults.{fault_line, of_job};
 

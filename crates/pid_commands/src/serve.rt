@@ -1,17 +1,14 @@
 //! The commands `run`, `list` and `work`, over a reader and writers of the caller's. [`run_answer`]
 //! is the one door; a fault of any command is one line on `errors` and the status 1.
 ghost use Rattle.std.specs.Prelude.{◌≡◌, ◌<◌, ◌≤◌, ⊤, Option, List, ℕ, None, false, length, OnOk, IfOk, IfErr, Result};
-ghost use Rattle.std.specs.Prelude.{refl};
-ghost use Rattle.std.specs.Io.KnownBytes.{Appends};
-ghost use Rattle.pid_script.specs.Script.{with_newline};
-ghost use Rattle.pid_commands.specs.declared.asked.Command.{Command};
-ghost use Rattle.pid_commands.specs.declared.asked.WordsFault.{WordsFault};
-ghost use Rattle.worker_jobs.specs.declared.fault.RunFault.{RunFault};
-ghost use Rattle.pid_commands.specs.Faults.{of_run};
-ghost use Rattle.pid_commands.specs.Output.{ListsScript, FailsToList, ShowsRun};
-ghost use Rattle.pid_commands.specs.Commands.{RunsInput, FailsToRunInput, WritesList};
-ghost use Rattle.pid_commands.specs.Commands.{FailsToWriteList, WritesRun, FailsToWriteRun, Does, Fails, Ends};
-ghost use Rattle.pid_commands.specs.Commands.{IsSomeFile};
+ghost use Rattle.std.specs.{Prelude.{refl}, Io.KnownBytes.{Appends}};
+ghost use Rattle.{
+  pid_script.specs.Script.{with_newline},
+  pid_commands.specs.{declared.asked.Command.{Command}, declared.asked.WordsFault.{WordsFault}, Faults.{of_run}},
+  pid_commands.specs.{Output.{ListsScript, FailsToList, ShowsRun}, Commands.{RunsInput, FailsToRunInput, WritesList}},
+  pid_commands.specs.Commands.{FailsToWriteList, WritesRun, FailsToWriteRun, Does, Fails, Ends, IsSomeFile},
+  worker_jobs.specs.declared.fault.RunFault.{RunFault},
+};
 
 use crate::asked::{Command, WordsFault};
 use crate::fault::{Fault, write_fault_line};

@@ -1,11 +1,10 @@
 //! What `work` writes: each worker's receipts in the order of the workers, and then the list.
-ghost use Rattle.std.specs.Prelude.{◌≡◌, ◌++◌, OnOk, IfOk};
-ghost use Rattle.std.specs.List.{flat_map};
-ghost use Rattle.std.specs.Io.KnownBytes.{Appends};
-ghost use Rattle.pid_script.specs.Answers.{reply_text};
-ghost use Rattle.pid_script.specs.Script.{with_newline};
-ghost use Rattle.pid_commands.specs.Output.{receipt_line, work_lines, works_text};
-ghost use Rattle.table_lines.specs.Listed.{list_of_state};
+ghost use Rattle.std.specs.{Prelude.{◌≡◌, ◌++◌, OnOk, IfOk}, List.{flat_map}, Io.KnownBytes.{Appends}};
+ghost use Rattle.{
+  pid_script.specs.{Answers.{reply_text}, Script.{with_newline}},
+  pid_commands.specs.Output.{receipt_line, work_lines, works_text},
+  table_lines.specs.Listed.{list_of_state},
+};
 
 use locked_table::Record;
 use pid_script::answer::answer_text;

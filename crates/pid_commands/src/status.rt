@@ -1,9 +1,7 @@
 //! How a command ends: its exit status, and the line that it leaves on standard error.
-ghost use Rattle.std.specs.Prelude.{◌≡◌, OnOk};
-ghost use Rattle.std.specs.Io.KnownBytes.{Appends};
+ghost use Rattle.std.specs.{Prelude.{◌≡◌, OnOk}, Io.KnownBytes.{Appends}};
 ghost use Rattle.pid_script.specs.Script.{with_newline};
-ghost use Rattle.pid_commands.specs.Faults.{usage_line};
-ghost use Rattle.pid_commands.specs.declared.status.Status.TheVariants.{Done, Failed, Misused};
+ghost use Rattle.pid_commands.specs.{Faults.{usage_line}, declared.status.Status.TheVariants.{Done, Failed, Misused}};
 
 use crate::fault::{Fault, write_fault_line};
 use std::io;

@@ -1,9 +1,9 @@
 -- A namespace that begins with its first identifier.
 use Rattle.std.proofs.Common.{◌≡◌, ◌≢◌, inl, inr, ℕ, zero, suc, ◌<◌, ◌≤◌, Bool, true, false, List, [], ◌∷◌, length, get_or, Option, Some, None, is_some, if◌then◌else◌, sym, ap, subst, ◌∙◌, arith, ◌+◌, ◌-◌, take, drop, IsSome, option_and_then, refl}
 use Rattle.pid_numbers.proofs.Words.{nat_lt, slice_get, cases_eq, nat_tests, contains, least_free, cyclic_draw, least_free-found, Entry, entry_at, indexes}
-use Rattle.pid_numbers.proofs.Words.{is_prepared, contains_indexes, Ids, planned, Identifier, new_identifier, IsTree, Tree, AreListed, new_node, node_in, way}
+use Rattle.pid_numbers.proofs.Words.{is_prepared, contains_indexes, Ids, planned, Identifier, new_identifier, IsPathTree, TreeOfSpaces, AreListed, new_node, node_in, way}
 use Rattle.pid_numbers.proofs.Words.{id_in, fell, IsNumbering, AreFallen, leads, entry_on, bound_on, plan_on, touched, stepped, given_to, ArePlanned, AreReady}
-use Rattle.pid_numbers.proofs.Words.{IsWhole, IsKept, option_map_or, beside, Table, name_at}
+use Rattle.pid_numbers.proofs.Words.{IsConsistent, IsNumberTable, option_map_or, beside, Table, ident_at}
 use Rattle.pid_numbers.proofs.Ties.{numbering-moved}
 use Rattle.std.proofs.Math.Seq.{take-length}
 use Rattle.pid_numbers.proofs.Views.{IsPlan}
@@ -35,7 +35,7 @@ module _ (pid_max : ℕ) (ways ways' : ℕ → List ℕ) (at : ℕ → ℕ → O
       let some = b.tied.some i u is in
       omega (arith, n, some)
 
-  pub numbering-added : IsTree ways' → ((s m : ℕ) → bound' s ≡ Some m → m ≡ pid_max) → IsNumbering pid_max ways' at bound' names
+  pub numbering-added : IsPathTree ways' → ((s m : ℕ) → bound' s ≡ Some m → m ≡ pid_max) → IsNumbering pid_max ways' at bound' names
   numbering-added tree bounds = numbering-moved pid_max ways ways' at bound bound' names b tree bounds (λ i u is. others u.space (elsewhere i u is))
 
   pub fallen-added : (fell fell' : ℕ → Bool) (at' : ℕ → ℕ → Option (Entry ℕ)) → AreFallen ways at fell → fell parent ≡ false → fell' key ≡ false → ((s : ℕ) → s ≢ key → fell' s ≡ fell s)
@@ -76,18 +76,18 @@ around-is ns rest e = let l = take-length rest in grind arith
 pub all-is : (ns rest : List ℕ) → ns ≡ 1 ∷ rest → ns ≡ 1 ∷ take (length ns - 1) (drop 1 ns)
 all-is ns rest e = e ∙ ap (λ l. 1 ∷ l) (sym (around-is ns rest e))
 
-module _ (pid_max : ℕ) (ways ways' : ℕ → List ℕ) (at : ℕ → ℕ → Option (Entry ℕ)) (bound : ℕ → Option ℕ) (names : ℕ → Option Identifier) (fell fell' : ℕ → Bool) (whole : IsWhole pid_max ways at bound names fell)
+module _ (pid_max : ℕ) (ways ways' : ℕ → List ℕ) (at : ℕ → ℕ → Option (Entry ℕ)) (bound : ℕ → Option ℕ) (names : ℕ → Option Identifier) (fell fell' : ℕ → Bool) (whole : IsConsistent pid_max ways at bound names fell)
     (key parent : ℕ) (was : ways key ≡ []) (now : ways' key ≡ key ∷ ways parent) (others : (s : ℕ) → s ≢ key → ways' s ≡ ways s) (around : List ℕ) (len : length around ≡ length (ways parent)) where
   -- it is not on the path around it
   pub away : (j : ℕ) → j < length (ways parent) → get_or (ways parent) j 0 ≢ key
   away j lt = growth.away-path ways ways' whole.numbering.tree key parent was now others (ways parent) (whole.numbering.tree.paths parent) j lt
 
   -- all that is known holds with it
-  pub whole-begun : (i : ℕ) (at1 at' : ℕ → ℕ → Option (Entry ℕ)) (bound' : ℕ → Option ℕ) (names' : ℕ → Option Identifier) → IsTree ways' → fell parent ≡ false → fell' key ≡ false → ((s : ℕ) → s ≢ key → fell' s ≡ fell s)
+  pub whole-begun : (i : ℕ) (at1 at' : ℕ → ℕ → Option (Entry ℕ)) (bound' : ℕ → Option ℕ) (names' : ℕ → Option Identifier) → IsPathTree ways' → fell parent ≡ false → fell' key ≡ false → ((s : ℕ) → s ≢ key → fell' s ≡ fell s)
       → at1 key 1 ≡ given_to i → ((n : ℕ) → n ≢ 1 → at1 key n ≡ None) → ((s : ℕ) → s ≢ key → (n : ℕ) → at1 s n ≡ at s n)
       → ((s n : ℕ) → at' s n ≡ touched (ways parent) around (λ _. given_to i) at1 s n) → ((s m : ℕ) → bound' s ≡ Some m → m ≡ pid_max)
       → ((j : ℕ) → j < length (ways parent) → (at (get_or (ways parent) j 0) (get_or around j 0) ≡ None) × (0 < get_or around j 0) × (get_or around j 0 < pid_max))
-      → names i ≡ None → names' i ≡ Some (new_identifier key (1 ∷ around)) → ((j : ℕ) → j ≢ i → names' j ≡ names j) → IsWhole pid_max ways' at' bound' names' fell'
+      → names i ≡ None → names' i ≡ Some (new_identifier key (1 ∷ around)) → ((j : ℕ) → j ≢ i → names' j ≡ names j) → IsConsistent pid_max ways' at' bound' names' fell'
   whole-begun i at1 at' bound' names' tree stands new same_fell first empty same_at given bounds drawn fresh named rest = record {
     numbering = ties.numbering-given pid_max ways' at at' bound' bound' names names' (numbering-added pid_max ways ways' at bound bound' names whole.numbering key parent was now others tree bounds) (λ s. refl)
         i (new_identifier key (1 ∷ around)) rest fresh named (let l = ap length now in omega (arith, l, len)) (omega arith) refl free is;
@@ -112,8 +112,8 @@ module _ (pid_max : ℕ) (ways ways' : ℕ → List ℕ) (at : ℕ → ℕ → O
           by_place (suc j, l, here, drawn_is) = let at_j = drawn j in grind arith
 
 -- the same in the tree, where the numbers of the new namespace were put at its key, and those around it were planned before
-pub record IsBegun (pid_max : ℕ) (tree tree' : Tree) (ids ids1 ids2 : List (Ids ℕ)) (idents : Table) (parent key id : ℕ) (around : List ℕ) (first : Ids ℕ) : Type 0 where
-  pub kept : IsKept pid_max tree ids idents
+pub record IsBegun (pid_max : ℕ) (tree tree' : TreeOfSpaces) (ids ids1 ids2 : List (Ids ℕ)) (idents : Table) (parent key id : ℕ) (around : List ℕ) (first : Ids ℕ) : Type 0 where
+  pub kept : IsNumberTable pid_max tree ids idents
   pub plan : IsPlan pid_max tree.nodes ids parent around
   pub there : 0 < length (way tree.nodes parent)
   pub vacant : node_in tree.nodes key ≡ None
@@ -123,7 +123,7 @@ pub record IsBegun (pid_max : ℕ) (tree tree' : Tree) (ids ids1 ids2 : List (Id
   pub same : (s : ℕ) → s ≢ key → slice_get ids2 s ≡ slice_get ids1 s
   pub plans : (s : ℕ) → plan_on ids1 s ≡ plan_on ids s
 
-module _ {pid_max : ℕ} {tree tree' : Tree} {ids ids1 ids2 : List (Ids ℕ)} {idents : Table} {parent key id : ℕ} {around : List ℕ} {first : Ids ℕ} (g : IsBegun pid_max tree tree' ids ids1 ids2 idents parent key id around first) where
+module _ {pid_max : ℕ} {tree tree' : TreeOfSpaces} {ids ids1 ids2 : List (Ids ℕ)} {idents : Table} {parent key id : ℕ} {around : List ℕ} {first : Ids ℕ} (g : IsBegun pid_max tree tree' ids ids1 ids2 idents parent key id around first) where
   was : way tree.nodes key ≡ []
   was = ap (λ o. option_map_or (λ t. t.path) o []) g.vacant
 
@@ -137,7 +137,7 @@ module _ {pid_max : ℕ} {tree tree' : Tree} {ids ids1 ids2 : List (Ids ℕ)} {i
   path-same = others parent (λ e. let l = ap length (ap (way tree.nodes) e ∙ was) in omega (arith, g.there, l))
 
   off : (j : ℕ) → j < length (way tree.nodes parent) → get_or (way tree.nodes parent) j 0 ≢ key
-  off = away pid_max (way tree.nodes) (way tree'.nodes) (entry_on ids) (bound_on ids) (name_at idents) (fell tree.nodes) (fell tree'.nodes) g.kept.whole key parent was now others around g.plan.len
+  off = away pid_max (way tree.nodes) (way tree'.nodes) (entry_on ids) (bound_on ids) (ident_at idents) (fell tree.nodes) (fell tree'.nodes) g.kept.whole key parent was now others around g.plan.len
 
   -- its own cursor stays where it is
   pub cursor-same : (cursor : ℕ) → stepped (way tree.nodes parent) around key cursor ≡ cursor
@@ -153,11 +153,11 @@ module _ {pid_max : ℕ} {tree tree' : Tree} {ids ids1 ids2 : List (Ids ℕ)} {i
   pub kept-begun : fell tree.nodes parent ≡ false → (i : ℕ) → ((s n : ℕ) → entry_on ids1 s n ≡ entry_on ids s n) → ((s : ℕ) → bound_on ids1 s ≡ bound_on ids s)
       → first.pid_max ≡ pid_max → entry_at first.places 1 ≡ given_to i → ((n : ℕ) → n ≢ 1 → entry_at first.places n ≡ None)
       → (ids3 : List (Ids ℕ)) (idents' : Table) → ((s n : ℕ) → entry_on ids3 s n ≡ touched (way tree.nodes parent) around (λ _. given_to i) (entry_on ids2) s n) → ((s : ℕ) → bound_on ids3 s ≡ bound_on ids2 s) → length ids3 ≡ length tree'.nodes
-      → IsTree (way tree'.nodes) → ((s : ℕ) → IsSome (node_in tree'.nodes s) → 0 < length (way tree'.nodes s)) → AreListed (id_in tree'.nodes) tree'.order
-      → IsPut idents idents' i (new_identifier key (1 ∷ around)) → IsKept pid_max tree' ids3 idents'
+      → IsPathTree (way tree'.nodes) → ((s : ℕ) → IsSome (node_in tree'.nodes s) → 0 < length (way tree'.nodes s)) → AreListed (id_in tree'.nodes) tree'.order
+      → IsPut idents idents' i (new_identifier key (1 ∷ around)) → IsNumberTable pid_max tree' ids3 idents'
   kept-begun stands i entries bounds good one none ids3 idents' given bounds3 count grown_tree some listed put = record {
-    whole = whole-begun pid_max (way tree.nodes) (way tree'.nodes) (entry_on ids) (bound_on ids) (name_at idents) (fell tree.nodes) (fell tree'.nodes) g.kept.whole key parent was now others around g.plan.len
-        i (entry_on ids2) (entry_on ids3) (bound_on ids3) (name_at idents') grown_tree stands (ap (λ o. option_map_or (λ t. t.fallen) o false) g.made) (λ s m. ap (λ o. option_map_or (λ t. t.fallen) o false) (g.rest s m))
+    whole = whole-begun pid_max (way tree.nodes) (way tree'.nodes) (entry_on ids) (bound_on ids) (ident_at idents) (fell tree.nodes) (fell tree'.nodes) g.kept.whole key parent was now others around g.plan.len
+        i (entry_on ids2) (entry_on ids3) (bound_on ids3) (ident_at idents') grown_tree stands (ap (λ o. option_map_or (λ t. t.fallen) o false) g.made) (λ s m. ap (λ o. option_map_or (λ t. t.fallen) o false) (g.rest s m))
         (ap (option_and_then (λ t. entry_at t.places 1)) g.here ∙ one) (λ n m. ap (option_and_then (λ t. entry_at t.places n)) g.here ∙ none n m)
         (λ s m n. ap (option_and_then (λ t. entry_at t.places n)) (g.same s m) ∙ entries s n) given bound g.plan.free put.was put.now put.others;
     some = some;

@@ -1,11 +1,11 @@
 -- A sweep goes from a namespace outwards, as long as it finds dead ones.
 use Rattle.std.proofs.Common.{◌≡◌, ◌≢◌, inl, inr, ℕ, ◌+◌, ◌<◌, true, false, ◌&&◌, List, [], ◌∷◌, length, get_or, drop, Option, Some, None, is_some, if◌then◌else◌, sym, ap, subst, arith, ◌∙◌}
-use Rattle.pid_numbers.proofs.Words.{nat_lt, option_map_or, cases_eq, ne_eqb, ltb-true, false_from_ne_true, cond_some, drop_more, Ids, Node, IsTree, node_in}
+use Rattle.pid_numbers.proofs.Words.{nat_lt, option_map_or, cases_eq, ne_eqb, ltb-true, false_from_ne_true, cond_some, drop_more, Ids, Node, IsPathTree, node_in}
 use Rattle.pid_numbers.proofs.Words.{way, contains, empty_on, dead_on, AreAround}
 use Rattle.ns_tree.proofs.Paths as paths
 
 -- what is around a namespace is the path of its parent
-pub above : (ways : ℕ → List ℕ) → IsTree ways → (key parent : ℕ) → Some parent ≡ (if nat_lt 1 (length (ways key)) then Some (get_or (ways key) 1 0) else None) → ways key ≡ key ∷ ways parent
+pub above : (ways : ℕ → List ℕ) → IsPathTree ways → (key parent : ℕ) → Some parent ≡ (if nat_lt 1 (length (ways key)) then Some (get_or (ways key) 1 0) else None) → ways key ≡ key ∷ ways parent
 above ways tree key parent is =
     let r = cond_some (nat_lt 1 (length (ways key))) (get_or (ways key) 1 0) parent (sym is) in
     let lt = ltb-true 1 (length (ways key)) r.0 in
@@ -13,7 +13,7 @@ above ways tree key parent is =
     ∙ ap (λ l. key ∷ l) (sym (ap ways (sym r.1) ∙ paths.at-path ways (ways key) (tree.paths key) 1 lt))
 
 module _ (nodes : List (Option Node)) (ids : List (Ids ℕ)) (key : ℕ) (a : AreAround nodes ids (way nodes key)) where
-  module _ (tree : IsTree (way nodes)) (dead : dead_on nodes ids key ≡ true) where
+  module _ (tree : IsPathTree (way nodes)) (dead : dead_on nodes ids key ≡ true) where
     -- none is inside it that is left
     pub bare : (s : ℕ) → s ≢ key → contains (way nodes s) key ≡ false
     bare s differs = false_from_ne_true (contains (way nodes s) key) (λ within.

@@ -1,9 +1,9 @@
 -- The sweep after an identifier went.
 use Rattle.std.proofs.Common.{◌≡◌, ◌≢◌, ℕ, ◌<◌, true, false, ◌==◌, ◌&&◌, List, [], ◌∷◌, length, Option, Some, None, is_some, if◌then◌else◌, refl, sym, ap, subst, arith, ◌∙◌, option_map, option_and_then}
 use Rattle.pid_numbers.proofs.Words.{filter_map, slice_get, option_map_or, and_parts, both_ways, false_from_ne_true, true_from_ne_false, none-some, Ids, Entry}
-use Rattle.pid_numbers.proofs.Words.{entry_at, indexes, contains_indexes, Node, Tree, IsTree, node_in, way, fell, contains, Identifier, Numbering, namespace_at}
+use Rattle.pid_numbers.proofs.Words.{entry_at, indexes, contains_indexes, Node, TreeOfSpaces, IsPathTree, node_in, way, fell, contains, Identifier, Numbering, namespace_at}
 use Rattle.pid_numbers.proofs.Words.{number_in, number_of, path_at, taken_in, swept_at, AreFallen, namespace_of, numbering_of, cursor_on, entry_on}
-use Rattle.pid_numbers.proofs.Words.{bound_on, leads, empty_on, dead_on, touched, AreAround, IsNumbering, IsWhole, Table, name_at}
+use Rattle.pid_numbers.proofs.Words.{bound_on, leads, empty_on, dead_on, touched, AreAround, IsNumbering, IsConsistent, Table, ident_at}
 use Rattle.pid_numbers.proofs.Sweeps as sweeps
 use Rattle.pid_numbers.proofs.Ties as ties
 use Rattle.pid_numbers.proofs.Ties.{at_key, listed}
@@ -41,7 +41,7 @@ not_dead nodes ids s f e = some_entry ids s (sym (ap (λ b. b && empty_on ids s)
 
 -- the numbers of an identifier are free again: the others, and what was known before
 pub record IsReleased (pid_max : ℕ) (nodes : List (Option Node)) (ids ids1 : List (Ids ℕ)) (names names' : ℕ → Option Identifier) (space : ℕ) : Type 0 where
-  pub old : IsWhole pid_max (way nodes) (entry_on ids) (bound_on ids) names (fell nodes)
+  pub old : IsConsistent pid_max (way nodes) (entry_on ids) (bound_on ids) names (fell nodes)
   pub after : IsNumbering pid_max (way nodes) (entry_on ids1) (bound_on ids1) names'
   pub kept : (s n : ℕ) → contains (way nodes space) s ≡ false → entry_on ids1 s n ≡ entry_on ids s n
 
@@ -70,7 +70,7 @@ module _ {pid_max : ℕ} {nodes : List (Option Node)} {ids ids1 : List (Ids ℕ)
 
   module _ (nodes2 : List (Option Node)) (left : (s : ℕ) → node_in nodes2 s ≡ if dead_on nodes ids1 s then None else node_in nodes s) where
     -- all that is known holds of what is left
-    pub whole-swept : IsTree (way nodes2) → IsWhole pid_max (way nodes2) (entry_on ids1) (bound_on ids1) names' (fell nodes2)
+    pub whole-swept : IsPathTree (way nodes2) → IsConsistent pid_max (way nodes2) (entry_on ids1) (bound_on ids1) names' (fell nodes2)
     whole-swept tree = record {
       numbering = sweeps.numbering-swept pid_max (way nodes) (entry_on ids1) (bound_on ids1) names' r.after (dead_on nodes ids1) empty (way nodes2) way_left tree;
       fallen = sweeps.fallen-swept pid_max (way nodes) (entry_on ids1) (bound_on ids1) names' r.after (dead_on nodes ids1) empty (way nodes2) way_left tree
@@ -84,7 +84,7 @@ module _ {pid_max : ℕ} {nodes : List (Option Node)} {ids ids1 : List (Ids ℕ)
         fell_left s = let is = left s in grind arith
 
 -- where the look-ups are those of the identifiers, the dead ones are the model's
-module _ (pid_max : ℕ) (tree : Tree) (ids : List (Ids ℕ)) (idents : Table) (b : IsNumbering pid_max (way tree.nodes) (entry_on ids) (bound_on ids) (name_at idents)) where
+module _ (pid_max : ℕ) (tree : TreeOfSpaces) (ids : List (Ids ℕ)) (idents : Table) (b : IsNumbering pid_max (way tree.nodes) (entry_on ids) (bound_on ids) (ident_at idents)) where
   abbrev mid : Numbering
   mid = numbering_of pid_max tree ids idents
 
@@ -111,7 +111,7 @@ unfolding taken_in
 swept-next b next s = refl
 
 -- what the release leaves, and in the other namespaces nothing has changed
-pub released : (pid_max : ℕ) (nodes : List (Option Node)) (ids ids1 : List (Ids ℕ)) (names names' : ℕ → Option Identifier) → IsWhole pid_max (way nodes) (entry_on ids) (bound_on ids) names (fell nodes)
+pub released : (pid_max : ℕ) (nodes : List (Option Node)) (ids ids1 : List (Ids ℕ)) (names names' : ℕ → Option Identifier) → IsConsistent pid_max (way nodes) (entry_on ids) (bound_on ids) names (fell nodes)
     → (i : ℕ) (gone v : Identifier) → names i ≡ Some v → (gone.space ≡ v.space) × (gone.numbers ≡ v.numbers) → ((s : ℕ) → bound_on ids1 s ≡ bound_on ids s)
     → ((s n : ℕ) → entry_on ids1 s n ≡ touched (way nodes gone.space) gone.numbers (λ _. None) (entry_on ids) s n) → names' i ≡ None → ((j : ℕ) → j ≢ i → names' j ≡ names j) → IsReleased pid_max nodes ids ids1 names names' gone.space
 released pid_max nodes ids ids1 names names' old i gone v was path bounds entries now others = record {
@@ -132,8 +132,8 @@ taken-some b i s n e = some (filter_map (number_in (path_at b) s) b.names) (list
     some (m ∷ ms) on = omega arith
 
 -- and a fallen one has a number in use
-pub held-taken : (pid_max : ℕ) (tree : Tree) (ids : List (Ids ℕ)) (idents : Table) (b : Numbering) → numbering_of pid_max tree ids idents ≡ b
-    → IsNumbering pid_max (way tree.nodes) (entry_on ids) (bound_on ids) (name_at idents) → AreFallen (way tree.nodes) (entry_on ids) (fell tree.nodes) → (s : ℕ) → fell tree.nodes s ≡ true → 0 < length (taken_in b s)
+pub held-taken : (pid_max : ℕ) (tree : TreeOfSpaces) (ids : List (Ids ℕ)) (idents : Table) (b : Numbering) → numbering_of pid_max tree ids idents ≡ b
+    → IsNumbering pid_max (way tree.nodes) (entry_on ids) (bound_on ids) (ident_at idents) → AreFallen (way tree.nodes) (entry_on ids) (fell tree.nodes) → (s : ℕ) → fell tree.nodes s ≡ true → 0 < length (taken_in b s)
 held-taken pid_max tree ids idents b view w fallen s on =
     let r = fallen.held s on in
     subst (λ (c : Numbering). 0 < length (taken_in c s)) view

@@ -2,7 +2,7 @@
 use Rattle.std.proofs.Common.{inl, inr, suc, zero}
 use Rattle.pid_numbers.proofs.Words.{◌≡◌, ◌∙◌, ◌<◌, ◌||◌, ℕ, Bool, true, false, List, [], ◌∷◌, Option, Some, None, IsSome, ap, arith, refl, sym, length, get_or, option_map, slice_get}
 use Rattle.pid_numbers.proofs.Words.{option_map_or, or_cases, or_left, or_right}
-use Rattle.pid_numbers.proofs.Words.{Node, IsTree, IsPath, Entry, AreFallen, leads, namespace_of}
+use Rattle.pid_numbers.proofs.Words.{Node, IsPathTree, IsPath, Entry, AreFallen, leads, namespace_of}
 use Rattle.pid_numbers.specs.Restore.{is_flagged, felled_if, fallen_if}
 
 or_false : (b : Bool) → (b || false) ≡ b
@@ -33,7 +33,7 @@ pub there : (flag : Bool) (o : Option Node) → option_map_or (λ t. t.fallen) (
 there flag None e = absurd (cc)
 there flag (Some t) e = refl
 
-module _ (ways : ℕ → List ℕ) (tree : IsTree ways) (flags : List Bool)
+module _ (ways : ℕ → List ℕ) (tree : IsPathTree ways) (flags : List Bool)
     (inner : (s outer : ℕ) → slice_get (ways s) 1 ≡ Some outer → is_flagged flags outer ≡ true → is_flagged flags s ≡ true) where
   -- a flag goes from each namespace of a path to the innermost one
   inwards : (p : List ℕ) → IsPath ways p → (j : ℕ) → j < length p → is_flagged flags (get_or p j 0) ≡ true → is_flagged flags (get_or p 0 0) ≡ true

@@ -1,6 +1,6 @@
 -- Identifiers in their places.
 use Rattle.std.proofs.Common.{◌≡◌, ◌≢◌, ℕ, ◌<◌, List, length, map, get_or, set, Option, Some, None, IsSome, sym, ap, ◌∙◌, arith, option_map}
-use Rattle.pid_numbers.proofs.Words.{length-map, length-set, cases_eq, Ident, Identifier, Table, identifier_of, get, name_at, shown, ChangesPlace, IsTable}
+use Rattle.pid_numbers.proofs.Words.{length-map, length-set, cases_eq, Ident, Identifier, Table, identifier_of, get, ident_at, shown, ChangesPlace, IsTable}
 use Rattle.ns_tree.proofs.Filled as filled
 use Rattle.ns_tree.proofs.Vacancy as vacancy
 
@@ -36,13 +36,13 @@ module _ (places : List Ident) (key : ℕ) (y z : Ident) (lt : key < length plac
 
 -- an identifier that was put into the place with the key
 pub record IsPut (old new : Table) (key : ℕ) (u : Identifier) : Type 0 where
-  pub was : name_at old key ≡ None
-  pub now : name_at new key ≡ Some u
-  pub others : (j : ℕ) → j ≢ key → name_at new j ≡ name_at old j
+  pub was : ident_at old key ≡ None
+  pub now : ident_at new key ≡ Some u
+  pub others : (j : ℕ) → j ≢ key → ident_at new j ≡ ident_at old j
 
 pub put : (old mid new : Table) (key at : ℕ) (x : Ident) (u : Identifier) → identifier_of x ≡ u → get old key ≡ None → mid ≡ record old { ready = mid.ready } → key ≡ at → ChangesPlace mid new at (Some x) → IsPut old new key u
 put old mid new key at x u e vacant same is changes = record {
   was = ap (option_map identifier_of) vacant;
-  now = ap (name_at new) is ∙ ap (option_map identifier_of) changes.changed ∙ ap Some e;
-  others = λ j differs. ap (option_map identifier_of) (changes.others j (λ e. differs (e ∙ sym is))) ∙ ap (λ t. name_at t j) same;
+  now = ap (ident_at new) is ∙ ap (option_map identifier_of) changes.changed ∙ ap Some e;
+  others = λ j differs. ap (option_map identifier_of) (changes.others j (λ e. differs (e ∙ sym is))) ∙ ap (λ t. ident_at t j) same;
 }

@@ -2,7 +2,7 @@
 use Rattle.std.proofs.Common.{◌≡◌, ◌≢◌, inl, inr, ℕ, zero, suc, ◌+◌, ◌-◌, ◌<◌, Bool, true, false, ◌==◌, ◌||◌, List, [], ◌∷◌, length, get_or, Option, Some, None, is_some, if◌then◌else◌, refl, sym, ap, subst, ◌∙◌, arith, option_map}
 use Rattle.pid_numbers.proofs.Words.{MatchBool, cases_eq, eq-eqb, ne_eqb, or_cases, or_left, or_right, both_ways, false_from_ne_true, true≢false, false≢true}
 use Rattle.pid_numbers.proofs.Words.{none-some, nat_tests, contains, beside, Entry, Place, entry_at, indexes, contains_indexes, Identifier, number_in, Ids}
-use Rattle.pid_numbers.proofs.Words.{Tree, IsTree, way, fell, Table, name_at, entry_on, bound_on, IsNumbering, IsKept, AreFallen, leads, IsDistinct}
+use Rattle.pid_numbers.proofs.Words.{TreeOfSpaces, IsPathTree, way, fell, Table, ident_at, entry_on, bound_on, IsNumbering, IsNumberTable, AreFallen, leads, IsDistinct}
 use Rattle.ns_tree.proofs.Paths as paths
 use Rattle.pid_numbers.proofs.Ties as ties
 pub use Rattle.ns_tree.proofs.Paths.{cases, contains_at, place_of}
@@ -20,8 +20,8 @@ fallen-kept ways ways' at at' fell fell' f same_ways same_fell more = record {
 }
 
 -- so all that is known stays, where the tree does
-pub kept-with : (pid_max : ℕ) (tree : Tree) (ids ids' : List (Ids ℕ)) (idents idents' : Table) → IsKept pid_max tree ids idents → length ids' ≡ length ids
-    → IsNumbering pid_max (way tree.nodes) (entry_on ids') (bound_on ids') (name_at idents') → ((s n i : ℕ) → leads (entry_on ids) s n ≡ Some i → (j : ℕ) × (leads (entry_on ids') s n ≡ Some j)) → IsKept pid_max tree ids' idents'
+pub kept-with : (pid_max : ℕ) (tree : TreeOfSpaces) (ids ids' : List (Ids ℕ)) (idents idents' : Table) → IsNumberTable pid_max tree ids idents → length ids' ≡ length ids
+    → IsNumbering pid_max (way tree.nodes) (entry_on ids') (bound_on ids') (ident_at idents') → ((s n i : ℕ) → leads (entry_on ids) s n ≡ Some i → (j : ℕ) × (leads (entry_on ids') s n ≡ Some j)) → IsNumberTable pid_max tree ids' idents'
 kept-with pid_max tree ids ids' idents idents' k count numbering more = record {
   whole = record {
     numbering = numbering;
@@ -78,7 +78,7 @@ module _ (pid_max : ℕ) (ways : ℕ → List ℕ) (at : ℕ → ℕ → Option 
       go (Some e) is = absurd (by_name (names e.value) (b.tied.found s n e.value (ap (option_map (λ e. e.value)) is)))
 
   -- what is left where some namespaces go: none of them has a number in use
-  module _ (gone : ℕ → Bool) (empty : (s n : ℕ) → gone s ≡ true → at s n ≡ None) (ways' : ℕ → List ℕ) (ways_are : (s : ℕ) → ways' s ≡ if gone s then [] else ways s) (tree' : IsTree ways') where
+  module _ (gone : ℕ → Bool) (empty : (s n : ℕ) → gone s ≡ true → at s n ≡ None) (ways' : ℕ → List ℕ) (ways_are : (s : ℕ) → ways' s ≡ if gone s then [] else ways s) (tree' : IsPathTree ways') where
     stays : (s : ℕ) → gone s ≡ false → ways' s ≡ ways s
     stays s e = ways_are s ∙ ap (λ g. if g then [] else ways s) e
 
@@ -152,7 +152,7 @@ beside-get s (t ∷ ts) (n ∷ ns) d len (suc k) lt at =
     ∙ beside-get s ts ns (λ i j a b e. d (suc i) (suc j) (omega (arith, a)) (omega (arith, b)) e) (omega (arith, len)) k (omega (arith, lt)) at
 
 -- the number beside a namespace, by the levels
-module _ (ways : ℕ → List ℕ) (tree : IsTree ways) (own s : ℕ) (numbers : List ℕ) (len : length numbers ≡ length (ways own)) where
+module _ (ways : ℕ → List ℕ) (tree : IsPathTree ways) (own s : ℕ) (numbers : List ℕ) (len : length numbers ≡ length (ways own)) where
   pub beside-within : contains (ways own) s ≡ true → (k : ℕ) → k ≡ length (ways own) - length (ways s) → (k < length numbers) × (beside s (ways own) numbers ≡ Some (get_or numbers k 0))
   beside-within e k is =
       let w = paths.within ways tree own s e in

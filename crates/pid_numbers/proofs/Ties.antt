@@ -2,8 +2,8 @@
 use Rattle.std.proofs.Common.{◌≡◌, ◌≢◌, ◌⊎◌, inl, inr, ℕ, zero, suc, ◌+◌, ◌<◌, ◌≤◌, Bool, true, false, ◌||◌, List, [], ◌∷◌, length, map, get_or, drop, length-drop, Option, Some, None, is_none, refl, sym, ap, subst, ◌∙◌, arith, option_map, unwrap_or, find}
 use Rattle.pid_numbers.proofs.Words.{filter_map, slice_set, slice_index_or, option_map_or, cons_option, drop_more, get_or-drop, get_or_past}
 use Rattle.pid_numbers.proofs.Words.{cases_eq, cases_lt, eq-eqb, ne_eqb, or_right, none-some, same_Some, contains, beside, Entry, with_mark, Kind, Task, Group}
-use Rattle.pid_numbers.proofs.Words.{Session, Identifier, number_in, is_used, is_used_as, with_uses, IsTree, stepped, IsTied, IsNumbering, touched, leads}
-use Rattle.pid_numbers.proofs.Words.{given_to, mark_of, marks_of, AreMarked, AreInRange, IsDistinct}
+use Rattle.pid_numbers.proofs.Words.{Session, Identifier, number_in, is_used, is_used_as, with_uses, IsPathTree, stepped, IsTied, IsNumbering, touched, leads}
+use Rattle.pid_numbers.proofs.Words.{given_to, mark_of, use_marks, AreMarked, HaveNumbersInRange, IsDistinct}
 
 -- where each draws, each number is the one drawn
 pub planned_each : (d : ℕ → Option ℕ) (path : List ℕ) → find (λ s. is_none (d s)) path ≡ None → (k : ℕ) → k < length path → d (get_or path k 0) ≡ Some (get_or (map (λ s. unwrap_or (d s) 0) path) k 0)
@@ -107,10 +107,10 @@ module _ (path numbers : List ℕ) (h : Option (Entry ℕ) → Option (Entry ℕ
 pub told : (u : Identifier) → is_used u ≡ (is_used_as Task (Some u) || (is_used_as Group (Some u) || is_used_as Session (Some u)))
 told u = grind arith
 
-marks-live : (u v : Identifier) → marks_of (Some u) ≡ marks_of (Some v) → is_used v ≡ true → is_used u ≡ true
+marks-live : (u v : Identifier) → use_marks (Some u) ≡ use_marks (Some v) → is_used v ≡ true → is_used u ≡ true
 marks-live u v e live = told u ∙ ap (λ l. slice_index_or l 0 false || (slice_index_or l 1 false || slice_index_or l 2 false)) e ∙ sym (told v) ∙ live
 
-first-live : (u : Identifier) → marks_of (Some u) ≡ true ∷ false ∷ false ∷ [] → is_used u ≡ true
+first-live : (u : Identifier) → use_marks (Some u) ≡ true ∷ false ∷ false ∷ [] → is_used u ≡ true
 first-live u e = told u ∙ ap (λ l. slice_index_or l 0 false || (slice_index_or l 1 false || slice_index_or l 2 false)) e
 
 -- what is said of each name, where one alone is another
@@ -156,13 +156,13 @@ module _ (ways : ℕ → List ℕ) (see see' : ℕ → ℕ → Option ℕ) (name
 
 -- the marks where the uses of one identifier changed
 module _ (at at' : ℕ → ℕ → Option (Entry ℕ)) (names names' : ℕ → Option Identifier) (old : AreMarked at names) (path numbers : List ℕ) (i : ℕ) (others : (j : ℕ) → j ≢ i → names' j ≡ names j) where
-  pub marks-set : ((s n : ℕ) (e : Entry ℕ) → beside s path numbers ≡ Some n → at' s n ≡ Some e → e.marks ≡ marks_of (names' e.value))
+  pub marks-set : ((s n : ℕ) (e : Entry ℕ) → beside s path numbers ≡ Some n → at' s n ≡ Some e → e.marks ≡ use_marks (names' e.value))
       → ((s n : ℕ) → beside s path numbers ≢ Some n → at' s n ≡ at s n) → ((s n : ℕ) → beside s path numbers ≢ Some n → leads at s n ≢ Some i) → AreMarked at' names'
   marks-set hits misses away s n e is = grind (arith, decide_some)
 
 -- each number is in range where the new ones are
-range-set : (pid_max : ℕ) (see see' : ℕ → ℕ → Option ℕ) → AreInRange pid_max see → (path numbers : List ℕ) → ((s n i : ℕ) → see' s n ≡ Some i → beside s path numbers ≡ Some n → (0 < n) × (n < pid_max))
-    → ((s n : ℕ) → beside s path numbers ≢ Some n → see' s n ≡ see s n) → AreInRange pid_max see'
+range-set : (pid_max : ℕ) (see see' : ℕ → ℕ → Option ℕ) → HaveNumbersInRange pid_max see → (path numbers : List ℕ) → ((s n i : ℕ) → see' s n ≡ Some i → beside s path numbers ≡ Some n → (0 < n) × (n < pid_max))
+    → ((s n : ℕ) → beside s path numbers ≢ Some n → see' s n ≡ see s n) → HaveNumbersInRange pid_max see'
 range-set pid_max see see' old path numbers hits misses s n i e = grind (arith, decide_some)
 
 -- what marks are read changes no key
@@ -174,7 +174,7 @@ pub at_key : (o : Option (Entry ℕ)) (i : ℕ) → option_map (λ (e : Entry �
 at_key o i h = grind arith
 
 -- the paths change where no identifier is
-pub numbering-moved : (pid_max : ℕ) (ways ways' : ℕ → List ℕ) (at : ℕ → ℕ → Option (Entry ℕ)) (bound bound' : ℕ → Option ℕ) (names : ℕ → Option Identifier) → IsNumbering pid_max ways at bound names → IsTree ways' → ((s m : ℕ) → bound' s ≡ Some m → m ≡ pid_max)
+pub numbering-moved : (pid_max : ℕ) (ways ways' : ℕ → List ℕ) (at : ℕ → ℕ → Option (Entry ℕ)) (bound bound' : ℕ → Option ℕ) (names : ℕ → Option Identifier) → IsNumbering pid_max ways at bound names → IsPathTree ways' → ((s m : ℕ) → bound' s ≡ Some m → m ≡ pid_max)
     → ((i : ℕ) (u : Identifier) → names i ≡ Some u → ways' u.space ≡ ways u.space) → IsNumbering pid_max ways' at bound' names
 numbering-moved pid_max ways ways' at bound bound' names b tree bounds homes = record {
   good = b.good;
@@ -197,7 +197,7 @@ numbering-moved pid_max ways ways' at bound bound' names b tree bounds homes = r
 module _ (pid_max : ℕ) (ways : ℕ → List ℕ) (at at' : ℕ → ℕ → Option (Entry ℕ)) (bound bound' : ℕ → Option ℕ) (names names' : ℕ → Option Identifier) (b : IsNumbering pid_max ways at bound names)
     (same_bound : (s : ℕ) → bound' s ≡ bound s) where
   -- the paths and the bounds stay
-  numbering-with : IsTied ways names' (leads at') → AreInRange pid_max (leads at') → AreMarked at' names' → IsNumbering pid_max ways at' bound' names'
+  numbering-with : IsTied ways names' (leads at') → HaveNumbersInRange pid_max (leads at') → AreMarked at' names' → IsNumbering pid_max ways at' bound' names'
   numbering-with t r m = record {
     good = b.good;
     bounds = λ s m e. b.bounds s m (sym (same_bound s) ∙ e);
@@ -227,7 +227,7 @@ module _ (pid_max : ℕ) (ways : ℕ → List ℕ) (at at' : ℕ → ℕ → Opt
       misled s n miss = ap (option_map (λ e. e.value)) (misses s n miss)
 
     -- a new identifier
-    pub numbering-given : names i ≡ None → names' i ≡ Some u → length u.numbers ≡ length (ways u.space) → 0 < length u.numbers → marks_of (Some u) ≡ true ∷ false ∷ false ∷ []
+    pub numbering-given : names i ≡ None → names' i ≡ Some u → length u.numbers ≡ length (ways u.space) → 0 < length u.numbers → use_marks (Some u) ≡ true ∷ false ∷ false ∷ []
         → ((s n : ℕ) → beside s (ways u.space) u.numbers ≡ Some n → (at s n ≡ None) × (0 < n) × (n < pid_max))
         → ((s n : ℕ) → at' s n ≡ touched (ways u.space) u.numbers (λ _. given_to i) at s n) → IsNumbering pid_max ways at' bound' names'
     numbering-given was now len some marks free is =
@@ -238,8 +238,8 @@ module _ (pid_max : ℕ) (ways : ℕ → List ℕ) (at at' : ℕ → ℕ → Opt
         (marks-set at at' names names' b.marks (ways u.space) u.numbers i others
         (λ s n e hit stands. new_marks e (sym (hits (λ _. given_to i) is s n hit) ∙ stands)) (misses (λ _. given_to i) is) (λ s n miss h. none-some n (sym (ap (number_in ways s) was) ∙ b.tied.found s n i h)))
       where
-        new_marks : (e : Entry ℕ) → given_to i ≡ Some e → e.marks ≡ marks_of (names' e.value)
-        new_marks e same = subst (λ (e : Entry ℕ). e.marks ≡ marks_of (names' e.value)) (same_Some (record { value = i; marks = true ∷ false ∷ false ∷ [] }) e same) (sym marks ∙ ap marks_of (sym now))
+        new_marks : (e : Entry ℕ) → given_to i ≡ Some e → e.marks ≡ use_marks (names' e.value)
+        new_marks e same = subst (λ (e : Entry ℕ). e.marks ≡ use_marks (names' e.value)) (same_Some (record { value = i; marks = true ∷ false ∷ false ∷ [] }) e same) (sym marks ∙ ap use_marks (sym now))
 
     -- an identifier that goes
     pub numbering-released : names i ≡ Some u → names' i ≡ None → ((s n : ℕ) → at' s n ≡ touched (ways u.space) u.numbers (λ _. None) at s n) → IsNumbering pid_max ways at' bound' names'
@@ -253,7 +253,7 @@ module _ (pid_max : ℕ) (ways : ℕ → List ℕ) (at at' : ℕ → ℕ → Opt
     -- an identifier whose uses change
     pub numbering-used : (v : Identifier) → names i ≡ Some v → names' i ≡ Some u → u.space ≡ v.space → u.numbers ≡ v.numbers → is_used u ≡ true
         → ((s n : ℕ) → leads at' s n ≡ leads at s n) → ((s n : ℕ) → beside s (ways v.space) v.numbers ≢ Some n → at' s n ≡ at s n)
-        → ((s n : ℕ) (e : Entry ℕ) → beside s (ways v.space) v.numbers ≡ Some n → at s n ≡ Some e → e.marks ≡ marks_of (Some v) → (e' : Entry ℕ) → at' s n ≡ Some e' → e'.marks ≡ marks_of (Some u)) → IsNumbering pid_max ways at' bound' names'
+        → ((s n : ℕ) (e : Entry ℕ) → beside s (ways v.space) v.numbers ≡ Some n → at s n ≡ Some e → e.marks ≡ use_marks (Some v) → (e' : Entry ℕ) → at' s n ≡ Some e' → e'.marks ≡ use_marks (Some u)) → IsNumbering pid_max ways at' bound' names'
     numbering-used v was now same_space same_numbers live same_leads misses marks =
         numbering-with
         (tied-renamed ways (leads at) (leads at') names names' b.tied i others u v was now
@@ -265,16 +265,16 @@ module _ (pid_max : ℕ) (ways : ℕ → List ℕ) (at at' : ℕ → ℕ → Opt
         let led : leads at s n ≡ Some i = b.tied.kept s n i (ap (number_in ways s) was ∙ hit) in
         let old = at_key (at s n) i led in
         let key : e'.value ≡ i = same_Some e'.value i (sym (ap (option_map (λ e. e.value)) stands) ∙ same_leads s n ∙ led) in
-        let before : (old.0).marks ≡ marks_of (Some v) = b.marks s n old.0 old.1 ∙ ap (λ k. marks_of (names k)) old.2 ∙ ap marks_of was in
-        marks s n old.0 hit old.1 before e' stands ∙ ap marks_of (sym now) ∙ ap (λ k. marks_of (names' k)) (sym key))
+        let before : (old.0).marks ≡ use_marks (Some v) = b.marks s n old.0 old.1 ∙ ap (λ k. use_marks (names k)) old.2 ∙ ap use_marks was in
+        marks s n old.0 hit old.1 before e' stands ∙ ap use_marks (sym now) ∙ ap (λ k. use_marks (names' k)) (sym key))
         misses
         (λ s n miss h. miss (sym (ap (number_in ways s) was) ∙ b.tied.found s n i h)))
 
 -- the marks where a use of one kind comes or goes
-marks-kept : (kind : Kind) (n : ℕ) (v : Identifier) → is_used_as kind (Some (with_uses kind n v)) ≡ is_used_as kind (Some v) → marks_of (Some (with_uses kind n v)) ≡ marks_of (Some v)
+marks-kept : (kind : Kind) (n : ℕ) (v : Identifier) → is_used_as kind (Some (with_uses kind n v)) ≡ is_used_as kind (Some v) → use_marks (Some (with_uses kind n v)) ≡ use_marks (Some v)
 marks-kept kind n v e = grind arith
 
-marks-turned : (kind : Kind) (n : ℕ) (v : Identifier) (on : Bool) → is_used_as kind (Some (with_uses kind n v)) ≡ on → slice_set (marks_of (Some v)) (mark_of kind) on ≡ marks_of (Some (with_uses kind n v))
+marks-turned : (kind : Kind) (n : ℕ) (v : Identifier) (on : Bool) → is_used_as kind (Some (with_uses kind n v)) ≡ on → slice_set (use_marks (Some v)) (mark_of kind) on ≡ use_marks (Some (with_uses kind n v))
 marks-turned kind n v on e = grind arith
 
 pub path-kept : (kind : Kind) (n : ℕ) (v : Identifier) → ((with_uses kind n v).space ≡ v.space) × ((with_uses kind n v).numbers ≡ v.numbers)

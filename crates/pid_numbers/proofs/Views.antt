@@ -2,11 +2,11 @@
 use Rattle.std.proofs.Common.{rules, zero, suc, ◌∷◌, ◌≡◌, ◌≢◌, ℕ, ◌<◌, arith, if◌then◌else◌, Bool, true, false, List, [], length, map, get_or, Option, Some, None, IsSome, IfSome, not, ◌==◌, ◌+◌, subst, is_some, is_none, refl, sym, ap, ◌∙◌, option_map, option_and_then, unwrap_or, find}
 use Rattle.pid_numbers.proofs.Words.{cases_lt, cond_both, false_from_ne_true, ne_eqb, not_from_false, length-map, option_and_then_some, slice_get_within}
 use Rattle.pid_numbers.proofs.Words.{option_map_or, nat_lt, reverse, slice_get, cyclic_draw-same, Ids, planned, contains_indexes, Entry, IsLeastIndex, entry_at}
-use Rattle.pid_numbers.proofs.Words.{indexes, is_marked, with_mark, distinct-path, Node, Tree, fell, id_in, node_in, way, IsDistinct, draw-Some, contains}
+use Rattle.pid_numbers.proofs.Words.{indexes, is_marked, with_mark, distinct-path, Node, TreeOfSpaces, fell, id_in, node_in, way, IsDistinct, draw-Some, contains}
 use Rattle.pid_numbers.proofs.Words.{cyclic_draw, beside, beside_from, Kind, Identifier, IsNextUsed, IsNumberUsedAs, Numbering, draw_in, has_fallen_at, id_at}
 use Rattle.pid_numbers.proofs.Words.{identifier_at, is_there, is_used, is_used_as, levels_of, more, moved, namespace_at, number_in, number_of, path_at, uses}
-use Rattle.pid_numbers.proofs.Words.{with_uses, taken_in, AreIn, ArePlanned, IsKept, IsNumbering, bound_on, cursor_on, entry_on, leads, mark_of, marks_of}
-use Rattle.pid_numbers.proofs.Words.{namespace_of, numbering_of, plan_on, stepped, touched, with_cursors, Table, identifier_of, name_at}
+use Rattle.pid_numbers.proofs.Words.{with_uses, taken_in, AreIn, ArePlanned, IsNumberTable, IsNumbering, bound_on, cursor_on, entry_on, leads, mark_of, use_marks}
+use Rattle.pid_numbers.proofs.Words.{namespace_of, numbering_of, plan_on, stepped, touched, namespaces_with, Table, identifier_of, ident_at}
 use Rattle.std.proofs.Math.ListN.{get_or-map}
 use Rattle.pid_numbers.specs.declared.Numbers.TheInside.{Inside}
 use Rattle.ns_tree.proofs.Paths as paths
@@ -15,7 +15,7 @@ use Rattle.pid_numbers.proofs.Items as items
 use Rattle.pid_numbers.proofs.Ties.{at_key, among_from, listed, planned_each, path-kept, told}
 
 -- a look-up among the namespaces
-pub namespace-at : (cursor : ℕ → ℕ) (nodes : List (Option Node)) (s : ℕ) → get_or (with_cursors cursor nodes) s None ≡ option_map (namespace_of (cursor s)) (node_in nodes s)
+pub namespace-at : (cursor : ℕ → ℕ) (nodes : List (Option Node)) (s : ℕ) → get_or (namespaces_with cursor nodes) s None ≡ option_map (namespace_of (cursor s)) (node_in nodes s)
 namespace-at cursor [] s = refl
 namespace-at cursor (o ∷ nodes) zero = refl
 namespace-at cursor (o ∷ nodes) (suc s) = namespace-at (λ s. cursor (suc s)) nodes s
@@ -53,7 +53,7 @@ module _ (f g : ℕ → Option ℕ) where
   map_same [] same = refl
   map_same (s ∷ ss) same = ap (λ o. unwrap_or o 0 ∷ map (λ s. unwrap_or (f s) 0) ss) (same 0 (omega arith)) ∙ ap (λ r. unwrap_or (g s) 0 ∷ r) (map_same ss (λ k lt. same (suc k) (omega (arith, lt))))
 
-module _ (pid_max : ℕ) (tree : Tree) (ids : List (Ids ℕ)) (idents : Table) where
+module _ (pid_max : ℕ) (tree : TreeOfSpaces) (ids : List (Ids ℕ)) (idents : Table) where
   abbrev numbering : Numbering
   numbering = numbering_of pid_max tree ids idents
 
@@ -69,13 +69,13 @@ module _ (pid_max : ℕ) (tree : Tree) (ids : List (Ids ℕ)) (idents : Table) w
   pub paths_are : path_at numbering ≡ way tree.nodes
   paths_are = λ i s. path_is s i
 
-  pub name_is : (k : ℕ) → identifier_at numbering k ≡ name_at idents k
+  pub name_is : (k : ℕ) → identifier_at numbering k ≡ ident_at idents k
   name_is k = get_or-map (option_map identifier_of) idents.slots k None
 
-  pub number_is : (k s : ℕ) → number_of numbering k s ≡ number_in (way tree.nodes) s (name_at idents k)
-  number_is k s = ap (number_in (path_at numbering) s) (name_is k) ∙ ap (λ w. number_in w s (name_at idents k)) paths_are
+  pub number_is : (k s : ℕ) → number_of numbering k s ≡ number_in (way tree.nodes) s (ident_at idents k)
+  number_is k s = ap (number_in (path_at numbering) s) (name_is k) ∙ ap (λ w. number_in w s (ident_at idents k)) paths_are
 
-  module _ (t : IsNumbering pid_max (way tree.nodes) (entry_on ids) (bound_on ids) (name_at idents)) where
+  module _ (t : IsNumbering pid_max (way tree.nodes) (entry_on ids) (bound_on ids) (ident_at idents)) where
     pub none_found : (s n : ℕ) → leads (entry_on ids) s n ≡ None → (k : ℕ) → number_of numbering k s ≢ Some n
     none_found s n none k e = let r : Some k ≡ None = sym (t.tied.kept s n k (sym (number_is k s) ∙ e)) ∙ none in cc
 
@@ -185,10 +185,10 @@ more_used kind v = used-with kind (uses kind v + 1) v ∙ not_from_false (uses k
 pub used_some : (kind : Kind) (v : Identifier) → is_used_as kind (Some v) ≡ true → is_used v ≡ true
 used_some kind v e = grind (arith, told)
 
-get_mark : (kind : Kind) (o : Option Identifier) → get_or (marks_of o) (mark_of kind) false ≡ is_used_as kind o
+get_mark : (kind : Kind) (o : Option Identifier) → get_or (use_marks o) (mark_of kind) false ≡ is_used_as kind o
 get_mark kind o = grind arith
 
-module _ (pid_max : ℕ) (tree : Tree) (ids : List (Ids ℕ)) (idents : Table) (b : IsNumbering pid_max (way tree.nodes) (entry_on ids) (bound_on ids) (name_at idents)) (kind : Kind) (s : ℕ) where
+module _ (pid_max : ℕ) (tree : TreeOfSpaces) (ids : List (Ids ℕ)) (idents : Table) (b : IsNumbering pid_max (way tree.nodes) (entry_on ids) (bound_on ids) (ident_at idents)) (kind : Kind) (s : ℕ) where
   abbrev whole : Numbering
   whole = numbering_of pid_max tree ids idents
 
@@ -203,7 +203,7 @@ module _ (pid_max : ℕ) (tree : Tree) (ids : List (Ids ℕ)) (idents : Table) (
           record {
             key = e.value;
             has = one_found pid_max tree ids idents b s n e.value led;
-            used = ap (is_used_as kind) (name_is pid_max tree ids idents e.value) ∙ sym (ap (λ l. get_or l (mark_of kind) false) (b.marks s n e is) ∙ get_mark kind (name_at idents e.value)) ∙ h;
+            used = ap (is_used_as kind) (name_is pid_max tree ids idents e.value) ∙ sym (ap (λ l. get_or l (mark_of kind) false) (b.marks s n e is) ∙ get_mark kind (ident_at idents e.value)) ∙ h;
           }
 
   -- and the other way round
@@ -211,8 +211,8 @@ module _ (pid_max : ℕ) (tree : Tree) (ids : List (Ids ℕ)) (idents : Table) (
   used_marked n u =
       let led : leads (entry_on ids) s n ≡ Some u.key = b.tied.kept s n u.key (sym (number_is pid_max tree ids idents u.key s) ∙ u.has) in
       let r = at_key (entry_on ids s n) u.key led in
-      ap (is_marked (mark_of kind)) r.1 ∙ ap (λ l. get_or l (mark_of kind) false) (b.marks s n r.0 r.1) ∙ get_mark kind (name_at idents r.0.value)
-      ∙ ap (λ k. is_used_as kind (name_at idents k)) r.2 ∙ sym (ap (is_used_as kind) (name_is pid_max tree ids idents u.key)) ∙ u.used
+      ap (is_marked (mark_of kind)) r.1 ∙ ap (λ l. get_or l (mark_of kind) false) (b.marks s n r.0 r.1) ∙ get_mark kind (ident_at idents r.0.value)
+      ∙ ap (λ k. is_used_as kind (ident_at idents k)) r.2 ∙ sym (ap (is_used_as kind) (name_is pid_max tree ids idents u.key)) ∙ u.used
 
   below_end : (n : ℕ) → IsNumberUsedAs whole kind s n → n < 16777216
   below_end n u =
@@ -254,10 +254,10 @@ module _ (x : Inside) {b : Numbering} (view : numbering_of x.pid_max x.tree x.id
   path-of s = ap (λ z. path_at z s) (sym view) ∙ path_is x.pid_max x.tree x.ids.items x.idents s
 
   -- the identifier with a key is that of the slab
-  pub identifier_is : (k : ℕ) → identifier_at b k ≡ name_at x.idents k
+  pub identifier_is : (k : ℕ) → identifier_at b k ≡ ident_at x.idents k
   identifier_is k = ap (λ z. identifier_at z k) (sym view) ∙ name_is x.pid_max x.tree x.ids.items x.idents k
 
-  module _ (i s own : ℕ) (u : Identifier) (is : name_at x.idents i ≡ Some u) (at : u.space ≡ own) where
+  module _ (i s own : ℕ) (u : Identifier) (is : ident_at x.idents i ≡ Some u) (at : u.space ≡ own) where
     -- its number in a namespace
     pub number-of : number_of b i s ≡ beside s (way x.tree.nodes own) u.numbers
     number-of =
@@ -274,7 +274,7 @@ module _ (x : Inside) {b : Numbering} (view : numbering_of x.pid_max x.tree x.id
         ∙ ap (λ p. beside_from s (reverse p) (reverse u.numbers)) (path_is x.pid_max x.tree x.ids.items x.idents u.space ∙ ap (way x.tree.nodes) at)
 
   -- what is drawn along a path is a plan of it
-  pub plan-of : IsKept x.pid_max x.tree x.ids.items x.idents → (space : ℕ) (numbers : List ℕ) → find (λ s. is_none (draw_in b s)) (path_at b space) ≡ None
+  pub plan-of : IsNumberTable x.pid_max x.tree x.ids.items x.idents → (space : ℕ) (numbers : List ℕ) → find (λ s. is_none (draw_in b s)) (path_at b space) ≡ None
       → numbers ≡ map (λ s. unwrap_or (draw_in b s) 0) (path_at b space) → IsPlan x.pid_max x.tree.nodes x.ids.items space numbers
   plan-of k space numbers all is = record {
     len = planned_len x.pid_max x.tree x.ids.items x.idents k.whole.numbering space numbers here;

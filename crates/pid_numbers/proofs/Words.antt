@@ -15,7 +15,7 @@ pub use Rattle.cyclic_ids.specs.Ids.{Ids, planned}
 pub use Rattle.index_array.proofs.Indexes.{contains_indexes}
 pub use Rattle.index_array.specs.Place.{Entry, IsLeastIndex, Place, entry_at, index_count, indexes, is_marked, is_prepared, with_mark}
 pub use Rattle.ns_tree.proofs.Paths.{contains_at, distinct-path, everywhere, place_of}
-pub use Rattle.ns_tree.specs.Tree.{AreListed, IsPath, IsTree, Node, Tree, fell, felled, felled_within, grown, id_in, new_node, node_in, way}
+pub use Rattle.ns_tree.specs.Tree.{AreListed, IsPath, IsPathTree, Node, TreeOfSpaces, fell, felled, felled_within, grown, id_in, new_node, node_in, way}
 pub use Rattle.ns_tree.specs.Vacancy.{AreVacant, IsDistinct}
 pub use Rattle.pid_types.proofs.LeastFree.{draw-Some, least_free-found}
 pub use Rattle.pid_types.specs.Chains.{contains}
@@ -30,8 +30,8 @@ pub use Rattle.pid_numbers.specs.Numbering.{HasOwnTask, Identifier, IsNextUsed, 
 pub use Rattle.pid_numbers.specs.Numbering.{has_fallen_at, id_at, identifier_at, is_there, is_used, is_used_as, less, levels_of, more, moved, left_of}
 pub use Rattle.pid_numbers.specs.Numbering.{namespace_at, new_identifier, number_in, number_of, path_at, swept_at, uses, with_uses}
 unfoldable pub use Rattle.pid_numbers.specs.Numbering.{taken_in}
-pub use Rattle.pid_numbers.specs.Slabs.{AreAround, AreFallen, AreIn, AreInRange, AreMarked, ArePlanned, AreReady, IsKept, IsNumbering, IsTied, IsWhole}
-pub use Rattle.pid_numbers.specs.Slabs.{bound_on, cursor_on, dead_on, empty_on, entry_on, given_to, home_at, leads, mark_of, marks_of, namespace_of}
-pub use Rattle.pid_numbers.specs.Slabs.{numbering_of, plan_on, ready, stepped, touched, with_cursors}
-pub use Rattle.pid_numbers.specs.Table.{ChangesPlace, IsTable, Table, get, identifier_of, name_at, shown}
+pub use Rattle.pid_numbers.specs.Slabs.{AreAround, AreFallen, AreIn, HaveNumbersInRange, AreMarked, ArePlanned, AreReady, IsNumberTable, IsNumbering, IsTied, IsConsistent}
+pub use Rattle.pid_numbers.specs.Slabs.{bound_on, cursor_on, dead_on, empty_on, entry_on, given_to, own_space_at, leads, mark_of, use_marks, namespace_of}
+pub use Rattle.pid_numbers.specs.Slabs.{numbering_of, plan_on, ready, stepped, touched, namespaces_with}
+pub use Rattle.pid_numbers.specs.Table.{ChangesPlace, IsTable, Table, get, identifier_of, ident_at, shown}
 pub use Rattle.pid_numbers.specs.declared.idents.Ident.{Ident}

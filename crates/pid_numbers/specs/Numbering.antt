@@ -79,12 +79,12 @@ abbrev pub draw_in : Numbering → ℕ → Option ℕ
 draw_in b s = option_and_then (λ t. cyclic_draw b.pid_max t.cursor (taken_in b s)) (namespace_at b s)
 
 -- whether the namespace has fallen and no identifier has a number in it any more
-abbrev pub is_dead : Numbering → ℕ → Namespace → Bool
-is_dead b s t = t.fallen && (length (taken_in b s) == 0)
+abbrev pub is_deserted : Numbering → ℕ → Namespace → Bool
+is_deserted b s t = t.fallen && (length (taken_in b s) == 0)
 
 -- the namespace with the key, where it is not dead: what a sweep leaves
 abbrev pub swept_at : Numbering → ℕ → Option Namespace
-swept_at b s = option_and_then (λ t. if is_dead b s t then None else Some t) (namespace_at b s)
+swept_at b s = option_and_then (λ t. if is_deserted b s t then None else Some t) (namespace_at b s)
 
 -- the namespace with the key s, with its cursor at the number if its key is the first one
 abbrev pub cursor_put : ℕ → ℕ → ℕ → Namespace → Namespace

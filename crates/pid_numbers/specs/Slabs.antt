@@ -1,5 +1,5 @@
 -- The numbers of each namespace, at the namespace's key, and the identifiers, and what ties them.
-use Rattle.std.specs.Prelude.{◌≡◌, ℕ, suc, ◌+◌, ◌<◌, ◌==◌, ◌&&◌, Bool, true, false, List, [], ◌∷◌, length, map, Option, Some, IsSome, option_map, option_and_then, if◌then◌else◌, slice_get, slice_index_or}
+use Rattle.std.specs.Prelude.{◌≡◌, ℕ, suc, ◌+◌, ◌<◌, ◌==◌, ◌&&◌, Bool, true, false, List, [], ◌∷◌, length, map, Option, Some, IsSome, option_map, option_and_then, if◌then◌else◌, slice_get, slice_index_or, ◌≢◌}
 use Rattle.std.specs.Option.{option_map_or, option_eq}
 use Rattle.index_array.specs.Place.{Entry, entry_at, index_count, is_prepared, indexes}
 use Rattle.cyclic_ids.specs.Ids.{Ids, planned}
@@ -9,8 +9,8 @@ use Rattle.pid_types.specs.Settings.{HasGoodPidMax}
 use Rattle.pid_types.specs.declared.call.Kind.{Kind}
 use Rattle.pid_types.specs.declared.call.Kind.TheVariants.{Task, Group, Session}
 pub use Rattle.ns_tree.specs.Tree.{IsPath}
-use Rattle.ns_tree.specs.Tree.{Node, Tree, IsTree, AreListed, node_in, way, id_in, fell}
-use Rattle.pid_numbers.specs.Table.{Table, identifier_of, name_at}
+use Rattle.ns_tree.specs.Tree.{Node, TreeOfSpaces, IsPathTree, AreListed, node_in, way, id_in, fell}
+use Rattle.pid_numbers.specs.Table.{Table, identifier_of, ident_at}
 use Rattle.pid_numbers.specs.Numbering.{Namespace, Identifier, Numbering, number_in, is_used_as, is_used, HasOwnTask}
 
 -- a namespace of the tree, with the cursor of its numbers
@@ -18,20 +18,20 @@ abbrev pub namespace_of : ℕ → Node → Namespace
 namespace_of cursor t = record { id = t.id; fallen = t.fallen; path = t.path; cursor = cursor }
 
 -- the namespaces by key, each with its cursor
-abbrev pub with_cursors : (ℕ → ℕ) → List (Option Node) → List (Option Namespace)
-with_cursors cursor [] = []
-with_cursors cursor (o ∷ nodes) = option_map (namespace_of (cursor 0)) o ∷ with_cursors (λ s. cursor (suc s)) nodes
+abbrev pub namespaces_with : (ℕ → ℕ) → List (Option Node) → List (Option Namespace)
+namespaces_with cursor [] = []
+namespaces_with cursor (o ∷ nodes) = option_map (namespace_of (cursor 0)) o ∷ namespaces_with (λ s. cursor (suc s)) nodes
 
 -- where the next draw in a namespace begins
 abbrev pub cursor_on : List (Ids ℕ) → ℕ → ℕ
 cursor_on ids s = option_map_or (λ t. t.cursor) (slice_get ids s) 0
 
-abbrev pub numbering_of : ℕ → Tree → List (Ids ℕ) → Table → Numbering
+abbrev pub numbering_of : ℕ → TreeOfSpaces → List (Ids ℕ) → Table → Numbering
 numbering_of pid_max tree ids idents =
     record {
       pid_max = pid_max;
       next = idents.vacant_key;
-      namespaces = with_cursors (cursor_on ids) tree.nodes;
+      namespaces = namespaces_with (cursor_on ids) tree.nodes;
       names = map (option_map identifier_of) idents.slots;
       order = tree.order;
     }
@@ -53,6 +53,28 @@ bound_on ids s = option_map (λ t. t.pid_max) (slice_get ids s)
 abbrev pub ready : List (Ids ℕ) → ℕ → ℕ → Bool
 ready ids s n = option_map_or (λ t. is_prepared t.places n) (slice_get ids s) false
 
+-- no namespace gives another number next
+abbrev pub KeepsPlans : List (Ids ℕ) → List (Ids ℕ) → Type 0
+KeepsPlans old new = (s : ℕ) → plan_on new s ≡ plan_on old s
+
+-- each number leads where it led
+abbrev pub KeepsNumbers : List (Ids ℕ) → List (Ids ℕ) → Type 0
+KeepsNumbers old new = (s m : ℕ) → entry_on new s m ≡ entry_on old s m
+
+abbrev pub KeepsBounds : List (Ids ℕ) → List (Ids ℕ) → Type 0
+KeepsBounds old new = (s : ℕ) → bound_on new s ≡ bound_on old s
+
+abbrev pub KeepsCursors : List (Ids ℕ) → List (Ids ℕ) → Type 0
+KeepsCursors old new = (s : ℕ) → cursor_on new s ≡ cursor_on old s
+
+-- of a namespace each number but one leads where it led
+abbrev pub KeepsOtherNumbers : List (Ids ℕ) → List (Ids ℕ) → ℕ → ℕ → Type 0
+KeepsOtherNumbers old new key n = (m : ℕ) → m ≢ n → entry_on new key m ≡ entry_on old key m
+
+-- the numbers of each namespace but one are as they were
+abbrev pub KeepsOtherSpaces : List (Ids ℕ) → List (Ids ℕ) → ℕ → Type 0
+KeepsOtherSpaces old new key = (s : ℕ) → s ≢ key → slice_get new s ≡ slice_get old s
+
 -- numbers lead to names and names to numbers
 pub record IsTied (ways : ℕ → List ℕ) (names : ℕ → Option Identifier) (see : ℕ → ℕ → Option ℕ) : Type 0 where
   pub found : (s n i : ℕ) → see s n ≡ Some i → number_in ways s (names i) ≡ Some n
@@ -69,25 +91,25 @@ mark_of Group = 1
 mark_of Session = 2
 
 -- the marks of the numbers of an identifier
-abbrev pub marks_of : Option Identifier → List Bool
-marks_of o = is_used_as Task o ∷ is_used_as Group o ∷ is_used_as Session o ∷ []
+abbrev pub use_marks : Option Identifier → List Bool
+use_marks o = is_used_as Task o ∷ is_used_as Group o ∷ is_used_as Session o ∷ []
 
 -- each number has the marks of its identifier's uses
 abbrev pub AreMarked : (ℕ → ℕ → Option (Entry ℕ)) → (ℕ → Option Identifier) → Type 0
-AreMarked at names = (s n : ℕ) (e : Entry ℕ) → at s n ≡ Some e → e.marks ≡ marks_of (names e.value)
+AreMarked at names = (s n : ℕ) (e : Entry ℕ) → at s n ≡ Some e → e.marks ≡ use_marks (names e.value)
 
 -- each number is in range
-abbrev pub AreInRange : ℕ → (ℕ → ℕ → Option ℕ) → Type 0
-AreInRange pid_max see = (s n i : ℕ) → see s n ≡ Some i → (0 < n) × (n < pid_max)
+abbrev pub HaveNumbersInRange : ℕ → (ℕ → ℕ → Option ℕ) → Type 0
+HaveNumbersInRange pid_max see = (s n i : ℕ) → see s n ≡ Some i → (0 < n) × (n < pid_max)
 
 -- the paths, the look-ups, the bounds and the identifiers agree
 pub record IsNumbering
     (pid_max : ℕ) (ways : ℕ → List ℕ) (at : ℕ → ℕ → Option (Entry ℕ)) (bound : ℕ → Option ℕ) (names : ℕ → Option Identifier) : Type 0 where
   pub good : HasGoodPidMax pid_max
   pub bounds : (s m : ℕ) → bound s ≡ Some m → m ≡ pid_max
-  pub tree : IsTree ways
+  pub tree : IsPathTree ways
   pub tied : IsTied ways names (leads at)
-  pub range : AreInRange pid_max (leads at)
+  pub range : HaveNumbersInRange pid_max (leads at)
   pub marks : AreMarked at names
 
 -- the root stands, what is in a fallen namespace has fallen, and each fallen namespace has a number in use
@@ -97,29 +119,29 @@ pub record AreFallen (ways : ℕ → List ℕ) (at : ℕ → ℕ → Option (Ent
   pub held : (s : ℕ) → fell s ≡ true → (n : ℕ) × (i : ℕ) × (leads at s n ≡ Some i)
 
 -- the numbers, and the namespaces that have fallen
-pub record IsWhole
+pub record IsConsistent
     (pid_max : ℕ) (ways : ℕ → List ℕ) (at : ℕ → ℕ → Option (Entry ℕ)) (bound : ℕ → Option ℕ) (names : ℕ → Option Identifier)
     (fell : ℕ → Bool) : Type 0 where
   pub numbering : IsNumbering pid_max ways at bound names
   pub fallen : AreFallen ways at fell
 
 -- all of that, the order, and numbers for each namespace
-pub record IsKept (pid_max : ℕ) (tree : Tree) (ids : List (Ids ℕ)) (idents : Table) : Type 0 where
-  pub whole : IsWhole pid_max (way tree.nodes) (entry_on ids) (bound_on ids) (name_at idents) (fell tree.nodes)
+pub record IsNumberTable (pid_max : ℕ) (tree : TreeOfSpaces) (ids : List (Ids ℕ)) (idents : Table) : Type 0 where
+  pub whole : IsConsistent pid_max (way tree.nodes) (entry_on ids) (bound_on ids) (ident_at idents) (fell tree.nodes)
   pub some : (s : ℕ) → IsSome (node_in tree.nodes s) → 0 < length (way tree.nodes s)
   pub listed : AreListed (id_in tree.nodes) tree.order
   pub count : length ids ≡ length tree.nodes
 
 -- the own namespace of an identifier
-abbrev pub home_at : Table → ℕ → Option ℕ
-home_at idents i = option_map (λ u. u.space) (name_at idents i)
+abbrev pub own_space_at : Table → ℕ → Option ℕ
+own_space_at idents i = option_map (λ u. u.space) (ident_at idents i)
 
 -- the numbers that tasks have in the namespace lead to each namespace inside that has not fallen
 pub record LeadsInside (nodes : List (Option Node)) (ids : List (Ids ℕ)) (idents : Table) (outer : ℕ) : Type 0 where
-  pub tied : IsTied (way nodes) (name_at idents) (leads (entry_on ids))
-  pub marks : AreMarked (entry_on ids) (name_at idents)
+  pub tied : IsTied (way nodes) (ident_at idents) (leads (entry_on ids))
+  pub marks : AreMarked (entry_on ids) (ident_at idents)
   pub range : (n i : ℕ) → leads (entry_on ids) outer n ≡ Some i → n < index_count
-  pub homes : (s : ℕ) → contains (way nodes s) outer ≡ true → fell nodes s ≡ false → HasOwnTask (name_at idents) s
+  pub homes : (s : ℕ) → contains (way nodes s) outer ≡ true → fell nodes s ≡ false → HasOwnTask (ident_at idents) s
 
 -- whether no number in it is in use
 abbrev pub empty_on : List (Ids ℕ) → ℕ → Bool

@@ -16,8 +16,8 @@ get table key = slice_index_or table.slots key None
 abbrev pub identifier_of : Ident → Identifier
 identifier_of x = record { space = x.space; numbers = x.numbers; tasks = x.tasks; groups = x.groups; sessions = x.sessions }
 
-abbrev pub name_at : Table → ℕ → Option Identifier
-name_at table key = option_map identifier_of (get table key)
+abbrev pub ident_at : Table → ℕ → Option Identifier
+ident_at table key = option_map identifier_of (get table key)
 
 -- the identifier at a place, none where the place is vacant: then it has no numbers
 abbrev pub shown : Ident → Option Ident

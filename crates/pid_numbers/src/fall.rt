@@ -2,7 +2,7 @@
 
 ghost use Rattle.std.specs.Prelude.{◌≡◌, ℕ, length, option_map, option_and_then};
 ghost use Rattle.ns_tree.specs.Tree.{node_in, felled_within};
-ghost use Rattle.pid_numbers.specs.Slabs.{LeadsInside, entry_on, leads, home_at};
+ghost use Rattle.pid_numbers.specs.Slabs.{LeadsInside, entry_on, leads, own_space_at};
 
 use crate::idents::Idents;
 use crate::names::home_of;
@@ -18,7 +18,7 @@ const FEW: usize = 64;
 
 /// The own namespace of the identifier that has the number.
 fn home_behind(ids: &Vec<CyclicIds>, idents: &Idents, space: SpaceKey, n: Pid) -> Option<SpaceKey>
-    ensures { result ≡ option_and_then (home_at idents.now) (leads (entry_on ids.now.items) space n) }
+    ensures { result ≡ option_and_then (own_space_at idents.now) (leads (entry_on ids.now.items) space n) }
 {
     home_of(idents, look(ids, space, n)?)
 }

@@ -1,10 +1,9 @@
 //! Identifiers by key, in places of a vector.
 
 ghost use Rattle.std.specs.Prelude.{◌≡◌, ◌≢◌, ℕ, ◌<◌, ◌≤◌, ◌^◌, ◌+◌, ◌==◌, [], length, None, Some, IfOk, OnOk, IfSome};
-ghost use Rattle.std.specs.Prelude.{OnErr, IsSome, true, false};
-ghost use Rattle.std.specs.Option.{option_copied};
+ghost use Rattle.std.specs.{Prelude.{OnErr, IsSome, true, false}, Option.{option_copied}};
 ghost use Rattle.pid_numbers.specs.Numbering.{Identifier, uses, less, more, is_used_as};
-ghost use Rattle.pid_numbers.specs.Table.{get, identifier_of, name_at, ChangesPlace};
+ghost use Rattle.pid_numbers.specs.Table.{get, identifier_of, ident_at, ChangesPlace};
 
 use crate::levels::LevelNumbers;
 use pid_types::call::Kind;
@@ -180,7 +179,7 @@ impl Idents {
     /// Takes an identifier out, whose place is then vacant.
     #[inline(always)]
     pub(crate) fn remove(&mut self, key: IdentKey) -> Ident
-        requires { IsSome (name_at self.old key) }
+        requires { IsSome (ident_at self.old key) }
         ensures value { get self.old key ≡ Some result }
         ensures updates { ChangesPlace self.old self.new key None }
     {
@@ -204,7 +203,7 @@ impl Idents {
     /// The identifier with the key, which is there.
     #[inline(always)]
     pub(crate) fn at(&self, key: IdentKey) -> &Ident
-        requires { IsSome (name_at self.now key) }
+        requires { IsSome (ident_at self.now key) }
         ensures { get self.now key ≡ Some result.now }
     {
         &self.places[key as usize]
@@ -212,9 +211,9 @@ impl Idents {
 
     /// One use less.
     pub(crate) fn less_use(&mut self, key: IdentKey, kind: Kind)
-        requires { is_used_as kind (name_at self.old key) ≡ true }
-        ensures here { (u : Identifier) → name_at self.old key ≡ Some u → name_at self.new key ≡ Some (less kind u) }
-        ensures others { (j : ℕ) → j ≢ key → name_at self.new j ≡ name_at self.old j }
+        requires { is_used_as kind (ident_at self.old key) ≡ true }
+        ensures here { (u : Identifier) → ident_at self.old key ≡ Some u → ident_at self.new key ≡ Some (less kind u) }
+        ensures others { (j : ℕ) → j ≢ key → ident_at self.new j ≡ ident_at self.old j }
         ensures next { self.new.vacant_key ≡ self.old.vacant_key }
     {
         lessen(&mut self.places[key as usize], kind);
@@ -222,10 +221,10 @@ impl Idents {
 
     /// One use more.
     pub(crate) fn more_use(&mut self, key: IdentKey, kind: Kind)
-        requires there { IsSome (name_at self.old key) }
-        requires few { IfSome (name_at self.old key) (λ u. uses kind u + 1 < 2 ^ 32) }
-        ensures here { (u : Identifier) → name_at self.old key ≡ Some u → name_at self.new key ≡ Some (more kind u) }
-        ensures others { (j : ℕ) → j ≢ key → name_at self.new j ≡ name_at self.old j }
+        requires there { IsSome (ident_at self.old key) }
+        requires few { IfSome (ident_at self.old key) (λ u. uses kind u + 1 < 2 ^ 32) }
+        ensures here { (u : Identifier) → ident_at self.old key ≡ Some u → ident_at self.new key ≡ Some (more kind u) }
+        ensures others { (j : ℕ) → j ≢ key → ident_at self.new j ≡ ident_at self.old j }
         ensures next { self.new.vacant_key ≡ self.old.vacant_key }
     {
         raise(&mut self.places[key as usize], kind);

@@ -1,7 +1,7 @@
 //! The numbers of one identifier.
 
-ghost use Rattle.pid_types.specs.Bounds.{deepest_space};
 ghost use Rattle.std.specs.Prelude.{◌≡◌, ◌<◌, ◌≤◌, length, reverse, take, IfOk, slice_index_or, ◌+◌, [], ◌==◌};
+ghost use Rattle.pid_types.specs.Bounds.{deepest_space};
 ghost use Rattle.pid_numbers.specs.Blocks.{numbers_in, IsFilled};
 
 use arrayvec::ArrayVec;

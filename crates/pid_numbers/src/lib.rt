@@ -11,19 +11,16 @@
 ghost use Rattle.std.specs.Prelude.{◌≡◌, ◌≢◌, ℕ, ◌+◌, ◌<◌, ◌≤◌, ◌^◌, length, map, Some, None, IsSome, IsTrue, IfOk};
 ghost use Rattle.std.specs.Prelude.{IfErr, IfSome, OnOk, OnErr, MatchOption, option_map, find, is_none, unwrap_or};
 ghost use Rattle.std.specs.Prelude.{slice_index_or, is_some, reverse, true, false, [], ◌∷◌, ◌++◌, drop, nat_lt};
-ghost use Rattle.std.specs.Prelude.{if◌then◌else◌};
-ghost use Rattle.std.specs.List.{AllByRecursion, filter};
-ghost use Rattle.id_slab.specs.Ids.{key_of, AreBelow, AreRising};
-ghost use Rattle.ns_tree.specs.Tree.{AreInside};
-ghost use Rattle.pid_numbers.specs.Numbering.{Identifier, is_there, id_at, namespace_at, identifier_at, number_of};
-ghost use Rattle.pid_numbers.specs.Numbering.{path_at, draw_in, moved, more, less, left_of, uses, is_used, is_used_as};
-ghost use Rattle.pid_numbers.specs.Numbering.{swept_at, new_namespace, new_identifier, levels_of, fallen_within};
-ghost use Rattle.pid_numbers.specs.Numbering.{taken_in, has_fallen_at, cursor_put, HasOwnTask, IsNextUsed, IsPlanFault};
-ghost use Rattle.pid_numbers.specs.Restore.{MayFall, is_flagged, fallen_if};
-ghost use Rattle.pid_types.specs.Bounds.{deepest_space};
-ghost use Rattle.pid_types.specs.Chains.{contains};
-ghost use Rattle.std.specs.Option.{option_map_or};
-ghost use Rattle.pid_types.specs.Settings.{HasGoodPidMax};
+ghost use Rattle.std.specs.{Prelude.{if◌then◌else◌}, List.{AllByRecursion, filter}, Option.{option_map_or}};
+ghost use Rattle.{
+  id_slab.specs.Ids.{key_of, AreBelow, AreRising},
+  ns_tree.specs.Tree.{AreInside},
+  pid_numbers.specs.Numbering.{Identifier, is_there, id_at, namespace_at, identifier_at, number_of, path_at, draw_in},
+  pid_numbers.specs.Numbering.{moved, more, less, left_of, uses, is_used, is_used_as, swept_at, new_namespace},
+  pid_numbers.specs.Numbering.{new_identifier, levels_of, fallen_within, taken_in, has_fallen_at, cursor_put},
+  pid_numbers.specs.{Numbering.{HasOwnTask, IsNextUsed, IsPlanFault}, Restore.{MayFall, is_flagged, fallen_if}},
+  pid_types.specs.{Bounds.{deepest_space}, Chains.{contains}, Settings.{HasGoodPidMax}},
+};
 
 mod fall;
 mod idents;
@@ -81,14 +78,13 @@ impl Drop for Numbers {
 }
 
 impl Model for Numbers {
-    ghost use Rattle.pid_numbers.specs.Numbering.{Numbering};
-    ghost use Rattle.pid_numbers.specs.Slabs.{numbering_of, IsKept};
+    ghost use Rattle.pid_numbers.specs.{Numbering.{Numbering}, Slabs.{numbering_of, IsNumberTable}};
 
     ghost Value = { Numbering };
 
     ghost view = { λ a. numbering_of a.pid_max a.tree a.ids.items a.idents };
 
-    ghost invariant = { λ a. IsKept a.pid_max a.tree a.ids.items a.idents };
+    ghost invariant = { λ a. IsNumberTable a.pid_max a.tree a.ids.items a.idents };
 }
 
 impl Numbers {

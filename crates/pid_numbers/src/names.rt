@@ -1,17 +1,14 @@
 //! Identifiers and their uses.
 
-ghost use Rattle.std.specs.Prelude.{◌≡◌, ◌≢◌, ℕ, ◌+◌, ◌<◌, ◌≤◌, [], reverse, take, Some, IsSome, IfSome, true, ◌^◌};
-ghost use Rattle.std.specs.Prelude.{length, option_map, slice_index_or};
-ghost use Rattle.std.specs.Option.{option_map_or};
-ghost use Rattle.pid_types.specs.Bounds.{deepest_space};
-ghost use Rattle.pid_numbers.specs.Numbering.{Identifier, uses, less, more, is_used, is_used_as};
-ghost use Rattle.ns_tree.specs.Tree.{way};
-ghost use Rattle.pid_numbers.specs.Slabs.{entry_on, touched, mark_of, cursor_on};
-ghost use Rattle.pid_numbers.specs.Table.{identifier_of, name_at};
-ghost use Rattle.pid_numbers.specs.Slabs.{bound_on, AreIn};
-ghost use Rattle.ns_tree.specs.Vacancy.{IsDistinct};
-ghost use Rattle.index_array.specs.Place.{with_mark};
-ghost use Rattle.pid_types.specs.declared.call.Kind.{Kind};
+ghost use Rattle.std.specs.Prelude.{◌≡◌, ℕ, ◌+◌, ◌<◌, ◌≤◌, [], reverse, take, Some, IsSome, IfSome, length, option_map};
+ghost use Rattle.std.specs.{Prelude.{slice_index_or}, Option.{option_map_or}};
+ghost use Rattle.{
+  pid_types.specs.{Bounds.{deepest_space}, declared.call.Kind.{Kind}},
+  pid_numbers.specs.Numbering.{Identifier, uses, is_used, is_used_as},
+  pid_numbers.specs.{Slabs.{entry_on, touched, mark_of, AreIn, KeepsBounds, KeepsCursors}, Table.{ident_at}},
+  ns_tree.specs.{Tree.{way}, Vacancy.{IsDistinct}},
+  index_array.specs.Place.{with_mark},
+};
 
 use crate::idents::{Idents, count};
 use crate::levels::write_inwards;
@@ -25,7 +22,7 @@ use pid_types::plain::LEVELS;
 
 /// The namespace of the identifier.
 pub(crate) fn home_of(idents: &Idents, ident: IdentKey) -> Option<SpaceKey>
-    ensures { result ≡ option_map (λ u. u.space) (name_at idents.now ident) }
+    ensures { result ≡ option_map (λ u. u.space) (ident_at idents.now ident) }
 {
     match idents.get(ident) {
         Some(x) => Some(x.space),
@@ -35,8 +32,8 @@ pub(crate) fn home_of(idents: &Idents, ident: IdentKey) -> Option<SpaceKey>
 
 /// The identifier's number at a place of its path.
 pub(crate) fn number_at(idents: &Idents, ident: IdentKey, place: usize) -> Option<Pid>
-    requires { IfSome (name_at idents.now ident) (λ u. place < length u.numbers) }
-    ensures { result ≡ option_map (λ u. slice_index_or u.numbers place 0) (name_at idents.now ident) }
+    requires { IfSome (ident_at idents.now ident) (λ u. place < length u.numbers) }
+    ensures { result ≡ option_map (λ u. slice_index_or u.numbers place 0) (ident_at idents.now ident) }
 {
     match idents.get(ident) {
         Some(x) => Some(x.numbers.as_slice()[place]),
@@ -52,9 +49,9 @@ pub(crate) fn write_numbers_inwards(
     count: usize,
     numbers: &mut ArrayVec<Pid, LEVELS>,
 )
-    requires there { IfSome (name_at idents.now ident) (λ u. count ≤ length u.numbers) }
+    requires there { IfSome (ident_at idents.now ident) (λ u. count ≤ length u.numbers) }
     requires few { count ≤ deepest_space + 1 }
-    ensures { numbers.new.items ≡ option_map_or (λ u. reverse (take count u.numbers)) (name_at idents.now ident) [] }
+    ensures { numbers.new.items ≡ option_map_or (λ u. reverse (take count u.numbers)) (ident_at idents.now ident) [] }
 {
     match idents.get(ident) {
         Some(x) => write_inwards(x.numbers.as_slice(), count, numbers),
@@ -64,7 +61,7 @@ pub(crate) fn write_numbers_inwards(
 
 /// How many uses of the kind the identifier has.
 pub(crate) fn count_at(idents: &Idents, ident: IdentKey, kind: Kind) -> u64
-    ensures { result ≡ option_map_or (uses kind) (name_at idents.now ident) 0 }
+    ensures { result ≡ option_map_or (uses kind) (ident_at idents.now ident) 0 }
 {
     match idents.get(ident) {
         Some(x) => u64::from(count(x, kind)),
@@ -74,7 +71,7 @@ pub(crate) fn count_at(idents: &Idents, ident: IdentKey, kind: Kind) -> u64
 
 /// Whether the identifier has a use of the kind.
 pub(crate) fn has_use(idents: &Idents, ident: IdentKey, kind: Kind) -> bool
-    ensures { result ≡ is_used_as kind (name_at idents.now ident) }
+    ensures { result ≡ is_used_as kind (ident_at idents.now ident) }
 {
     match idents.get(ident) {
         Some(x) => count(x, kind) != 0,
@@ -85,8 +82,8 @@ pub(crate) fn has_use(idents: &Idents, ident: IdentKey, kind: Kind) -> bool
 /// Whether an identifier that is there has a use of the kind. It costs one read, and no test whether it is there.
 #[inline(always)]
 pub(crate) fn has_use_at(idents: &Idents, ident: IdentKey, kind: Kind) -> bool
-    requires { IsSome (name_at idents.now ident) }
-    ensures { result ≡ is_used_as kind (name_at idents.now ident) }
+    requires { IsSome (ident_at idents.now ident) }
+    ensures { result ≡ is_used_as kind (ident_at idents.now ident) }
 {
     count(idents.at(ident), kind) != 0
 }
@@ -94,8 +91,8 @@ pub(crate) fn has_use_at(idents: &Idents, ident: IdentKey, kind: Kind) -> bool
 /// Whether an identifier that is there has a use.
 #[inline(always)]
 pub(crate) fn in_use_at(idents: &Idents, ident: IdentKey) -> bool
-    requires { IsSome (name_at idents.now ident) }
-    ensures { (u : Identifier) → name_at idents.now ident ≡ Some u → result ≡ is_used u }
+    requires { IsSome (ident_at idents.now ident) }
+    ensures { (u : Identifier) → ident_at idents.now ident ≡ Some u → result ≡ is_used u }
 {
     let x = idents.at(ident);
     !(x.tasks == 0 && x.groups == 0 && x.sessions == 0)
@@ -112,12 +109,12 @@ pub(crate) fn mark_numbers(
 )
     requires there { (s : ℕ) → AreIn ids.old.items (way tree.now.nodes s) }
     requires distinct { (s : ℕ) → IsDistinct (way tree.now.nodes s) }
-    requires full { IfSome (name_at idents.now ident) (λ u. length u.numbers ≡ length (way tree.now.nodes u.space)) }
-    ensures entries { IfSome (name_at idents.now ident) (λ u. (s n : ℕ)
+    requires full { IfSome (ident_at idents.now ident) (λ u. length u.numbers ≡ length (way tree.now.nodes u.space)) }
+    ensures entries { IfSome (ident_at idents.now ident) (λ u. (s n : ℕ)
         → entry_on ids.new.items s n ≡ touched (way tree.now.nodes u.space) u.numbers
         (with_mark (mark_of kind) on) (entry_on ids.old.items) s n) }
-    ensures cursors { (s : ℕ) → cursor_on ids.new.items s ≡ cursor_on ids.old.items s }
-    ensures bound { (s : ℕ) → bound_on ids.new.items s ≡ bound_on ids.old.items s }
+    ensures cursors { KeepsCursors ids.old.items ids.new.items }
+    ensures bound { KeepsBounds ids.old.items ids.new.items }
     ensures count { length ids.new.items ≡ length ids.old.items }
 {
     let Some(x) = idents.get(ident) else {

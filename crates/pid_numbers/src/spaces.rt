@@ -1,16 +1,16 @@
 //! The numbers of the namespaces, each at the key of its namespace, and walks along paths.
 
-ghost use Rattle.std.specs.Prelude.{vec_capacity, ◌≡◌, ◌≢◌, ℕ, ◌+◌, ◌<◌, ◌≤◌, length, map, Some, None, slice_get};
-ghost use Rattle.std.specs.Prelude.{IsSome, IfOk, IfErr, OnOk, find, is_none, is_some, unwrap_or, true, false, ◌++◌};
-ghost use Rattle.std.specs.Prelude.{if◌then◌else◌};
-ghost use Rattle.std.specs.List.{filter};
-ghost use Rattle.index_array.specs.Place.{index_count, Entry, entry_at, with_mark, is_marked, IsLeastIndex};
-ghost use Rattle.pid_types.specs.Bounds.{deepest_space};
-ghost use Rattle.pid_types.specs.Settings.{HasGoodPidMax};
-ghost use Rattle.ns_tree.specs.Tree.{node_in, way, id_in, grown, IsTree, AreListed};
-ghost use Rattle.ns_tree.specs.Vacancy.{IsDistinct};
-ghost use Rattle.pid_numbers.specs.Slabs.{entry_on, leads, plan_on, cursor_on, bound_on, ready, touched, stepped};
-ghost use Rattle.pid_numbers.specs.Slabs.{given_to, mark_of, dead_on, AreAround, AreIn, ArePlanned, AreReady};
+ghost use Rattle.std.specs.Prelude.{if◌then◌else◌, vec_capacity, ◌≡◌, ◌≢◌, ℕ, ◌+◌, ◌<◌, ◌≤◌, length, map, Some, None};
+ghost use Rattle.std.specs.Prelude.{slice_get, IsSome, IfOk, IfErr, OnOk, find, is_none, is_some, unwrap_or, true};
+ghost use Rattle.std.specs.{Prelude.{false, ◌++◌}, List.{filter}};
+ghost use Rattle.{
+  index_array.specs.Place.{index_count, entry_at, with_mark, is_marked, IsLeastIndex},
+  pid_types.specs.{Bounds.{deepest_space}, Settings.{HasGoodPidMax}},
+  ns_tree.specs.{Tree.{node_in, way, id_in, grown, IsPathTree, AreListed}, Vacancy.{IsDistinct}},
+  pid_numbers.specs.Slabs.{entry_on, leads, plan_on, cursor_on, bound_on, ready, touched, stepped, given_to, mark_of},
+  pid_numbers.specs.Slabs.{dead_on, AreAround, AreIn, ArePlanned, AreReady, KeepsPlans, KeepsNumbers, KeepsBounds},
+  pid_numbers.specs.Slabs.{KeepsCursors, KeepsOtherNumbers, KeepsOtherSpaces},
+};
 
 use arrayvec::ArrayVec;
 use cyclic_ids::{CyclicIds, GROUP_MARK, SESSION_MARK, TASK_MARK};
@@ -81,10 +81,10 @@ pub(crate) fn prepare_at(ids: &mut Vec<CyclicIds>, key: SpaceKey, n: Pid) -> Res
     requires { plan_on ids.old.items key ≡ Some n }
     ensures ok { OnOk result (ready ids.new.items key n ≡ true) }
     ensures ready { (s m : ℕ) → ready ids.old.items s m ≡ true → ready ids.new.items s m ≡ true }
-    ensures plan { (s : ℕ) → plan_on ids.new.items s ≡ plan_on ids.old.items s }
-    ensures entries { (s m : ℕ) → entry_on ids.new.items s m ≡ entry_on ids.old.items s m }
-    ensures bound { (s : ℕ) → bound_on ids.new.items s ≡ bound_on ids.old.items s }
-    ensures cursors { (s : ℕ) → cursor_on ids.new.items s ≡ cursor_on ids.old.items s }
+    ensures plan { KeepsPlans ids.old.items ids.new.items }
+    ensures entries { KeepsNumbers ids.old.items ids.new.items }
+    ensures bound { KeepsBounds ids.old.items ids.new.items }
+    ensures cursors { KeepsCursors ids.old.items ids.new.items }
     ensures count { length ids.new.items ≡ length ids.old.items }
 {
     ids[key as usize].prepare(n)
@@ -100,10 +100,10 @@ pub(crate) fn prepare_path(
     requires planned { ArePlanned ids.old.items path.now numbers.now }
     requires len { length numbers.now ≡ length path.now }
     ensures ok { OnOk result (AreReady ids.new.items path.now numbers.now) }
-    ensures plan { (s : ℕ) → plan_on ids.new.items s ≡ plan_on ids.old.items s }
-    ensures entries { (s m : ℕ) → entry_on ids.new.items s m ≡ entry_on ids.old.items s m }
-    ensures bound { (s : ℕ) → bound_on ids.new.items s ≡ bound_on ids.old.items s }
-    ensures cursors { (s : ℕ) → cursor_on ids.new.items s ≡ cursor_on ids.old.items s }
+    ensures plan { KeepsPlans ids.old.items ids.new.items }
+    ensures entries { KeepsNumbers ids.old.items ids.new.items }
+    ensures bound { KeepsBounds ids.old.items ids.new.items }
+    ensures cursors { KeepsCursors ids.old.items ids.new.items }
     ensures count { length ids.new.items ≡ length ids.old.items }
 {
     for k in 0..path.len() {
@@ -115,8 +115,8 @@ pub(crate) fn prepare_path(
 /// The next draw in a namespace begins at the number.
 pub(crate) fn put_cursor(ids: &mut Vec<CyclicIds>, key: SpaceKey, cursor: Pid)
     requires { key < length ids.old.items }
-    ensures entries { (s m : ℕ) → entry_on ids.new.items s m ≡ entry_on ids.old.items s m }
-    ensures bound { (s : ℕ) → bound_on ids.new.items s ≡ bound_on ids.old.items s }
+    ensures entries { KeepsNumbers ids.old.items ids.new.items }
+    ensures bound { KeepsBounds ids.old.items ids.new.items }
     ensures here { cursor_on ids.new.items key ≡ cursor }
     ensures others { (s : ℕ) → s ≢ key → cursor_on ids.new.items s ≡ cursor_on ids.old.items s }
     ensures count { length ids.new.items ≡ length ids.old.items }
@@ -130,8 +130,8 @@ pub(crate) fn give_at(ids: &mut Vec<CyclicIds>, key: SpaceKey, n: Pid, value: Id
     requires planned { plan_on ids.old.items key ≡ Some n }
     requires ready { ready ids.old.items key n ≡ true }
     ensures here { entry_on ids.new.items key n ≡ given_to value }
-    ensures same { (m : ℕ) → m ≢ n → entry_on ids.new.items key m ≡ entry_on ids.old.items key m }
-    ensures others { (s : ℕ) → s ≢ key → slice_get ids.new.items s ≡ slice_get ids.old.items s }
+    ensures same { KeepsOtherNumbers ids.old.items ids.new.items key n }
+    ensures others { KeepsOtherSpaces ids.old.items ids.new.items key }
     ensures bound { bound_on ids.new.items key ≡ bound_on ids.old.items key }
     ensures cursor { cursor_on ids.new.items key ≡ n + 1 }
     ensures count { length ids.new.items ≡ length ids.old.items }
@@ -155,7 +155,7 @@ pub(crate) fn give_path(
         ≡ touched path.now numbers.now (λ _. given_to value) (entry_on ids.old.items) s n }
     ensures cursors { (s : ℕ) → cursor_on ids.new.items s
         ≡ stepped path.now numbers.now s (cursor_on ids.old.items s) }
-    ensures bound { (s : ℕ) → bound_on ids.new.items s ≡ bound_on ids.old.items s }
+    ensures bound { KeepsBounds ids.old.items ids.new.items }
     ensures count { length ids.new.items ≡ length ids.old.items }
 {
     for k in 0..path.len() {
@@ -167,8 +167,8 @@ pub(crate) fn give_path(
 pub(crate) fn mark_at(ids: &mut Vec<CyclicIds>, key: SpaceKey, n: Pid, kind: Kind, on: bool)
     requires { key < length ids.old.items }
     ensures here { entry_on ids.new.items key n ≡ with_mark (mark_of kind) on (entry_on ids.old.items key n) }
-    ensures same { (m : ℕ) → m ≢ n → entry_on ids.new.items key m ≡ entry_on ids.old.items key m }
-    ensures others { (s : ℕ) → s ≢ key → slice_get ids.new.items s ≡ slice_get ids.old.items s }
+    ensures same { KeepsOtherNumbers ids.old.items ids.new.items key n }
+    ensures others { KeepsOtherSpaces ids.old.items ids.new.items key }
     ensures bound { bound_on ids.new.items key ≡ bound_on ids.old.items key }
     ensures cursor { cursor_on ids.new.items key ≡ cursor_on ids.old.items key }
     ensures count { length ids.new.items ≡ length ids.old.items }
@@ -195,8 +195,8 @@ pub(crate) fn mark_path(
     requires len { length numbers.now ≡ length path.now }
     ensures entries { (s n : ℕ) → entry_on ids.new.items s n
         ≡ touched path.now numbers.now (with_mark (mark_of kind) on) (entry_on ids.old.items) s n }
-    ensures cursors { (s : ℕ) → cursor_on ids.new.items s ≡ cursor_on ids.old.items s }
-    ensures bound { (s : ℕ) → bound_on ids.new.items s ≡ bound_on ids.old.items s }
+    ensures cursors { KeepsCursors ids.old.items ids.new.items }
+    ensures bound { KeepsBounds ids.old.items ids.new.items }
     ensures count { length ids.new.items ≡ length ids.old.items }
 {
     for k in 0..path.len() {
@@ -209,8 +209,8 @@ pub(crate) fn mark_path(
 pub(crate) fn release_at(ids: &mut Vec<CyclicIds>, key: SpaceKey, n: Pid)
     requires { key < length ids.old.items }
     ensures here { entry_on ids.new.items key n ≡ None }
-    ensures same { (m : ℕ) → m ≢ n → entry_on ids.new.items key m ≡ entry_on ids.old.items key m }
-    ensures others { (s : ℕ) → s ≢ key → slice_get ids.new.items s ≡ slice_get ids.old.items s }
+    ensures same { KeepsOtherNumbers ids.old.items ids.new.items key n }
+    ensures others { KeepsOtherSpaces ids.old.items ids.new.items key }
     ensures bound { bound_on ids.new.items key ≡ bound_on ids.old.items key }
     ensures cursor { cursor_on ids.new.items key ≡ cursor_on ids.old.items key }
     ensures count { length ids.new.items ≡ length ids.old.items }
@@ -226,8 +226,8 @@ pub(crate) fn release_path(ids: &mut Vec<CyclicIds>, path: &[SpaceKey], numbers:
     requires len { length numbers.now ≡ length path.now }
     ensures entries { (s n : ℕ) → entry_on ids.new.items s n
         ≡ touched path.now numbers.now (λ _. None) (entry_on ids.old.items) s n }
-    ensures cursors { (s : ℕ) → cursor_on ids.new.items s ≡ cursor_on ids.old.items s }
-    ensures bound { (s : ℕ) → bound_on ids.new.items s ≡ bound_on ids.old.items s }
+    ensures cursors { KeepsCursors ids.old.items ids.new.items }
+    ensures bound { KeepsBounds ids.old.items ids.new.items }
     ensures count { length ids.new.items ≡ length ids.old.items }
 {
     for k in 0..path.len() {
@@ -267,7 +267,7 @@ pub(crate) fn sweep(tree: &mut SpaceTree, ids: &Vec<CyclicIds>, space: SpaceKey)
         ≡ if dead_on tree.old.nodes ids.now.items s then None else node_in tree.old.nodes s }
     ensures order { tree.new.order ≡ filter (λ p. is_some (node_in tree.new.nodes p.1)) tree.old.order }
     ensures count { length tree.new.nodes ≡ length tree.old.nodes }
-    ensures tree { IsTree (way tree.new.nodes) }
+    ensures tree { IsPathTree (way tree.new.nodes) }
     ensures some { (s : ℕ) → IsSome (node_in tree.new.nodes s) → 0 < length (way tree.new.nodes s) }
     ensures listed { AreListed (id_in tree.new.nodes) tree.new.order }
 {

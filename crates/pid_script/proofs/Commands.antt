@@ -4,7 +4,7 @@ use Rattle.std.proofs.lemmas.Bool.{ne_eqb}
 use Rattle.std.proofs.lemmas.Slice.Eq.{bytes_eq-Decides}
 use Rattle.pid_types.specs.declared.call.Call.{Call}
 use Rattle.pid_types.specs.declared.call.Call.TheVariants.{Exec, Exit, Wait, SetPgid, SetSid, GetPid, GetPpid, GetPgid, GetSid, NsPid, Next, SetLimit, Move, MakeControl, RemoveControl, Count, Join, SetSubreaper}
-use Rattle.pid_script.specs.Reading.{is_word, named, commands, command_of, one, two, three, process_of, control_of, status_of, which_of, signed_of, kind_of, limit_of, switch_of, fork_of}
+use Rattle.pid_script.specs.Reading.{is_word, named, commands, command_of, one, two, three, process_of, control_of, status_read, which_read, signed_of, kind_read, limit_read, switch_read, fork_of}
 use Rattle.pid_script.proofs.Cuts.{by_test, same_eqb}
 
 -- the rows whose words are so long
@@ -49,11 +49,11 @@ pub row_exec : IsRow (codes "exec") (one process_of Exec)
 unfolding command_of
 row_exec words = refl
 
-pub row_exit : IsRow (codes "exit") (two process_of status_of Exit)
+pub row_exit : IsRow (codes "exit") (two process_of status_read Exit)
 unfolding command_of
 row_exit words = refl
 
-pub row_wait : IsRow (codes "wait") (two process_of which_of Wait)
+pub row_wait : IsRow (codes "wait") (two process_of which_read Wait)
 unfolding command_of
 row_wait words = refl
 
@@ -85,11 +85,11 @@ pub row_nspid : IsRow (codes "nspid") (two process_of process_of NsPid)
 unfolding command_of
 row_nspid words = refl
 
-pub row_next : IsRow (codes "next") (three process_of kind_of process_of Next)
+pub row_next : IsRow (codes "next") (three process_of kind_read process_of Next)
 unfolding command_of
 row_next words = refl
 
-pub row_limit : IsRow (codes "limit") (two control_of limit_of SetLimit)
+pub row_limit : IsRow (codes "limit") (two control_of limit_read SetLimit)
 unfolding command_of
 row_limit words = refl
 
@@ -105,7 +105,7 @@ pub row_join : IsRow (codes "join") (two process_of process_of Join)
 unfolding command_of
 row_join words = refl
 
-pub row_subreaper : IsRow (codes "subreaper") (two process_of switch_of SetSubreaper)
+pub row_subreaper : IsRow (codes "subreaper") (two process_of switch_read SetSubreaper)
 unfolding command_of
 row_subreaper words = refl
 

@@ -4,7 +4,7 @@ use Rattle.pid_types.specs.declared.call.Call.{Call}
 use Rattle.pid_types.specs.declared.call.Call.TheVariants.{Fork, GetPid, NsPid, Exec, Exit, Wait, GetPpid, SetSid, MakeControl, RemoveControl, SetLimit, Move, Count, GetPgid, GetSid, Next, Join, SetSubreaper, SetPgid}
 use Rattle.pid_script.specs.declared.line.Line.TheVariants as says
 use Rattle.pid_script.specs.Lines.{line_of, Fits, IsLineOf, Says}
-use Rattle.pid_script.specs.Reading.{cut, named, one, process_of, fork_of, fork_new_of, commands, command_of, call_of, call_or_bad, parsed}
+use Rattle.pid_script.specs.Reading.{cut, named, one, process_of, fork_of, fork_new_of, commands, command_of, call_read, call_or_bad, parsed}
 use Rattle.pid_script.proofs.Cuts.{cut-Some, option_map_some}
 use Rattle.pid_script.proofs.Numbers.{numerals, number_below-decimal, number_below-None, none-some, option_and_then_some, get_or-append-add, not_in_digits, digits_decimal}
 use Rattle.pid_script.proofs.Words.{◌◂◌, Reads, Rows, named-says, either, both, behind, process, control, number, signed, lacks_decimal, lacks_signed, lacks_kind, kinds, switch, which, limit, word_of_switch, text_of_which, text_of_limit, Which, Any, Pid, OwnGroup, Group}
@@ -137,7 +137,7 @@ line_of-parsed (b ∷ bs) c is =
     option_and_then_some _ (named commands p.0) c command (λ read row here.
     subst (λ bytes. IsLineOf bytes c × (length bytes ≤ 200)) (sym (cut-Some 32 (b ∷ bs) p cuts)) (named-says Spells commands spells p.0 read row p.1 c here)))
 
-says_at_head : (b : ℕ) (bs : List ℕ) (o : Option Call) → call_of (b ∷ bs) ≡ o → Says (call_or_bad o) (b ∷ bs)
+says_at_head : (b : ℕ) (bs : List ℕ) (o : Option Call) → call_read (b ∷ bs) ≡ o → Says (call_or_bad o) (b ∷ bs)
 says_at_head b bs None none = (
   λ empty. absurd (cc),
   λ c line. none-some c (sym none ∙ says_call _ c (ap parsed line.written ∙ parsed-line_of c line.fits)),
@@ -147,6 +147,6 @@ says_at_head b bs (Some c) some = (line_of-parsed (b ∷ bs) c (ap call_or_bad s
 -- what a line says is what the table says of it
 pub Says-parsed : (bytes : List ℕ) → Says (parsed bytes) bytes
 Says-parsed [] = refl
-Says-parsed (b ∷ bs) = says_at_head b bs (call_of (b ∷ bs)) refl
+Says-parsed (b ∷ bs) = says_at_head b bs (call_read (b ∷ bs)) refl
 
 pub ruleset tables = (Says-parsed, parsed-line_of)

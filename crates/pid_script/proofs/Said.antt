@@ -2,7 +2,7 @@
 use Rattle.std.proofs.Common.{◌≡◌, ℕ, Bool, true, false, cond, eqb, leb, List, [], ◌∷◌, ◌++◌, length, map, Option, Some, None, refl, sym, ap, ◌∙◌, append_assoc, append-nil}
 use Rattle.std.specs.List.{onto_first}
 use Rattle.pid_script.specs.Reading.{parsed}
-use Rattle.pid_script.specs.Script.{lines_of, onto_whole, whole_lines_of, said_of, said_whole, kept_line, kept_more, said_by, last_said, said_within, kept_after}
+use Rattle.pid_script.specs.Script.{lines_of, onto_whole, whole_lines_of, said_of, said_whole, kept_line, kept_more, said_line, last_said, said_within, kept_after}
 use Rattle.pid_script.proofs.Kept.{said_by_kept}
 use Rattle.pid_script.proofs.Cuts.{by_test}
 use Rattle.pid_script.proofs.Within.{kept_line-more}
@@ -51,7 +51,7 @@ last_of_part (b ∷ bs) = at (leb (length (b ∷ bs)) 200) refl
   where
     at : (t : Bool) → leb (length (b ∷ bs)) 200 ≡ t → last_said (cond t (Some (b ∷ bs)) None) ≡ parsed (b ∷ bs) ∷ []
     at true short = refl
-    at false long = ap (λ l. l ∷ []) (ap (λ t. said_by (cond t (Some (b ∷ bs)) None)) (sym long) ∙ said_by_kept (b ∷ bs))
+    at false long = ap (λ l. l ∷ []) (ap (λ t. said_line (cond t (Some (b ∷ bs)) None)) (sym long) ∙ said_by_kept (b ∷ bs))
 
 -- what a newline ends
 ended : (part : List ℕ) (lines : List (List ℕ)) → parsed part ∷ map parsed lines ≡ map parsed (onto_first_line part ([] ∷ lines))
@@ -69,7 +69,7 @@ pub said_within-all : (bytes : List ℕ) → said_within (Some []) bytes ++ last
 said_within-all bytes = all_from [] bytes
 
 -- what is said where something was kept
-pub last_line : (kept : Option (List ℕ)) → (kept ≡ Some [] → ⊥) → said_by (kept_more kept []) ∷ [] ≡ last_said kept
+pub last_line : (kept : Option (List ℕ)) → (kept ≡ Some [] → ⊥) → said_line (kept_more kept []) ∷ [] ≡ last_said kept
 last_line None some = refl
 last_line (Some []) some = absurd (some refl)
 last_line (Some (b ∷ bs)) some = refl

@@ -3,7 +3,7 @@ use Rattle.std.proofs.Common.{◌≡◌, ℕ, ◌<◌, Bool, true, false, cond, 
 use Rattle.std.proofs.lemmas.Bool.Decides.{nat_tests}
 use Rattle.std.proofs.lemmas.Option.{none-some, same_Some}
 use Rattle.pid_script.specs.declared.line.Line.{Line}
-use Rattle.pid_script.specs.Script.{kept_line, kept_more, said_by, said_within, kept_after}
+use Rattle.pid_script.specs.Script.{kept_line, kept_more, said_line, said_within, kept_after}
 use Rattle.pid_script.specs.Reading.{cut}
 use Rattle.pid_script.proofs.Cuts.{by_test, option_map_some}
 
@@ -26,7 +26,7 @@ kept_more-cons (Some line) b (c ∷ cs) =
 
 -- what a cut at a newline finds
 pub record IsFirstEnd (kept : Option (List ℕ)) (bytes : List ℕ) (p : List ℕ × List ℕ) : Type 0 where
-  pub said : said_within kept bytes ≡ said_by (kept_more kept p.0) ∷ said_within (Some []) p.1
+  pub said : said_within kept bytes ≡ said_line (kept_more kept p.0) ∷ said_within (Some []) p.1
   pub left : kept_after kept bytes ≡ kept_after (Some []) p.1
   pub shorter : length p.1 < length bytes
 
@@ -42,7 +42,7 @@ first_end kept (b ∷ bs) p found =
     (λ goes_on. option_map_some _ (cut 10 bs) p (rw goes_on at found) (λ q later same.
     let end = first_end (kept_more kept (b ∷ [])) bs q later in
     subst (IsFirstEnd kept (b ∷ bs)) same (record {
-      said = rw goes_on (end.said ∙ ap (λ k. said_by k ∷ said_within (Some []) q.1) (kept_more-cons kept b q.0));
+      said = rw goes_on (end.said ∙ ap (λ k. said_line k ∷ said_within (Some []) q.1) (kept_more-cons kept b q.0));
       left = rw goes_on end.left;
       shorter = omega (arith, end.shorter);
     })))
@@ -59,19 +59,19 @@ no_end kept (b ∷ bs) none =
 
 -- one line that ended, and what the lines after it say
 pub said_more : (lines : List Line) (line : Line) (kept next : Option (List ℕ)) (bytes rest : List ℕ) (end : List ℕ) (all : List Line)
-    → line ≡ said_by (kept_more kept end) → next ≡ Some [] → IsFirstEnd kept bytes (end, rest)
+    → line ≡ said_line (kept_more kept end) → next ≡ Some [] → IsFirstEnd kept bytes (end, rest)
     → lines ++ said_within kept bytes ≡ all → (lines ++ line ∷ []) ++ said_within next rest ≡ all
 said_more lines line kept next bytes rest end all says begins ends is =
     append_assoc lines (line ∷ []) (said_within next rest)
     ∙ ap (λ l. lines ++ l ∷ said_within next rest) says
-    ∙ ap (λ k. lines ++ said_by (kept_more kept end) ∷ said_within k rest) begins
+    ∙ ap (λ k. lines ++ said_line (kept_more kept end) ∷ said_within k rest) begins
     ∙ ap (λ ls. lines ++ ls) (sym ends.said) ∙ is
 
 -- bytes in two pieces
 pub said_within-append : (kept : Option (List ℕ)) (xs ys : List ℕ) → said_within kept (xs ++ ys) ≡ said_within kept xs ++ said_within (kept_after kept xs) ys
 said_within-append kept [] ys = refl
 said_within-append kept (x ∷ xs) ys =
-    by_test (eqb x 10) (λ ends. (rw ends (ap (λ ls. said_by kept ∷ ls) (said_within-append (Some []) xs ys))))
+    by_test (eqb x 10) (λ ends. (rw ends (ap (λ ls. said_line kept ∷ ls) (said_within-append (Some []) xs ys))))
     (λ goes_on. (rw goes_on (said_within-append (kept_more kept (x ∷ [])) xs ys)))
 
 pub kept_after-append : (kept : Option (List ℕ)) (xs ys : List ℕ) → kept_after kept (xs ++ ys) ≡ kept_after (kept_after kept xs) ys

@@ -7,7 +7,7 @@ pub use Rattle.pid_types.specs.declared.call.Which.TheVariants.{Any, Pid, OwnGro
 use Rattle.pid_types.specs.declared.call.Kind.{Kind}
 use Rattle.pid_types.specs.declared.call.Kind.TheVariants as kind
 use Rattle.pid_script.specs.Lines.{word_of_kind, words_of_which, FitsWhich}
-use Rattle.pid_script.specs.Reading.{cut, number_below, signed_of, is_word, named, before, pair, process_of, control_of, numbered_of, which_of, kind_of, limit_of, switch_of}
+use Rattle.pid_script.specs.Reading.{cut, number_below, signed_of, is_word, named, before, pair, process_of, control_of, numbered_of, which_read, kind_read, limit_read, switch_read}
 use Rattle.pid_script.proofs.Cuts.{Lacks, by_test, cut-append, cut-Some, option_map_some}
 use Rattle.pid_script.proofs.Numbers.{numerals, number_below-decimal, number_below-Some, signed_of-decimal, signed_of-Some, negsuc, w32, signed_decimal, AllDigits, digits_decimal, decimal_nonempty, digit_from_value, not_in_digits, bytes_eq-Decides, nat_tests, none-some, same_Some, option_and_then_some}
 use Rattle.pid_script.proofs.Room.{length_decimal_of_32, length_decimal_of_64}
@@ -104,14 +104,14 @@ either None p x is one other = other is
 either (Some y) p x is one other = one is
 
 -- kinds
-kind_told : (k : Kind) → (kind_of (word_of_kind k) ≡ Some k) × (length (word_of_kind k) ≤ 7) × Lacks 32 (word_of_kind k)
-unfolding kind_of
+kind_told : (k : Kind) → (kind_read (word_of_kind k) ≡ Some k) × (length (word_of_kind k) ≤ 7) × Lacks 32 (word_of_kind k)
+unfolding kind_read
 kind_told kind.Task = (refl, lit≤ tt, (refl, (refl, (refl, (refl, tt)))))
 kind_told kind.Group = (refl, lit≤ tt, (refl, (refl, (refl, (refl, (refl, tt))))))
 kind_told kind.Session = (refl, lit≤ tt, (refl, (refl, (refl, (refl, (refl, (refl, (refl, tt))))))))
 
-pub kinds : Reads kind_of word_of_kind (λ k. Unit {0}) 7
-unfolding kind_of
+pub kinds : Reads kind_read word_of_kind (λ k. Unit {0}) 7
+unfolding kind_read
 kinds = record {
   told = λ k _. ((kind_told k).0, (kind_told k).1);
   says = λ w k is. (
@@ -129,13 +129,13 @@ abbrev pub word_of_switch : Bool → List ℕ
 word_of_switch true = codes "on"
 word_of_switch false = codes "off"
 
-switch_told : (on : Bool) → Unit {0} → (switch_of (word_of_switch on) ≡ Some on) × (length (word_of_switch on) ≤ 3)
-unfolding switch_of
+switch_told : (on : Bool) → Unit {0} → (switch_read (word_of_switch on) ≡ Some on) × (length (word_of_switch on) ≤ 3)
+unfolding switch_read
 switch_told true _ = (refl, lit≤ tt)
 switch_told false _ = (refl, lit≤ tt)
 
-pub switch : Reads switch_of word_of_switch (λ on. Unit {0}) 3
-unfolding switch_of
+pub switch : Reads switch_read word_of_switch (λ on. Unit {0}) 3
+unfolding switch_read
 switch = record {
   told = switch_told;
   says = λ w on is. (named-says (λ w on. w ≡ word_of_switch on) ((codes "on", true) ∷ (codes "off", false) ∷ []) (refl ◂ refl ◂ tt) w on is, tt);
@@ -145,8 +145,8 @@ switch = record {
 abbrev pub text_of_which : Which → List ℕ
 text_of_which which = join_with_byte 32 (words_of_which which)
 
-which_told : (x : Which) → FitsWhich x → (which_of (text_of_which x) ≡ Some x) × (length (text_of_which x) ≤ 20)
-unfolding which_of numbered_of
+which_told : (x : Which) → FitsWhich x → (which_read (text_of_which x) ≡ Some x) × (length (text_of_which x) ≤ 20)
+unfolding which_read numbered_of
 which_told Any fits = (refl, lit≤ tt)
 which_told OwnGroup fits = (refl, lit≤ tt)
 which_told (Pid n) fits = (rw (number_below-decimal (2 ^ 32) n fits (omega arith)), omega (arith, length_decimal_of_32 n fits))
@@ -155,8 +155,8 @@ which_told (Group n) fits = (rw (number_below-decimal (2 ^ 32) n fits (omega ari
 abbrev IsWritten : List ℕ → Which → Type 0
 IsWritten words x = (words ≡ text_of_which x) × FitsWhich x
 
-pub which : Reads which_of text_of_which FitsWhich 20
-unfolding which_of numbered_of
+pub which : Reads which_read text_of_which FitsWhich 20
+unfolding which_read numbered_of
 which = record {
   told = which_told;
   says = λ words x is.
@@ -183,8 +183,8 @@ pub false_from : (b : Bool) → (b ≡ true → ⊥) → b ≡ false
 false_from true never = absurd (never refl)
 false_from false never = refl
 
-limit_told : (x : Option ℕ) → IsLimit x → (limit_of (text_of_limit x) ≡ Some x) × (length (text_of_limit x) ≤ 20)
-unfolding limit_of
+limit_told : (x : Option ℕ) → IsLimit x → (limit_read (text_of_limit x) ≡ Some x) × (length (text_of_limit x) ≤ 20)
+unfolding limit_read
 limit_told None fits = (refl, lit≤ tt)
 limit_told (Some n) fits =
     let not_max : is_word (codes "max") (decimal n) ≡ false = false_from _ (λ same.
@@ -192,8 +192,8 @@ limit_told (Some n) fits =
     (ap (λ ds. get_or ds 0 0) ((bytes_eq-Decides (decimal n) (codes "max")).0 same))) in
     (rw (not_max, number_below-decimal (2 ^ 32) n fits (omega arith)), length_decimal_of_64 n (omega arith))
 
-pub limit : Reads limit_of text_of_limit IsLimit 20
-unfolding limit_of
+pub limit : Reads limit_read text_of_limit IsLimit 20
+unfolding limit_read
 limit = record {
   told = limit_told;
   says = λ w x is.

@@ -20,15 +20,15 @@ abbrev pub joined : ℕ → List ℕ → List ℕ
 joined separator numbers = join_with_byte separator (map decimal numbers)
 
 -- the id of what refused the call, behind a space
-abbrev pub refused_by : Refusal → List ℕ
-refused_by (NoNumber space) = codes " " ++ decimal space
-refused_by (PidsLimit control) = codes " " ++ decimal control
-refused_by _ = []
+abbrev pub refuser_text : Refusal → List ℕ
+refuser_text (NoNumber space) = codes " " ++ decimal space
+refuser_text (PidsLimit control) = codes " " ++ decimal control
+refuser_text _ = []
 
 -- the name of the errno, and the word that says why; and the id of what refused the call
 abbrev pub refusal_text : Refusal → List ℕ
 refusal_text refusal =
-    (errno_entry (refusal_entry refusal).error).name ++ codes " " ++ (refusal_entry refusal).word ++ refused_by refusal
+    (errno_entry (refusal_entry refusal).error).name ++ codes " " ++ (refusal_entry refusal).word ++ refuser_text refusal
 
 -- how a task ended
 abbrev pub ended_text : Ended → List ℕ

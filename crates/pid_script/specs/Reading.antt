@@ -93,19 +93,19 @@ process_of = number_below (2 ^ 32)
 abbrev pub control_of : List ℕ → Option ℕ
 control_of = number_below (2 ^ 64)
 
-abbrev pub status_of : List ℕ → Option ℕ
-status_of = number_below (2 ^ 8)
+abbrev pub status_read : List ℕ → Option ℕ
+status_read = number_below (2 ^ 8)
 
 -- a kind of number, and a switch
-unfoldable pub kind_of : List ℕ → Option Kind
-kind_of = named ((codes "task", kind.Task) ∷ (codes "group", kind.Group) ∷ (codes "session", kind.Session) ∷ [])
+unfoldable pub kind_read : List ℕ → Option Kind
+kind_read = named ((codes "task", kind.Task) ∷ (codes "group", kind.Group) ∷ (codes "session", kind.Session) ∷ [])
 
-unfoldable pub switch_of : List ℕ → Option Bool
-switch_of = named ((codes "on", true) ∷ (codes "off", false) ∷ [])
+unfoldable pub switch_read : List ℕ → Option Bool
+switch_read = named ((codes "on", true) ∷ (codes "off", false) ∷ [])
 
 -- a limit
-unfoldable pub limit_of : List ℕ → Option (Option ℕ)
-limit_of word = option_or (named ((codes "max", None) ∷ []) word) (option_map Some (process_of word))
+unfoldable pub limit_read : List ℕ → Option (Option ℕ)
+limit_read word = option_or (named ((codes "max", None) ∷ []) word) (option_map Some (process_of word))
 
 -- the children that a wait selects by a number, and all that it may select
 unfoldable pub numbered_of : List ℕ → Option Which
@@ -114,8 +114,8 @@ numbered_of words = do
   number ← process_of p.1
   option_map (λ which. which number) (named ((codes "pid", Pid) ∷ (codes "group", Group) ∷ []) p.0)
 
-unfoldable pub which_of : List ℕ → Option Which
-which_of words = option_or (named ((codes "any", Any) ∷ (codes "own", OwnGroup) ∷ []) words) (numbered_of words)
+unfoldable pub which_read : List ℕ → Option Which
+which_read words = option_or (named ((codes "any", Any) ∷ (codes "own", OwnGroup) ∷ []) words) (numbered_of words)
 
 -- one argument and, behind a space, what comes after it
 abbrev pub pair : {A B : Type 0} → (List ℕ → Option A) → (List ℕ → Option B) → List ℕ → Option (A × B)
@@ -147,8 +147,8 @@ abbrev pub commands : List (List ℕ × (List ℕ → Option Call))
 commands =
     (codes "fork", fork_of)
     ∷ (codes "exec", one process_of Exec)
-    ∷ (codes "exit", two process_of status_of Exit)
-    ∷ (codes "wait", two process_of which_of Wait)
+    ∷ (codes "exit", two process_of status_read Exit)
+    ∷ (codes "wait", two process_of which_read Wait)
     ∷ (codes "setpgid", three process_of signed_of signed_of SetPgid)
     ∷ (codes "setsid", one process_of SetSid)
     ∷ (codes "getpid", one process_of GetPid)
@@ -156,14 +156,14 @@ commands =
     ∷ (codes "getpgid", two process_of process_of GetPgid)
     ∷ (codes "getsid", two process_of process_of GetSid)
     ∷ (codes "nspid", two process_of process_of NsPid)
-    ∷ (codes "next", three process_of kind_of process_of Next)
+    ∷ (codes "next", three process_of kind_read process_of Next)
     ∷ (codes "mk", one control_of MakeControl)
     ∷ (codes "rm", one control_of RemoveControl)
-    ∷ (codes "limit", two control_of limit_of SetLimit)
+    ∷ (codes "limit", two control_of limit_read SetLimit)
     ∷ (codes "move", two process_of control_of Move)
     ∷ (codes "count", one control_of Count)
     ∷ (codes "join", two process_of process_of Join)
-    ∷ (codes "subreaper", two process_of switch_of SetSubreaper)
+    ∷ (codes "subreaper", two process_of switch_read SetSubreaper)
     ∷ []
 
 -- the call of a command and the words behind it
@@ -171,8 +171,8 @@ unfoldable pub command_of : List ℕ → List ℕ → Option Call
 command_of command words = named commands command >>= λ read. read words
 
 -- the call on a line
-abbrev pub call_of : List ℕ → Option Call
-call_of line = cut 32 line >>= λ p. command_of p.0 p.1
+abbrev pub call_read : List ℕ → Option Call
+call_read line = cut 32 line >>= λ p. command_of p.0 p.1
 
 -- the call that is there, or a bad line
 abbrev pub call_or_bad : Option Call → Line
@@ -182,4 +182,4 @@ call_or_bad (Some call) = says.Call call
 -- what a line says
 abbrev pub parsed : List ℕ → Line
 parsed [] = says.Empty
-parsed (b ∷ bs) = call_or_bad (call_of (b ∷ bs))
+parsed (b ∷ bs) = call_or_bad (call_read (b ∷ bs))

@@ -36,9 +36,9 @@ abbrev pub kept_line : List ℕ → Option (List ℕ)
 kept_line line = if nat_le (length line) 200 then Some line else None
 
 -- what is said by what was kept: a line that was too long is bad
-abbrev pub said_by : Option (List ℕ) → Line
-said_by None = says.Bad
-said_by (Some line) = parsed line
+abbrev pub said_line : Option (List ℕ) → Line
+said_line None = says.Bad
+said_line (Some line) = parsed line
 
 -- what is kept of a line with more bytes
 abbrev pub kept_more : Option (List ℕ) → List ℕ → Option (List ℕ)
@@ -49,7 +49,7 @@ kept_more (Some line) (b ∷ bs) = kept_line (line ++ b ∷ bs)
 -- what the lines say that end within the bytes, the first of which was begun before
 abbrev pub said_within : Option (List ℕ) → List ℕ → List Line
 said_within kept [] = []
-said_within kept (b ∷ bs) = if b == 10 then said_by kept ∷ said_within (Some []) bs else said_within (kept_more kept (b ∷ [])) bs
+said_within kept (b ∷ bs) = if b == 10 then said_line kept ∷ said_within (Some []) bs else said_within (kept_more kept (b ∷ [])) bs
 
 -- what is kept of the line that the bytes leave
 abbrev pub kept_after : Option (List ℕ) → List ℕ → Option (List ℕ)

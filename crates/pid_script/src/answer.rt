@@ -1,9 +1,8 @@
 //! Replies to answers: [`answer_text`] is the table of all answers. A text is at most 362 bytes and
 //! held in place, so nothing here takes memory or fails.
-ghost use Rattle.std.specs.Prelude.{◌≡◌, ◌+◌, ◌*◌, ◌<◌, ◌≤◌, ◌++◌, ◌∷◌, length, codes, decimal};
-ghost use Rattle.std.specs.List.{flat_map};
+ghost use Rattle.std.specs.{Prelude.{◌≡◌, ◌+◌, ◌*◌, ◌<◌, ◌≤◌, ◌++◌, ◌∷◌, length, codes, decimal}, List.{flat_map}};
 ghost use Rattle.pid_types.specs.Refusals.{errno_entry, refusal_entry};
-ghost use Rattle.pid_script.specs.Answers.{joined, refused_by, refusal_text, ended_text, reply_text, answer_of};
+ghost use Rattle.pid_script.specs.Answers.{joined, refuser_text, refusal_text, ended_text, reply_text, answer_of};
 ghost use Rattle.pid_script.specs.Answers.{received, lent};
 
 use arrayvec::ArrayVec;
@@ -139,7 +138,7 @@ pub(crate) fn push_labelled<const N: usize>(text: &mut ArrayVec<u8, N>, label: &
 /// The id behind its space, where the refusal names what refused.
 fn push_id<const N: usize>(text: &mut ArrayVec<u8, N>, refusal: Refusal)
     requires { length text.old.items + 21 ≤ N }
-    ensures items { text.new.items ≡ text.old.items ++ refused_by refusal }
+    ensures items { text.new.items ≡ text.old.items ++ refuser_text refusal }
     ensures len { length text.new.items ≤ length text.old.items + 21 }
 {
     if let Refusal::NoNumber(id) | Refusal::PidsLimit(id) = refusal {

@@ -1,6 +1,5 @@
 //! Bytes cut at a byte.
-ghost use Rattle.std.specs.Prelude.{◌≡◌, ◌+◌, ◌≤◌, ◌==◌, not, length, take, drop, IfSome, IfNone};
-ghost use Rattle.std.specs.List.{prefix_len};
+ghost use Rattle.std.specs.{Prelude.{◌≡◌, ◌+◌, ◌≤◌, ◌==◌, not, length, take, drop, IfSome, IfNone}, List.{prefix_len}};
 ghost use Rattle.std.specs.Option.{option_map};
 ghost use Rattle.pid_script.specs.Reading.{IsFirstOf, IsFreeOf, cut};
 

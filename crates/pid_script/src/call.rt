@@ -1,9 +1,8 @@
 //! Calls to lines: [`line_text`] writes the line that [`crate::line::parse_line`] reads as the call. A
 //! line is held in place, so nothing here takes memory or fails.
-ghost use Rattle.std.specs.Prelude.{◌≡◌, ◌+◌, ◌≤◌, ◌++◌, ◌∷◌, [], length, decimal};
-ghost use Rattle.std.specs.Fmt.{signed_decimal};
-ghost use Rattle.pid_types.specs.declared.call.Call.TheVariants as calls;
+ghost use Rattle.std.specs.{Prelude.{◌≡◌, ◌+◌, ◌≤◌, ◌++◌, ◌∷◌, [], length, decimal}, Fmt.{signed_decimal}};
 ghost use Rattle.pid_script.specs.Lines.{word_of_kind, line_of};
+ghost use Rattle.pid_types.specs.declared.call.Call.TheVariants as calls;
 
 use crate::answer::{push_behind, push_bytes, push_labelled};
 use arrayvec::ArrayVec;

@@ -1,9 +1,8 @@
 //! Laws of the line table.
 ghost use Rattle.std.specs.Prelude.{◌≡◌};
 ghost use Rattle.pid_types.specs.declared.call.Call.{Call};
+ghost use Rattle.pid_script.specs.{Lines.{Fits, line_of}, Reading.{parsed}};
 ghost use Rattle.pid_script.specs.declared.line.Line.TheVariants as says;
-ghost use Rattle.pid_script.specs.Lines.{Fits, line_of};
-ghost use Rattle.pid_script.specs.Reading.{parsed};
 
 /// Each call's line says that call.
 #[tactic(auto, using(crate::proofs::Read::tables))]

@@ -1,11 +1,12 @@
 //! Lines to calls: [`parse_line`] is the table of all lines. Below it stands a reader for the words
 //! of each command; each answers `None` for words that are no such command's.
 ghost use Rattle.std.specs.Prelude.{◌≡◌, ◌<◌, ◌^◌, length, codes};
+ghost use Rattle.{
+  pid_script.specs.Reading.{process_of, control_of, status_read, signed_of, kind_read, switch_read, limit_read},
+  pid_script.specs.Reading.{numbered_of, which_read, pair, one, two, three, fork_new_of, fork_of, command_of},
+  pid_script.specs.{Reading.{call_read, call_or_bad, parsed}, Lines.{Says}},
+};
 ghost use Rattle.pid_types.specs.declared.call.Call.TheVariants as calls;
-ghost use Rattle.pid_script.specs.Reading.{process_of, control_of, status_of, signed_of, kind_of, switch_of, limit_of};
-ghost use Rattle.pid_script.specs.Reading.{numbered_of, which_of, pair, one, two, three, fork_new_of, fork_of};
-ghost use Rattle.pid_script.specs.Reading.{command_of, call_of, call_or_bad, parsed};
-ghost use Rattle.pid_script.specs.Lines.{Says};
 
 use crate::bytes::split_word;
 use crate::number::{read_i32, read_signed_then, read_then, read_u8, read_u32, read_u64};
@@ -74,7 +75,7 @@ fn read_fork(words: &[u8]) -> Option<Call>
 /// `P S`.
 #[inline(always)]
 fn read_exit(words: &[u8]) -> Option<Call>
-    ensures { result ≡ two process_of status_of calls.Exit words.now }
+    ensures { result ≡ two process_of status_read calls.Exit words.now }
 {
     let (caller, status) = read_then(words)?;
     Some(Call::Exit {
@@ -98,10 +99,10 @@ fn read_numbered(words: &[u8]) -> Option<Which>
 }
 
 /// Which children a wait selects.
-#[tactic(auto, unfolding(crate::specs::Reading::which_of))]
+#[tactic(auto, unfolding(crate::specs::Reading::which_read))]
 #[inline(always)]
 fn read_which(words: &[u8]) -> Option<Which>
-    ensures { result ≡ which_of words.now }
+    ensures { result ≡ which_read words.now }
 {
     match words {
         b"any" => Some(Which::Any),
@@ -113,7 +114,7 @@ fn read_which(words: &[u8]) -> Option<Which>
 /// `P`, and which children.
 #[inline(always)]
 fn read_wait(words: &[u8]) -> Option<Call>
-    ensures { result ≡ two process_of which_of calls.Wait words.now }
+    ensures { result ≡ two process_of which_read calls.Wait words.now }
 {
     let (caller, which) = read_then(words)?;
     Some(Call::Wait {
@@ -133,9 +134,9 @@ fn read_set_pgid(words: &[u8]) -> Option<Call>
 }
 
 /// What a number is in use as.
-#[tactic(auto, unfolding(crate::specs::Reading::kind_of))]
+#[tactic(auto, unfolding(crate::specs::Reading::kind_read))]
 fn read_kind(word: &[u8]) -> Option<Kind>
-    ensures { result ≡ kind_of word.now }
+    ensures { result ≡ kind_read word.now }
 {
     match word {
         b"task" => Some(Kind::Task),
@@ -147,7 +148,7 @@ fn read_kind(word: &[u8]) -> Option<Kind>
 
 /// `P`, the kind, `P`.
 fn read_next(words: &[u8]) -> Option<Call>
-    ensures { result ≡ three process_of kind_of process_of calls.Next words.now }
+    ensures { result ≡ three process_of kind_read process_of calls.Next words.now }
 {
     let (caller, place) = read_then(words)?;
     let (kind, from) = split_word(place)?;
@@ -159,9 +160,9 @@ fn read_next(words: &[u8]) -> Option<Call>
 }
 
 /// `P`, or `max` for none.
-#[tactic(auto, unfolding(crate::specs::Reading::limit_of))]
+#[tactic(auto, unfolding(crate::specs::Reading::limit_read))]
 fn read_most(word: &[u8]) -> Option<Option<u32>>
-    ensures { result ≡ limit_of word.now }
+    ensures { result ≡ limit_read word.now }
 {
     match word {
         b"max" => Some(None),
@@ -171,7 +172,7 @@ fn read_most(word: &[u8]) -> Option<Option<u32>>
 
 /// `I P` or `I max`.
 fn read_limit(words: &[u8]) -> Option<Call>
-    ensures { result ≡ two control_of limit_of calls.SetLimit words.now }
+    ensures { result ≡ two control_of limit_read calls.SetLimit words.now }
 {
     let (id, limit) = split_word(words)?;
     Some(Call::SetLimit {
@@ -192,9 +193,9 @@ fn read_move(words: &[u8]) -> Option<Call>
 }
 
 /// `on` or `off`.
-#[tactic(auto, unfolding(crate::specs::Reading::switch_of))]
+#[tactic(auto, unfolding(crate::specs::Reading::switch_read))]
 fn read_switch(word: &[u8]) -> Option<bool>
-    ensures { result ≡ switch_of word.now }
+    ensures { result ≡ switch_read word.now }
 {
     match word {
         b"on" => Some(true),
@@ -205,7 +206,7 @@ fn read_switch(word: &[u8]) -> Option<bool>
 
 /// `P on` or `P off`.
 fn read_subreaper(words: &[u8]) -> Option<Call>
-    ensures { result ≡ two process_of switch_of calls.SetSubreaper words.now }
+    ensures { result ≡ two process_of switch_read calls.SetSubreaper words.now }
 {
     let (caller, on) = read_then(words)?;
     Some(Call::SetSubreaper {
@@ -537,7 +538,7 @@ fn count_line(words: &[u8]) -> Line
 /// What a line says that has a byte, whatever its command.
 #[inline(never)]
 fn any_line(line: &[u8]) -> Line
-    ensures { result ≡ call_or_bad (call_of line.now) }
+    ensures { result ≡ call_or_bad (call_read line.now) }
 {
     let call = split_word(line).and_then(|(command, words)| read_command(command, words));
     line_of_call(call)

@@ -1,10 +1,11 @@
 //! Snapshots to lists: [`list_text`] is the table of all lines. Below it stands a function for each
 //! part of a line, which appends it; each fails only for want of memory.
-ghost use Rattle.std.specs.Prelude.{◌≡◌, ◌++◌, ◌∷◌, [], OnOk, IfOk, codes, decimal};
-ghost use Rattle.std.specs.List.{flat_map};
-ghost use Rattle.pid_types.specs.Names.{root_number};
-ghost use Rattle.pid_script.specs.Lists.{field, marked, parent_text, limit_text, life_text, children_text, name_text};
-ghost use Rattle.pid_script.specs.Lists.{relatives_text, marks_text, task_line, space_line, control_line, list_of};
+ghost use Rattle.std.specs.{Prelude.{◌≡◌, ◌++◌, ◌∷◌, [], OnOk, IfOk, codes, decimal}, List.{flat_map}};
+ghost use Rattle.{
+  pid_types.specs.Names.{root_number},
+  pid_script.specs.Lists.{field, marked, parent_text, limit_text, life_text, children_text, name_text, relatives_text},
+  pid_script.specs.Lists.{marks_text, task_line, space_line, control_line, list_of},
+};
 
 use crate::answer::joined_numbers;
 use itoa::Buffer;

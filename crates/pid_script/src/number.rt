@@ -1,8 +1,6 @@
 //! Numbers as scripts write them: decimal digits without a leading zero.
 ghost use Rattle.std.specs.Prelude.{◌≡◌, ◌+◌, ◌*◌, ◌^◌, ◌<◌, ◌≤◌, ◌↔◌, ◌∷◌, List, ℕ, Some, length, IsTrue, IfSome};
-ghost use Rattle.std.specs.Prelude.{IfNone};
-ghost use Rattle.std.specs.Char.{digit_value};
-ghost use Rattle.std.specs.Str.Parse.{AllDigits, digits_value};
+ghost use Rattle.std.specs.{Prelude.{IfNone}, Char.{digit_value}, Str.Parse.{AllDigits, digits_value}};
 ghost use Rattle.std.specs.Option.{option_map};
 ghost use Rattle.pid_script.specs.Reading.{IsFrontOf, IsPlain, number_below, number_then, negative_of, signed_of};
 ghost use Rattle.pid_script.specs.Reading.{signed_then, IsUnsigned};

@@ -1,7 +1,6 @@
 //! Lines that come in parts.
 ghost use Rattle.std.specs.Prelude.{◌≡◌, ◌↔◌, Some, [], ◌++◌, List, ℕ, IsTrue};
-ghost use Rattle.pid_script.specs.Reading.{parsed};
-ghost use Rattle.pid_script.specs.Script.{kept_line, kept_more, said_by};
+ghost use Rattle.pid_script.specs.{Reading.{parsed}, Script.{kept_line, kept_more, said_line}};
 
 use crate::line::{Line, parse_line};
 use arrayvec::ArrayVec;
@@ -58,7 +57,7 @@ impl PartLine {
 
     /// What the line says if it ends here.
     fn said(&self) -> Line
-        ensures { result ≡ said_by self.now }
+        ensures { result ≡ said_line self.now }
     {
         if self.is_long {
             return Line::Bad;
@@ -69,7 +68,7 @@ impl PartLine {
     /// The same of a line of which something has come.
     #[tactic(auto, using(crate::proofs::Kept::said_by_kept))]
     pub fn finish_kept(&mut self, end: &[u8]) -> Line
-        ensures value { result ≡ said_by (kept_more self.old end.now) }
+        ensures value { result ≡ said_line (kept_more self.old end.now) }
         ensures line { (part : List ℕ) → self.old ≡ kept_line part → result ≡ parsed (part ++ end.now) }
         ensures next { self.new ≡ Some [] }
     {
@@ -84,7 +83,7 @@ impl PartLine {
     #[tactic(auto, using(crate::proofs::Kept::said_by_kept))]
     #[inline(always)]
     pub fn finish(&mut self, end: &[u8]) -> Line
-        ensures value { result ≡ said_by (kept_more self.old end.now) }
+        ensures value { result ≡ said_line (kept_more self.old end.now) }
         ensures line { (part : List ℕ) → self.old ≡ kept_line part → result ≡ parsed (part ++ end.now) }
         ensures next { self.new ≡ Some [] }
     {

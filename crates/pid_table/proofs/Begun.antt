@@ -15,7 +15,7 @@ use Rattle.pid_numbers.specs.Numbering.{Identifier, namespace_at, id_at, identif
 use Rattle.task_tree.specs.declared.Task.{Task}
 use Rattle.task_tree.specs.Tree.{parent_of}
 use Rattle.groups_sessions.specs.Membership.{membership_at}
-use Rattle.pids_charge.specs.Charges.{Home, home_at, id_at as home_id}
+use Rattle.pids_charge.specs.Charges.{Home, home_at, home_id}
 use Rattle.task_table.specs.Store.{Store, Begins, bare}
 use Rattle.task_table.specs.Collect.{collect}
 use Rattle.task_table.specs.View.{name_of, name_at, key_numbered, parent_id, row_of, row_with, row_numbered, space_of, state_of}

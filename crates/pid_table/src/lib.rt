@@ -4,25 +4,17 @@
 //! state.
 #![tactic(auto)]
 
-ghost use Rattle.std.specs.Prelude.{◌≡◌, ◌+◌, ◌<◌, ◌≤◌, IfOk, IfSome, OnErr, OnOk, None, [], ◌∷◌};
-ghost use Rattle.std.specs.Prelude.{is_some, length, map, option_map};
-ghost use Rattle.pid_types.specs.Controls.{control_at, count as count_of};
-ghost use Rattle.pid_types.specs.Settings.{HasGoodPidMax};
-ghost use Rattle.pid_types.specs.Short.{reply_of};
-ghost use Rattle.pid_types.specs.Shown.{Shows, with_count};
-ghost use Rattle.pid_types.specs.Sound.{IsSound};
-ghost use Rattle.pid_types.specs.State.{root_state};
-ghost use Rattle.task_table.specs.View.{state_of};
-ghost use Rattle.task_table.specs.Whole.{IsWhole};
-ghost use Rattle.translate.specs.From.{rows_from};
-ghost use Rattle.translate.specs.Inside.{ids_inside};
-ghost use Rattle.translate.specs.Residents.{TellsControlTasks};
-ghost use Rattle.translate.specs.Listed.{TellsList};
-ghost use Rattle.translate.specs.Pages.{ListsPage, TellsPage, TellsSeenPage};
-ghost use Rattle.translate.specs.Relations.{relations_at};
-ghost use Rattle.translate.specs.Spaces.{space_stat_at};
-ghost use Rattle.translate.specs.Stat.{stat_at, glimpse_in, IsSeen};
-ghost use Rattle.pid_table.specs.Bare.{IsBare};
+ghost use Rattle.std.specs.Prelude.{◌≡◌, ◌+◌, ◌<◌, ◌≤◌, IfOk, IfSome, OnErr, OnOk, None, [], ◌∷◌, is_some, length, map};
+ghost use Rattle.std.specs.Prelude.{option_map};
+ghost use Rattle.{
+  pid_types.specs.{Controls.{control_at, count as count_of}, Settings.{HasGoodPidMax}, Short.{reply_of}},
+  pid_types.specs.{Shown.{Shows, with_count}, Sound.{IsSound}, State.{root_state}},
+  task_table.specs.{View.{state_of}, Whole.{IsWhole}},
+  translate.specs.{From.{rows_from}, Inside.{ids_inside}, Residents.{TellsControlTasks}, Listed.{TellsList}},
+  translate.specs.{Pages.{ListsPage, TellsPage, TellsSeenPage}, Relations.{relations_at}, Spaces.{space_stat_at}},
+  translate.specs.Stat.{stat_at, glimpse_in, IsSeen},
+  pid_table.specs.Bare.{IsBare},
+};
 
 mod step;
 
@@ -59,8 +51,7 @@ impl Drop for PidTable {
 
 impl Model for PidTable {
     ghost use Rattle.pid_types.specs.State.{State};
-    ghost use Rattle.task_table.specs.View.{state_of};
-    ghost use Rattle.task_table.specs.Whole.{IsWhole};
+    ghost use Rattle.task_table.specs.{View.{state_of}, Whole.{IsWhole}};
 
     ghost Value = { State };
 

@@ -1,12 +1,11 @@
 //! Any call: [`PidTable::step`] picks the function that makes it. The record makes all its calls so.
 ghost use Rattle.std.specs.Prelude.{◌≡◌, ℕ, IsTrue, OnOk, OnErr, IfOk, false};
-ghost use Rattle.model_laws.specs.Refusals.{is_query};
-ghost use Rattle.pid_types.specs.Short.{reply_of};
-ghost use Rattle.pid_types.specs.Sound.{IsBelow};
-ghost use Rattle.pid_types.specs.Step.{step, may_grow};
-ghost use Rattle.pid_table.specs.Lists.{answers_list};
-ghost use Rattle.task_table.specs.View.{state_of};
-ghost use Rattle.task_table.specs.Whole.{HasParents, IsWhole};
+ghost use Rattle.{
+  model_laws.specs.Refusals.{is_query},
+  pid_types.specs.{Short.{reply_of}, Sound.{IsBelow}, Step.{step, may_grow}},
+  pid_table.specs.Lists.{answers_list},
+  task_table.specs.{View.{state_of}, Whole.{HasParents, IsWhole}},
+};
 
 use crate::PidTable;
 use fork_calls::{fork, would_fork};
@@ -93,25 +92,24 @@ fn make(store: &mut Tasks, stamp: u64, call: Call, reply: &mut Reply) -> Result<
     Ok(())
 }
 
-/// Answers a query of a store, and writes the reply in place.
+/// Answers a query of a store that is answered by no list.
 #[tactic(auto, unfolding(pid_types::specs::Step::step))]
-fn answer(store: &Tasks, call: Call, reply: &mut Reply)
+#[inline(always)]
+fn answer_short(store: &Tasks, call: Call) -> ShortReply
     requires whole { IsWhole store.now }
     requires asks { IsTrue (is_query call) }
-    ensures { (stamp : ℕ) → reply.new ≡ (step (state_of store.now) stamp call).reply }
+    requires short { answers_list call ≡ false }
+    ensures { (stamp : ℕ) → reply_of result ≡ (step (state_of store.now) stamp call).reply }
 {
-    let short = match call {
+    match call {
         Call::GetPid { caller } => get_pid(store, caller),
         Call::GetPpid { caller } => get_ppid(store, caller),
         Call::GetPgid { caller, pid } => get_pgid(store, caller, pid),
         Call::GetSid { caller, pid } => get_sid(store, caller, pid),
-        Call::NsPid { caller, target } => {
-            ns_pid(store, caller, target, reply);
-            return;
-        }
         Call::Next { caller, kind, from } => next(store, caller, kind, from),
         Call::Count { id } => count(store, id),
-        Call::Fork { .. }
+        Call::NsPid { .. }
+        | Call::Fork { .. }
         | Call::MakeControl { .. }
         | Call::RemoveControl { .. }
         | Call::SetLimit { .. }
@@ -123,8 +121,21 @@ fn answer(store: &Tasks, call: Call, reply: &mut Reply)
         | Call::SetSid { .. }
         | Call::Join { .. }
         | Call::SetSubreaper { .. } => unreachable!(),
-    };
-    short.tell(reply);
+    }
+}
+
+/// Answers a query of a store, and writes the reply in place.
+#[tactic(auto, unfolding(pid_types::specs::Step::step))]
+fn answer(store: &Tasks, call: Call, reply: &mut Reply)
+    requires whole { IsWhole store.now }
+    requires asks { IsTrue (is_query call) }
+    ensures { (stamp : ℕ) → reply.new ≡ (step (state_of store.now) stamp call).reply }
+{
+    if let Call::NsPid { caller, target } = call {
+        ns_pid(store, caller, target, reply);
+        return;
+    }
+    answer_short(store, call).tell(reply);
 }
 
 /// Writes the reply that the call would get on a store.
@@ -166,6 +177,16 @@ impl PidTable {
         ensures { (stamp : ℕ) → reply.new ≡ (step self.now stamp call).reply }
     {
         answer(&self.store, call, reply);
+    }
+
+    /// Answers a query as [`PidTable::ask`] does, where that is answered by no list ([`answers_list`]).
+    #[inline(always)]
+    pub fn ask_short(&self, call: Call) -> ShortReply
+        requires asks { IsTrue (is_query call) }
+        requires short { answers_list call ≡ false }
+        ensures { (stamp : ℕ) → reply_of result ≡ (step self.now stamp call).reply }
+    {
+        answer_short(&self.store, call)
     }
 
     /// Writes the reply that the call would get with this stamp, and changes nothing: of a fork the numbers of the

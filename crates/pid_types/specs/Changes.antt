@@ -8,7 +8,7 @@ use Rattle.pid_types.specs.declared.reply.Reply.TheVariants.{Done, Control as Co
 use Rattle.pid_types.specs.declared.reply.Refusal.TheVariants.{NoTask, NoControl, ControlDepth, RootControl, ControlBusy, BadLimit}
 use Rattle.pid_types.specs.Bounds.{deepest_control, greatest_limit}
 use Rattle.pid_types.specs.State.{State}
-use Rattle.pid_types.specs.Names.{is_live, live_row, task_at, with_row}
+use Rattle.pid_types.specs.Names.{is_live, live_row, task_numbered, with_row}
 use Rattle.pid_types.specs.Controls.{control_at, control_path, count}
 use Rattle.pid_types.specs.Outcome.{Outcome, answered, changed, for_found, refuse_if, by_caller}
 
@@ -100,7 +100,7 @@ set_children_space space row = record row { children_space = space }
 unfoldable pub join : State → ℕ → ℕ → Outcome
 join state n target =
     by_caller state n (λ caller.
-    for_found state (task_at state caller.name.space target) NoTask (λ row.
+    for_found state (task_numbered state caller.name.space target) NoTask (λ row.
     refuse_if state (not (is_live row)) NoTask
     (changed (with_row state caller.name (set_children_space row.name.space)) Done)))
 

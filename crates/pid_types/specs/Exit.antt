@@ -11,7 +11,7 @@ use Rattle.pid_types.specs.declared.reply.Reply.TheVariants.{Done}
 use Rattle.pid_types.specs.declared.reply.Refusal.TheVariants.{RootInit}
 use Rattle.pid_types.specs.Chains.{climb}
 use Rattle.pid_types.specs.State.{State}
-use Rattle.pid_types.specs.Names.{is_numbered, root_number, same_name, is_parent, is_live, is_member, is_within, row_at, task_at}
+use Rattle.pid_types.specs.Names.{is_numbered, root_number, same_name, is_parent, is_live, is_member, is_within, row_at, task_numbered}
 use Rattle.pid_types.specs.Outcome.{Outcome, changed, refuse_if, by_caller}
 
 -- whether the task is the init of its own namespace, number 1 there: pid_namespaces(7), "The namespace init process"
@@ -38,7 +38,7 @@ nearest_subreaper rows row = find (is_subreaper_in rows row.name.space) (ancesto
 -- who takes the children of the task: its nearest subreaper, or else the init of its own namespace
 unfoldable pub new_parent : State → Row → Option Name
 new_parent state row =
-    option_map (λ r. r.name) (option_map_or (row_at state.rows) (nearest_subreaper state.rows row) (task_at state row.name.space 1))
+    option_map (λ r. r.name) (option_map_or (row_at state.rows) (nearest_subreaper state.rows row) (task_numbered state row.name.space 1))
 
 -- the row after the task ended and its children went to another: _exit(2)
 abbrev pub row_after_exit : Row → Option Name → Ended → Row → Row

@@ -6,7 +6,7 @@ use Rattle.pid_types.specs.declared.plain.Row.{Row}
 use Rattle.pid_types.specs.declared.reply.Reply.TheVariants.{Done, Number}
 use Rattle.pid_types.specs.declared.reply.Refusal.TheVariants.{BadGroup, NoTask, OtherSession, Executed, IsLeader, NoGroup}
 use Rattle.pid_types.specs.State.{State}
-use Rattle.pid_types.specs.Names.{number_or_zero, is_numbered, same_name, is_parent, task_at, with_row}
+use Rattle.pid_types.specs.Names.{number_or_zero, is_numbered, same_name, is_parent, task_numbered, with_row}
 use Rattle.pid_types.specs.Outcome.{Outcome, changed, for_found, refuse_if, by_caller}
 
 -- whether the number is below 0
@@ -16,7 +16,7 @@ is_negative (negsuc n) = true
 
 -- whom the number names: 0 the caller, a negative one nobody
 abbrev pub target_of : State → Row → ℤ → Option Row
-target_of state caller (pos n) = if n == 0 then Some caller else task_at state caller.name.space n
+target_of state caller (pos n) = if n == 0 then Some caller else task_numbered state caller.name.space n
 target_of state caller (negsuc n) = None
 
 -- the group with the number in the caller's namespace, if some task of the caller's session is in it

@@ -84,8 +84,8 @@ abbrev pub live_row : List Row → ℕ → Option Row
 live_row rows n = find (λ row. (root_number row.name == n) && is_live row) rows
 
 -- the task with the number in the namespace, zombies among them
-unfoldable pub task_at : State → ℕ → ℕ → Option Row
-task_at state s n = find (λ row. is_numbered state.spaces row.name s n) state.rows
+unfoldable pub task_numbered : State → ℕ → ℕ → Option Row
+task_numbered state s n = find (λ row. is_numbered state.spaces row.name s n) state.rows
 
 -- whether the task is visible in the namespace: pid_namespaces(7), "a process is visible to other processes in its PID namespace,
 -- and to the processes in each direct ancestor PID namespace"

@@ -10,7 +10,7 @@ use Rattle.pid_types.specs.declared.reply.Reply.TheVariants.{Number, Levels as L
 use Rattle.pid_types.specs.declared.reply.Refusal.TheVariants.{NoTask, NoCaller}
 use Rattle.pid_types.specs.Chains.{least_of}
 use Rattle.pid_types.specs.State.{State}
-use Rattle.pid_types.specs.Names.{number, number_or_zero, numbers_from, task_at, live_row}
+use Rattle.pid_types.specs.Names.{number, number_or_zero, numbers_from, task_numbered, live_row}
 
 -- the answer to a live caller
 abbrev pub asked_by : State → ℕ → (Row → Reply) → Reply
@@ -26,7 +26,7 @@ seen_number state caller name = number_or_zero state.spaces name caller.name.spa
 
 -- whom the number names, where 0 is the caller
 abbrev pub self_or_task : State → Row → ℕ → Option Row
-self_or_task state caller pid = if pid == 0 then Some caller else task_at state caller.name.space pid
+self_or_task state caller pid = if pid == 0 then Some caller else task_numbered state caller.name.space pid
 
 -- what the row is named by, as the kind says
 abbrev pub name_by : Kind → Row → Name
@@ -56,7 +56,7 @@ get_sid state n pid =
 -- the task's numbers from the caller's namespace inwards
 unfoldable pub ns_pid : State → ℕ → ℕ → Reply
 ns_pid state n target =
-    asked_by state n (λ caller. of_task (task_at state caller.name.space target) (λ row.
+    asked_by state n (λ caller. of_task (task_numbered state caller.name.space target) (λ row.
     LevelList (record { items = numbers_from state.spaces row.name caller.name.space })))
 
 -- the numbers that are in use as the kind in the namespace

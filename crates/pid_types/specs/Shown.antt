@@ -10,6 +10,19 @@ use Rattle.pid_types.specs.Controls.{count}
 abbrev pub with_count : State → Control → ControlRow
 with_count state c = record { id = c.id; parent = c.parent; limit = c.limit; count = count state c.id }
 
+-- the control group of a snapshot, without its count
+abbrev pub control_shown : ControlRow → Control
+control_shown c = record { id = c.id; parent = c.parent; limit = c.limit }
+
+-- the state that a snapshot has
+abbrev pub state_shown : Plain → State
+state_shown plain = record {
+  rows = plain.rows.items;
+  spaces = plain.spaces.items;
+  controls = map control_shown plain.controls.items;
+  pid_max = plain.pid_max;
+}
+
 -- the snapshot shows the state: its tasks, its namespaces, and its control groups with their counts
 pub record Shows (state : State) (plain : Plain) : Type 0 where
   pub pid_max : plain.pid_max ≡ state.pid_max

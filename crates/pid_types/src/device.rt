@@ -105,9 +105,9 @@ pub struct Both<'a, S: Source, K: Sink> {
 }
 
 impl<S: Source, K: Sink> Source for Both<'_, S, K> {
+    ghost use Rattle.std.proofs.Common.{◌∙◌, refl, subst};
     ghost use Rattle.pid_types.specs.Devices.{DidBoth, readings, writings};
     ghost use Rattle.pid_types.specs.DeviceLaws.{readings-more, writings-more, readings_heard, readings_well};
-    ghost use Rattle.std.proofs.Common.{◌∙◌, refl, subst};
 
     ghost remaining = { λ b. S.remaining b.source.now };
 
@@ -145,9 +145,9 @@ impl<S: Source, K: Sink> Source for Both<'_, S, K> {
 }
 
 impl<S: Source, K: Sink> Sink for Both<'_, S, K> {
+    ghost use Rattle.std.proofs.Common.{◌∙◌, refl, subst};
     ghost use Rattle.pid_types.specs.Devices.{DidBoth, readings, writings};
     ghost use Rattle.pid_types.specs.DeviceLaws.{readings-more, writings-more, writings_said, writings_well};
-    ghost use Rattle.std.proofs.Common.{◌∙◌, refl, subst};
 
     ghost contents = { λ b. K.contents b.sink.now };
 
@@ -218,9 +218,8 @@ impl<R: Read + Drop> FromReader<R> {
 }
 
 impl<R: Read + Drop> Source for FromReader<R> {
-    ghost use Rattle.pid_types.specs.Devices.{Took};
     ghost use Rattle.std.specs.Prelude.{refl};
-    ghost use Rattle.pid_types.specs.DeviceLaws.{Took-nothing, Took-more};
+    ghost use Rattle.pid_types.specs.{Devices.{Took}, DeviceLaws.{Took-nothing, Took-more}};
 
     ghost remaining = { λ s. R.remaining s.reader };
 
@@ -280,9 +279,8 @@ impl<'a, W: Write> ToWriter<'a, W> {
 }
 
 impl<W: Write> Sink for ToWriter<'_, W> {
-    ghost use Rattle.pid_types.specs.Devices.{Gave};
-    ghost use Rattle.pid_types.specs.DeviceLaws.{Gave-nothing, Gave-more};
     ghost use Rattle.std.proofs.Common.{◌∙◌, refl};
+    ghost use Rattle.pid_types.specs.{Devices.{Gave}, DeviceLaws.{Gave-nothing, Gave-more}};
 
     ghost contents = { λ s. W.contents s.writer.now };
 

@@ -46,10 +46,11 @@ impl<L: Ledger> OneSeat<L> {
 
 impl<L: Ledger> Table for OneSeat<L> {
     ghost use Rattle.std.specs.Prelude.{◌++◌, Some};
-    ghost use Rattle.kept_table.specs.Chronicle.{next_stamp};
-    ghost use Rattle.script_session.specs.Session.{any_call};
-    ghost use Rattle.pid_workers.specs.Made.{Makes};
-    ghost use Rattle.pid_workers.specs.MadeLaws.{makes_nothing, makes_more};
+    ghost use Rattle.{
+      kept_table.specs.Chronicle.{next_stamp},
+      script_session.specs.Session.{any_call},
+      pid_workers.specs.{Made.{MakesCalls}, MadeLaws.{makes_nothing, makes_more}},
+    };
 
     ghost state = { λ t. t.record.present };
 
@@ -57,7 +58,7 @@ impl<L: Ledger> Table for OneSeat<L> {
 
     ghost held = { λ t. Some t.reply };
 
-    ghost did = { λ a b calls. Makes a.record b.record calls };
+    ghost did = { λ a b calls. MakesCalls a.record b.record calls };
 
     // Each call has an entry, which needs memory.
     ghost may_starve = { any_call };

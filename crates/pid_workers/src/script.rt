@@ -1,16 +1,13 @@
 //! Scripts run on a table of their own, for one worker.
 ghost use Rattle.std.specs.Prelude.{◌≡◌, false, ℕ, List, IfOk, IfErr, OnOk, Err};
-ghost use Rattle.kept_table.specs.Chronicle.{next_stamp};
-ghost use Rattle.pid_types.specs.State.{State};
-ghost use Rattle.pid_types.specs.Step.{may_grow};
-ghost use Rattle.pid_types.specs.declared.call.Call.{Call};
-ghost use Rattle.pid_types.specs.declared.reply.Reply.{Reply};
-ghost use Rattle.pid_workers.specs.Made.{calls_of};
-ghost use Rattle.script_session.specs.Progress.{start_of, HasStopped};
-ghost use Rattle.script_session.specs.declared.tally.RunScriptFault.TheVariants.{Write};
-ghost use Rattle.pid_types.specs.Devices.{DidBoth};
-ghost use Rattle.script_session.specs.Dialogue.{Converses};
-ghost use Rattle.script_session.specs.Session.{any_call, ended_at, Finishes, Leaves};
+ghost use Rattle.{
+  kept_table.specs.Chronicle.{next_stamp},
+  pid_types.specs.{State.{State}, Step.{may_grow}, declared.call.Call.{Call}, declared.reply.Reply.{Reply}},
+  pid_types.specs.Devices.{DidBoth},
+  pid_workers.specs.Made.{kept_calls},
+  script_session.specs.{Progress.{start_of, HasStopped}, declared.tally.RunScriptFault.TheVariants.{Write}},
+  script_session.specs.{Dialogue.{Converses}, Session.{any_call, ended_at, Finishes, Leaves}},
+};
 
 use crate::one_seat::OneSeat;
 use crate::script_table::ScriptTable;
@@ -73,7 +70,7 @@ pub fn run_state<L: Ledger, S: Source, K: Sink>(
     requires name { blank.name ≡ L.name }
     requires parts { (blank.parts ≡ L.parts) × (L.parts ≡ 1) }
     ensures ok { IfOk result (λ r. (text : List ℕ) × Finishes any_call (start_of config.now)
-        (ended_at r.1.present (next_stamp r.1) r.0 text (calls_of r.1))
+        (ended_at r.1.present (next_stamp r.1) r.0 text (kept_calls r.1))
         (S.remaining source.old) (S.remaining source.new) (K.contents sink.old) (K.contents sink.new)) }
     ensures config { IfOk result (λ r. r.1.config ≡ config.now) }
     ensures fresh { IfOk result (λ r. r.1.is_resumed ≡ false) }

@@ -3,8 +3,7 @@
 //! [`run_workers`] is the one door. It takes the jobs as lists of calls, so what a job makes cannot
 //! be named later in it but by luck: ids and numbers depend on which worker comes first.
 ghost use Rattle.std.specs.Prelude.{◌≡◌, false, ℕ, ◌<◌, length, vec_len, slice_index_or, IfOk, OnOk};
-ghost use Rattle.worker_jobs.specs.Job.{Fulfils};
-ghost use Rattle.worker_jobs.specs.Receipts.{IsAudited};
+ghost use Rattle.worker_jobs.specs.{Job.{Fulfils}, Receipts.{IsAudited}};
 
 use locked_table::{Record, Shared};
 use pid_types::call::Call;

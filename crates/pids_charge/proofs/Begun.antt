@@ -1,6 +1,6 @@
 -- The root control group alone.
 use Rattle.pids_charge.proofs.Words.{None, Option, Some, [], ap, sym, false, inl, inr, ◌∙◌, ◌⊎◌, arith, length, refl, true, ℕ, ◌+◌, ◌∷◌, ◌≡◌, ◌≢◌, cases_eq, option_map_or, Slab, Updates, get, tree_of}
-use Rattle.pids_charge.proofs.Words.{IsKept, all_in, tasks_in, Counter, Node}
+use Rattle.pids_charge.proofs.Words.{IsChargeTree, all_in, tasks_in, Counter, Node}
 use Rattle.pids_charge.proofs.Sums.{sum-zero}
 
 abbrev pub root_node : Node
@@ -28,7 +28,7 @@ module _ {nodes : Slab Node} (begins : Begins nodes) where
   pub no_task : all_in nodes ≡ 0
   no_task = sum-zero (length nodes.slots) (tasks_in nodes) no_tasks
 
-  pub IsKept-begun : IsKept nodes (root_counter ∷ []) (None ∷ []) ((0, 0) ∷ [])
+  pub IsKept-begun : IsChargeTree nodes (root_counter ∷ []) (None ∷ []) ((0, 0) ∷ [])
   IsKept-begun = grind (arith, cases_eq, sum-zero, no_tasks)
 
   -- nothing else stands

@@ -1,7 +1,7 @@
 -- The model's words over ids, told by keys.
 use Rattle.std.proofs.Common.{◌≡◌, ℕ, zero, suc, ◌+◌, ◌≤◌, ◌==◌, Bool, true, false, ◌||◌, if◌then◌else◌, Option, Some, None, option_and_then, is_some, List, map, refl, sym, ap, ◌∙◌, arith}
-use Rattle.pids_charge.proofs.Words.{cases_eq, eq-eqb, option_map_or, contains, climb, is_below, parent_control, control_path, Slab, get, count, tasks_below}
-use Rattle.pids_charge.proofs.Words.{IsListed, charges_of, control_in, limit_in, nearest, seen, IsTree, Tree, is_under, reaches, tasks_in, total_in, tree_of}
+use Rattle.pids_charge.proofs.Words.{cases_eq, eq-eqb, option_map_or, contains, climb, is_below, parent_control, control_path, Slab, get, charged_count, tasks_below}
+use Rattle.pids_charge.proofs.Words.{IsListed, charges_of, control_in, limit_in, nearest, home_of_node, IsNodeTree, TreeOfNodes, is_under, reaches, tasks_in, total_in, tree_of}
 use Rattle.pids_charge.proofs.Words.{Node}
 use Rattle.pids_charge.proofs.Climbs.{eqb-apart, reaches-top, reaches-step, up_levels}
 use Rattle.pids_charge.proofs.Views.{kept_cases, same_key, parent-is, home_at-is, sum-seen}
@@ -9,7 +9,7 @@ use Rattle.pids_charge.proofs.Views.{kept_cases, same_key, parent-is, home_at-is
 pub or_false : (b : Bool) → (b || false) ≡ b
 or_false b = grind arith
 
-module _ (t : Tree) (w : IsTree t) where
+module _ (t : TreeOfNodes) (w : IsNodeTree t) where
   -- more steps than there are levels reach no further
   pub reaches-more : (n j k : ℕ) → t.level j ≤ n → reaches t.up n j k ≡ is_under t j k
   reaches-more zero j k low = let e : t.level j ≡ 0 = omega (arith, low) in ap (λ m. reaches t.up m j k) (sym e)
@@ -47,12 +47,12 @@ module _ (t : Tree) (w : IsTree t) where
 
     -- the tasks of a key that are below a control group
     pub below-seen : (k c : ℕ) (o : Option Node) → (is_some o ≡ true → t.there k ≡ true) → t.stand c ≡ true
-        → tasks_below (map (control_in t limits) ids) (t.id c) (option_and_then (seen t k) o) ≡ (if is_under t k c then option_map_or (λ n. n.live + n.zombies) o 0 else 0)
+        → tasks_below (map (control_in t limits) ids) (t.id c) (option_and_then (home_of_node t k) o) ≡ (if is_under t k c then option_map_or (λ n. n.live + n.zombies) o 0 else 0)
     below-seen k c o on sc = grind (arith, below-is, nearest_stands, under-nearest, kept_cases)
 
 -- the running count is the model's
-pub count-is : (nodes : Slab Node) (children : List (Option ℕ)) (ids : List (ℕ × ℕ)) → IsTree (tree_of nodes) → IsListed (tree_of nodes) children ids
-    → (c : ℕ) → (tree_of nodes).stand c ≡ true → count (charges_of nodes ids) ((tree_of nodes).id c) ≡ total_in nodes c
+pub count-is : (nodes : Slab Node) (children : List (Option ℕ)) (ids : List (ℕ × ℕ)) → IsNodeTree (tree_of nodes) → IsListed (tree_of nodes) children ids
+    → (c : ℕ) → (tree_of nodes).stand c ≡ true → charged_count (charges_of nodes ids) ((tree_of nodes).id c) ≡ total_in nodes c
 count-is nodes children ids w l c sc =
     let t = tree_of nodes in
     let controls = (charges_of nodes ids).controls in

@@ -1,7 +1,7 @@
 -- The way up from a key: what a step leaves of it.
 use Rattle.std.proofs.Common.{◌≡◌, ℕ, zero, suc, ◌+◌, ◌-◌, ◌<◌, ◌≤◌, ◌==◌, Bool, true, ◌||◌, if◌then◌else◌, Option, Some, None, option_and_then, refl, sym, ap, ◌∙◌, arith, List, set, length}
 use Rattle.pids_charge.proofs.Words.{cases_eq, eq-eqb, eqb-true, get_or-set_other, get_or-set_same, option_map_or, Slab, get, counter_at, total_at, HasLevels}
-use Rattle.pids_charge.proofs.Words.{Tree, is_under, left, reaches, tree_of, weight, Counter, Node}
+use Rattle.pids_charge.proofs.Words.{TreeOfNodes, is_under, left, reaches, tree_of, weight, Counter, Node}
 pub use Rattle.std.proofs.lemmas.Bool.{ne_eqb as eqb-apart}
 
 abbrev pub one_if : Bool → ℕ
@@ -29,22 +29,22 @@ module _ (up : ℕ → Option ℕ) (lv : ℕ → ℕ) (levels : (j p : ℕ) → 
   pub one-step : (j k : ℕ) → one_if (reaches up (lv j) j k) ≡ one_if (j == k) + option_map_or (λ p. one_if (reaches up (lv p) p k)) (up j) 0
   one-step j k = grind (arith, eqb-true, reaches_low, reaches-top, reaches-step)
 
-pub up_levels : (t : Tree) → HasLevels t → (j p : ℕ) → t.up j ≡ Some p → t.level j ≡ suc (t.level p)
+pub up_levels : (t : TreeOfNodes) → HasLevels t → (j p : ℕ) → t.up j ≡ Some p → t.level j ≡ suc (t.level p)
 up_levels t w j p above = (w j p above).1
 
-pub weight-self : (t : Tree) (k : ℕ) → HasLevels t → is_under t k k ≡ true
+pub weight-self : (t : TreeOfNodes) (k : ℕ) → HasLevels t → is_under t k k ≡ true
 weight-self t k w = reaches-self t.up t.level (up_levels t w) (t.level k) k
 
 pub up-is : (nodes : Slab Node) (a : ℕ) (n : Node) → get nodes a ≡ Some n → (tree_of nodes).up a ≡ n.parent
 up-is nodes a n is = ap (option_and_then (λ (x : Node). x.parent)) is
 
 -- a walk visits a key and goes on from its parent
-pub left-step : (t : Tree) → HasLevels t → (at : Option ℕ) (a : ℕ) (next : Option ℕ) → at ≡ Some a → next ≡ t.up a → (k : ℕ) → left t at k ≡ one_if (a == k) + left t next k
+pub left-step : (t : TreeOfNodes) → HasLevels t → (at : Option ℕ) (a : ℕ) (next : Option ℕ) → at ≡ Some a → next ≡ t.up a → (k : ℕ) → left t at k ≡ one_if (a == k) + left t next k
 left-step t w at a next is above k =
     ap (λ o. left t o k) is ∙ one-step t.up t.level (up_levels t w) a k ∙ ap (λ o. one_if (a == k) + left t o k) (sym above)
 
 -- the walk comes nearer to the root
-pub left_smaller : (t : Tree) → HasLevels t → (at : Option ℕ) (a : ℕ) (next : Option ℕ) → at ≡ Some a → next ≡ t.up a
+pub left_smaller : (t : TreeOfNodes) → HasLevels t → (at : Option ℕ) (a : ℕ) (next : Option ℕ) → at ≡ Some a → next ≡ t.up a
     → option_map_or (λ p. suc (t.level p)) next 0 < option_map_or (λ p. suc (t.level p)) at 0
 left_smaller t w at a next is above = grind (arith, up_levels)
 
@@ -55,11 +55,11 @@ set-plus xs a k x lt is = grind (arith, cases_eq, get_or-set_same, eqb-self, get
 pub set-minus : (xs : List Counter) (a k : ℕ) (x : Counter) → a < length xs → x ≡ counter_at xs a → 0 < x.total → total_at (set xs a (record x { total = x.total - 1 })) k + one_if (a == k) ≡ total_at xs k
 set-minus xs a k x lt is some = grind (arith, cases_eq, get_or-set_same, eqb-self, get_or-set_other, eqb-apart)
 
-pub one-own : (t : Tree) → HasLevels t → (at : Option ℕ) (a : ℕ) → at ≡ Some a → left t at a ≡ 1
+pub one-own : (t : TreeOfNodes) → HasLevels t → (at : Option ℕ) (a : ℕ) → at ≡ Some a → left t at a ≡ 1
 one-own t w at a is = rw (is, weight-self t a w) refl
 
-pub weight_true : (t : Tree) (j k : ℕ) → 1 ≤ weight t j k → is_under t j k ≡ true
+pub weight_true : (t : TreeOfNodes) (j k : ℕ) → 1 ≤ weight t j k → is_under t j k ≡ true
 weight_true t j k some = grind arith
 
-pub weight_one : (t : Tree) (j k : ℕ) → is_under t j k ≡ true → weight t j k ≡ 1
+pub weight_one : (t : TreeOfNodes) (j k : ℕ) → is_under t j k ≡ true → weight t j k ≡ 1
 weight_one t j k is = ap one_if is

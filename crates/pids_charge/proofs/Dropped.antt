@@ -1,7 +1,7 @@
 -- What the end of nodes that do not stand leaves of the rest, and a move of a task.
 use Rattle.pids_charge.proofs.Words.{List, None, Option, [], ap, arith, length, map, option_map, refl, sym, ℕ, ◌+◌, ◌-◌, ◌<◌, ◌∙◌, ◌∷◌, ◌≡◌, ◌≤◌}
-use Rattle.pids_charge.proofs.Words.{cases_eq, eq-eqb, AllByRecursion, ContainsKey, Slab, ChangesHome, Charges, Home, home_at, moved, AreLinked, DropsEmpty}
-use Rattle.pids_charge.proofs.Words.{IsCounted, IsKept, IsListed, charges_of, control_in, limit_in, total_at, IsTree, tree_of, Counter, Node}
+use Rattle.pids_charge.proofs.Words.{cases_eq, eq-eqb, AllByRecursion, ContainsKey, Slab, ChangesHome, Charges, Home, home_at, after_move, AreLinked, DropsEmpty}
+use Rattle.pids_charge.proofs.Words.{AreTotals, IsChargeTree, IsListed, charges_of, control_in, limit_in, total_at, IsNodeTree, tree_of, Counter, Node}
 use Rattle.pids_charge.proofs.Climbs.{eqb-apart}
 use Rattle.pids_charge.proofs.Views.{home_at-is}
 
@@ -17,17 +17,17 @@ module _ (old new : Slab Node) (d : DropsEmpty old new) where
   pub IsListed-dropped : (children : List (Option ℕ)) (ids : List (ℕ × ℕ)) → IsListed (tree_of old) children ids → IsListed (tree_of new) children ids
   IsListed-dropped children ids l = grind (arith, all-weaken)
 
-  pub IsKept-dropped : (counters : List Counter) (children : List (Option ℕ)) (ids : List (ℕ × ℕ)) → IsTree (tree_of new) → IsCounted new (total_at counters) None → AreLinked new counters → IsListed (tree_of old) children ids
-      → ((k : ℕ) → ContainsKey old k → k < length children) → length children ≤ 1073741824 → IsKept new counters children ids
+  pub IsKept-dropped : (counters : List Counter) (children : List (Option ℕ)) (ids : List (ℕ × ℕ)) → IsNodeTree (tree_of new) → AreTotals new (total_at counters) None → AreLinked new counters → IsListed (tree_of old) children ids
+      → ((k : ℕ) → ContainsKey old k → k < length children) → length children ≤ 1073741824 → IsChargeTree new counters children ids
   IsKept-dropped counters children ids tree counted linked listed room small =
       record { tree = tree; counted = counted; linked = linked; listed = IsListed-dropped children ids listed; room = λ k on. room k (d.there k on); small = small }
 
   -- the control groups are the same
-  pub controls-dropped : (children : List (Option ℕ)) (ids : List (ℕ × ℕ)) → IsTree (tree_of old) → IsListed (tree_of old) children ids
+  pub controls-dropped : (children : List (Option ℕ)) (ids : List (ℕ × ℕ)) → IsNodeTree (tree_of old) → IsListed (tree_of old) children ids
       → map (control_in (tree_of new) (limit_in new)) ids ≡ map (control_in (tree_of old) (limit_in old)) ids
   controls-dropped children ids w l = grind (arith, map-where)
 
-  pub ChangesHome-dropped : (v : Charges) (home : ℕ) (after : Option Home) (children : List (Option ℕ)) (ids : List (ℕ × ℕ)) → IsTree (tree_of old) → IsListed (tree_of old) children ids
+  pub ChangesHome-dropped : (v : Charges) (home : ℕ) (after : Option Home) (children : List (Option ℕ)) (ids : List (ℕ × ℕ)) → IsNodeTree (tree_of old) → IsListed (tree_of old) children ids
       → ChangesHome v (charges_of old ids) home after → ChangesHome v (charges_of new ids) home after
   ChangesHome-dropped v home after children ids w l c = record {
     controls = controls-dropped children ids w l ∙ c.controls;
@@ -39,5 +39,5 @@ module _ (old new : Slab Node) (d : DropsEmpty old new) where
 pub moves : (v u x : Charges) (from to : ℕ)
     → ChangesHome v u from (option_map (λ (h : Home). record h { live = h.live - 1 }) (home_at v from))
     → ChangesHome u x to (option_map (λ (h : Home). record h { live = h.live + 1 }) (home_at u to))
-    → (k : ℕ) → home_at x k ≡ option_map (moved from to k) (home_at v k)
+    → (k : ℕ) → home_at x k ≡ option_map (after_move from to k) (home_at v k)
 moves v u x from to a b k = grind (arith, cases_eq, eq-eqb, eqb-apart)

@@ -1,7 +1,7 @@
 -- Nodes with one that nothing is below, and without it.
 use Rattle.std.proofs.Common.{◌≡◌, ◌≢◌, ◌⊎◌, ℕ, zero, suc, ◌+◌, ◌<◌, ◌≤◌, Bool, true, false, Option, Some, None, is_some, length, refl, sym, ap, subst, ◌∙◌, arith}
 use Rattle.pids_charge.proofs.Words.{cases_eq, eqb-true, le-ltb, or_from, or_right, option_map_or, ContainsKey, Slab, Updates, get, DropsEmpty}
-use Rattle.pids_charge.proofs.Words.{IsCounted, nearest, HasLevels, IsTree, Tree, all_in, is_under, left, reaches, tasks_in, total_in, tree_of, weight, Node}
+use Rattle.pids_charge.proofs.Words.{AreTotals, nearest, HasLevels, IsNodeTree, TreeOfNodes, all_in, is_under, left, reaches, tasks_in, total_in, tree_of, weight, Node}
 use Rattle.pids_charge.proofs.Climbs.{one_if, up_levels, reaches-step, reaches-self, reaches_low, eqb-apart, left-step, up-is}
 use Rattle.pids_charge.proofs.Sums.{sum_le}
 use Rattle.pids_charge.proofs.Changed.{share, field-other, all-changed, total-changed}
@@ -9,7 +9,7 @@ use Rattle.pids_charge.proofs.Views.{home_in, kept_cases}
 use Rattle.pids_charge.proofs.Written.{reaches_stand, own_total}
 
 -- the way up goes on
-under_trans : (t : Tree) → HasLevels t → (n i j k : ℕ) → t.level i ≡ n → is_under t i j ≡ true → is_under t j k ≡ true → is_under t i k ≡ true
+under_trans : (t : TreeOfNodes) → HasLevels t → (n i j k : ℕ) → t.level i ≡ n → is_under t i j ≡ true → is_under t j k ≡ true → is_under t i k ≡ true
 under_trans t w n i j k is below on = go n i is (subst (λ m. reaches t.up m i j ≡ true) is below)
   where
     go : (n i : ℕ) → t.level i ≡ n → reaches t.up n i j ≡ true → is_under t i k ≡ true
@@ -40,7 +40,7 @@ module _ {big small : Slab Node} {a : ℕ} (gone : Updates big small a None) (le
   pub seen-leaf : (j : ℕ) → j ≢ a → home_in small j ≡ home_in big j
   seen-leaf j differs = grind (arith, nearest-leaf)
 
-  pub IsTree-less : IsTree (tree_of big) → IsTree (tree_of small)
+  pub IsTree-less : IsNodeTree (tree_of big) → IsNodeTree (tree_of small)
   IsTree-less w = grind (arith, cases_eq)
 
   module _ (empty : tasks_in big a ≡ 0) where
@@ -58,8 +58,8 @@ up_there nodes j p above = grind arith
 
 -- a walk up that drops what is empty comes to a node
 pub record Visits (nodes : Slab Node) (totals : ℕ → ℕ) (at : Option ℕ) (a : ℕ) (n : Node) : Type 0 where
-  pub tree : IsTree (tree_of nodes)
-  pub counted : IsCounted nodes totals at
+  pub tree : IsNodeTree (tree_of nodes)
+  pub counted : AreTotals nodes totals at
   pub is : at ≡ Some a
   pub found : get nodes a ≡ Some n
 
@@ -73,7 +73,7 @@ module _ {nodes : Slab Node} {totals : ℕ → ℕ} {at : Option ℕ} {a : ℕ} 
   left_is k = ap (λ o. left (tree_of nodes) o k) is
 
   -- the walk may stop where a node stands or has tasks
-  pub settled : (n.standing ≡ true) ⊎ (0 < totals a) → IsCounted nodes totals None
+  pub settled : (n.standing ≡ true) ⊎ (0 < totals a) → AreTotals nodes totals None
   settled why = record { counts = counted.counts; filled = λ k on lies none. go k on lies (is_under (tree_of nodes) a k) refl; ended = counted.ended; few = counted.few }
     where
       go : (k : ℕ) → ContainsKey nodes k → (tree_of nodes).stand k ≡ false → (b : Bool) → is_under (tree_of nodes) a k ≡ b → 0 < total_in nodes k
@@ -110,7 +110,7 @@ module _ {nodes : Slab Node} {totals : ℕ → ℕ} {at : Option ℕ} {a : ℕ} 
     not_seen = grind (arith, found, kept_cases, or_from, le-ltb, own_none)
 
     module _ (new : Slab Node) (updates : Updates nodes new a None) where
-      pub IsTree-dropped : IsTree (tree_of new)
+      pub IsTree-dropped : IsNodeTree (tree_of new)
       IsTree-dropped = IsTree-less updates bare_leaf w
 
       not_a : (k : ℕ) → ContainsKey new k → k ≢ a
@@ -119,7 +119,7 @@ module _ {nodes : Slab Node} {totals : ℕ → ℕ} {at : Option ℕ} {a : ℕ} 
       kept_there : (k : ℕ) → ContainsKey new k → ContainsKey nodes k
       kept_there k on = ap is_some (sym (updates.others k (not_a k on))) ∙ on
 
-      pub IsCounted-dropped : IsCounted new totals n.parent
+      pub IsCounted-dropped : AreTotals new totals n.parent
       IsCounted-dropped = record {
         counts = λ k on. counted.counts k (kept_there k on) ∙ sym (total-leaf updates bare_leaf own_none k);
         filled = λ k on down past. rw (total-leaf updates bare_leaf own_none k)

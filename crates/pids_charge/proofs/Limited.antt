@@ -1,7 +1,7 @@
 -- Another limit at one node.
 use Rattle.std.proofs.Common.{◌≡◌, inl, ℕ, ◌<◌, nat_lt, Bool, true, false, if◌then◌else◌, Option, Some, None, option_and_then, is_some, List, [], ◌∷◌, length, set, map, refl, sym, ap, subst, ◌∙◌, arith}
 use Rattle.pids_charge.proofs.Words.{◌+◌, cases_eq, eq-eqb, option_map_or, limited, BadLimit, RootControl, Slab, Updates, get, Charges, home_at, limit_refusal}
-use Rattle.pids_charge.proofs.Words.{stands, IsEntry, IsKept, IsListed, charges_of, control_in, counter_at, limit_in, seen, total_at, IsTree, Tree, all_in}
+use Rattle.pids_charge.proofs.Words.{stands, IsKeyOfId, IsChargeTree, IsListed, charges_of, control_in, counter_at, limit_in, home_of_node, total_at, IsNodeTree, TreeOfNodes, all_in}
 use Rattle.pids_charge.proofs.Words.{tree_of, Counter, Node}
 use Rattle.pid_types.specs.Bounds.{greatest_limit}
 use Rattle.pids_charge.proofs.Linked as linked
@@ -23,17 +23,17 @@ module _ (nodes new : Slab Node) (c : ℕ) (n : Node) (limit : Option ℕ) (foun
   pub all-limited : all_in new ≡ all_in nodes
   all-limited = omega (arith, written.all-written writes)
 
-  module _ (counters : List Counter) (children : List (Option ℕ)) (ids : List (ℕ × ℕ)) (w : IsKept nodes counters children ids)
+  module _ (counters : List Counter) (children : List (Option ℕ)) (ids : List (ℕ × ℕ)) (w : IsChargeTree nodes counters children ids)
       (up : (tree_of nodes).stand c ≡ true) where
-    pub IsKept-limited : (counter : Counter) → counter ≡ counter_at counters c → IsKept new (set counters c (record counter { limit = limit })) children ids
+    pub IsKept-limited : (counter : Counter) → counter ≡ counter_at counters c → IsChargeTree new (set counters c (record counter { limit = limit })) children ids
     IsKept-limited counter was = record {
-      tree = subst IsTree (sym tree) w.tree;
+      tree = subst IsNodeTree (sym tree) w.tree;
       counted = written.IsCounted-written writes w.tree w.counted (total_at (set counters c (record counter { limit = limit }))) None
           (λ j. ap (λ x. x + written.part writes n j) (total j)) (inl up) (omega (arith, all-limited, w.counted.few));
       linked = linked.linked-both counters c (record counter { limit = limit }) room nodes new counters w.linked (λ k. refl) (omega arith) (record n { limit = limit })
           updates refl (ap (λ (x : Counter). x.parent) was ∙ (w.linked c (ap is_some found)).parent ∙ up-is nodes c n found);
       listed = subst (λ x. IsListed x children ids) (sym tree) w.listed;
-      room = λ j on. w.room j (sym (ap (λ (x : Tree). x.there j) tree) ∙ on);
+      room = λ j on. w.room j (sym (ap (λ (x : TreeOfNodes). x.there j) tree) ∙ on);
       small = w.small;
     }
       where
@@ -47,20 +47,20 @@ module _ (nodes new : Slab Node) (c : ℕ) (n : Node) (limit : Option ℕ) (foun
         ≡ map (limited ((tree_of nodes).id c) limit) (map (control_in (tree_of nodes) (limit_in nodes)) ids)
     controls-limited =
         ap (λ t. map (control_in t (limit_in new)) ids) tree
-        ∙ map-where (IsEntry (tree_of nodes)) (control_in (tree_of nodes) (limit_in new)) (λ p. limited ((tree_of nodes).id c) limit (control_in (tree_of nodes) (limit_in nodes) p)) same ids w.listed.entries
+        ∙ map-where (IsKeyOfId (tree_of nodes)) (control_in (tree_of nodes) (limit_in new)) (λ p. limited ((tree_of nodes).id c) limit (control_in (tree_of nodes) (limit_in nodes) p)) same ids w.listed.entries
         ∙ map-map ids
       where
         map-map : (ps : List (ℕ × ℕ)) → map (λ p. limited ((tree_of nodes).id c) limit (control_in (tree_of nodes) (limit_in nodes) p)) ps ≡ map (limited ((tree_of nodes).id c) limit) (map (control_in (tree_of nodes) (limit_in nodes)) ps)
         map-map [] = refl
         map-map (p ∷ ps) = ap (λ cs. limited ((tree_of nodes).id c) limit (control_in (tree_of nodes) (limit_in nodes) p) ∷ cs) (map-map ps)
 
-        same : (p : ℕ × ℕ) → IsEntry (tree_of nodes) p → control_in (tree_of nodes) (limit_in new) p ≡ limited ((tree_of nodes).id c) limit (control_in (tree_of nodes) (limit_in nodes) p)
+        same : (p : ℕ × ℕ) → IsKeyOfId (tree_of nodes) p → control_in (tree_of nodes) (limit_in new) p ≡ limited ((tree_of nodes).id c) limit (control_in (tree_of nodes) (limit_in nodes) p)
         same p e = grind (arith, cases_eq, eq-eqb, same_key, eqb-apart)
 
     pub homes-limited : (k : ℕ) → home_at (charges_of new ids) k ≡ home_at (charges_of nodes ids) k
     homes-limited k =
-        home_at-is new ids k ∙ ap (λ (t : Tree). option_and_then (seen t k) (get new k)) tree
-        ∙ written.kept_field writes (option_and_then (seen (tree_of nodes) k)) refl k ∙ sym (home_at-is nodes ids k)
+        home_at-is new ids k ∙ ap (λ (t : TreeOfNodes). option_and_then (home_of_node t k) (get new k)) tree
+        ∙ written.kept_field writes (option_and_then (home_of_node (tree_of nodes) k)) refl k ∙ sym (home_at-is nodes ids k)
 
 -- why a limit cannot be set, by the node
 pub refused : (s : Inside) {v : Charges} → charges_of s.nodes s.ids ≡ v → IsListed (tree_of s.nodes) s.children s.ids → (c : ℕ) → stands v c ≡ true

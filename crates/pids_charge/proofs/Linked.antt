@@ -1,10 +1,10 @@
 -- The limits and parents that the counters have of the nodes: kept where nodes and counters change.
 use Rattle.pids_charge.proofs.Words.{List, None, Some, ap, arith, is_some, length, refl, set, ℕ, ◌<◌, ◌≡◌, ◌≢◌, ◌≤◌, cases_eq, get_or-set_other}
-use Rattle.pids_charge.proofs.Words.{get_or-set_same, length-set, ContainsKey, Slab, Updates, get, AreLinked, IsLinked, counter_at, Counter, Node}
+use Rattle.pids_charge.proofs.Words.{get_or-set_same, length-set, ContainsKey, Slab, Updates, get, AreLinked, IsCounterOf, counter_at, Counter, Node}
 
 -- a node and a counter change at one key
 pub linked-changed : (nodes new : Slab Node) (counters after : List Counter) (a : ℕ) → AreLinked nodes counters → ((k : ℕ) → k ≢ a → get new k ≡ get nodes k)
-    → ((k : ℕ) → k ≢ a → counter_at after k ≡ counter_at counters k) → length counters ≤ length after → (ContainsKey new a → IsLinked new after a) → AreLinked new after
+    → ((k : ℕ) → k ≢ a → counter_at after k ≡ counter_at counters k) → length counters ≤ length after → (ContainsKey new a → IsCounterOf new after a) → AreLinked new after
 linked-changed nodes new counters after a w others same longer here k on = grind (arith, cases_eq)
 
 -- a node is written, and keeps its limit and its parent

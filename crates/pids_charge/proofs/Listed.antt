@@ -1,7 +1,7 @@
 -- Tasks that a table lists, each with the key of its home, add up to the counts.
 use Rattle.std.proofs.Common.{◌≡◌, ℕ, zero, suc, ◌+◌, ◌<◌, ◌≤◌, ◌==◌, Bool, true, false, ◌&&◌, not, cond, if◌then◌else◌, None, Option, Some, List, [], ◌∷◌, length, refl, sym, ap, ◌∙◌, arith}
 use Rattle.pids_charge.proofs.Words.{eq-eqb, get_or_past, length-filter, sum_by-cons, AllByRecursion, count_by, filter, option_map_or, is_below, Control}
-use Rattle.pids_charge.proofs.Words.{Charges, Home, count, home_at, id_at, live_at, tasks_below, tasks_of, zombies_at, sum_below}
+use Rattle.pids_charge.proofs.Words.{Charges, Home, charged_count, home_at, home_id, live_at, tasks_below, tasks_of, zombies_at, sum_below}
 use Rattle.std.proofs.Math.Bool.{and-false, and-true}
 use Rattle.pids_charge.proofs.Climbs.{eqb-apart}
 use Rattle.pids_charge.proofs.Sums.{sum-ext, sum-at, sum-zero, sum_by-places}
@@ -51,14 +51,14 @@ module _ {X : Type 0} (home : X → ℕ) where
 
   -- where the tasks listed for each key are as many as it has, a count is that of the tasks whose home is the control group or below it
   pub count-listed : (v : Charges) (xs : List X) → ((k : ℕ) → count_by (λ x. home x == k) xs ≡ tasks_of (home_at v k))
-      → (id : ℕ) → count v id ≡ length (filter (λ x. is_below v.controls (id_at v (home x)) id) xs)
+      → (id : ℕ) → charged_count v id ≡ length (filter (λ x. is_below v.controls (home_id v (home x)) id) xs)
   count-listed v xs listed id =
       sum_by-places (tasks_below v.controls id) None v.homes
-      ∙ sum-ext (length v.homes) (λ k. tasks_below v.controls id (home_at v k)) (λ k. count_by (λ x. is_below v.controls (id_at v k) id && (home x == k)) xs)
+      ∙ sum-ext (length v.homes) (λ k. tasks_below v.controls id (home_at v k)) (λ k. count_by (λ x. is_below v.controls (home_id v k) id && (home x == k)) xs)
       (λ k. at_key v.controls id k (home_at v k) xs (listed k))
-      ∙ by_homes (length v.homes) (λ k. is_below v.controls (id_at v k) id) xs
+      ∙ by_homes (length v.homes) (λ k. is_below v.controls (home_id v k) id) xs
       (homes_below (length v.homes) xs (λ k past. listed k ∙ ap tasks_of (get_or_past v.homes k None past)))
-      ∙ sym (length-filter (λ x. is_below v.controls (id_at v (home x)) id) xs)
+      ∙ sym (length-filter (λ x. is_below v.controls (home_id v (home x)) id) xs)
 
 -- the same by live tasks and zombies
 pub tasks_of-both : {X : Type 0} (home : X → ℕ) (is_ended : X → Bool) (v : Charges) (k : ℕ) (xs : List X)

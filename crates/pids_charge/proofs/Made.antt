@@ -1,13 +1,13 @@
 -- One more control group.
 use Rattle.std.proofs.Common.{◌≡◌, ◌≢◌, ℕ, zero, suc, ◌+◌, ◌<◌, ◌≤◌, Bool, true, false, if◌then◌else◌, Option, Some, None, option_map, option_and_then, is_some, List, [], ◌∷◌, ◌++◌, length, set, map, sym, ap, subst, ◌∙◌, arith}
 use Rattle.pids_charge.proofs.Words.{cases_eq, get_or-set_other, get_or-set_same, AllByRecursion, option_map_or, key_of-new, key_of-push, AreBelow, owner_of}
-use Rattle.pids_charge.proofs.Words.{climb, parent_control, control_path, Control, ContainsKey, Slab, Updates, get, IsCounted, IsEntry, IsKept, IsListed}
-use Rattle.pids_charge.proofs.Words.{child_of, control_in, counter_at, limit_in, seen, total_at, IsTree, Tree, all_in, tasks_in, total_in, tree_of, Counter}
+use Rattle.pids_charge.proofs.Words.{climb, parent_control, control_path, Control, ContainsKey, Slab, Updates, get, AreTotals, IsKeyOfId, IsChargeTree, IsListed}
+use Rattle.pids_charge.proofs.Words.{listed_parent, control_in, counter_at, limit_in, home_of_node, total_at, IsNodeTree, TreeOfNodes, all_in, tasks_in, total_in, tree_of, Counter}
 use Rattle.pids_charge.proofs.Words.{Node}
 use Rattle.pids_charge.proofs.Linked as linked
 use Rattle.pids_charge.proofs.Climbs.{up_levels}
 use Rattle.pids_charge.proofs.Sums.{sum-zero}
-use Rattle.pids_charge.proofs.Words.{Charges, charges_of, id_at, stands}
+use Rattle.pids_charge.proofs.Words.{Charges, charges_of, home_id, stands}
 use Rattle.pids_charge.specs.declared.Controls.TheInside.{Inside}
 use Rattle.pids_charge.proofs.Views.{home_in, parent-is, there, nearest-self, kept_standing, stand_in, id_in}
 use Rattle.pids_charge.proofs.Written.{reaches_there}
@@ -18,15 +18,15 @@ abbrev control : ℕ → Option ℕ → Option ℕ → Control
 control i parent limit = record { id = i; parent = parent; limit = limit }
 
 -- the ids of the control groups are below what they are below
-pub below-ids : (t : Tree) (limits : ℕ → Option ℕ) (bound : ℕ) (ids : List (ℕ × ℕ)) → AllByRecursion (λ (g : Control). g.id < bound) (map (control_in t limits) ids) → AreBelow ids bound
+pub below-ids : (t : TreeOfNodes) (limits : ℕ → Option ℕ) (bound : ℕ) (ids : List (ℕ × ℕ)) → AllByRecursion (λ (g : Control). g.id < bound) (map (control_in t limits) ids) → AreBelow ids bound
 below-ids t limits bound [] all = tt
 below-ids t limits bound (p ∷ ids) all = (all.0, below-ids t limits bound ids all.1)
 
 -- memory alone
-pub IsKept-room : (nodes mid : Slab Node) (x : ℕ) → mid ≡ record nodes { capacity = x } → (counters after : List Counter) (children more : List (Option ℕ)) (ids : List (ℕ × ℕ)) → IsKept nodes counters children ids
+pub IsKept-room : (nodes mid : Slab Node) (x : ℕ) → mid ≡ record nodes { capacity = x } → (counters after : List Counter) (children more : List (Option ℕ)) (ids : List (ℕ × ℕ)) → IsChargeTree nodes counters children ids
     → ((k : ℕ) → counter_at after k ≡ counter_at counters k) → ((k : ℕ) → owner_of more k ≡ owner_of children k) → length counters ≤ length after → length children ≤ length more → length more ≤ 1073741824
-    → IsKept mid after more ids
-IsKept-room nodes mid x e counters after children more ids w same owners longer bigger small = subst (λ s. IsKept s after more ids) (sym e) (record {
+    → IsChargeTree mid after more ids
+IsKept-room nodes mid x e counters after children more ids w same owners longer bigger small = subst (λ s. IsChargeTree s after more ids) (sym e) (record {
   tree = w.tree;
   counted = record { counts = λ k on. ap (λ (c : Counter). c.total) (same k) ∙ w.counted.counts k on; filled = w.counted.filled; ended = w.counted.ended; few = w.counted.few };
   linked = grind (arith, linked.linked-changed);
@@ -38,7 +38,7 @@ IsKept-room nodes mid x e counters after children more ids w same owners longer 
 pub updates-from : (nodes mid new : Slab Node) (x k : ℕ) (slot : Option Node) → mid ≡ record nodes { capacity = x } → Updates mid new k slot → Updates nodes new k slot
 updates-from nodes mid new x k slot e u = record { changed = u.changed; others = λ j d. u.others j d ∙ ap (λ (s : Slab Node). get s j) e }
 
-module _ (nodes : Slab Node) (children : List (Option ℕ)) (ids : List (ℕ × ℕ)) (w : IsTree (tree_of nodes)) (l : IsListed (tree_of nodes) children ids) where
+module _ (nodes : Slab Node) (children : List (Option ℕ)) (ids : List (ℕ × ℕ)) (w : IsNodeTree (tree_of nodes)) (l : IsListed (tree_of nodes) children ids) where
   abbrev above_id : ℕ → Option ℕ
   above_id = parent_control (map (control_in (tree_of nodes) (limit_in nodes)) ids)
 
@@ -52,8 +52,8 @@ module _ (nodes : Slab Node) (children : List (Option ℕ)) (ids : List (ℕ × 
   length-path s up = length-climb 64 s up (w.deep s)
 
 -- the path of a control group that stands is as long as its level says
-pub long-path : (s : Inside) {v : Charges} → charges_of s.nodes s.ids ≡ v → IsTree (tree_of s.nodes) → IsListed (tree_of s.nodes) s.children s.ids → (c : ℕ) → stands v c ≡ true
-    → length (control_path v.controls (id_at v c)) ≡ suc ((tree_of s.nodes).level c)
+pub long-path : (s : Inside) {v : Charges} → charges_of s.nodes s.ids ≡ v → IsNodeTree (tree_of s.nodes) → IsListed (tree_of s.nodes) s.children s.ids → (c : ℕ) → stands v c ≡ true
+    → length (control_path v.controls (home_id v c)) ≡ suc ((tree_of s.nodes).level c)
 long-path s {v} is w l c on =
     ap (λ i. length (control_path v.controls i)) (id_in s is c on) ∙ sym (ap (λ (x : Charges). length (control_path x.controls ((tree_of s.nodes).id c))) is)
     ∙ length-path s.nodes s.children s.ids w l c (stand_in s is c on)
@@ -66,7 +66,7 @@ node id q level = record { id = id; parent = Some q; limit = None; level = level
 pub record Makes (nodes new : Slab Node) (a q id level : ℕ) : Type 0 where
   pub old : get nodes a ≡ None
   pub updates : Updates nodes new a (Some (node id q level))
-  pub tree : IsTree (tree_of nodes)
+  pub tree : IsNodeTree (tree_of nodes)
   pub stands : (tree_of nodes).stand q ≡ true
   pub next : level ≡ (tree_of nodes).level q + 1
   pub low : level ≤ 64
@@ -108,19 +108,19 @@ module _ {nodes new : Slab Node} {a q id level : ℕ} (makes : Makes nodes new a
   stand_a : (tree_of new).stand a ≡ true
   stand_a = ap (λ o. option_map_or (λ (x : Node). x.standing) o false) updates.changed
 
-  pub IsTree-made : IsTree (tree_of new)
+  pub IsTree-made : IsNodeTree (tree_of new)
   IsTree-made = grind (arith, cases_eq, up_a, there, q_apart, q_up, next, leaf, low, stand_a)
 
-  pub IsCounted-made : (counters : List Counter) → IsCounted nodes (total_at counters) None → (after : List Counter) → ((k : ℕ) → counter_at after k ≡ counter_at counters k) → (c : Counter) → c.total ≡ 0 → a < length after
-      → IsCounted new (total_at (set after a c)) None
+  pub IsCounted-made : (counters : List Counter) → AreTotals nodes (total_at counters) None → (after : List Counter) → ((k : ℕ) → counter_at after k ≡ counter_at counters k) → (c : Counter) → c.total ≡ 0 → a < length after
+      → AreTotals new (total_at (set after a c)) None
   IsCounted-made counters counted after kept_at c zero_is room =
       grind (arith, cases_eq, linked.counter-here, total-made, none_below, linked.counter-others, stand_a, all-made)
 
   module _ (children : List (Option ℕ)) (ids : List (ℕ × ℕ)) (l : IsListed (tree_of nodes) children ids) where
-    entry_apart : (p : ℕ × ℕ) → IsEntry (tree_of nodes) p → p.1 ≢ a
+    entry_apart : (p : ℕ × ℕ) → IsKeyOfId (tree_of nodes) p → p.1 ≢ a
     entry_apart p e s = let h = sym (e.0) ∙ ap (tree_of nodes).stand s ∙ ap (λ o. option_map_or (λ (x : Node). x.standing) o false) old in cc
 
-    entries_made : (ps : List (ℕ × ℕ)) → AllByRecursion (IsEntry (tree_of nodes)) ps → AllByRecursion (IsEntry (tree_of new)) (ps ++ (id, a) ∷ [])
+    entries_made : (ps : List (ℕ × ℕ)) → AllByRecursion (IsKeyOfId (tree_of nodes)) ps → AllByRecursion (IsKeyOfId (tree_of new)) (ps ++ (id, a) ∷ [])
     entries_made [] all = grind (arith, stand_a)
     entries_made (p ∷ ps) all = let d = entry_apart p all.0 in grind (arith, entries_made ps)
 
@@ -140,10 +140,10 @@ module _ {nodes new : Slab Node} {a q id level : ℕ} (makes : Makes nodes new a
         up : (k : ℕ) → (o : Option ℕ) → (tree_of nodes).up k ≡ o → option_map (tree_of new).id o ≡ option_map (tree_of nodes).id o
         up k o e = grind (arith, not_up)
 
-        entry : (p : ℕ × ℕ) → IsEntry (tree_of nodes) p → control_in (tree_of new) (limit_in new) p ≡ control_in (tree_of nodes) (limit_in nodes) p
+        entry : (p : ℕ × ℕ) → IsKeyOfId (tree_of nodes) p → control_in (tree_of new) (limit_in new) p ≡ control_in (tree_of nodes) (limit_in nodes) p
         entry p e = grind (arith, entry_apart, up)
 
-        go : (ps : List (ℕ × ℕ)) → AllByRecursion (IsEntry (tree_of nodes)) ps
+        go : (ps : List (ℕ × ℕ)) → AllByRecursion (IsKeyOfId (tree_of nodes)) ps
             → map (control_in (tree_of new) (limit_in new)) (ps ++ (id, a) ∷ [])
             ≡ map (control_in (tree_of nodes) (limit_in nodes)) ps ++ control id (Some ((tree_of nodes).id q)) None ∷ []
         go [] all = ap (λ g. g ∷ []) last
@@ -159,7 +159,7 @@ module _ {nodes new : Slab Node} {a q id level : ℕ} (makes : Makes nodes new a
   room-made children rooms more bigger lists k on = grind (arith, cases_eq)
 
 pub home-none : (nodes : Slab Node) (k : ℕ) → get nodes k ≡ None → home_in nodes k ≡ None
-home-none nodes k old = ap (option_and_then (seen (tree_of nodes) k)) old
+home-none nodes k old = ap (option_and_then (home_of_node (tree_of nodes) k)) old
 
-pub no_child : (nodes : Slab Node) (k : ℕ) → get nodes k ≡ None → child_of (tree_of nodes) k ≡ None
+pub no_child : (nodes : Slab Node) (k : ℕ) → get nodes k ≡ None → listed_parent (tree_of nodes) k ≡ None
 no_child nodes k old = ap (λ (b : Bool). if b then (tree_of nodes).up k else None) (ap (λ o. option_map_or (λ (x : Node). x.standing) o false) old)

@@ -2,8 +2,8 @@
 use Rattle.std.proofs.Common.{◌≡◌, ◌≢◌, inl, inr, ℕ, zero, suc, ◌+◌, ◌<◌, ◌==◌, nat_lt, Bool, true, false, not, if◌then◌else◌, Option, Some, None, option_map, option_and_then, is_some, MatchOption, List, [], ◌∷◌, length, set, map, refl, sym, ap, ◌∙◌, arith}
 use Rattle.pids_charge.proofs.Words.{fun_ext, cases_eq, eq-eqb, eqb-true, false_from_ne_true, le-ltb, lt-ltb, or_from, or_right, get_or-set_other}
 use Rattle.pids_charge.proofs.Words.{get_or-set_same, AllByRecursion, filter, list_any, option_eq, option_map_or, key_of, without, owner_of, Control}
-use Rattle.pids_charge.proofs.Words.{ControlBusy, RootControl, Slab, Updates, get, Charges, Home, handed_on, is_busy, kept, live_at, remove_refusal, stands}
-use Rattle.pids_charge.proofs.Words.{IsCounted, IsEntry, IsListed, charges_of, child_of, control_in, limit_in, nearest, seen, standing_key, IsTree, Tree}
+use Rattle.pids_charge.proofs.Words.{ControlBusy, RootControl, Slab, Updates, get, Charges, Home, handed_on, is_occupied, kept, live_at, remove_refusal, stands}
+use Rattle.pids_charge.proofs.Words.{AreTotals, IsKeyOfId, IsListed, charges_of, listed_parent, control_in, limit_in, nearest, home_of_node, standing_key, IsNodeTree, TreeOfNodes}
 use Rattle.pids_charge.proofs.Words.{all_in, is_under, reaches, tasks_in, total_in, tree_of, Node}
 use Rattle.pids_charge.proofs.Climbs.{eqb-apart, up-is, weight-self, up_levels}
 use Rattle.pids_charge.specs.declared.Controls.TheInside.{Inside}
@@ -17,8 +17,8 @@ pub record Removes (nodes new : Slab Node) (c p : ℕ) (n : Node) : Type 0 where
   pub up : n.standing ≡ true
   pub parent : n.parent ≡ Some p
   pub updates : Updates nodes new c (Some (record n { standing = false }))
-  pub tree : IsTree (tree_of nodes)
-  pub childless : (k : ℕ) → child_of (tree_of nodes) k ≢ Some c
+  pub tree : IsNodeTree (tree_of nodes)
+  pub childless : (k : ℕ) → listed_parent (tree_of nodes) k ≢ Some c
 
 module _ {nodes new : Slab Node} {c p : ℕ} {n : Node} (removes : Removes nodes new c p n) where
   open removes use {found, up, parent, updates, tree as w, childless}
@@ -78,10 +78,10 @@ module _ {nodes new : Slab Node} {c p : ℕ} {n : Node} (removes : Removes nodes
   p_stands : (tree_of nodes).stand p ≡ true
   p_stands = w.upright c p stood up_c
 
-  pub IsTree-unstood : IsTree (tree_of new)
+  pub IsTree-unstood : IsNodeTree (tree_of new)
   IsTree-unstood = grind (arith, cases_eq, there_same, ups, levels, stand_others, stand_here, apart, no_child, up_c)
 
-  pub IsCounted-unstood : (totals : ℕ → ℕ) → IsCounted nodes totals None → n.live ≡ 0 → IsCounted new totals (Some c)
+  pub IsCounted-unstood : (totals : ℕ → ℕ) → AreTotals nodes totals None → n.live ≡ 0 → AreTotals new totals (Some c)
   IsCounted-unstood totals counted none = grind (arith, cases_eq, there_same, total-same, all-same, stand_others, weight-self, IsTree-unstood)
 
   module _ (children : List (Option ℕ)) (ids : List (ℕ × ℕ)) (l : IsListed (tree_of nodes) children ids) where
@@ -89,7 +89,7 @@ module _ {nodes new : Slab Node} {c p : ℕ} {n : Node} (removes : Removes nodes
     key_of-without [] i j d = refl
     key_of-without (q ∷ ps) i j d = grind (arith, eqb-apart, eqb-true, key_of-without ps i j d)
 
-    all-without : (ps : List (ℕ × ℕ)) → AllByRecursion (IsEntry (tree_of nodes)) ps → AllByRecursion (IsEntry (tree_of new)) (without ps ((tree_of nodes).id c))
+    all-without : (ps : List (ℕ × ℕ)) → AllByRecursion (IsKeyOfId (tree_of nodes)) ps → AllByRecursion (IsKeyOfId (tree_of new)) (without ps ((tree_of nodes).id c))
     all-without [] all = tt
     all-without (q ∷ ps) all = grind (arith, cases_eq, eq-eqb, eqb-apart, stand_others, ids_same, all-without ps)
 
@@ -149,7 +149,7 @@ module _ {nodes new : Slab Node} {c p : ℕ} {n : Node} (removes : Removes nodes
   unfolding redirect
   home-unstood k = elim (cases_eq k c) [
     | inl e ↦ ap (home_in new) e ∙ at_c ∙ sym (ap (λ i. option_and_then (handed_on ((tree_of nodes).id c) ((tree_of nodes).id p)) (home_in nodes i)) e)
-    | inr d ↦ ap (option_and_then (seen (tree_of new) k)) (removes.updates.others k d) ∙ other k d (get nodes k) refl
+    | inr d ↦ ap (option_and_then (home_of_node (tree_of new) k)) (removes.updates.others k d) ∙ other k d (get nodes k) refl
   ]
     where
       id_k : (k : ℕ) → (tree_of new).id (standing_key (tree_of new) k) ≡ (tree_of nodes).id (redirect (standing_key (tree_of nodes) k))
@@ -164,8 +164,8 @@ module _ {nodes new : Slab Node} {c p : ℕ} {n : Node} (removes : Removes nodes
           let key = c_key in
           grind (arith, eq-eqb, kept_standing)
 
-      other : (k : ℕ) → k ≢ c → (o : Option Node) → get nodes k ≡ o → option_and_then (seen (tree_of new) k) o
-          ≡ option_and_then (handed_on ((tree_of nodes).id c) ((tree_of nodes).id p)) (option_and_then (seen (tree_of nodes) k) o)
+      other : (k : ℕ) → k ≢ c → (o : Option Node) → get nodes k ≡ o → option_and_then (home_of_node (tree_of new) k) o
+          ≡ option_and_then (handed_on ((tree_of nodes).id c) ((tree_of nodes).id p)) (option_and_then (home_of_node (tree_of nodes) k) o)
       other k d None e = refl
       other k d (Some x) e =
           let s = standing_key (tree_of nodes) k in
@@ -180,24 +180,24 @@ module _ {nodes new : Slab Node} {c p : ℕ} {n : Node} (removes : Removes nodes
 -- why a control group cannot be removed, by its node
 pub refused : (s : Inside) {v : Charges} → charges_of s.nodes s.ids ≡ v → IsListed (tree_of s.nodes) s.children s.ids → (c : ℕ) → stands v c ≡ true
     → (b d : Bool)
-    → {n : Node} → get s.nodes c ≡ Some n → is_some n.parent ≡ b → is_busy (charges_of s.nodes s.ids) c ≡ d
+    → {n : Node} → get s.nodes c ≡ Some n → is_some n.parent ≡ b → is_occupied (charges_of s.nodes s.ids) c ≡ d
     → remove_refusal v c ≡ (if b then (if d then Some ControlBusy else None) else Some RootControl)
 refused s {v} is l c on b d {n} found up busy =
     let above = parent_some s is l c on n found in
-    let same = ap (λ (x : Charges). is_busy x c) is in
+    let same = ap (λ (x : Charges). is_occupied x c) is in
     grind arith
 
-module _ (s : Inside) (w : IsTree (tree_of s.nodes)) (l : IsListed (tree_of s.nodes) s.children s.ids) (c : ℕ) (up : (tree_of s.nodes).stand c ≡ true) where
-  abbrev t : Tree
+module _ (s : Inside) (w : IsNodeTree (tree_of s.nodes)) (l : IsListed (tree_of s.nodes) s.children s.ids) (c : ℕ) (up : (tree_of s.nodes).stand c ≡ true) where
+  abbrev t : TreeOfNodes
   t = tree_of s.nodes
 
   is_in : Control → Bool
   is_in g = option_eq ◌==◌ g.parent (Some (t.id c))
 
-  pub busy-live : {n : Node} → get s.nodes c ≡ Some n → 0 < n.live → is_busy (charges_of s.nodes s.ids) c ≡ true
+  pub busy-live : {n : Node} → get s.nodes c ≡ Some n → 0 < n.live → is_occupied (charges_of s.nodes s.ids) c ≡ true
   busy-live found some = let e = live-is s.nodes s.ids c in grind (arith, lt-ltb)
 
-  pub busy-child : (k : ℕ) → child_of t k ≡ Some c → is_busy (charges_of s.nodes s.ids) c ≡ true
+  pub busy-child : (k : ℕ) → listed_parent t k ≡ Some c → is_occupied (charges_of s.nodes s.ids) c ≡ true
   unfolding is_in
   busy-child k e =
       or_right (nat_lt 0 (live_at (charges_of s.nodes s.ids) c)) _
@@ -214,7 +214,7 @@ module _ (s : Inside) (w : IsTree (tree_of s.nodes)) (l : IsListed (tree_of s.no
       any [] f = absurd (cc)
       any (q ∷ ps) f = grind (arith, eqb-true, hit, any ps)
 
-  pub busy-none : {n : Node} → get s.nodes c ≡ Some n → n.live ≡ 0 → ((k : ℕ) → child_of t k ≢ Some c) → is_busy (charges_of s.nodes s.ids) c ≡ false
+  pub busy-none : {n : Node} → get s.nodes c ≡ Some n → n.live ≡ 0 → ((k : ℕ) → listed_parent t k ≢ Some c) → is_occupied (charges_of s.nodes s.ids) c ≡ false
   unfolding is_in
   busy-none found none childless =
       let e = live-is s.nodes s.ids c ∙ ap (λ o. option_map_or (λ (x : Node). x.live) o 0) found in
@@ -225,7 +225,7 @@ module _ (s : Inside) (w : IsTree (tree_of s.nodes)) (l : IsListed (tree_of s.no
       miss : (q : ℕ × ℕ) → t.stand q.1 ≡ true → (o : Option ℕ) → t.up q.1 ≡ o → option_eq ◌==◌ (option_map t.id o) (Some (t.id c)) ≡ false
       miss q on o e = grind (arith, eqb-apart, same_key, up, childless)
 
-      nobody : (ps : List (ℕ × ℕ)) → AllByRecursion (IsEntry t) ps → list_any is_in (map (control_in t (limit_in s.nodes)) ps) ≡ false
+      nobody : (ps : List (ℕ × ℕ)) → AllByRecursion (IsKeyOfId t) ps → list_any is_in (map (control_in t (limit_in s.nodes)) ps) ≡ false
       nobody [] all = refl
       nobody (q ∷ ps) all = or_from (is_in (control_in t (limit_in s.nodes) q)) _ (miss q all.0.0 (t.up q.1) refl) (nobody ps all.1)
 
@@ -233,12 +233,12 @@ pub some_of : (o : Option ℕ) → is_some o ≡ true → (p : ℕ) × (o ≡ So
 some_of o e = grind arith
 
 -- no first member: no child
-pub childless_of : {t : Tree} {children : List (Option ℕ)} {ids : List (ℕ × ℕ)} → IsListed t children ids → (c : ℕ) (o : Option ℕ)
-    → MatchOption o ((k : ℕ) → owner_of children k ≢ Some c) (λ k. owner_of children k ≡ Some c) → is_some o ≡ false → (k : ℕ) → child_of t k ≢ Some c
+pub childless_of : {t : TreeOfNodes} {children : List (Option ℕ)} {ids : List (ℕ × ℕ)} → IsListed t children ids → (c : ℕ) (o : Option ℕ)
+    → MatchOption o ((k : ℕ) → owner_of children k ≢ Some c) (λ k. owner_of children k ≡ Some c) → is_some o ≡ false → (k : ℕ) → listed_parent t k ≢ Some c
 childless_of l c o m none k e = grind arith
 
-pub child_found : {t : Tree} {children : List (Option ℕ)} {ids : List (ℕ × ℕ)} → IsListed t children ids → (c : ℕ) (o : Option ℕ)
-    → MatchOption o ((k : ℕ) → owner_of children k ≢ Some c) (λ k. owner_of children k ≡ Some c) → is_some o ≡ true → (k : ℕ) × (child_of t k ≡ Some c)
+pub child_found : {t : TreeOfNodes} {children : List (Option ℕ)} {ids : List (ℕ × ℕ)} → IsListed t children ids → (c : ℕ) (o : Option ℕ)
+    → MatchOption o ((k : ℕ) → owner_of children k ≢ Some c) (λ k. owner_of children k ≡ Some c) → is_some o ≡ true → (k : ℕ) × (listed_parent t k ≡ Some c)
 child_found l c o m some = grind arith
 
 pub stands_is_field : (nodes : Slab Node) (c : ℕ) (n : Node) → get nodes c ≡ Some n → (tree_of nodes).stand c ≡ true → n.standing ≡ true

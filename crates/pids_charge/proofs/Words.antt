@@ -20,11 +20,11 @@ pub use Rattle.pid_types.specs.declared.plain.Control.{Control}
 pub use Rattle.pid_types.specs.declared.reply.Refusal.TheVariants.{BadLimit, ControlBusy, PidsLimit, RootControl}
 pub use Rattle.slab.proofs.SlabLemmas.{ContainsKey-within, Updates-with_value}
 pub use Rattle.slab.specs.Slab.{ContainsKey, Slab, Updates, get}
-pub use Rattle.pids_charge.specs.Charges.{ChangesHome, Charges, Home, all_tasks, charge_refusal, count, handed_on, home_at, id_at, is_busy, is_full, kept}
-pub use Rattle.pids_charge.specs.Charges.{limit_of, limit_refusal, live_at, moved, remove_refusal, stands, tasks_below, tasks_of, zombies_at}
-pub use Rattle.pids_charge.specs.Kept.{AreLinked, ChangesTasks, DropsEmpty, IsCounted, IsEntry, IsKept, IsLinked, IsListed, charges_of, child_of, control_in}
-pub use Rattle.pids_charge.specs.Kept.{counter_at, each, first_full, is_at_limit, limit_in, nearest, seen, standing_key, total_at}
-pub use Rattle.pids_charge.specs.Nodes.{HasLevels, IsTree, Tree, all_in, is_under, left, live_in, reaches, tasks_in, total_in, tree_of, weight, zombies_in}
+pub use Rattle.pids_charge.specs.Charges.{ChangesHome, Charges, Home, all_tasks, charge_refusal, charged_count, handed_on, home_at, home_id, is_occupied, is_full, kept}
+pub use Rattle.pids_charge.specs.Charges.{control_limit, limit_refusal, live_at, after_move, remove_refusal, stands, tasks_below, tasks_of, zombies_at}
+pub use Rattle.pids_charge.specs.Kept.{AreLinked, ChangesTasks, DropsEmpty, AreTotals, IsKeyOfId, IsChargeTree, IsCounterOf, IsListed, charges_of, listed_parent, control_in}
+pub use Rattle.pids_charge.specs.Kept.{counter_at, each, first_full, is_at_limit, limit_in, nearest, home_of_node, standing_key, total_at}
+pub use Rattle.pids_charge.specs.Nodes.{HasLevels, IsNodeTree, TreeOfNodes, all_in, is_under, left, live_in, reaches, tasks_in, total_in, tree_of, weight, zombies_in}
 pub use Rattle.pids_charge.specs.Sums.{sum_below}
 pub use Rattle.pids_charge.specs.declared.counter.Counter.{Counter}
 pub use Rattle.pids_charge.specs.declared.node.Node.{Node}

@@ -33,8 +33,8 @@ abbrev pub stands : Charges → ℕ → Bool
 stands v k = option_map_or (λ h. h.stands) (home_at v k) false
 
 -- the id of the control group that the tasks of a key are in
-abbrev pub id_at : Charges → ℕ → ℕ
-id_at v k = option_map_or (λ h. h.id) (home_at v k) 0
+abbrev pub home_id : Charges → ℕ → ℕ
+home_id v k = option_map_or (λ h. h.id) (home_at v k) 0
 
 abbrev pub live_at : Charges → ℕ → ℕ
 live_at v k = option_map_or (λ h. h.live) (home_at v k) 0
@@ -51,38 +51,38 @@ abbrev pub tasks_below : List Control → ℕ → Option Home → ℕ
 tasks_below controls id home = option_map_or (λ h. if is_below controls h.id id then h.live + h.zombies else 0) home 0
 
 -- the tasks in the control group and below it, zombies among them: pids.current of the kernel's cgroup-v2 document
-abbrev pub count : Charges → ℕ → ℕ
-count v id = sum_by (tasks_below v.controls id) v.homes
+abbrev pub charged_count : Charges → ℕ → ℕ
+charged_count v id = sum_by (tasks_below v.controls id) v.homes
 
 -- all tasks
 abbrev pub all_tasks : Charges → ℕ
 all_tasks v = sum_by tasks_of v.homes
 
 -- the limit of the control group with the id
-abbrev pub limit_of : Charges → ℕ → Option ℕ
-limit_of v id = option_and_then (λ g. g.limit) (control_at v.controls id)
+abbrev pub control_limit : Charges → ℕ → Option ℕ
+control_limit v id = option_and_then (λ g. g.limit) (control_at v.controls id)
 
 -- whether one task more would pass the limit of the control group with the id
 abbrev pub is_full : Charges → ℕ → Bool
-is_full v id = option_map_or (λ limit. nat_lt limit (count v id + 1)) (limit_of v id) false
+is_full v id = option_map_or (λ limit. nat_lt limit (charged_count v id + 1)) (control_limit v id) false
 
 -- why no task can be charged: the nearest control group whose limit it would pass. pids.max of the cgroup-v2 document
 abbrev pub charge_refusal : Charges → ℕ → Option Refusal
 charge_refusal v id = option_map PidsLimit (find (is_full v) (control_path v.controls id))
 
 -- whether a live task or a control group is directly in it
-abbrev pub is_busy : Charges → ℕ → Bool
-is_busy v c = nat_lt 0 (live_at v c) || list_any (λ g. option_eq ◌==◌ g.parent (Some (id_at v c))) v.controls
+abbrev pub is_occupied : Charges → ℕ → Bool
+is_occupied v c = nat_lt 0 (live_at v c) || list_any (λ g. option_eq ◌==◌ g.parent (Some (home_id v c))) v.controls
 
 -- why a control group cannot be removed
 abbrev pub remove_refusal : Charges → ℕ → Option Refusal
 remove_refusal v c =
-    if is_some (parent_control v.controls (id_at v c)) then (if is_busy v c then Some ControlBusy else None) else Some RootControl
+    if is_some (parent_control v.controls (home_id v c)) then (if is_occupied v c then Some ControlBusy else None) else Some RootControl
 
 -- why a limit cannot be set
 abbrev pub limit_refusal : Charges → ℕ → Option ℕ → Option Refusal
 limit_refusal v c limit =
-    if is_some (parent_control v.controls (id_at v c))
+    if is_some (parent_control v.controls (home_id v c))
     then (if option_map_or (nat_lt greatest_limit) limit false then Some BadLimit else None) else Some RootControl
 
 -- a key that does not stand is gone with its last task
@@ -90,8 +90,8 @@ abbrev pub kept : Home → Option Home
 kept h = if h.stands || nat_lt 0 (h.live + h.zombies) then Some h else None
 
 -- what a live task's move from one key to another leaves at a key
-abbrev pub moved : ℕ → ℕ → ℕ → Home → Home
-moved from to k h = record h { live = h.live - (if k == from then 1 else 0) + (if k == to then 1 else 0) }
+abbrev pub after_move : ℕ → ℕ → ℕ → Home → Home
+after_move from to k h = record h { live = h.live - (if k == from then 1 else 0) + (if k == to then 1 else 0) }
 
 -- what the removal of a control group leaves at a key: its zombies, and those of groups that were removed below it, go to the parent
 abbrev pub handed_on : ℕ → ℕ → Home → Option Home
@@ -99,8 +99,8 @@ handed_on from to h = if h.id == from then kept (record h { id = to; stands = fa
 
 -- the list has the keys of the control groups directly in the one with the key: each id of one comes once, and no other
 pub record AreControlsIn (v : Charges) (c : ℕ) (keys : List ℕ) : Type 0 where
-  pub once : (id : ℕ) → parent_control v.controls id ≡ Some (id_at v c) → times id (map (id_at v) keys) ≡ 1
-  pub each : AllByRecursion (λ k. (stands v k ≡ true) × (parent_control v.controls (id_at v k) ≡ Some (id_at v c))) keys
+  pub once : (id : ℕ) → parent_control v.controls id ≡ Some (home_id v c) → times id (map (home_id v) keys) ≡ 1
+  pub each : AllByRecursion (λ k. (stands v k ≡ true) × (parent_control v.controls (home_id v k) ≡ Some (home_id v c))) keys
 
 -- one key's home changed, and all else stayed
 pub record ChangesHome (old new : Charges) (key : ℕ) (home : Option Home) : Type 0 where

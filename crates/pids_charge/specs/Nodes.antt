@@ -6,14 +6,14 @@ use Rattle.pids_charge.specs.declared.node.Node.{Node}
 use Rattle.pids_charge.specs.Sums.{sum_below}
 
 -- the nodes without their tasks, by key
-pub record Tree : Type 0 where
+pub record TreeOfNodes : Type 0 where
   pub there : ℕ → Bool
   pub up : ℕ → Option ℕ
   pub level : ℕ → ℕ
   pub stand : ℕ → Bool
   pub id : ℕ → ℕ
 
-abbrev pub tree_of : Slab Node → Tree
+abbrev pub tree_of : Slab Node → TreeOfNodes
 tree_of nodes = record {
   there = λ k. is_some (get nodes k);
   up = λ k. option_and_then (λ n. n.parent) (get nodes k);
@@ -28,15 +28,15 @@ reaches up zero j k = j == k
 reaches up (suc most) j k = (j == k) || option_map_or (λ p. reaches up most p k) (up j) false
 
 -- whether the first node is the second one or below it
-abbrev pub is_under : Tree → ℕ → ℕ → Bool
+abbrev pub is_under : TreeOfNodes → ℕ → ℕ → Bool
 is_under t j k = reaches t.up (t.level j) j k
 
 -- what one task at the first node adds to the total of the second
-abbrev pub weight : Tree → ℕ → ℕ → ℕ
+abbrev pub weight : TreeOfNodes → ℕ → ℕ → ℕ
 weight t j k = if is_under t j k then 1 else 0
 
 -- what it adds to those that a walk has still to visit
-abbrev pub left : Tree → Option ℕ → ℕ → ℕ
+abbrev pub left : TreeOfNodes → Option ℕ → ℕ → ℕ
 left t at k = option_map_or (λ a. weight t a k) at 0
 
 abbrev pub live_in : Slab Node → ℕ → ℕ
@@ -58,11 +58,11 @@ abbrev pub all_in : Slab Node → ℕ
 all_in nodes = sum_below (length nodes.slots) (tasks_in nodes)
 
 -- each node is one level below the one above it
-abbrev pub HasLevels : Tree → Type 0
+abbrev pub HasLevels : TreeOfNodes → Type 0
 HasLevels t = (j p : ℕ) → t.up j ≡ Some p → (t.there p ≡ true) × (t.level j ≡ suc (t.level p))
 
 -- the nodes are a tree, in which what is above one that stands does so too
-pub record IsTree (t : Tree) : Type 0 where
+pub record IsNodeTree (t : TreeOfNodes) : Type 0 where
   pub levels : HasLevels t
   pub deep : (j : ℕ) → t.level j ≤ 64
   pub top : (j : ℕ) → t.up j ≡ None → t.level j ≡ 0

@@ -1,7 +1,6 @@
 //! The counters: what a walk to the root reads and writes at each node.
 
-ghost use Rattle.std.specs.Prelude.{◌≡◌, nat_le, false, None};
-ghost use Rattle.std.specs.Option.{option_map_or};
+ghost use Rattle.std.specs.{Prelude.{◌≡◌, nat_le, false, None}, Option.{option_map_or}};
 
 use pid_types::keys::ControlKey;
 

@@ -7,18 +7,15 @@
 
 ghost use Rattle.std.specs.Prelude.{◌≡◌, ◌≢◌, ℕ, ◌+◌, ◌-◌, ◌<◌, ◌≤◌, ◌^◌, ◌==◌, ◌↔◌, not, true, false, [], ◌∷◌, ◌++◌};
 ghost use Rattle.std.specs.Prelude.{length, map, filter, option_map, option_and_then, Some, None, IsSome, MatchOption};
-ghost use Rattle.std.specs.Prelude.{OnOk, OnErr, IfOk, IfSome, Err, nat_lt};
-ghost use Rattle.std.specs.Result.{result_err};
+ghost use Rattle.std.specs.{Prelude.{OnOk, OnErr, IfOk, IfSome, Err, nat_lt}, Result.{result_err}};
 ghost use Rattle.std.specs.List.{AllByRecursion};
-ghost use Rattle.member_lists.specs.Owners.{HasMoreRoom};
-ghost use Rattle.pid_types.specs.Bounds.{deepest_control};
-ghost use Rattle.pid_types.specs.Controls.{control_at, parent_control, control_path};
-ghost use Rattle.pid_types.specs.Changes.{limited};
-ghost use Rattle.pids_charge.specs.declared.ControlFault.{ControlFault};
-ghost use Rattle.pids_charge.specs.Charges.{Home, home_at, stands, id_at, live_at, zombies_at, tasks_of};
-ghost use Rattle.pids_charge.specs.Charges.{count as count_of, all_tasks, limit_of, charge_refusal, remove_refusal};
-ghost use Rattle.pids_charge.specs.Charges.{limit_refusal, kept, handed_on, moved, ChangesHome};
-ghost use Rattle.pids_charge.specs.Charges.{AreControlsIn};
+ghost use Rattle.{
+  member_lists.specs.Owners.{HasMoreRoom},
+  pid_types.specs.{Bounds.{deepest_control}, Controls.{control_at, parent_control, control_path}, Changes.{limited}},
+  pids_charge.specs.{declared.ControlFault.{ControlFault}, Charges.{Home, home_at, stands, home_id, live_at}},
+  pids_charge.specs.Charges.{zombies_at, tasks_of, charged_count, all_tasks, control_limit, charge_refusal},
+  pids_charge.specs.Charges.{remove_refusal, limit_refusal, kept, handed_on, after_move, ChangesHome, AreControlsIn},
+};
 
 mod counter;
 mod limits;
@@ -98,11 +95,11 @@ impl Model for Controls {
 
     ghost Value = { Charges };
 
-    ghost use Rattle.pids_charge.specs.Kept.{charges_of, IsKept};
+    ghost use Rattle.pids_charge.specs.Kept.{charges_of, IsChargeTree};
 
     ghost view = { λ a. charges_of a.nodes a.ids };
 
-    ghost invariant = { λ a. IsKept a.nodes a.counters.items a.children a.ids };
+    ghost invariant = { λ a. IsChargeTree a.nodes a.counters.items a.children a.ids };
 }
 
 impl Controls {
@@ -143,14 +140,14 @@ impl Controls {
         ensures residents { HasMoreRoom residents.old residents.new }
         ensures room { IfOk result (λ key. key < length residents.new) }
         ensures controls { OnOk result (self.new.controls
-            ≡ self.old.controls ++ record { id = stamp; parent = Some (id_at self.old parent); limit = None } ∷ []) }
+            ≡ self.old.controls ++ record { id = stamp; parent = Some (home_id self.old parent); limit = None } ∷ []) }
         ensures fresh { IfOk result (λ key. home_at self.old key ≡ None) }
         ensures here { IfOk result (λ key. home_at self.new key
             ≡ Some (record { id = stamp; stands = true; live = 0; zombies = 0 })) }
         ensures others { IfOk result (λ key. (k : ℕ) → k ≢ key → home_at self.new k ≡ home_at self.old k) }
         ensures tasks { OnOk result (all_tasks self.new ≡ all_tasks self.old) }
         ensures deep { (result ≡ Err ControlFault.ControlDepth)
-            ↔ (deepest_control < length (control_path self.old.controls (id_at self.old parent))) }
+            ↔ (deepest_control < length (control_path self.old.controls (home_id self.old parent))) }
         ensures err { OnErr result (self.new ≡ self.old) }
     {
         if self.is_deepest(parent) {
@@ -174,7 +171,7 @@ impl Controls {
     /// Whether the control group has level 64, so that none can be made below it. One read.
     pub fn is_deepest(&self, c: ControlKey) -> bool
         requires { stands self.now c ≡ true }
-        ensures { result ≡ nat_lt deepest_control (length (control_path self.now.controls (id_at self.now c))) }
+        ensures { result ≡ nat_lt deepest_control (length (control_path self.now.controls (home_id self.now c))) }
     {
         let node = node_at(&self.nodes, c);
         node.level >= DEEPEST_CONTROL
@@ -206,9 +203,9 @@ impl Controls {
         requires { stands self.old c ≡ true }
         ensures refusal { result_err result ≡ remove_refusal self.old c }
         ensures controls { OnOk result (self.new.controls
-            ≡ filter (λ g. not (g.id == id_at self.old c)) self.old.controls) }
-        ensures homes { OnOk result ((parent : ℕ) → parent_control self.old.controls (id_at self.old c) ≡ Some parent
-            → (k : ℕ) → home_at self.new k ≡ option_and_then (handed_on (id_at self.old c) parent)
+            ≡ filter (λ g. not (g.id == home_id self.old c)) self.old.controls) }
+        ensures homes { OnOk result ((parent : ℕ) → parent_control self.old.controls (home_id self.old c) ≡ Some parent
+            → (k : ℕ) → home_at self.new k ≡ option_and_then (handed_on (home_id self.old c) parent)
             (home_at self.old k)) }
         ensures tasks { all_tasks self.new ≡ all_tasks self.old }
         ensures err { OnErr result (self.new ≡ self.old) }
@@ -251,7 +248,8 @@ impl Controls {
     pub fn set_limit(&mut self, c: ControlKey, limit: Option<u32>) -> Result<(), Refusal>
         requires { stands self.old c ≡ true }
         ensures refusal { result_err result ≡ limit_refusal self.old c limit }
-        ensures controls { OnOk result (self.new.controls ≡ map (limited (id_at self.old c) limit) self.old.controls) }
+        ensures controls { OnOk result
+            (self.new.controls ≡ map (limited (home_id self.old c) limit) self.old.controls) }
         ensures homes { (k : ℕ) → home_at self.new k ≡ home_at self.old k }
         ensures tasks { all_tasks self.new ≡ all_tasks self.old }
         ensures err { OnErr result (self.new ≡ self.old) }
@@ -267,7 +265,7 @@ impl Controls {
     /// to the root, whose count would be above its limit. A walk of at most 65 steps.
     pub fn may_charge(&self, home: ControlKey) -> Result<(), Refusal>
         requires { stands self.now home ≡ true }
-        ensures { result_err result ≡ charge_refusal self.now (id_at self.now home) }
+        ensures { result_err result ≡ charge_refusal self.now (home_id self.now home) }
     {
         match full_above(&self.nodes, self.counters.as_slice(), home) {
             Some(key) => Err(Refusal::PidsLimit(node_at(&self.nodes, key).id)),
@@ -278,7 +276,7 @@ impl Controls {
     /// The control groups in the order of their ids, each id with its key.
     pub fn keys(&self) -> Iter<'_>
         ensures ids { map (λ p. p.0) result ≡ map (λ g. g.id) self.now.controls }
-        ensures keys { AllByRecursion (λ p. (stands self.now p.1 ≡ true) × (id_at self.now p.1 ≡ p.0)) result }
+        ensures keys { AllByRecursion (λ p. (stands self.now p.1 ≡ true) × (home_id self.now p.1 ≡ p.0)) result }
     {
         self.ids.iter()
     }
@@ -288,8 +286,8 @@ impl Controls {
         ensures there { MatchOption result (control_at self.now.controls id ≡ None)
             (λ c. IsSome (control_at self.now.controls id)) }
         ensures stands { IfSome result (λ c. stands self.now c ≡ true) }
-        ensures id { IfSome result (λ c. id_at self.now c ≡ id) }
-        ensures only { IfSome result (λ c. (k : ℕ) → stands self.now k ≡ true → id_at self.now k ≡ id → k ≡ c) }
+        ensures id { IfSome result (λ c. home_id self.now c ≡ id) }
+        ensures only { IfSome result (λ c. (k : ℕ) → stands self.now k ≡ true → home_id self.now k ≡ id → k ≡ c) }
     {
         self.ids.find(id)
     }
@@ -297,7 +295,7 @@ impl Controls {
     /// The id of a control group.
     pub fn id(&self, c: ControlKey) -> u64
         requires { stands self.now c ≡ true }
-        ensures { result ≡ id_at self.now c }
+        ensures { result ≡ home_id self.now c }
     {
         node_at(&self.nodes, c).id
     }
@@ -306,7 +304,7 @@ impl Controls {
     /// was not removed. It costs a step for each that was, up to there.
     pub fn home_id(&self, home: ControlKey) -> u64
         requires { IsSome (home_at self.now home) }
-        ensures { result ≡ id_at self.now home }
+        ensures { result ≡ home_id self.now home }
     {
         node_at(&self.nodes, standing_from(&self.nodes, home)).id
     }
@@ -314,7 +312,7 @@ impl Controls {
     /// The key of the control group that a control group is in; none of the root's.
     pub fn parent(&self, c: ControlKey) -> Option<ControlKey>
         requires { stands self.now c ≡ true }
-        ensures id { option_map (id_at self.now) result ≡ parent_control self.now.controls (id_at self.now c) }
+        ensures id { option_map (home_id self.now) result ≡ parent_control self.now.controls (home_id self.now c) }
         ensures stands { IfSome result (λ p. stands self.now p ≡ true) }
     {
         node_at(&self.nodes, c).parent
@@ -332,7 +330,7 @@ impl Controls {
     /// The limit of a control group: `pids.max`.
     pub fn limit(&self, c: ControlKey) -> Option<u32>
         requires { stands self.now c ≡ true }
-        ensures { result ≡ limit_of self.now (id_at self.now c) }
+        ensures { result ≡ control_limit self.now (home_id self.now c) }
     {
         node_at(&self.nodes, c).limit
     }
@@ -340,7 +338,7 @@ impl Controls {
     /// How many tasks a control group and those below it have, zombies among them: `pids.current`. One read.
     pub fn count(&self, c: ControlKey) -> u64
         requires { stands self.now c ≡ true }
-        ensures { result ≡ count_of self.now (id_at self.now c) }
+        ensures { result ≡ charged_count self.now (home_id self.now c) }
     {
         self.counters[c as usize].total
     }
@@ -357,8 +355,9 @@ impl Controls {
     pub fn laws(&self)
         ensures ended { (k : ℕ) → stands self.now k ≡ false → live_at self.now k ≡ 0 }
         ensures ids { (j k : ℕ) → stands self.now j ≡ true → stands self.now k ≡ true
-            → id_at self.now j ≡ id_at self.now k → j ≡ k }
-        ensures listed { (k : ℕ) → stands self.now k ≡ true → IsSome (control_at self.now.controls (id_at self.now k)) }
+            → home_id self.now j ≡ home_id self.now k → j ≡ k }
+        ensures listed { (k : ℕ) → stands self.now k ≡ true
+            → IsSome (control_at self.now.controls (home_id self.now k)) }
     {
         let _ = self.ids.iter();
     }
@@ -401,7 +400,7 @@ impl Controls {
         requires some { 0 < live_at self.old from }
         requires stands { stands self.old to ≡ true }
         ensures controls { self.new.controls ≡ self.old.controls }
-        ensures homes { (k : ℕ) → home_at self.new k ≡ option_map (moved from to k) (home_at self.old k) }
+        ensures homes { (k : ℕ) → home_at self.new k ≡ option_map (after_move from to k) (home_at self.old k) }
         ensures tasks { all_tasks self.new ≡ all_tasks self.old }
     {
         take_live(&mut self.nodes, &mut self.counters, from);

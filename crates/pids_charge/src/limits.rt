@@ -1,11 +1,11 @@
 //! The walk from a node to the root that asks the limits. It reads counters alone, as those of `walk` do.
 
-ghost use Rattle.std.specs.Prelude.{◌≡◌, nat_lt, false};
-ghost use Rattle.std.specs.Option.{option_map_or};
-ghost use Rattle.pid_types.specs.Bounds.{greatest_limit};
-ghost use Rattle.slab.specs.Slab.{ContainsKey};
-ghost use Rattle.pids_charge.specs.Nodes.{tree_of, IsTree};
-ghost use Rattle.pids_charge.specs.Kept.{first_full, total_at, AreLinked};
+ghost use Rattle.std.specs.{Prelude.{◌≡◌, nat_lt, false}, Option.{option_map_or}};
+ghost use Rattle.{
+  pid_types.specs.Bounds.{greatest_limit},
+  slab.specs.Slab.{ContainsKey},
+  pids_charge.specs.{Nodes.{tree_of, IsNodeTree}, Kept.{first_full, total_at, AreLinked}},
+};
 
 use crate::counter::Counter;
 use crate::node::Node;
@@ -31,7 +31,7 @@ pub(crate) fn full_above(
     counters: &[Counter],
     home: ControlKey,
 ) -> Option<ControlKey>
-    requires tree { IsTree (tree_of _nodes.now) }
+    requires tree { IsNodeTree (tree_of _nodes.now) }
     requires home { ContainsKey _nodes.now home }
     requires linked { AreLinked _nodes.now counters.now }
     ensures { result ≡ first_full _nodes.now (total_at counters.now) ((tree_of _nodes.now).level home) home }

@@ -1,9 +1,11 @@
 //! Memory for one more node.
 
 ghost use Rattle.std.specs.Prelude.{◌≡◌, ℕ, ◌<◌, ◌≤◌, ◌^◌, length, IfOk, OnOk};
-ghost use Rattle.slab.specs.Slab.{HasRoomFor};
-ghost use Rattle.member_lists.specs.Owners.{HasMoreRoom};
-ghost use Rattle.pids_charge.specs.Kept.{counter_at};
+ghost use Rattle.{
+  slab.specs.Slab.{HasRoomFor},
+  member_lists.specs.Owners.{HasMoreRoom},
+  pids_charge.specs.Kept.{counter_at},
+};
 
 use crate::counter::Counter;
 use crate::node::Node;

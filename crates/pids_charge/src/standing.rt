@@ -2,8 +2,7 @@
 
 ghost use Rattle.std.specs.Prelude.{◌≡◌, None, if◌then◌else◌};
 ghost use Rattle.slab.specs.Slab.{ContainsKey};
-ghost use Rattle.pids_charge.specs.Nodes.{tree_of, IsTree};
-ghost use Rattle.pids_charge.specs.Kept.{standing_key};
+ghost use Rattle.pids_charge.specs.{Nodes.{tree_of, IsNodeTree}, Kept.{standing_key}};
 
 use crate::node::{Node, node_at};
 use pid_types::keys::ControlKey;
@@ -20,7 +19,7 @@ fn above_removed(nodes: &Slab<Node>, key: ControlKey) -> Option<ControlKey>
 
 /// The nearest node, from one up, that stands.
 pub(crate) fn standing_from(nodes: &Slab<Node>, home: ControlKey) -> ControlKey
-    requires tree { IsTree (tree_of nodes.now) }
+    requires tree { IsNodeTree (tree_of nodes.now) }
     requires home { ContainsKey nodes.now home }
     ensures there { ContainsKey nodes.now result }
     ensures nearest { result ≡ standing_key (tree_of nodes.now) home }

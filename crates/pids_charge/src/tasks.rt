@@ -1,10 +1,11 @@
 //! Tasks that come to a node and go: its own numbers, and the totals above it.
 
 ghost use Rattle.std.specs.Prelude.{◌≡◌, ◌+◌, ◌-◌, ◌<◌, ◌^◌, Some, None, true};
-ghost use Rattle.slab.specs.Slab.{ContainsKey};
-ghost use Rattle.pids_charge.specs.declared.node.Node.{Node};
-ghost use Rattle.pids_charge.specs.Nodes.{Tree, tree_of, all_in, live_in, zombies_in, IsTree};
-ghost use Rattle.pids_charge.specs.Kept.{IsCounted, ChangesTasks, DropsEmpty, total_at, AreLinked};
+ghost use Rattle.{
+  slab.specs.Slab.{ContainsKey},
+  pids_charge.specs.{declared.node.Node.{Node}, Nodes.{TreeOfNodes, tree_of, all_in, live_in, zombies_in, IsNodeTree}},
+  pids_charge.specs.Kept.{AreTotals, ChangesTasks, DropsEmpty, total_at, AreLinked},
+};
 
 use crate::counter::Counter;
 use crate::node::{Node, node_at, set_tasks};
@@ -14,14 +15,14 @@ use slab::Slab;
 
 /// A live task comes.
 pub(crate) fn put_live(nodes: &mut Slab<Node>, counters: &mut Vec<Counter>, home: ControlKey)
-    requires tree { IsTree (tree_of nodes.old) }
-    requires counted { IsCounted nodes.old (total_at counters.old.items) None }
+    requires tree { IsNodeTree (tree_of nodes.old) }
+    requires counted { AreTotals nodes.old (total_at counters.old.items) None }
     requires linked { AreLinked nodes.old counters.old.items }
     requires stands { (tree_of nodes.old).stand home ≡ true }
     requires few { all_in nodes.old + 1 < 2 ^ 64 }
     ensures changes { ChangesTasks nodes.old nodes.new home (λ (n : Node). record n { live = n.live + 1 }) }
     ensures all { all_in nodes.new ≡ all_in nodes.old + 1 }
-    ensures counted { IsCounted nodes.new (total_at counters.new.items) None }
+    ensures counted { AreTotals nodes.new (total_at counters.new.items) None }
     ensures linked { AreLinked nodes.new counters.new.items }
 {
     let node = node_at(nodes, home);
@@ -32,12 +33,12 @@ pub(crate) fn put_live(nodes: &mut Slab<Node>, counters: &mut Vec<Counter>, home
 
 /// A live task goes.
 pub(crate) fn take_live(nodes: &mut Slab<Node>, counters: &mut Vec<Counter>, home: ControlKey)
-    requires tree { IsTree (tree_of nodes.old) }
-    requires counted { IsCounted nodes.old (total_at counters.old.items) None }
+    requires tree { IsNodeTree (tree_of nodes.old) }
+    requires counted { AreTotals nodes.old (total_at counters.old.items) None }
     requires linked { AreLinked nodes.old counters.old.items }
     requires some { 0 < live_in nodes.old home }
     ensures changes { ChangesTasks nodes.old nodes.new home (λ (n : Node). record n { live = n.live - 1 }) }
-    ensures counted { IsCounted nodes.new (total_at counters.new.items) None }
+    ensures counted { AreTotals nodes.new (total_at counters.new.items) None }
     ensures all { all_in nodes.new + 1 ≡ all_in nodes.old }
     ensures linked { AreLinked nodes.new counters.new.items }
 {
@@ -49,13 +50,13 @@ pub(crate) fn take_live(nodes: &mut Slab<Node>, counters: &mut Vec<Counter>, hom
 
 /// A zombie goes. What does not stand may then have no tasks, on the way up from there.
 pub(crate) fn take_zombie(nodes: &mut Slab<Node>, counters: &mut Vec<Counter>, home: ControlKey)
-    requires tree { IsTree (tree_of nodes.old) }
-    requires counted { IsCounted nodes.old (total_at counters.old.items) None }
+    requires tree { IsNodeTree (tree_of nodes.old) }
+    requires counted { AreTotals nodes.old (total_at counters.old.items) None }
     requires linked { AreLinked nodes.old counters.old.items }
     requires some { 0 < zombies_in nodes.old home }
     ensures changes { ChangesTasks nodes.old nodes.new home (λ (n : Node). record n { zombies = n.zombies - 1 }) }
     ensures all { all_in nodes.new + 1 ≡ all_in nodes.old }
-    ensures counted { IsCounted nodes.new (total_at counters.new.items) (Some home) }
+    ensures counted { AreTotals nodes.new (total_at counters.new.items) (Some home) }
     ensures linked { AreLinked nodes.new counters.new.items }
 {
     let node = node_at(nodes, home);
@@ -66,14 +67,14 @@ pub(crate) fn take_zombie(nodes: &mut Slab<Node>, counters: &mut Vec<Counter>, h
 
 /// A live task becomes a zombie.
 pub(crate) fn end_live(nodes: &mut Slab<Node>, counters: &Vec<Counter>, home: ControlKey)
-    requires tree { IsTree (tree_of nodes.old) }
-    requires counted { IsCounted nodes.old (total_at counters.now.items) None }
+    requires tree { IsNodeTree (tree_of nodes.old) }
+    requires counted { AreTotals nodes.old (total_at counters.now.items) None }
     requires linked { AreLinked nodes.old counters.now.items }
     requires some { 0 < live_in nodes.old home }
     ensures changes { ChangesTasks nodes.old nodes.new home (λ
         (n : Node). record n { live = n.live - 1; zombies = n.zombies + 1 }) }
     ensures all { all_in nodes.new ≡ all_in nodes.old }
-    ensures counted { IsCounted nodes.new (total_at counters.now.items) None }
+    ensures counted { AreTotals nodes.new (total_at counters.now.items) None }
     ensures linked { AreLinked nodes.new counters.now.items }
 {
     let node = node_at(nodes, home);
@@ -84,14 +85,14 @@ pub(crate) fn end_live(nodes: &mut Slab<Node>, counters: &Vec<Counter>, home: Co
 
 /// Drops what does not stand and has no tasks left, from a node up.
 pub(crate) fn drop_empty(nodes: &mut Slab<Node>, counters: &Vec<Counter>, from: ControlKey)
-    requires tree { IsTree (tree_of nodes.old) }
-    requires counted { IsCounted nodes.old (total_at counters.now.items) (Some from) }
+    requires tree { IsNodeTree (tree_of nodes.old) }
+    requires counted { AreTotals nodes.old (total_at counters.now.items) (Some from) }
     requires linked { AreLinked nodes.old counters.now.items }
     requires there { ContainsKey nodes.old from }
     ensures drops { DropsEmpty nodes.old nodes.new }
     ensures all { all_in nodes.new ≡ all_in nodes.old }
-    ensures tree { IsTree (tree_of nodes.new) }
-    ensures counted { IsCounted nodes.new (total_at counters.now.items) None }
+    ensures tree { IsNodeTree (tree_of nodes.new) }
+    ensures counted { AreTotals nodes.new (total_at counters.now.items) None }
     ensures linked { AreLinked nodes.new counters.now.items }
 {
     let mut at = Some(from);

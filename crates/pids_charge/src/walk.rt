@@ -3,8 +3,7 @@
 
 ghost use Rattle.std.specs.Prelude.{◌≡◌, ℕ, ◌+◌, ◌<◌, ◌^◌, true};
 ghost use Rattle.slab.specs.Slab.{ContainsKey};
-ghost use Rattle.pids_charge.specs.Nodes.{tree_of, is_under, weight, HasLevels};
-ghost use Rattle.pids_charge.specs.Kept.{total_at, AreLinked};
+ghost use Rattle.pids_charge.specs.{Nodes.{tree_of, is_under, weight, HasLevels}, Kept.{total_at, AreLinked}};
 
 use crate::counter::Counter;
 use crate::node::Node;

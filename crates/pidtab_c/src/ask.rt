@@ -2,10 +2,11 @@
 //!
 //! A query is a getpid, getppid, getpgid, getsid, nspid, next or count.
 ghost use Rattle.std.specs.Prelude.{[], ◌∷◌};
-ghost use Rattle.kept_table.specs.Calls.{outcome};
-ghost use Rattle.foreign_calls.specs.Asked.{query_of, Answers};
-ghost use Rattle.foreign_calls.specs.Held.{OnlyReads};
-ghost use Rattle.stamped_table.specs.Stamped.{reply_to};
+ghost use Rattle.{
+  kept_table.specs.Calls.{outcome},
+  foreign_calls.specs.{Asked.{query_of, TellsAnswer}, Held.{OnlyReads}},
+  stamped_table.specs.Stamped.{reply_to},
+};
 
 use foreign_calls::ask::{ask_record, ask_table};
 use foreign_calls::record::PidtabRecord;
@@ -26,7 +27,7 @@ pub extern "C" fn pidtab_ask(
     reply: &mut ReplyNumbers,
 ) -> u32
     ensures reads { OnlyReads table.old.handle.held table.new.handle.held result (OUT_OF_RANGE ∷ []) }
-    ensures answers { Answers table.old.handle.held reply_to (query_of call.now) reply.old reply.new result }
+    ensures answers { TellsAnswer table.old.handle.held reply_to (query_of call.now) reply.old reply.new result }
 {
     if !table.is_open {
         return CLOSED;
@@ -45,7 +46,7 @@ pub extern "C" fn pidtab_record_ask(
     reply: &mut ReplyNumbers,
 ) -> u32
     ensures reads { OnlyReads table.old.handle.held table.new.handle.held result (OUT_OF_RANGE ∷ []) }
-    ensures answers { Answers table.old.handle.held (λ c asked. (outcome c asked).reply)
+    ensures answers { TellsAnswer table.old.handle.held (λ c asked. (outcome c asked).reply)
         (query_of call.now) reply.old reply.new result }
 {
     if !table.is_open {

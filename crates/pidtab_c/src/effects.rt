@@ -1,14 +1,13 @@
 //! Calls that tell beside the reply what they did to others, for C.
 ghost use Rattle.std.specs.Prelude.{◌≡◌, ◌≢◌, ◌<◌, ◌≤◌, ◌↔◌, ◌⊎◌, [], ◌∷◌, None, Some, IsSome, length};
-ghost use Rattle.pid_types.specs.declared.call.Call.{Call};
-ghost use Rattle.kept_table.specs.Calls.{outcome};
-ghost use Rattle.kept_table.specs.Chronicle.{next_stamp};
-ghost use Rattle.stamped_table.specs.Stamped.{after_call, reply_to};
-ghost use Rattle.foreign_numbers.specs.Numbers.{call_of, numbers_of};
-ghost use Rattle.foreign_calls.specs.Effects.{MayWant, PutsEffects, WantsRoom};
-ghost use Rattle.foreign_calls.specs.Held.{ChangesIfDone, NeedsOpen};
-ghost use Rattle.foreign_calls.specs.Made.{IsSpent};
-ghost use Rattle.foreign_calls.specs.Records.{Has, without_room, IsRecorded};
+ghost use Rattle.{
+  pid_types.specs.declared.call.Call.{Call},
+  kept_table.specs.{Calls.{outcome}, Chronicle.{next_stamp}},
+  stamped_table.specs.Stamped.{after_call, reply_to},
+  foreign_numbers.specs.Numbers.{call_of, numbers_of},
+  foreign_calls.specs.{Effects.{MayWant, PutsEffects, WantsRoom}, Held.{ChangesIfDone, NeedsOpen}, Made.{IsSpent}},
+  foreign_calls.specs.Records.{Has, without_room, IsRecorded},
+};
 
 use foreign_calls::effects::{call_told_on, call_told_table};
 use foreign_calls::record::PidtabRecord;

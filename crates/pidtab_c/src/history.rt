@@ -1,13 +1,11 @@
 //! The history of a record, for C: how many calls were recorded, the kept entries, and cutting them away.
 ghost use Rattle.std.specs.Prelude.{◌≡◌, ◌≢◌, ◌+◌, ◌≤◌, ◌↔◌, ◌⊎◌, [], ◌∷◌, None, IfSome, length};
-ghost use Rattle.kept_table.specs.Calls.{to_cut, IsWithoutFirst};
-ghost use Rattle.kept_table.specs.Chronicle.{total, recorded, recorded_by_all, kept_entry};
-ghost use Rattle.kept_table.specs.Promise.{KeepsPromise};
-ghost use Rattle.foreign_calls.specs.Entries.{IsEntry};
-ghost use Rattle.table_lines.specs.Listed.{list_of_state};
-ghost use Rattle.foreign_calls.specs.Held.{OnlyReads, ChangesIfDone};
-ghost use Rattle.foreign_calls.specs.Records.{Has, Cuts};
-ghost use Rattle.foreign_calls.specs.Rooms.{PutsText};
+ghost use Rattle.{
+  kept_table.specs.{Calls.{to_cut, IsWithoutFirst}, Chronicle.{total, recorded, recorded_by_all, kept_entry}},
+  kept_table.specs.Promise.{KeepsPromise},
+  foreign_calls.specs.{Entries.{IsEntry}, Held.{OnlyReads, ChangesIfDone}, Records.{Has, Cuts}, Rooms.{PutsText}},
+  table_lines.specs.Listed.{list_of_state},
+};
 
 use foreign_calls::history::{cut_at, cut_on, opening_text, present_text, tell_entry};
 use foreign_calls::record::PidtabRecord;

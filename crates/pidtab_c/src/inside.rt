@@ -2,8 +2,7 @@
 //!
 //! A page is no call: it uses no stamp, and changes nothing.
 ghost use Rattle.std.specs.Prelude.{[], ◌∷◌};
-ghost use Rattle.foreign_calls.specs.Held.{OnlyReads};
-ghost use Rattle.foreign_calls.specs.Inside.{inside_by, AnswersInside};
+ghost use Rattle.foreign_calls.specs.{Held.{OnlyReads}, Inside.{inside_by, AnswersInside}};
 
 use foreign_calls::inside::{read_inside, tell_inside};
 use foreign_calls::record::PidtabRecord;

@@ -9,24 +9,18 @@
 //! is as it was. A function tests for its statuses in the order in which its comment names them.
 #![tactic(auto)]
 
-ghost use Rattle.std.specs.Prelude.{◌≡◌, ◌≢◌, ◌≤◌, ◌↔◌, [], ◌∷◌, IsSome, IsTrue, Some, None};
-ghost use Rattle.std.specs.Prelude.{IfSome, length, take};
-ghost use Rattle.pid_types.specs.Settings.{HasGoodPidMax};
-ghost use Rattle.pid_types.specs.State.{root_state};
-ghost use Rattle.pid_types.specs.Step.{may_grow};
-ghost use Rattle.pid_types.specs.declared.call.Call.{Call};
-ghost use Rattle.pid_types.specs.declared.reply.Reply.{Reply};
-ghost use Rattle.pid_script.specs.Answers.{reply_text};
-ghost use Rattle.pid_script.specs.Reading.{parsed};
+ghost use Rattle.std.specs.Prelude.{◌≡◌, ◌≢◌, ◌≤◌, ◌↔◌, [], ◌∷◌, IsSome, IsTrue, Some, None, IfSome, length, take};
+ghost use Rattle.{
+  pid_types.specs.{Settings.{HasGoodPidMax}, State.{root_state}, Step.{may_grow}, declared.call.Call.{Call}},
+  pid_types.specs.declared.reply.Reply.{Reply},
+  pid_script.specs.{Answers.{reply_text}, Reading.{parsed}},
+  table_lines.specs.Listed.{list_of_state},
+  foreign_numbers.specs.Numbers.{call_of, numbers_of},
+  foreign_calls.specs.{Held.{OnlyReads, ChangesIfDone, Opens}, Lines.{IsCall, RefusesLine}, Records.{Has}},
+  foreign_calls.specs.{Made.{Makes}, Rooms.{KeepsRoom, PutsText}},
+  stamped_table.specs.Stamped.{IsInOrder},
+};
 ghost use Rattle.pid_script.specs.declared.line.Line.TheVariants as says;
-ghost use Rattle.table_lines.specs.Listed.{list_of_state};
-ghost use Rattle.foreign_numbers.specs.Numbers.{call_of, numbers_of};
-ghost use Rattle.foreign_calls.specs.Held.{OnlyReads, ChangesIfDone, Opens};
-ghost use Rattle.foreign_calls.specs.Lines.{IsCall, RefusesLine};
-ghost use Rattle.foreign_calls.specs.Records.{Has};
-ghost use Rattle.foreign_calls.specs.Made.{Makes};
-ghost use Rattle.foreign_calls.specs.Rooms.{KeepsRoom, PutsText};
-ghost use Rattle.stamped_table.specs.Stamped.{IsInOrder};
 
 mod ask;
 mod effects;

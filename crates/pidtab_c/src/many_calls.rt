@@ -1,9 +1,7 @@
 //! Many calls on a record in one turn, for C.
 ghost use Rattle.std.specs.Prelude.{◌≡◌, ◌+◌, ◌<◌, ◌↔◌, ◌⊎◌, [], ◌∷◌, None, length, drop};
 ghost use Rattle.kept_table.specs.Chronicle.{total, next_stamp};
-ghost use Rattle.foreign_calls.specs.Held.{NeedsOpen};
-ghost use Rattle.foreign_calls.specs.Records.{Has};
-ghost use Rattle.foreign_calls.specs.Turns.{AreMade, CanMakeAll, MayGrowAt};
+ghost use Rattle.foreign_calls.specs.{Held.{NeedsOpen}, Records.{Has}, Turns.{AreMade, CanMakeAll, MayGrowAt}};
 
 use foreign_calls::many_calls::calls_on;
 use foreign_calls::record::PidtabRecord;

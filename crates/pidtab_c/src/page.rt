@@ -3,8 +3,7 @@
 //!
 //! A page is no call: it uses no stamp, and changes nothing.
 ghost use Rattle.std.specs.Prelude.{[], ◌∷◌};
-ghost use Rattle.foreign_calls.specs.Held.{OnlyReads};
-ghost use Rattle.foreign_calls.specs.Paged.{page_by, AnswersPage};
+ghost use Rattle.foreign_calls.specs.{Held.{OnlyReads}, Paged.{page_by, AnswersPage}};
 
 use foreign_calls::page::{read_page, tell_page};
 use foreign_calls::record::PidtabRecord;

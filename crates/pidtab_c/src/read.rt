@@ -1,9 +1,7 @@
 //! Many kept entries of a record at once, for C.
 ghost use Rattle.std.specs.Prelude.{◌≡◌, ◌≢◌, ◌+◌, ◌-◌, ◌<◌, ◌≤◌, ◌↔◌, ℕ, [], ◌∷◌, length, min, slice_get};
 ghost use Rattle.kept_table.specs.Chronicle.{total};
-ghost use Rattle.foreign_calls.specs.Entries.{TellsEntry, IsWithin};
-ghost use Rattle.foreign_calls.specs.Held.{OnlyReads};
-ghost use Rattle.foreign_calls.specs.Records.{Has};
+ghost use Rattle.foreign_calls.specs.{Entries.{TellsEntry, IsKeptOrNext}, Held.{OnlyReads}, Records.{Has}};
 
 use foreign_calls::read::{EntryNumbers, read_on};
 use foreign_calls::record::PidtabRecord;
@@ -29,7 +27,7 @@ pub extern "C" fn pidtab_record_read(
         → TellsEntry c (from + k) (slice_get entries.new k)) }
     ensures behind { result ≡ DONE → (k : ℕ) → count.new ≤ k → slice_get entries.new k ≡ slice_get entries.old k }
     ensures not_done { result ≢ DONE → (entries.new ≡ entries.old) × (count.new ≡ count.old) }
-    ensures not_kept { (result ≡ NOT_KEPT) ↔ Has table.old.handle.held (λ c. IsWithin from c → ⊥) }
+    ensures not_kept { (result ≡ NOT_KEPT) ↔ Has table.old.handle.held (λ c. IsKeptOrNext from c → ⊥) }
 {
     if !table.is_open {
         return CLOSED;

@@ -7,8 +7,7 @@
 //! The history grows by 64 bytes with each recorded call, until a checkpoint cuts it. Any status but `DONE` says that
 //! the record is as it was, but for the room that it keeps for entries, which nothing shows.
 ghost use Rattle.std.specs.Prelude.{◌≡◌, ◌↔◌, [], ◌∷◌, Some, None};
-ghost use Rattle.foreign_calls.specs.Held.{Opens};
-ghost use Rattle.foreign_calls.specs.Records.{without_room, CanOpen, opened};
+ghost use Rattle.foreign_calls.specs.{Held.{Opens}, Records.{without_room, CanOpen, opened}};
 
 use foreign_calls::record::{MOST_WORKERS, PidtabRecord, boxed_record};
 use foreign_numbers::status::{BUSY, DONE, NO_MEMORY, OUT_OF_RANGE};

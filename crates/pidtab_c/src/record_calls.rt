@@ -1,17 +1,14 @@
 //! Calls on a record, for C: as numbers and as lines.
 ghost use Rattle.std.specs.Prelude.{◌≡◌, ◌≢◌, ◌<◌, ◌≤◌, ◌↔◌, [], ◌∷◌, IsTrue, Some, length, take};
-ghost use Rattle.pid_types.specs.Step.{may_grow};
-ghost use Rattle.pid_types.specs.declared.call.Call.{Call};
-ghost use Rattle.pid_script.specs.Answers.{reply_text};
-ghost use Rattle.pid_script.specs.Reading.{parsed};
+ghost use Rattle.{
+  pid_types.specs.{Step.{may_grow}, declared.call.Call.{Call}},
+  pid_script.specs.{Answers.{reply_text}, Reading.{parsed}},
+  kept_table.specs.{Calls.{outcome}, Chronicle.{next_stamp}},
+  foreign_calls.specs.{Held.{NeedsOpen}, Lines.{IsCall, RefusesLine}},
+  foreign_calls.specs.{Records.{Has, without_room, IsRecorded, IsRecordedKeeping, IsSaidStatus}, Rooms.{KeepsRoom}},
+  foreign_numbers.specs.Numbers.{call_of, numbers_of},
+};
 ghost use Rattle.pid_script.specs.declared.line.Line.TheVariants as says;
-ghost use Rattle.kept_table.specs.Calls.{outcome};
-ghost use Rattle.kept_table.specs.Chronicle.{next_stamp};
-ghost use Rattle.foreign_calls.specs.Held.{NeedsOpen};
-ghost use Rattle.foreign_calls.specs.Lines.{IsCall, RefusesLine};
-ghost use Rattle.foreign_numbers.specs.Numbers.{call_of, numbers_of};
-ghost use Rattle.foreign_calls.specs.Records.{Has, without_room, IsRecorded, IsRecordedKeeping, IsSaidStatus};
-ghost use Rattle.foreign_calls.specs.Rooms.{KeepsRoom};
 
 use foreign_calls::record::PidtabRecord;
 use foreign_calls::record_calls::{call_keeping_on, call_on, line_on};

@@ -1,9 +1,10 @@
 //! Saved entries on a record, for C: their calls are made again, and their replies compared.
 ghost use Rattle.std.specs.Prelude.{◌≡◌, ◌≢◌, ◌↔◌, [], ◌∷◌, None, length, slice_get};
-ghost use Rattle.kept_table.specs.Chronicle.{next_stamp};
-ghost use Rattle.foreign_calls.specs.Held.{NeedsOpen};
-ghost use Rattle.foreign_calls.specs.Records.{Has, roomless};
-ghost use Rattle.foreign_calls.specs.Replays.{Replays, CannotMake, StopsBefore, StopsAt};
+ghost use Rattle.{
+  kept_table.specs.Chronicle.{next_stamp},
+  foreign_calls.specs.{Held.{NeedsOpen}, Records.{Has, roomless}},
+  foreign_calls.specs.Replays.{ReplaysSaved, CannotMake, StopsBefore, StopsAt},
+};
 
 use foreign_calls::read::EntryNumbers;
 use foreign_calls::record::PidtabRecord;
@@ -27,7 +28,7 @@ pub extern "C" fn pidtab_record_replay(
     ensures needs_open { NeedsOpen table.old.handle.held result
         (DIFFERS ∷ OUT_OF_RANGE ∷ SPENT ∷ NO_MEMORY ∷ []) }
     ensures done { result ≡ DONE → (place.new ≡ length saved.now) × Has table.old.handle.held (λ c.
-        Has table.new.handle.held (λ d. Replays (roomless c) saved.now (roomless d))) }
+        Has table.new.handle.held (λ d. ReplaysSaved (roomless c) saved.now (roomless d))) }
     ensures differs { result ≡ DIFFERS → Has table.old.handle.held (λ c.
         Has table.new.handle.held (λ d. StopsAt c saved.now place.new d)) }
     ensures not_made { result ≢ DONE → result ≢ DIFFERS → result ≢ CLOSED → Has table.old.handle.held (λ c.

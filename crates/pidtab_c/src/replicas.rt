@@ -3,13 +3,12 @@
 //! The table of a replica is a [`Pidtab`] beside it, which changes by [`pidtab_replica_apply`] alone. C keeps the lock:
 //! one function at a time works on a replica and its table.
 ghost use Rattle.std.specs.Prelude.{◌≡◌, ◌≢◌, ◌↔◌, [], ◌∷◌, None, false};
-ghost use Rattle.replica.specs.Applied.{IsNew};
-ghost use Rattle.replica.specs.Snapshots.{IsSnapshot, head_text};
-ghost use Rattle.foreign_numbers.specs.Replicas.{log_numbers};
-ghost use Rattle.foreign_calls.specs.Held.{OnlyReads, Opens};
-ghost use Rattle.foreign_calls.specs.Records.{Has};
-ghost use Rattle.foreign_calls.specs.Replicas.{AppliesHeld, ReadsHeld, TellsOf, digest_at, last_of};
-ghost use Rattle.foreign_calls.specs.Rooms.{PutsText};
+ghost use Rattle.{
+  replica.specs.{Applied.{IsNewLog}, Snapshots.{IsSnapshot, head_text}},
+  foreign_numbers.specs.Replicas.{log_numbers},
+  foreign_calls.specs.{Held.{OnlyReads, Opens}, Records.{Has}},
+  foreign_calls.specs.{Replicas.{AppliesHeld, ReadsHeld, TellsOf, digest_at, last_of}, Rooms.{PutsText}},
+};
 
 use foreign_calls::replicas::{
     PidtabReplica, apply_entry, boxed_host, head_of, read_head, tell_digest, tell_last,
@@ -34,7 +33,7 @@ pub extern "C" fn pidtab_replica_open(
     model: u64,
 ) -> u32
     ensures opens { Opens replica.old.handle.held replica.new.handle.held result (NO_MEMORY ∷ []) }
-    ensures new { result ≡ DONE → Has replica.new.handle.held (λ h. IsNew pid_max model h.log) }
+    ensures new { result ≡ DONE → Has replica.new.handle.held (λ h. IsNewLog pid_max model h.log) }
     ensures answers { result ≡ DONE → Has replica.new.handle.held (λ h. h.answers ≡ []) }
 {
     if replica.is_open {

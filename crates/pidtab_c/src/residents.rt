@@ -2,8 +2,7 @@
 //!
 //! A page is no call: it uses no stamp, and changes nothing.
 ghost use Rattle.std.specs.Prelude.{[], ◌∷◌};
-ghost use Rattle.foreign_calls.specs.Held.{OnlyReads};
-ghost use Rattle.foreign_calls.specs.Residents.{AnswersControlTasks};
+ghost use Rattle.foreign_calls.specs.{Held.{OnlyReads}, Residents.{AnswersControlTasks}};
 
 use foreign_calls::record::PidtabRecord;
 use foreign_calls::residents::{ControlPage, tell_control_tasks};

@@ -2,19 +2,15 @@
 //!
 //! `sum` is the running checksum: the head's functions begin it, and each entry's goes on with it. No function but the
 //! last changes anything unless it is `DONE`, but `size`. None of them needs a table or memory.
-ghost use Rattle.std.specs.Prelude.{◌≡◌, ◌≢◌, ◌<◌, ◌↔◌, ◌⊎◌, ◌++◌, ℕ, List, [], ◌∷◌};
-ghost use Rattle.std.specs.Prelude.{IsTrue, true, false, length, drop};
-ghost use Rattle.saved_form.specs.Crc.{crc64};
-ghost use Rattle.saved_form.specs.Form.{head_block, head_bytes, entry_blocks, entry_bytes, entry_size, sum_behind};
-ghost use Rattle.saved_form.specs.Places.{HeadFits, HasPlaces, FitsTypes};
-ghost use Rattle.saved_form.specs.Taking.{MayBegin, IsOtherVersion, BeginsHead, BeginsEntry};
-ghost use Rattle.saved_form.specs.Taking.{IsTorn, IsWrongAt, IsTaken};
-ghost use Rattle.saved_form.specs.Ends.{StaysOpen, EndsHere, IsWrongHere, IsPassed, IsTornEnd};
-ghost use Rattle.saved_form.specs.declared.numbers.Head.{Head};
-ghost use Rattle.saved_form.specs.declared.numbers.EntryNumbers.{EntryNumbers};
-ghost use Rattle.foreign_calls.specs.Held.{IsDoneOr};
-ghost use Rattle.foreign_calls.specs.Records.{CanOpen};
-ghost use Rattle.foreign_calls.specs.SavedBytes.{CanOpenBy};
+ghost use Rattle.std.specs.Prelude.{◌≡◌, ◌≢◌, ◌<◌, ◌↔◌, ◌⊎◌, ◌++◌, ℕ, List, [], ◌∷◌, IsTrue, true, false, length, drop};
+ghost use Rattle.{
+  saved_form.specs.{Crc.{crc64}, Form.{head_block, head_bytes, entry_blocks, entry_bytes, entry_size, sum_behind}},
+  saved_form.specs.Places.{HeadFits, HasPlaces, FitsTypes},
+  saved_form.specs.Taking.{MayBegin, IsOtherVersion, BeginsHead, BeginsEntry, IsTorn, IsWrongAt, IsTaken},
+  saved_form.specs.{Ends.{StaysOpen, EndsHere, IsWrongHere, IsPassed, IsTornEnd}, declared.numbers.Head.{Head}},
+  saved_form.specs.declared.numbers.EntryNumbers.{EntryNumbers},
+  foreign_calls.specs.{Held.{IsDoneOr}, Records.{CanOpen}, SavedBytes.{CanOpenBy}},
+};
 
 use foreign_calls::record::MOST_WORKERS;
 use foreign_numbers::status::{

@@ -1,11 +1,11 @@
 //! A record as a text, for C: the text of its present state is written, and a record goes on from such a text.
 ghost use Rattle.std.specs.Prelude.{◌≡◌, ◌⊎◌, [], ◌∷◌, None};
-ghost use Rattle.table_text.specs.Texts.{text_of};
-ghost use Rattle.kept_table.specs.Chronicle.{next_stamp};
-ghost use Rattle.foreign_calls.specs.Held.{OnlyReads, Opens};
-ghost use Rattle.foreign_calls.specs.Records.{Has};
-ghost use Rattle.foreign_calls.specs.Rooms.{PutsText};
-ghost use Rattle.foreign_calls.specs.Saved.{HasWorkers, HasTooManyCalls, TellsTooManyCalls, IsResumed, TellsFault};
+ghost use Rattle.{
+  table_text.specs.Texts.{text_of},
+  kept_table.specs.Chronicle.{next_stamp},
+  foreign_calls.specs.{Held.{OnlyReads, Opens}, Records.{Has}, Rooms.{PutsText}},
+  foreign_calls.specs.Saved.{HasWorkers, HasTooManyCalls, TellsTooManyCalls, IsResumed, TellsFault},
+};
 
 use foreign_calls::record::PidtabRecord;
 use foreign_calls::saved_record::present_dump;

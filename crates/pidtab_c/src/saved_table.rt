@@ -1,11 +1,10 @@
 //! A table as a text, for C: the text is written, and a table is opened as such a text says.
 ghost use Rattle.std.specs.Prelude.{◌≡◌, [], ◌∷◌};
-ghost use Rattle.table_text.specs.Texts.{text_of};
-ghost use Rattle.foreign_calls.specs.Held.{OnlyReads, Opens};
-ghost use Rattle.foreign_calls.specs.Records.{Has};
-ghost use Rattle.foreign_calls.specs.Rooms.{PutsText};
-ghost use Rattle.foreign_calls.specs.Saved.{TellsFault};
-ghost use Rattle.stamped_table.specs.Stamped.{IsInOrder};
+ghost use Rattle.{
+  table_text.specs.Texts.{text_of},
+  foreign_calls.specs.{Held.{OnlyReads, Opens}, Records.{Has}, Rooms.{PutsText}, Saved.{TellsFault}},
+  stamped_table.specs.Stamped.{IsInOrder},
+};
 
 use foreign_calls::saved_table::FaultNumbers;
 use foreign_calls::table::Pidtab;

@@ -1,7 +1,6 @@
 //! One read of a namespace for C, in one struct. It is no call: it uses no stamp, and changes nothing.
 ghost use Rattle.std.specs.Prelude.{[], ◌∷◌};
-ghost use Rattle.foreign_calls.specs.Held.{OnlyReads};
-ghost use Rattle.foreign_calls.specs.Spaces.{ReadsSpace};
+ghost use Rattle.foreign_calls.specs.{Held.{OnlyReads}, Spaces.{ReadsSpace}};
 
 use foreign_calls::record::PidtabRecord;
 use foreign_calls::table::Pidtab;

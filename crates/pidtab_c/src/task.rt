@@ -1,9 +1,10 @@
 //! One read of a task for C, in one struct. It is no call: it uses no stamp, and changes nothing.
 ghost use Rattle.std.specs.Prelude.{◌≡◌, ◌≢◌, []};
-ghost use Rattle.translate.specs.Stat.{stat_at};
-ghost use Rattle.foreign_calls.specs.Held.{OnlyReads};
-ghost use Rattle.foreign_calls.specs.Records.{Has};
-ghost use Rattle.foreign_numbers.specs.Tasks.{task_numbers};
+ghost use Rattle.{
+  translate.specs.Stat.{stat_at},
+  foreign_calls.specs.{Held.{OnlyReads}, Records.{Has}},
+  foreign_numbers.specs.Tasks.{task_numbers},
+};
 
 use foreign_calls::record::PidtabRecord;
 use foreign_calls::table::Pidtab;

@@ -1,9 +1,9 @@
 //! The line of a call and that of its answer, in the room that C gives for it.
-ghost use Rattle.pid_script.specs.Answers.{reply_text};
-ghost use Rattle.pid_script.specs.Lines.{line_of};
-ghost use Rattle.foreign_numbers.specs.Numbers.{call_of};
-ghost use Rattle.foreign_numbers.specs.Replies.{reply_in};
-ghost use Rattle.foreign_calls.specs.Rooms.{PutsLine};
+ghost use Rattle.{
+  pid_script.specs.{Answers.{reply_text}, Lines.{line_of}},
+  foreign_numbers.specs.{Numbers.{call_of}, Replies.{reply_in}},
+  foreign_calls.specs.Rooms.{PutsLine},
+};
 
 use foreign_calls::texts::{write_call_line, write_reply_line};
 use foreign_numbers::numbers::{CallNumbers, ReplyNumbers};

@@ -1,15 +1,13 @@
 //! What a call would get, and forks that are made only as they were foretold, for C.
 ghost use Rattle.std.specs.Prelude.{◌≡◌, ◌≢◌, ◌<◌, ◌≤◌, ◌↔◌, ◌⊎◌, [], ◌∷◌, IsSome, length};
-ghost use Rattle.pid_types.specs.declared.reply.Reply.TheVariants.{Forked};
-ghost use Rattle.kept_table.specs.Calls.{outcome};
-ghost use Rattle.kept_table.specs.Chronicle.{next_stamp};
-ghost use Rattle.stamped_table.specs.Stamped.{reply_to};
-ghost use Rattle.foreign_numbers.specs.Numbers.{call_of};
-ghost use Rattle.foreign_calls.specs.Asked.{Answers};
-ghost use Rattle.foreign_calls.specs.Held.{OnlyReads, ChangesIfDone, NeedsOpen};
-ghost use Rattle.foreign_calls.specs.Made.{IsSpent, Makes};
-ghost use Rattle.foreign_calls.specs.Records.{Has, without_room, IsRecorded};
-ghost use Rattle.foreign_calls.specs.Would.{fork_by, TellsFork};
+ghost use Rattle.{
+  pid_types.specs.declared.reply.Reply.TheVariants.{Forked},
+  kept_table.specs.{Calls.{outcome}, Chronicle.{next_stamp}},
+  stamped_table.specs.Stamped.{reply_to},
+  foreign_numbers.specs.Numbers.{call_of},
+  foreign_calls.specs.{Asked.{TellsAnswer}, Held.{OnlyReads, ChangesIfDone, NeedsOpen}, Made.{IsSpent, Makes}},
+  foreign_calls.specs.{Records.{Has, without_room, IsRecorded}, Would.{fork_by, TellsFork}},
+};
 
 use foreign_calls::record::PidtabRecord;
 use foreign_calls::table::Pidtab;
@@ -30,7 +28,7 @@ pub extern "C" fn pidtab_would(
     reply: &mut ReplyNumbers,
 ) -> u32
     ensures reads { OnlyReads table.old.handle.held table.new.handle.held result (OUT_OF_RANGE ∷ SPENT ∷ []) }
-    ensures answers { Answers table.old.handle.held reply_to (call_of call.now) reply.old reply.new result }
+    ensures answers { TellsAnswer table.old.handle.held reply_to (call_of call.now) reply.old reply.new result }
     ensures spent { (result ≡ SPENT)
         ↔ Has table.old.handle.held (λ s. IsSpent s.stamp) × IsSome (call_of call.now) }
 {
@@ -52,7 +50,7 @@ pub extern "C" fn pidtab_record_would(
     reply: &mut ReplyNumbers,
 ) -> u32
     ensures reads { OnlyReads table.old.handle.held table.new.handle.held result (OUT_OF_RANGE ∷ SPENT ∷ []) }
-    ensures answers { Answers table.old.handle.held (λ c asked. (outcome c asked).reply)
+    ensures answers { TellsAnswer table.old.handle.held (λ c asked. (outcome c asked).reply)
         (call_of call.now) reply.old reply.new result }
     ensures spent { (result ≡ SPENT)
         ↔ Has table.old.handle.held (λ c. IsSpent (next_stamp c)) × IsSome (call_of call.now) }

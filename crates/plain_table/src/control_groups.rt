@@ -1,12 +1,11 @@
 //! Control groups: made and removed as by `mkdir(2)` and `rmdir(2)`, limits as in `pids.max`,
 //! counts as in `pids.current`. A count looks through all tasks. Only making one takes memory.
-ghost use Rattle.std.specs.Prelude.{◌≡◌, ◌==◌, ◌&&◌, Some, OnErr, OnOk, IfOk};
-ghost use Rattle.std.specs.Option.{option_eq};
-ghost use Rattle.std.specs.List.{list_any};
-ghost use Rattle.pid_types.specs.Names.{is_live as is_live_row};
-ghost use Rattle.pid_types.specs.Changes.{without_control, with_limit, with_control, is_busy as is_busy_of};
-ghost use Rattle.pid_types.specs.Changes.{make_control as make_control_of, remove_control as remove_control_of};
-ghost use Rattle.pid_types.specs.Changes.{set_limit as set_limit_of, count_tasks};
+ghost use Rattle.std.specs.{Prelude.{◌≡◌, ◌==◌, ◌&&◌, Some, OnErr, OnOk, IfOk}, Option.{option_eq}, List.{list_any}};
+ghost use Rattle.{
+  pid_types.specs.{Names.{is_live as is_live_row}, Changes.{without_control, with_limit, with_control}},
+  pid_types.specs.Changes.{is_busy as is_busy_of, make_control as make_control_of, remove_control as remove_control_of},
+  pid_types.specs.Changes.{set_limit as set_limit_of, count_tasks},
+};
 
 use crate::edit::{AllButControl, Limits, Rehome, edit_all, keep};
 use crate::table::PlainTable;

@@ -1,11 +1,13 @@
 //! Changes of each element of a list: the one loop that all changes of rows, namespaces and limits
 //! go through. A change of one task's row has the name of its definition in the model.
 ghost use Rattle.std.specs.Prelude.{◌≡◌, ◌≤◌, ◌==◌, map, filter, Bool, not, vec_len, vec_capacity};
-ghost use Rattle.pid_types.specs.Names.{same_name, on_row};
-ghost use Rattle.pid_types.specs.Changes.{set_executed, set_home, rehome, set_children_space, set_mark, limited};
-ghost use Rattle.pid_types.specs.Groups.{set_group, start_session};
-ghost use Rattle.plain_table.specs.Moved.{moved_by};
-ghost use Rattle.pid_types.specs.Exit.{row_after_exit, row_after_fall, goes_in_fall, has_parent_within};
+ghost use Rattle.{
+  pid_types.specs.Names.{same_name, on_row},
+  pid_types.specs.Changes.{set_executed, set_home, rehome, set_children_space, set_mark, limited},
+  pid_types.specs.Groups.{set_group, start_session},
+  pid_types.specs.Exit.{row_after_exit, row_after_fall, goes_in_fall, has_parent_within},
+  plain_table.specs.Moved.{moved_by},
+};
 
 use pid_types::plain::{Control, Ended, Life, Name, Row, Space};
 use plain_view::names::{copy_name, is_live, is_parent, is_same};

@@ -1,10 +1,11 @@
 //! Exit (`_exit(2)`), new parents (`PR_SET_CHILD_SUBREAPER(2const)`), and the fall of a namespace
 //! (`pid_namespaces(7)`). They look through all tasks, and take no memory.
 ghost use Rattle.std.specs.Prelude.{◌≡◌, ◌≤◌, [], length, map, filter, not, vec_capacity};
-ghost use Rattle.pid_types.specs.Exit.{parent_number as parent_number_of, is_subreaper_in as is_subreaper_of};
-ghost use Rattle.pid_types.specs.Exit.{nearest_subreaper as nearest_subreaper_of, new_parent as new_parent_of};
-ghost use Rattle.pid_types.specs.Exit.{rows_after_exit, rows_after_fall, row_after_fall, goes_in_fall, fallen_below};
-ghost use Rattle.pid_types.specs.Exit.{fall as fall_of, exit as exit_of};
+ghost use Rattle.{
+  pid_types.specs.Exit.{parent_number as parent_number_of, is_subreaper_in as is_subreaper_of},
+  pid_types.specs.Exit.{nearest_subreaper as nearest_subreaper_of, new_parent as new_parent_of, rows_after_exit},
+  pid_types.specs.Exit.{rows_after_fall, row_after_fall, goes_in_fall, fallen_below, fall as fall_of, exit as exit_of},
+};
 
 use crate::edit::{Ends, Falls, Stays, edit_all, keep};
 use crate::table::PlainTable;

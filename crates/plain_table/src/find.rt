@@ -1,6 +1,6 @@
 //! Tasks found, as copies that outlive a change of the table.
 ghost use Rattle.std.specs.Prelude.{◌≡◌, option_copied};
-ghost use Rattle.pid_types.specs.Names.{live_row, task_at};
+ghost use Rattle.pid_types.specs.Names.{live_row, task_numbered};
 
 use crate::table::PlainTable;
 use pid_types::plain::Row;
@@ -35,7 +35,7 @@ impl PlainTable {
 
     /// The task with the number in the namespace, zombies among them.
     pub(crate) fn find_task(&self, space: u64, number: u32) -> Option<Row>
-        ensures { result ≡ task_at self.now space number }
+        ensures { result ≡ task_numbered self.now space number }
     {
         copy_found(self.view().task_at(space, number))
     }

@@ -7,13 +7,11 @@
 ghost use Rattle.std.specs.Prelude.{◌≡◌, ◌≤◌, ◌<◌, ◌+◌, ◌++◌, map, find, is_none, nat_lt, position, length, Some, None};
 ghost use Rattle.std.specs.Prelude.{MatchResult, OnOk, OnErr, IfOk, IfSome, unwrap_or, vec_len, vec_capacity};
 ghost use Rattle.std.specs.Prelude.{option_to_list};
-ghost use Rattle.pid_types.specs.State.{State};
-ghost use Rattle.pid_types.specs.Names.{root_number as root_of, path_up};
-ghost use Rattle.plain_table.specs.Planned.{with_planned, after_plan};
-ghost use Rattle.pid_types.specs.Draw.{draw};
-ghost use Rattle.pid_types.specs.Outcome.{refused, changed};
-ghost use Rattle.pid_types.specs.Fork.{drawn, insert_row, child_of as child_row, no_room, forked, with_space};
-ghost use Rattle.pid_types.specs.Fork.{fork as fork_of};
+ghost use Rattle.{
+  pid_types.specs.{State.{State}, Names.{root_number as root_of, path_up}, Draw.{draw}, Outcome.{refused, changed}},
+  pid_types.specs.Fork.{drawn, insert_row, child_of as child_row, no_room, forked, with_space, fork as fork_of},
+  plain_table.specs.Planned.{with_planned, after_plan},
+};
 
 use crate::edit::{MovesCursors, edit_all};
 use crate::find::copy_row;

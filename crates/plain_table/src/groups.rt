@@ -1,11 +1,11 @@
 //! Process groups and sessions: `setpgid(2)` and `setsid(2)`. They look through all tasks, and take
 //! no memory.
 ghost use Rattle.std.specs.Prelude.{◌≡◌, OnOk, IfErr, MatchResult};
-ghost use Rattle.pid_types.specs.Groups.{set_group, has_members as has_members_of, session_group as session_group_of};
-ghost use Rattle.pid_types.specs.Groups.{group_for as group_for_of, target_of as target_number, set_group_of};
-ghost use Rattle.pid_types.specs.Groups.{set_pgid as set_pgid_of, set_sid as set_sid_of};
-ghost use Rattle.pid_types.specs.Names.{with_row};
-ghost use Rattle.pid_types.specs.Outcome.{refused, changed};
+ghost use Rattle.{
+  pid_types.specs.Groups.{set_group, has_members as has_members_of, session_group as session_group_of},
+  pid_types.specs.Groups.{group_for as group_for_of, target_of as target_number, set_group_of, set_pgid as set_pgid_of},
+  pid_types.specs.{Groups.{set_sid as set_sid_of}, Names.{with_row}, Outcome.{refused, changed}},
+};
 
 use crate::edit::{SetGroup, StartSession};
 use crate::find::copy_row;

@@ -1,7 +1,6 @@
 //! The next number in use, found by a look at each task.
 ghost use Rattle.std.specs.Prelude.{◌≡◌, nat_le, filter};
-ghost use Rattle.pid_types.specs.Chains.{least_of};
-ghost use Rattle.pid_types.specs.Queries.{name_by as name_of, numbers_by, next as next_of};
+ghost use Rattle.pid_types.specs.{Chains.{least_of}, Queries.{name_by as name_of, numbers_by, next as next_of}};
 ghost use Rattle.plain_table.specs.Least.{lesser_number as lesser_number_of, number_from};
 
 use crate::table::PlainTable;

@@ -2,9 +2,7 @@
 ghost use Rattle.std.specs.Prelude.{◌≡◌, ◌≤◌, ◌∷◌, [], length, vec_len, vec_capacity, filter, map, not, IfOk, OnOk};
 ghost use Rattle.std.specs.Prelude.{OnErr};
 ghost use Rattle.pid_types.specs.State.{root_state, root_name as root_name_of, root_init as root_init_of};
-ghost use Rattle.pid_types.specs.Names.{with_row};
-ghost use Rattle.pid_types.specs.Outcome.{sweep, is_dead};
-ghost use Rattle.pid_types.specs.Shown.{Shows, with_count as counted};
+ghost use Rattle.pid_types.specs.{Names.{with_row}, Outcome.{sweep, is_dead}, Shown.{Shows, with_count as counted}};
 
 use crate::edit::{Edit, OnRow, edit_all};
 use arrayvec::ArrayVec;

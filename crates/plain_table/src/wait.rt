@@ -1,10 +1,11 @@
 //! Wait: `waitpid(2)` with `WNOHANG`. It looks through all tasks, and through the namespaces where
 //! it reaps one. It takes no memory and never sleeps.
 ghost use Rattle.std.specs.Prelude.{◌≡◌, ◌==◌, ◌&&◌, not, filter, length, option_copied, Some};
-ghost use Rattle.pid_types.specs.Names.{is_parent as is_parent_of};
-ghost use Rattle.plain_table.specs.Least.{lesser_of, is_ended_match};
-ghost use Rattle.pid_types.specs.Wait.{is_selected as is_selected_of, matching, ended_children, least_row};
-ghost use Rattle.pid_types.specs.Wait.{end_of as end_of_row, without_row, wait as wait_of};
+ghost use Rattle.{
+  pid_types.specs.{Names.{is_parent as is_parent_of}, Wait.{is_selected as is_selected_of, matching, ended_children}},
+  pid_types.specs.Wait.{least_row, end_of as end_of_row, without_row, wait as wait_of},
+  plain_table.specs.Least.{lesser_of, is_ended_match},
+};
 
 use crate::edit::{AllBut, keep};
 use crate::find::copy_found;

@@ -1,9 +1,11 @@
 //! Control groups, and how many tasks they hold. A count is added up anew each time, over all
 //! tasks.
 ghost use Rattle.std.specs.Prelude.{◌≡◌, ◌<◌, ◌^◌, option_copied};
-ghost use Rattle.pid_types.specs.Controls.{control_at, parent_control as parent_of, control_path as path_of};
-ghost use Rattle.pid_types.specs.Controls.{is_below as is_below_of, count as count_of};
-ghost use Rattle.pid_types.specs.Controls.{is_limited_below as is_limited_below_of, passed_limit as passed_limit_of};
+ghost use Rattle.{
+  pid_types.specs.Controls.{control_at, parent_control as parent_of, control_path as path_of, is_below as is_below_of},
+  pid_types.specs.Controls.{count as count_of, is_limited_below as is_limited_below_of},
+  pid_types.specs.Controls.{passed_limit as passed_limit_of},
+};
 
 use crate::view::View;
 use arrayvec::ArrayVec;

@@ -2,12 +2,13 @@
 //! `idr_alloc_cyclic`. Whether a number is in use is asked of each task's three names, so a draw
 //! costs the tasks times the numbers that it tries.
 ghost use Rattle.std.specs.Prelude.{◌≡◌, ◌<◌, ◌+◌, ◌^◌, ◌==◌, IfSome, nat_lt, length, Some, None, if◌then◌else◌};
-ghost use Rattle.pid_types.specs.Chains.{contains};
-ghost use Rattle.pid_types.specs.Names.{taken};
 ghost use Rattle.std.specs.List.{list_any, list_all};
-ghost use Rattle.plain_view.specs.Uses.{uses_number, uses_none};
-ghost use Rattle.pid_types.specs.Draw.{least_free, restart as restart_of, draw as draw_of, cursor_of};
-ghost use Rattle.pid_types.specs.Outcome.{is_dead as is_dead_of};
+ghost use Rattle.{
+  pid_types.specs.{Chains.{contains}, Names.{taken}},
+  pid_types.specs.Draw.{least_free, restart as restart_of, draw as draw_of, cursor_of},
+  pid_types.specs.Outcome.{is_dead as is_dead_of},
+  plain_view.specs.Uses.{uses_number, uses_none},
+};
 
 use crate::view::View;
 use pid_types::plain::{Row, Space};

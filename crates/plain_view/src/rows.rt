@@ -1,6 +1,6 @@
 //! The tasks that a number names.
 ghost use Rattle.std.specs.Prelude.{◌≡◌, option_copied};
-ghost use Rattle.pid_types.specs.Names.{row_at as row_with, live_row as live_row_with, task_at as task_with};
+ghost use Rattle.pid_types.specs.Names.{row_at as row_with, live_row as live_row_with, task_numbered};
 ghost use Rattle.pid_types.specs.Names.{is_member as is_member_of};
 
 use crate::names::{is_live, root_number};
@@ -27,9 +27,9 @@ impl View<'_> {
     }
 
     /// The task with the number in the namespace, zombies among them.
-    #[tactic(auto, unfolding(pid_types::specs::Names::task_at))]
+    #[tactic(auto, unfolding(pid_types::specs::Names::task_numbered))]
     pub fn task_at(&self, space: u64, number: u32) -> Option<&Row>
-        ensures { option_copied result ≡ task_with self.now space number }
+        ensures { option_copied result ≡ task_numbered self.now space number }
     {
         self.rows
             .iter()

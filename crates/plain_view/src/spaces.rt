@@ -1,11 +1,11 @@
 //! Namespaces, and the numbers that names have in them.
 ghost use Rattle.std.specs.Prelude.{◌≡◌, ◌≤◌, length, reverse, option_copied, option_to_list};
-ghost use Rattle.pid_types.specs.Names.{space_at, parent_space as parent_of, path_up as path_of};
-ghost use Rattle.pid_types.specs.Names.{is_within as is_within_of, level as level_of, number as number_of};
-ghost use Rattle.pid_types.specs.Names.{number_or_zero as number_or_zero_of, is_numbered as is_numbered_of};
-ghost use Rattle.pid_types.specs.Names.{numbers_from as numbers_from_of, beside as beside_of};
-ghost use Rattle.pid_types.specs.Names.{beside_from as beside_from_of};
-ghost use Rattle.pid_types.specs.Fork.{is_gone as is_gone_of};
+ghost use Rattle.{
+  pid_types.specs.Names.{space_at, parent_space as parent_of, path_up as path_of, is_within as is_within_of},
+  pid_types.specs.Names.{level as level_of, number as number_of, number_or_zero as number_or_zero_of},
+  pid_types.specs.Names.{is_numbered as is_numbered_of, numbers_from as numbers_from_of, beside as beside_of},
+  pid_types.specs.{Names.{beside_from as beside_from_of}, Fork.{is_gone as is_gone_of}},
+};
 
 use crate::view::View;
 use arrayvec::ArrayVec;

@@ -5,7 +5,7 @@ use Rattle.std.specs.Map.{lookup}
 use Rattle.hex.specs.Hex.{encode_lower}
 use Rattle.lru.specs.LruCache.{last_entry}
 use Rattle.pid_script.proofs.Cuts.{by_test}
-use Rattle.replica.specs.Entries.{Entry, Settings, Opened, Ended, Calls, Wanted, Announced, IsGood, entry_text}
+use Rattle.replica.specs.Entries.{LogEntry, Settings, Opened, Ended, Calls, Wanted, Announced, IsGood, entry_text}
 use Rattle.replica.specs.declared.outcome.ReplicaFault.{ReplicaFault}
 use Rattle.replica.specs.declared.outcome.ReplicaFault.TheVariants as fault
 use Rattle.replica.specs.Log.{Log}
@@ -34,7 +34,7 @@ judged_only (Some digest) before d e is =
     (λ same. let never = rw same at is in cc never)
     (λ other. let err = rw other at is in inr (cc err))
 
-only : (log : Log) (entry : Entry) (e : ReplicaFault) → checked log entry ≡ Err e → IsOne e
+only : (log : Log) (entry : LogEntry) (e : ReplicaFault) → checked log entry ≡ Err e → IsOne e
 only log (Settings form pid_max model) e is = cc is
 only log Opened e is = cc is
 only log (Ended session) e is = cc is
@@ -42,7 +42,7 @@ only log (Calls s n q d ls) e is = judged_only (lookup (λ p. eqb q p) log.kept)
 only log Wanted e is = cc is
 only log (Announced q d size sum key) e is = judged_only (lookup (λ p. eqb q p) log.kept) true d e is
 
-pub at_odds : (position : ℕ) (bytes : List ℕ) (old : Replica) (before : List ℕ) (entry : Entry) (e : ReplicaFault) → IsLookedAt position old → IsGood entry → bytes ≡ entry_text entry
+pub at_odds : (position : ℕ) (bytes : List ℕ) (old : Replica) (before : List ℕ) (entry : LogEntry) (e : ReplicaFault) → IsLookedAt position old → IsGood entry → bytes ≡ entry_text entry
     → may_come old.log entry ≡ true → checked old.log entry ≡ Err e → Refuses position bytes old before old before e
 at_odds position bytes old before entry e looked good text comes is =
     elim (only old.log entry e is) [

@@ -10,7 +10,7 @@ use Rattle.hex.specs.declared.error.FromHexError.{FromHexError}
 use Rattle.hex.proofs.HexLemmas.{decode_of-even, decode_of-ok, decode_sized-encode_lower, decode_sized-twice, length-encode_with}
 use Rattle.pid_script.proofs.Cuts.{by_test}
 use Rattle.pid_script.proofs.Words.{Reads}
-use Rattle.replica.specs.Entries.{Lacks, is_digit, is_hex}
+use Rattle.replica.specs.Entries.{LacksByte, is_digit, is_hex}
 use Rattle.replica.specs.HeadReading.{digest_of}
 use Rattle.replica.proofs.Told.{both_true, lacks_digits, same_number}
 
@@ -137,7 +137,7 @@ digests = record {
       (λ fails. absurd (none-some d (rw fails at is)));
 }
 
-pub lacks_digest : (d : List ℕ) → (length d ≡ 32) × IsBytes d → Lacks 32 (encode_lower d)
+pub lacks_digest : (d : List ℕ) → (length d ≡ 32) × IsBytes d → LacksByte 32 (encode_lower d)
 lacks_digest d fits = lacks_digits 32 (encode_lower d) (lit≤ tt) (lower_digits_of d fits.1)
 
 -- what decoding into 32 bytes says

@@ -2,7 +2,7 @@
 use Rattle.std.proofs.Common.{◌≡◌, ◌⊎◌, inl, inr, ℕ, zero, suc, true, false, eqb, List, [], ◌∷◌, take, Option, Some, None, refl, sym, subst, arith}
 use Rattle.std.specs.Map.{lookup}
 use Rattle.pid_script.proofs.Cuts.{by_test, same_eqb}
-use Rattle.replica.specs.Replicas.{without, used}
+use Rattle.replica.specs.Replicas.{without_key, used}
 
 abbrev pub found : ℕ → List (ℕ × ℕ) → Option ℕ
 found session sessions = lookup (λ s. eqb session s) sessions
@@ -11,12 +11,12 @@ pub same_number : (m n : ℕ) → eqb m n ≡ true → m ≡ n
 same_number m n is = grind (arith)
 
 -- of one that is taken away nothing is found, and of another what was found
-pub found_without : (session : ℕ) (es : List (ℕ × ℕ)) → found session (without session es) ≡ None
+pub found_without : (session : ℕ) (es : List (ℕ × ℕ)) → found session (without_key session es) ≡ None
 found_without session [] = refl
 found_without session (e ∷ es) =
     by_test (eqb session e.0) (λ same. rw same (found_without session es)) (λ other. rw (other, other) (found_without session es))
 
-pub found_other : (session k : ℕ) (es : List (ℕ × ℕ)) → eqb session k ≡ false → found session (without k es) ≡ found session es
+pub found_other : (session k : ℕ) (es : List (ℕ × ℕ)) → eqb session k ≡ false → found session (without_key k es) ≡ found session es
 found_other session k [] differ = refl
 found_other session k (e ∷ es) differ =
     by_test (eqb k e.0)
@@ -38,6 +38,6 @@ found_used session n es = rw (same_eqb session)
 pub found_used_other : (session k n : ℕ) (es : List (ℕ × ℕ)) → eqb session k ≡ false
     → (found session (used k n es) ≡ found session es) ⊎ (found session (used k n es) ≡ None)
 found_used_other session k n es differ =
-    let front = found_front session 4095 (without k es) in
+    let front = found_front session 4095 (without_key k es) in
     let same = found_other session k es differ in
     rw (differ, sym same) front

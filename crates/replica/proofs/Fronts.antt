@@ -6,7 +6,7 @@ use Rattle.pid_script.specs.Reading.{cut, is_word, before}
 use Rattle.pid_script.proofs.Cuts.{Lacks, cut-append, cut-Some}
 use Rattle.pid_script.proofs.Words.{Reads}
 use Rattle.replica.specs.Reading.{passed}
-use Rattle.replica.specs.HeadReading.{Front, ended, labelled, joined}
+use Rattle.replica.specs.HeadReading.{Front, ended, labelled, followed_by}
 use Rattle.replica.proofs.Told.{passes, word_short}
 
 -- what is written so is read as that, with whatever stands behind it; and nothing else is read
@@ -56,7 +56,7 @@ labelled_front {A} {front} {write} {Fits} word lacks fronts =
 
 -- one, and another behind it
 pub joined_front : {A B : Type 0} {first : Front A} {second : Front B} {write : A → List ℕ} {last : B → List ℕ} {Fits : A → Type 0} {Ends : B → Type 0}
-    → Fronts first write Fits → Fronts second last Ends → Fronts (joined first second) (λ p. write p.0 ++ last p.1) (λ p. Fits p.0 × Ends p.1)
+    → Fronts first write Fits → Fronts second last Ends → Fronts (followed_by first second) (λ p. write p.0 ++ last p.1) (λ p. Fits p.0 × Ends p.1)
 joined_front {A} {B} {first} {second} {write} {last} {Fits} {Ends} one two = record {
   told = λ p rest fits.
       rw (append_assoc (write p.0) (last p.1) rest, one.told p.0 (last p.1 ++ rest) fits.0, two.told p.1 rest fits.1) refl;

@@ -6,10 +6,10 @@ use Rattle.hex.specs.Hex.{IsBytes, encode_lower}
 use Rattle.pid_script.proofs.Cuts.{Lacks}
 use Rattle.pid_script.proofs.Words.{control, lacks_decimal}
 use Rattle.pid_script.specs.Script.{with_newline}
-use Rattle.replica.specs.Entries.{IsWord, spaced}
+use Rattle.replica.specs.Entries.{IsWord64, spaced}
 use Rattle.replica.specs.Log.{Log}
-use Rattle.replica.specs.Snapshots.{Begins, Fails, IsSnapshot, Restores, has_settings, head_text, restored, sessions_text, settings_text, state_text}
-use Rattle.replica.specs.HeadReading.{IsUnread, count_field, digest_field, field, head_in, log_of, sessions_in, settings_in, state_in}
+use Rattle.replica.specs.Snapshots.{BeginsWithHead, FailsAtHead, IsSnapshot, Restores, has_settings, head_text, restored, sessions_text, settings_text, state_text}
+use Rattle.replica.specs.HeadReading.{IsUnread, count_field, digest_field, number_field, snapshot_head_in, log_of, sessions_in, settings_in, place_in}
 use Rattle.replica.specs.declared.snapshot.HeadFault.{HeadFault}
 use Rattle.replica.specs.declared.snapshot.HeadFault.TheVariants as fault
 use Rattle.replica.proofs.Fronts.{Fronts, ended_front, joined_front, labelled_front}
@@ -17,15 +17,15 @@ use Rattle.replica.proofs.Digests.{digests, lacks_digest}
 use Rattle.replica.proofs.Opened.{AreSessions, line_number_front, sessions_say, sessions_told}
 
 -- a number behind its label
-field_front : (label : List ℕ) → Lacks 32 label → Fronts (field label) (λ n. label ++ 32 ∷ (decimal n ++ 32 ∷ [])) IsWord
-unfolding field
+field_front : (label : List ℕ) → Lacks 32 label → Fronts (number_field label) (λ n. label ++ 32 ∷ (decimal n ++ 32 ∷ [])) IsWord64
+unfolding number_field
 field_front label lacks = labelled_front label lacks (ended_front 32 control lacks_decimal)
 
 digest_front : Fronts digest_field (λ d. codes "digest" ++ 32 ∷ (encode_lower d ++ 32 ∷ [])) (λ d. (length d ≡ 32) × IsBytes d)
 unfolding digest_field
 digest_front = labelled_front (codes "digest") (refl, (refl, (refl, (refl, (refl, (refl, tt)))))) (ended_front 32 digests lacks_digest)
 
-count_front : Fronts count_field (λ n. codes "sessions" ++ 32 ∷ (decimal n ++ 10 ∷ [])) IsWord
+count_front : Fronts count_field (λ n. codes "sessions" ++ 32 ∷ (decimal n ++ 10 ∷ [])) IsWord64
 unfolding count_field
 count_front = labelled_front (codes "sessions") (refl, (refl, (refl, (refl, (refl, (refl, (refl, (refl, tt)))))))) line_number_front
 
@@ -41,7 +41,7 @@ settings_words s =
     (codes "pidtab-snapshot" ++ 32 ∷ (decimal s.0 ++ 32 ∷ []))
     ++ ((codes "pid_max" ++ 32 ∷ (decimal s.1.0 ++ 32 ∷ [])) ++ (codes "model" ++ 32 ∷ (decimal s.1.1 ++ 32 ∷ [])))
 
-settings_front : Fronts settings_in settings_words (λ s. IsWord s.0 × (IsWord s.1.0 × IsWord s.1.1))
+settings_front : Fronts settings_in settings_words (λ s. IsWord64 s.0 × (IsWord64 s.1.0 × IsWord64 s.1.1))
 unfolding settings_in
 settings_front =
     joined_front (field_front (codes "pidtab-snapshot")
@@ -55,8 +55,8 @@ state_words s =
     ++ ((codes "digest" ++ 32 ∷ (encode_lower s.1.0 ++ 32 ∷ []))
     ++ ((codes "calls" ++ 32 ∷ (decimal s.1.1.0 ++ 32 ∷ [])) ++ (codes "sessions" ++ 32 ∷ (decimal s.1.1.1 ++ 10 ∷ []))))
 
-state_front : Fronts state_in state_words (λ s. IsWord s.0 × (((length s.1.0 ≡ 32) × IsBytes s.1.0) × (IsWord s.1.1.0 × IsWord s.1.1.1)))
-unfolding state_in
+state_front : Fronts place_in state_words (λ s. IsWord64 s.0 × (((length s.1.0 ≡ 32) × IsBytes s.1.0) × (IsWord64 s.1.1.0 × IsWord64 s.1.1.1)))
+unfolding place_in
 state_front =
     joined_front (field_front (codes "position") (refl, (refl, (refl, (refl, (refl, (refl, (refl, (refl, tt)))))))))
     (joined_front digest_front (joined_front (field_front (codes "calls") (refl, (refl, (refl, (refl, (refl, tt)))))) count_front))
@@ -94,15 +94,15 @@ head_parts : (log : Log) (rest : List ℕ)
 head_parts log rest =
     append_assoc (with_newline (spaced (settings_text log ∷ state_text log ∷ []))) (sessions_text log.sessions) rest ∙ first_line log (sessions_text log.sessions ++ rest)
 
-few_word : (n : ℕ) → n ≤ 4096 → IsWord n
+few_word : (n : ℕ) → n ≤ 4096 → IsWord64 n
 few_word n few = omega arith
 
 same_log : (log : Log) → log.begun ≡ true → log_of (settings_of log) (state_of log) log.sessions ≡ restored log
 same_log log begun = rw begun refl
 
 -- what is written is read
-pub head_told : (log : Log) (rest : List ℕ) → IsSnapshot log → head_in (head_text log ++ rest) ≡ Some (restored log, rest)
-unfolding head_in
+pub head_told : (log : Log) (rest : List ℕ) → IsSnapshot log → snapshot_head_in (head_text log ++ rest) ≡ Some (restored log, rest)
+unfolding snapshot_head_in
 head_told log rest good =
     let s = settings_front.told (settings_of log) (state_words (state_of log) ++ (sessions_text log.sessions ++ rest)) (good.sized.form, (good.sized.pid_max, good.sized.model)) in
     let t = state_front.told (state_of log) (sessions_text log.sessions ++ rest)
@@ -112,12 +112,12 @@ head_told log rest good =
 
 -- what is read is written so, and is what is restored of it
 pub record Says (text : List ℕ) (p : Log × List ℕ) : Type 0 where
-  pub begins : Begins text p.0 p.1
+  pub begins : BeginsWithHead text p.0 p.1
   pub same : p.0 ≡ restored p.0
 
 says_parts : (settings : Settings) (state : State) (found : List (ℕ × ℕ) × List ℕ) (text back lines : List ℕ) → text ≡ settings_words settings ++ back
-    → IsWord settings.0 × (IsWord settings.1.0 × IsWord settings.1.1) → back ≡ state_words state ++ lines
-    → IsWord state.0 × (((length state.1.0 ≡ 32) × IsBytes state.1.0) × (IsWord state.1.1.0 × IsWord state.1.1.1))
+    → IsWord64 settings.0 × (IsWord64 settings.1.0 × IsWord64 settings.1.1) → back ≡ state_words state ++ lines
+    → IsWord64 state.0 × (((length state.1.0 ≡ 32) × IsBytes state.1.0) × (IsWord64 state.1.1.0 × IsWord64 state.1.1.1))
     → AreSessions state.1.1.1 lines found → Says text (log_of settings state found.0, found.1)
 says_parts settings state found text back lines front fits behind more told =
     let log = log_of settings state found.0 in
@@ -143,11 +143,11 @@ says_parts settings state found text back lines front fits behind more told =
       same = refl;
     }
 
-pub head_says : (text : List ℕ) (p : Log × List ℕ) → head_in text ≡ Some p → Says text p
-unfolding head_in
+pub head_says : (text : List ℕ) (p : Log × List ℕ) → snapshot_head_in text ≡ Some p → Says text p
+unfolding snapshot_head_in
 head_says text p is =
     option_and_then_some _ (settings_in text) p is (λ s here more.
-    option_and_then_some _ (state_in s.1) p more (λ t there most.
+    option_and_then_some _ (place_in s.1) p more (λ t there most.
     option_and_then_some _ (sessions_in t.0.1.1.1 t.1) p most (λ found last same.
     let a = settings_front.says text s here in
     let b = state_front.says s.1 t there in
@@ -158,25 +158,25 @@ head_says text p is =
 pub heads_tell : (a b : Log) (behind_a behind_b : List ℕ) → IsSnapshot a → IsSnapshot b → head_text a ++ behind_a ≡ head_text b ++ behind_b
     → (restored a ≡ restored b) × (behind_a ≡ behind_b)
 heads_tell a b behind_a behind_b good_a good_b is =
-    let same = same_Some (restored a, behind_a) (restored b, behind_b) (sym (head_told a behind_a good_a) ∙ ap head_in is ∙ head_told b behind_b good_b) in
+    let same = same_Some (restored a, behind_a) (restored b, behind_b) (sym (head_told a behind_a good_a) ∙ ap snapshot_head_in is ∙ head_told b behind_b good_b) in
     (ap (λ p. p.0) same, ap (λ p. p.1) same)
 
 -- nothing is read where there is no head
-pub no_head : (text : List ℕ) (pid_max model : ℕ) → head_in text ≡ None → Fails text pid_max model fault.NoSnapshot
+pub no_head : (text : List ℕ) (pid_max model : ℕ) → snapshot_head_in text ≡ None → FailsAtHead text pid_max model fault.NoSnapshot
 no_head text pid_max model none log rest good is =
-    none-some (restored log, rest) (sym none ∙ ap head_in is ∙ head_told log rest good)
+    none-some (restored log, rest) (sym none ∙ ap snapshot_head_in is ∙ head_told log rest good)
 
-pub other_head : (text : List ℕ) (pid_max model : ℕ) (log : Log) (rest : List ℕ) → head_in text ≡ Some (log, rest) → has_settings pid_max model log ≡ false
-    → Fails text pid_max model fault.OtherSettings
+pub other_head : (text : List ℕ) (pid_max model : ℕ) (log : Log) (rest : List ℕ) → snapshot_head_in text ≡ Some (log, rest) → has_settings pid_max model log ≡ false
+    → FailsAtHead text pid_max model fault.OtherSettings
 other_head text pid_max model log rest is other = (log, rest, (head_says text (log, rest) is).begins, other)
 
 -- what is behind the head is no longer than the text
-pub rest_within : (text : List ℕ) (log : Log) (rest : List ℕ) → head_in text ≡ Some (log, rest) → length rest ≤ length text
+pub rest_within : (text : List ℕ) (log : Log) (rest : List ℕ) → snapshot_head_in text ≡ Some (log, rest) → length rest ≤ length text
 rest_within text log rest is =
     let whole = (head_says text (log, rest) is).begins.head in
     omega (arith, ap length whole, length-append (head_text log) rest)
 
-pub restores : (text : List ℕ) (pid_max model : ℕ) (log : Log) (rest : List ℕ) (used : ℕ) → head_in text ≡ Some (log, rest)
+pub restores : (text : List ℕ) (pid_max model : ℕ) (log : Log) (rest : List ℕ) (used : ℕ) → snapshot_head_in text ≡ Some (log, rest)
     → used ≡ length text - length rest → has_settings pid_max model log ≡ true → Restores text pid_max model log used
 restores text pid_max model log rest used is count fits =
     let a = head_says text (log, rest) is in
@@ -191,45 +191,45 @@ restores text pid_max model log rest used is count fits =
     }
 
 -- what is restored of a text that was written, and that nothing else can come of it
-pub written_read : (text : List ℕ) (pid_max model : ℕ) (log new : Log) (rest : List ℕ) (used : ℕ) → Begins text log rest
+pub written_read : (text : List ℕ) (pid_max model : ℕ) (log new : Log) (rest : List ℕ) (used : ℕ) → BeginsWithHead text log rest
     → Restores text pid_max model new used → (new ≡ restored log) × (used ≡ length (head_text log))
 written_read text pid_max model log new rest used begins read =
     let same = heads_tell log read.log rest (drop used text) begins.good read.begins.good (sym begins.head ∙ read.begins.head) in
     let heads : head_text log ≡ head_text read.log = ap head_text same.0 in (read.is ∙ sym same.0, read.whole ∙ ap length (sym heads))
 
 -- what is read of the parts of a text
-pub no_settings : (text : List ℕ) → None ≡ settings_in text → head_in text ≡ None
-unfolding head_in
+pub no_settings : (text : List ℕ) → None ≡ settings_in text → snapshot_head_in text ≡ None
+unfolding snapshot_head_in
 no_settings text none = rw (← none) refl
 
-pub no_state : (text : List ℕ) (s : Settings × List ℕ) → Some s ≡ settings_in text → None ≡ state_in s.1 → head_in text ≡ None
-unfolding head_in
+pub no_state : (text : List ℕ) (s : Settings × List ℕ) → Some s ≡ settings_in text → None ≡ place_in s.1 → snapshot_head_in text ≡ None
+unfolding snapshot_head_in
 no_state text s settings none = rw (← settings, ← none) refl
 
-pub found_head : (text : List ℕ) (s : Settings × List ℕ) (t : State × List ℕ) (found : List (ℕ × ℕ) × List ℕ) → Some s ≡ settings_in text → Some t ≡ state_in s.1
-    → sessions_in t.0.1.1.1 t.1 ≡ Some found → head_in text ≡ Some (log_of s.0 t.0 found.0, found.1)
-unfolding head_in
+pub found_head : (text : List ℕ) (s : Settings × List ℕ) (t : State × List ℕ) (found : List (ℕ × ℕ) × List ℕ) → Some s ≡ settings_in text → Some t ≡ place_in s.1
+    → sessions_in t.0.1.1.1 t.1 ≡ Some found → snapshot_head_in text ≡ Some (log_of s.0 t.0 found.0, found.1)
+unfolding snapshot_head_in
 found_head text s t found settings state sessions = rw (← settings, ← state, sessions) refl
 
-no_sessions : (text : List ℕ) (s : Settings × List ℕ) (t : State × List ℕ) → Some s ≡ settings_in text → Some t ≡ state_in s.1
-    → sessions_in t.0.1.1.1 t.1 ≡ None → head_in text ≡ None
-unfolding head_in
+no_sessions : (text : List ℕ) (s : Settings × List ℕ) (t : State × List ℕ) → Some s ≡ settings_in text → Some t ≡ place_in s.1
+    → sessions_in t.0.1.1.1 t.1 ≡ None → snapshot_head_in text ≡ None
+unfolding snapshot_head_in
 no_sessions text s t settings state none = rw (← settings, ← state, none) refl
 
-pub unread : (text : List ℕ) (pid_max model : ℕ) (s : Settings × List ℕ) (t : State × List ℕ) (f : HeadFault) → Some s ≡ settings_in text → Some t ≡ state_in s.1
-    → IsUnread (sessions_in t.0.1.1.1 t.1) f → Fails text pid_max model f
+pub unread : (text : List ℕ) (pid_max model : ℕ) (s : Settings × List ℕ) (t : State × List ℕ) (f : HeadFault) → Some s ≡ settings_in text → Some t ≡ place_in s.1
+    → IsUnread (sessions_in t.0.1.1.1 t.1) f → FailsAtHead text pid_max model f
 unread text pid_max model s t fault.NoSnapshot settings state none = no_head text pid_max model (no_sessions text s t settings state none)
 unread text pid_max model s t fault.OtherSettings settings state never = absurd never
 unread text pid_max model s t fault.NoMemory settings state _ = tt
 
 -- what comes of a text that begins with a head
-pub read_again : (text : List ℕ) (pid_max model : ℕ) (log : Log) (rest : List ℕ) → Begins text log rest → (r : Result (Log × ℕ) HeadFault)
+pub read_again : (text : List ℕ) (pid_max model : ℕ) (log : Log) (rest : List ℕ) → BeginsWithHead text log rest → (r : Result (Log × ℕ) HeadFault)
     → IfOk r (λ p. Restores text pid_max model p.0 p.1) → IfOk r (λ p. (p.0 ≡ restored log) × (p.1 ≡ length (head_text log)))
 read_again text pid_max model log rest begins (Ok p) read = written_read text pid_max model log p.0 rest p.1 begins read
 read_again text pid_max model log rest begins (Err f) read = tt
 
-pub only_memory : (text : List ℕ) (pid_max model : ℕ) (log : Log) (rest : List ℕ) → Begins text log rest → has_settings pid_max model log ≡ true
-    → (r : Result (Log × ℕ) HeadFault) → IfErr r (Fails text pid_max model) → IfErr r (λ f. f ≡ fault.NoMemory)
+pub only_memory : (text : List ℕ) (pid_max model : ℕ) (log : Log) (rest : List ℕ) → BeginsWithHead text log rest → has_settings pid_max model log ≡ true
+    → (r : Result (Log × ℕ) HeadFault) → IfErr r (FailsAtHead text pid_max model) → IfErr r (λ f. f ≡ fault.NoMemory)
 only_memory text pid_max model log rest begins fits (Ok p) _ = tt
 only_memory text pid_max model log rest begins fits (Err fault.NoSnapshot) never = absurd (never log rest begins.good begins.head)
 only_memory text pid_max model log rest begins fits (Err fault.OtherSettings) other =

@@ -2,11 +2,11 @@
 use Rattle.std.proofs.Common.{◌≡◌, ◌⊎◌, inl, inr, ℕ, ◌+◌, ◌≤◌, true, false, eqb, leb, List, [], ◌∷◌, Option, Some, None, refl, sym, ap, ◌∙◌, subst, arith}
 use Rattle.std.proofs.lemmas.Option.{none-some, same_Some}
 use Rattle.pid_script.proofs.Cuts.{by_test, same_eqb}
-use Rattle.replica.specs.Entries.{Entry, Settings, Opened, Ended, Calls, Wanted, Announced}
+use Rattle.replica.specs.Entries.{LogEntry, Settings, Opened, Ended, Calls, Wanted, Announced}
 use Rattle.replica.specs.declared.outcome.Outcome.{Outcome}
 use Rattle.replica.specs.declared.outcome.Outcome.TheVariants as outcome
-use Rattle.replica.specs.Replicas.{Replica, applied, called, begins, outcome_at, outcome_of, used, without}
-use Rattle.replica.specs.Laws.{made_by, made_in, Rises, Follow, EachIsMadeOnce}
+use Rattle.replica.specs.Replicas.{Replica, applied, called, begins, outcome_at, outcome_of, used, without_key}
+use Rattle.replica.specs.Laws.{made_in_session, made_in, HasRisingPositions, Follow, EachIsMadeOnce}
 use Rattle.replica.proofs.Found.{found, same_number, found_without, found_other, found_used, found_used_other}
 
 -- one entry at a position: nothing of the session is made, and the session stays, is gone, or opens there; or its next number is made
@@ -19,10 +19,10 @@ option_cases : {A P : Type 0} (o : Option A) → (o ≡ None → P) → ((x : A)
 option_cases None none some = none refl
 option_cases (Some x) none some = some x refl
 
-abbrev MovesBy : ℕ → Replica → ℕ → Entry → Type 0
-MovesBy session r position e = Moves position session (found session r.log.sessions) (made_by session e (outcome_at r e)) (found session (applied r position e).log.sessions)
+abbrev MovesBy : ℕ → Replica → ℕ → LogEntry → Type 0
+MovesBy session r position e = Moves position session (found session r.log.sessions) (made_in_session session e (outcome_at r e)) (found session (applied r position e).log.sessions)
 
-begins_same : (r : Replica) (e : Entry) (form : ℕ) → (begins r.log e form).sessions ≡ r.log.sessions
+begins_same : (r : Replica) (e : LogEntry) (form : ℕ) → (begins r.log e form).sessions ≡ r.log.sessions
 begins_same r e form = by_test r.log.begun (λ begun. rw begun refl) (λ not_begun. rw not_begun refl)
 
 opens : (session position : ℕ) (r : Replica) → MovesBy session r position Opened
@@ -34,13 +34,13 @@ opens session position r =
 ends : (session position k : ℕ) (r : Replica) → MovesBy session r position (Ended k)
 ends session position k r =
     by_test (eqb session k)
-    (λ same. inl (refl, inr (inl (subst (λ k. found session (without k r.log.sessions) ≡ None) (same_number session k same) (found_without session r.log.sessions)))))
+    (λ same. inl (refl, inr (inl (subst (λ k. found session (without_key k r.log.sessions) ≡ None) (same_number session k same) (found_without session r.log.sessions)))))
     (λ differ. inl (refl, inl (found_other session k r.log.sessions differ)))
 
 module _ (session position : ℕ) (r : Replica) (n q : ℕ) (d : List ℕ) (ls : List (List ℕ)) where
   -- calls of another session
   others : (k : ℕ) → eqb session k ≡ false → (what : Outcome)
-      → Moves position session (found session r.log.sessions) (made_by session (Calls k n q d ls) what) (found session (called r k n ls what).log.sessions)
+      → Moves position session (found session r.log.sessions) (made_in_session session (Calls k n q d ls) what) (found session (called r k n ls what).log.sessions)
   others k differ outcome.Made =
       elim (found_used_other session k n r.log.sessions differ) [
         | inl stays ↦ inl (rw differ refl, inl stays)
@@ -52,7 +52,7 @@ module _ (session position : ℕ) (r : Replica) (n q : ℕ) (d : List ℕ) (ls :
   others k differ outcome.Noted = inl (refl, inl refl)
 
   abbrev OwnBy : Outcome → Type 0
-  OwnBy what = Moves position session (found session r.log.sessions) (made_by session (Calls session n q d ls) what) (found session (called r session n ls what).log.sessions)
+  OwnBy what = Moves position session (found session r.log.sessions) (made_in_session session (Calls session n q d ls) what) (found session (called r session n ls what).log.sessions)
 
   next : (last : ℕ) → found session r.log.sessions ≡ Some last → n ≡ last + 1 → OwnBy outcome.Made
   next last here is =
@@ -88,7 +88,7 @@ calls session position k n q d ls r =
     (λ same. subst (λ k. MovesBy session r position (Calls k n q d ls)) (same_number session k same) (own session position r n q d ls))
     (λ differ. others session position r n q d ls k differ (outcome_of (found k r.log.sessions) n))
 
-moves : (session position : ℕ) (r : Replica) (e : Entry) → MovesBy session r position e
+moves : (session position : ℕ) (r : Replica) (e : LogEntry) → MovesBy session r position e
 moves session position r (Settings form pid_max model) = inl (refl, inl (ap (found session) (begins_same r (Settings form pid_max model) form)))
 moves session position r Opened = opens session position r
 moves session position r (Ended k) = ends session position k r
@@ -100,7 +100,7 @@ none_some : {P : Type 0} (o : Option ℕ) (x : ℕ) → o ≡ None → o ≡ Som
 none_some o x none some = absurd (none-some x (sym none ∙ some))
 
 -- a session that is not open, and cannot open any more
-gone : (session : ℕ) (log : List (ℕ × Entry)) (r : Replica) → found session r.log.sessions ≡ None → session ≤ r.log.position → Rises r.log.position log → made_in session r log ≡ []
+gone : (session : ℕ) (log : List (ℕ × LogEntry)) (r : Replica) → found session r.log.sessions ≡ None → session ≤ r.log.position → HasRisingPositions r.log.position log → made_in session r log ≡ []
 gone session [] r none before rises = refl
 gone session (one ∷ log) r none before rises =
     let later = gone session log (applied r one.0 one.1) in
@@ -116,7 +116,7 @@ gone session (one ∷ log) r none before rises =
     ]
 
 -- one that is open
-going : (session last : ℕ) (log : List (ℕ × Entry)) (r : Replica) → found session r.log.sessions ≡ Some last → session ≤ r.log.position → Rises r.log.position log
+going : (session last : ℕ) (log : List (ℕ × LogEntry)) (r : Replica) → found session r.log.sessions ≡ Some last → session ≤ r.log.position → HasRisingPositions r.log.position log
     → Follow last (made_in session r log)
 going session last [] r here before rises = tt
 going session last (one ∷ log) r here before rises =
@@ -135,7 +135,7 @@ going session last (one ∷ log) r here before rises =
     ]
 
 -- one that is not open
-fresh : (session : ℕ) (log : List (ℕ × Entry)) (r : Replica) → found session r.log.sessions ≡ None → Rises r.log.position log → Follow 0 (made_in session r log)
+fresh : (session : ℕ) (log : List (ℕ × LogEntry)) (r : Replica) → found session r.log.sessions ≡ None → HasRisingPositions r.log.position log → Follow 0 (made_in session r log)
 fresh session [] r none rises = tt
 fresh session (one ∷ log) r none rises =
     let after = applied r one.0 one.1 in

@@ -10,9 +10,9 @@ use Rattle.std.proofs.lemmas.Option.{none-some, same_Some, option_and_then_some}
 use Rattle.pid_script.specs.Script.{with_newline}
 use Rattle.pid_script.proofs.Cuts.{by_test}
 use Rattle.pid_script.proofs.Words.{control, lacks_decimal}
-use Rattle.replica.specs.Replicas.{used, without}
+use Rattle.replica.specs.Replicas.{used, without_key}
 use Rattle.replica.specs.Snapshots.{IsSession, MayBeOpen, session_text, sessions_text}
-use Rattle.replica.specs.HeadReading.{line_number, opened, opened_more, session_in, sessions_in}
+use Rattle.replica.specs.HeadReading.{line_number, with_session, opened_more, session_in, sessions_in}
 use Rattle.replica.proofs.Told.{lacks_number}
 use Rattle.replica.proofs.Fronts.{Fronts, ended_front, joined_front, rewritten}
 
@@ -46,7 +46,7 @@ absent k [] none = tt
 absent k (s ∷ ss) none = by_test (eqb k s.0) (λ here. cc (rw here at none)) (λ other. (other, absent k ss (rw other at none)))
 
 -- one that is not there is put before the others
-without_none : (k : ℕ) (ss : List (ℕ × ℕ)) → AllByRecursion (λ j. eqb k j ≡ false) (keys_of ss) → without k ss ≡ ss
+without_none : (k : ℕ) (ss : List (ℕ × ℕ)) → AllByRecursion (λ j. eqb k j ≡ false) (keys_of ss) → without_key k ss ≡ ss
 without_none k [] others = refl
 without_none k (s ∷ ss) others = rw others.0 (ap (λ l. s ∷ l) (without_none k ss others.1))
 
@@ -56,8 +56,8 @@ used_new k n ss none room =
 
 -- one more session
 opened_told : (s : ℕ × ℕ) (ss : List (ℕ × ℕ)) (rest : List ℕ) → IsSession s → AllByRecursion (λ j. eqb s.0 j ≡ false) (keys_of ss)
-    → opened ss (line_of s ++ rest) ≡ Some (s ∷ ss, rest)
-unfolding opened
+    → with_session ss (line_of s ++ rest) ≡ Some (s ∷ ss, rest)
+unfolding with_session
 opened_told s ss rest fits others = rw (session_front.told s rest fits, fresh s.0 ss others) refl
 
 record IsOpened (ss : List (ℕ × ℕ)) (text : List ℕ) (p : List (ℕ × ℕ) × List ℕ) : Type 0 where
@@ -67,8 +67,8 @@ record IsOpened (ss : List (ℕ × ℕ)) (text : List ℕ) (p : List (ℕ × ℕ
   fits : IsSession session
   others : AllByRecursion (λ j. eqb session.0 j ≡ false) (keys_of ss)
 
-opened_says : (ss : List (ℕ × ℕ)) (text : List ℕ) (p : List (ℕ × ℕ) × List ℕ) → opened ss text ≡ Some p → IsOpened ss text p
-unfolding opened
+opened_says : (ss : List (ℕ × ℕ)) (text : List ℕ) (p : List (ℕ × ℕ) × List ℕ) → with_session ss text ≡ Some p → IsOpened ss text p
+unfolding with_session
 opened_says ss text p is =
     option_and_then_some _ (session_in text) p is (λ q here more.
     by_test (is_some (lookup (λ s. eqb q.0.0 s) ss))
@@ -102,7 +102,7 @@ unfolding IsDistinct
 more_says zero ss text p fits distinct is =
     subst (AreOpen zero ss text) (same_Some (ss, text) p is) (record { count = omega arith; lines = refl; fits = fits; distinct = distinct })
 more_says (suc n) ss text p fits distinct is =
-    option_and_then_some _ (opened ss text) p is (λ q here more.
+    option_and_then_some _ (with_session ss text) p is (λ q here more.
     let a = opened_says ss text q here in
     let next = subst (λ l. opened_more n l q.1 ≡ Some p) a.after more in
     let b = more_says n (a.session ∷ ss) q.1 p (a.fits, fits) (a.others, distinct) next in record {
@@ -147,17 +147,17 @@ sessions_say count lines p is =
     le_of n is = grind (arith, nat_tests)
 
 -- as the sessions are opened, one after the other
-pub more_step : (m n : ℕ) (ss : List (ℕ × ℕ)) (text : List ℕ) (p : List (ℕ × ℕ) × List ℕ) → m ≡ suc n → opened ss text ≡ Some p
+pub more_step : (m n : ℕ) (ss : List (ℕ × ℕ)) (text : List ℕ) (p : List (ℕ × ℕ) × List ℕ) → m ≡ suc n → with_session ss text ≡ Some p
     → opened_more n p.0 p.1 ≡ opened_more m ss text
 more_step m n ss text p count is = sym (rw (count, is) refl)
 
-pub one_more : (ss : List (ℕ × ℕ)) (text : List ℕ) (p : List (ℕ × ℕ) × List ℕ) → opened ss text ≡ Some p → length p.0 ≡ length ss + 1
+pub one_more : (ss : List (ℕ × ℕ)) (text : List ℕ) (p : List (ℕ × ℕ) × List ℕ) → with_session ss text ≡ Some p → length p.0 ≡ length ss + 1
 one_more ss text p is = let a = opened_says ss text p is in omega (arith, ap length a.after)
 
 -- one more session is opened
 pub opened_is : (session last : ℕ) (ss new : List (ℕ × ℕ)) (lines rest : List ℕ) (found : Option ℕ) → Some ((session, last), rest) ≡ session_in lines
-    → found ≡ lookup (λ s. eqb session s) ss → is_some found ≡ false → length ss < 4096 → new ≡ used session last ss → opened ss lines ≡ Some (new, rest)
-unfolding opened
+    → found ≡ lookup (λ s. eqb session s) ss → is_some found ≡ false → length ss < 4096 → new ≡ used session last ss → with_session ss lines ≡ Some (new, rest)
+unfolding with_session
 opened_is session last ss new lines rest found is here none room put =
     let other : is_some (lookup (λ s. eqb session s) ss) ≡ false = ap is_some (sym here) ∙ none in
     rw (← is, other) (ap (λ l. Some (l, rest)) (sym (put ∙ used_new session last ss other room)))

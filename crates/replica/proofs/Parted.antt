@@ -4,8 +4,8 @@ use Rattle.std.specs.List.{AllByRecursion, join_with_byte, onto_first}
 use Rattle.std.proofs.lemmas.Option.{none-some, same_Some}
 use Rattle.pid_script.specs.Reading.{cut}
 use Rattle.pid_script.proofs.Cuts.{by_test, option_map_some, cut-Some}
-use Rattle.replica.specs.Entries.{Lacks, IsLine}
-use Rattle.replica.specs.Reading.{lines_in, is_full, are_full}
+use Rattle.replica.specs.Entries.{LacksByte, IsLine}
+use Rattle.replica.specs.Reading.{lines_in, has_bytes, are_full}
 
 -- there is a line
 onto_some : (b : ℕ) (ls : List (List ℕ)) → 0 < length (onto_first b ls)
@@ -18,11 +18,11 @@ lines_some (b ∷ bs) =
     by_test (eqb b 10) (λ holds. rw holds (omega arith)) (λ fails. rw fails (onto_some b (lines_in bs)))
 
 -- a line with a newline behind it, and one alone
-line_then : (l rest : List ℕ) → Lacks 10 l → lines_in (l ++ 10 ∷ rest) ≡ l ∷ lines_in rest
+line_then : (l rest : List ℕ) → LacksByte 10 l → lines_in (l ++ 10 ∷ rest) ≡ l ∷ lines_in rest
 line_then [] rest lacks = refl
 line_then (b ∷ l) rest lacks = rw (lacks.0, line_then l rest lacks.1)
 
-line_alone : (l : List ℕ) → Lacks 10 l → lines_in l ≡ l ∷ []
+line_alone : (l : List ℕ) → LacksByte 10 l → lines_in l ≡ l ∷ []
 line_alone [] lacks = refl
 line_alone (b ∷ l) lacks = rw (lacks.0, line_alone l lacks.1)
 
@@ -54,23 +54,23 @@ join-lines_in (b ∷ bs) =
     nat_eq_true : (m n : ℕ) → eqb m n ≡ true → m ≡ n
     nat_eq_true m n is = grind (arith)
 
-onto_lacks : (b : ℕ) (ls : List (List ℕ)) → eqb b 10 ≡ false → AllByRecursion (Lacks 10) ls → AllByRecursion (Lacks 10) (onto_first b ls)
+onto_lacks : (b : ℕ) (ls : List (List ℕ)) → eqb b 10 ≡ false → AllByRecursion (LacksByte 10) ls → AllByRecursion (LacksByte 10) (onto_first b ls)
 onto_lacks b [] fails lacks = ((fails, tt), tt)
 onto_lacks b (l ∷ ls) fails lacks = ((fails, lacks.0), lacks.1)
 
-lines_lack : (bs : List ℕ) → AllByRecursion (Lacks 10) (lines_in bs)
+lines_lack : (bs : List ℕ) → AllByRecursion (LacksByte 10) (lines_in bs)
 lines_lack [] = (tt, tt)
 lines_lack (b ∷ bs) = by_test (eqb b 10) (λ holds. rw holds (tt, lines_lack bs)) (λ fails. rw fails (onto_lacks b (lines_in bs) fails (lines_lack bs)))
 
-full : (l : List ℕ) → is_full l ≡ true → 0 < length l
+full : (l : List ℕ) → has_bytes l ≡ true → 0 < length l
 full [] is = cc is
 full (b ∷ l) is = omega arith
 
-pub full_line : (l : List ℕ) → 0 < length l → is_full l ≡ true
+pub full_line : (l : List ℕ) → 0 < length l → has_bytes l ≡ true
 full_line [] some = absurd (omega (arith, some))
 full_line (b ∷ l) some = refl
 
-pub empty_line : (l : List ℕ) → length l ≡ 0 → is_full l ≡ false
+pub empty_line : (l : List ℕ) → length l ≡ 0 → has_bytes l ≡ false
 empty_line [] none = refl
 empty_line (b ∷ l) none = absurd (omega (arith, none))
 
@@ -78,10 +78,10 @@ both_true : (a b : Bool) → (a && b) ≡ true → (a ≡ true) × (b ≡ true)
 both_true true b is = (refl, is)
 both_true false b is = cc is
 
-good : (ls : List (List ℕ)) → are_full ls ≡ true → AllByRecursion (Lacks 10) ls → AllByRecursion IsLine ls
+good : (ls : List (List ℕ)) → are_full ls ≡ true → AllByRecursion (LacksByte 10) ls → AllByRecursion IsLine ls
 good [] is lacks = tt
 good (l ∷ ls) is lacks =
-    let parts = both_true (is_full l) (are_full ls) is in ((full l parts.0, lacks.0), good ls parts.1 lacks.1)
+    let parts = both_true (has_bytes l) (are_full ls) is in ((full l parts.0, lacks.0), good ls parts.1 lacks.1)
 
 -- lines that have a byte each are good, and good ones have
 pub are_good : (bs : List ℕ) → are_full (lines_in bs) ≡ true → AllByRecursion IsLine (lines_in bs)
@@ -104,7 +104,7 @@ cut_lines (b ∷ bs) line after is =
 pub lines_more : (bs line after : List ℕ) → Some (line, after) ≡ cut 10 bs → length (lines_in bs) ≡ length (lines_in after) + 1
 lines_more bs line after is = rw (cut_lines bs line after is) (omega arith)
 
-pub full_more : (bs line after : List ℕ) → Some (line, after) ≡ cut 10 bs → are_full (lines_in bs) ≡ (is_full line && are_full (lines_in after))
+pub full_more : (bs line after : List ℕ) → Some (line, after) ≡ cut 10 bs → are_full (lines_in bs) ≡ (has_bytes line && are_full (lines_in after))
 full_more bs line after is = ap are_full (cut_lines bs line after is)
 
 -- one line alone

@@ -7,15 +7,15 @@ use Rattle.std.proofs.lemmas.List.{take_all}
 use Rattle.std.proofs.lemmas.Option.{none-some, same_Some}
 use Rattle.lru.specs.LruCache.{LruCache, IsValid, put_entries}
 use Rattle.pid_script.proofs.Cuts.{by_test}
-use Rattle.replica.specs.Replicas.{without, used}
+use Rattle.replica.specs.Replicas.{without_key, used}
 use Rattle.replica.proofs.Found.{same_number}
 
 -- a session that is not there is not taken away
-absent : {V : Type 0} (s : ℕ) (es : List (ℕ × V)) → AllByRecursion (λ k. eqb s k ≡ false) (keys_of es) → without s es ≡ es
+absent : {V : Type 0} (s : ℕ) (es : List (ℕ × V)) → AllByRecursion (λ k. eqb s k ≡ false) (keys_of es) → without_key s es ≡ es
 absent s [] all = refl
 absent s (e ∷ es) all = rw all.0 (ap (λ l. e ∷ l) (absent s es all.1))
 
-not_found : {V : Type 0} (s : ℕ) (es : List (ℕ × V)) → lookup_entry (nat_eq s) es ≡ None → without s es ≡ es
+not_found : {V : Type 0} (s : ℕ) (es : List (ℕ × V)) → lookup_entry (nat_eq s) es ≡ None → without_key s es ≡ es
 not_found s [] none = refl
 not_found s (e ∷ es) none =
     by_test (eqb s e.0)
@@ -23,7 +23,7 @@ not_found s (e ∷ es) none =
     (λ differ. rw differ (ap (λ l. e ∷ l) (not_found s es (rw differ at none))))
 
 -- one that is there is there once
-pub remove_without : {V : Type 0} (s : ℕ) (es : List (ℕ × V)) → IsDistinct nat_eq (keys_of es) → remove_entry (nat_eq s) es ≡ without s es
+pub remove_without : {V : Type 0} (s : ℕ) (es : List (ℕ × V)) → IsDistinct nat_eq (keys_of es) → remove_entry (nat_eq s) es ≡ without_key s es
 unfolding IsDistinct
 remove_without s [] distinct = refl
 remove_without s (e ∷ es) distinct =
@@ -51,9 +51,9 @@ module _ {V : Type 0} (c : LruCache ℕ V) (s : ℕ) (n : V) (valid : IsValid na
   cases (Some f) here =
       let key = found_key s c.entries f here in
       let same = remove_without s c.entries valid.0 in
-      let few : length (without s c.entries) ≤ 4095 = omega (arith, key.1, ap length same, valid.1, cap) in
+      let few : length (without_key s c.entries) ≤ 4095 = omega (arith, key.1, ap length same, valid.1, cap) in
       ap (λ k. (k, n) ∷ remove_entry (nat_eq s) c.entries) key.0
-      ∙ ap (λ l. (s, n) ∷ l) (same ∙ sym (take_all 4095 (without s c.entries) few))
+      ∙ ap (λ l. (s, n) ∷ l) (same ∙ sym (take_all 4095 (without_key s c.entries) few))
 
   -- a session is put before the others
   pub put_used : put_entries nat_eq c s n ≡ used s n c.entries

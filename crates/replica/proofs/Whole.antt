@@ -6,12 +6,12 @@ use Rattle.std.proofs.lemmas.Slice.Eq.{bytes_eq-Decides}
 use Rattle.pid_script.specs.Reading.{cut, is_word, control_of}
 use Rattle.pid_script.proofs.Cuts.{by_test, option_map_some, cut-append, cut-lacks, cut-Some, same_eqb}
 use Rattle.pid_script.proofs.Words.{control}
-use Rattle.replica.specs.Entries.{Entry, Settings, Opened, Ended, Calls, Wanted, Announced, spaced, entry_text, IsGood, Lacks}
-use Rattle.replica.specs.Reading.{lines_in, are_full, settings_in, head_in, announced_in, settings_of, announced_of, rest_in, word_in, line_by, line_in, lines_of, calls_in, read_by, entry_in}
+use Rattle.replica.specs.Entries.{LogEntry, Settings, Opened, Ended, Calls, Wanted, Announced, spaced, entry_text, IsGood, LacksByte}
+use Rattle.replica.specs.Reading.{lines_in, are_full, settings_in, calls_head_in, announced_in, settings_of, announced_of, rest_in, word_in, line_by, line_in, lines_behind, calls_in, read_by, entry_read}
 use Rattle.replica.proofs.Parted.{lines_in-join, join-lines_in, lines_some, are_good, good_full}
 use Rattle.replica.proofs.Told.{both_true, same_number, lacks_hex, Lacks-append, lacks_number, lacks_key, settings_read, head_words, head_read, announced_read}
 
-abbrev Writes : List ℕ → Entry → Type 0
+abbrev Writes : List ℕ → LogEntry → Type 0
 Writes bytes e = (bytes ≡ entry_text e) × IsGood e
 
 same_word : (word w : List ℕ) → is_word word w ≡ true → w ≡ word
@@ -22,7 +22,7 @@ option_cases None none some = none refl
 option_cases (Some x) none some = some x refl
 
 -- an entry of one word
-word_says : (w : List ℕ) (e : Entry) → word_in w ≡ Some e → Writes w e
+word_says : (w : List ℕ) (e : LogEntry) → word_in w ≡ Some e → Writes w e
 word_says w e is =
     by_test (is_word (codes "open") w)
     (λ holds. subst (Writes w) (same_Some Opened e (rw holds at is)) (same_word (codes "open") w holds, tt))
@@ -30,13 +30,13 @@ word_says w e is =
     (λ holds. subst (Writes w) (same_Some Wanted e (rw (fails, holds) at is)) (same_word (codes "snap") w holds, tt))
     (λ also. absurd (none-some e (rw (fails, also) at is))))
 
-ended_says : (rest : List ℕ) (e : Entry) → option_map Ended (control_of rest) ≡ Some e → Writes (codes "end" ++ 32 ∷ rest) e
+ended_says : (rest : List ℕ) (e : LogEntry) → option_map Ended (control_of rest) ≡ Some e → Writes (codes "end" ++ 32 ∷ rest) e
 ended_says rest e is =
     option_map_some Ended (control_of rest) e is (λ s here made.
     let a = control.says rest s here in
     subst (Writes (codes "end" ++ 32 ∷ rest)) made (ap (λ w. codes "end" ++ 32 ∷ w) a.0, a.1))
 
-announced_says : (rest : List ℕ) (e : Entry) → option_map announced_of (announced_in rest) ≡ Some e → Writes (codes "snapshot" ++ 32 ∷ rest) e
+announced_says : (rest : List ℕ) (e : LogEntry) → option_map announced_of (announced_in rest) ≡ Some e → Writes (codes "snapshot" ++ 32 ∷ rest) e
 announced_says rest e is =
     option_map_some announced_of (announced_in rest) e is (λ p here made.
     let a = announced_read.says rest p here in
@@ -44,7 +44,7 @@ announced_says rest e is =
     subst (Writes (codes "snapshot" ++ 32 ∷ rest)) made
     (ap (λ w. codes "snapshot" ++ 32 ∷ w) a.0, (fits.0, fits.1.0, fits.1.1.0, fits.1.1.1.0, fits.1.1.1.1)))
 
-settings_says : (rest : List ℕ) (e : Entry) → option_map settings_of (settings_in rest) ≡ Some e → Writes (codes "pidtab-log" ++ 32 ∷ rest) e
+settings_says : (rest : List ℕ) (e : LogEntry) → option_map settings_of (settings_in rest) ≡ Some e → Writes (codes "pidtab-log" ++ 32 ∷ rest) e
 settings_says rest e is =
     option_map_some settings_of (settings_in rest) e is (λ p here made.
     let a = settings_read.says rest p here in
@@ -58,7 +58,7 @@ settings_says rest e is =
       (fits.0, fits.1.1.0, fits.1.1.1.1),
     ))
 
-rest_says : (word rest : List ℕ) (e : Entry) → rest_in word rest ≡ Some e → Writes (word ++ 32 ∷ rest) e
+rest_says : (word rest : List ℕ) (e : LogEntry) → rest_in word rest ≡ Some e → Writes (word ++ 32 ∷ rest) e
 rest_says word rest e is =
     by_test (is_word (codes "end") word)
     (λ holds. subst (λ w. Writes (w ++ 32 ∷ rest) e) (sym (same_word (codes "end") word holds)) (ended_says rest e (rw holds at is)))
@@ -68,13 +68,13 @@ rest_says word rest e is =
     (λ holds. subst (λ w. Writes (w ++ 32 ∷ rest) e) (sym (same_word (codes "pidtab-log") word holds)) (settings_says rest e (rw (fails, nor, holds) at is)))
     (λ none. absurd (none-some e (rw (fails, nor, none) at is)))))
 
-line_says : (line : List ℕ) (e : Entry) → line_in line ≡ Some e → Writes line e
+line_says : (line : List ℕ) (e : LogEntry) → line_in line ≡ Some e → Writes line e
 line_says line e is =
     option_cases (cut 32 line)
     (λ none. word_says line e (ap (line_by line) (sym none) ∙ is))
     (λ p cuts. subst (λ w. Writes w e) (sym (cut-Some 32 line p cuts)) (rest_says p.0 p.1 e (ap (line_by line) (sym cuts) ∙ is)))
 
-lines_say : (h : ℕ × (ℕ × (ℕ × (ℕ × List ℕ)))) (rest body : List ℕ) (e : Entry) → head_in rest ≡ Some h → lines_of h (lines_in body) ≡ Some e
+lines_say : (h : ℕ × (ℕ × (ℕ × (ℕ × List ℕ)))) (rest body : List ℕ) (e : LogEntry) → calls_head_in rest ≡ Some h → lines_behind h (lines_in body) ≡ Some e
     → Writes ((codes "calls" ++ 32 ∷ rest) ++ 10 ∷ body) e
 lines_say h rest body e here is =
     let a = head_read.says rest h here in
@@ -91,53 +91,53 @@ lines_say h rest body e here is =
     ))
     (λ fails. absurd (none-some e (rw fails at is)))
 
-calls_say : (head body : List ℕ) (e : Entry) → calls_in head body ≡ Some e → Writes (head ++ 10 ∷ body) e
+calls_say : (head body : List ℕ) (e : LogEntry) → calls_in head body ≡ Some e → Writes (head ++ 10 ∷ body) e
 calls_say head body e is =
     option_and_then_some _ (cut 32 head) e is (λ p cuts more.
     by_test (is_word (codes "calls") p.0)
     (λ holds.
-    option_and_then_some _ (head_in p.1) e (rw holds at more) (λ h here last.
+    option_and_then_some _ (calls_head_in p.1) e (rw holds at more) (λ h here last.
     let whole : head ≡ codes "calls" ++ 32 ∷ p.1 = cut-Some 32 head p cuts ∙ ap (λ w. w ++ 32 ∷ p.1) (same_word (codes "calls") p.0 holds) in
     subst (λ w. Writes (w ++ 10 ∷ body) e) (sym whole) (lines_say h p.1 body e here last)))
     (λ fails. absurd (none-some e (rw fails at more))))
 
 -- what is read of bytes is written so
-pub entry_says : (bytes : List ℕ) (e : Entry) → entry_in bytes ≡ Some e → Writes bytes e
+pub entry_says : (bytes : List ℕ) (e : LogEntry) → entry_read bytes ≡ Some e → Writes bytes e
 entry_says bytes e is =
     option_cases (cut 10 bytes)
     (λ none. line_says bytes e (ap (read_by bytes) (sym none) ∙ is))
     (λ p cuts. subst (λ w. Writes w e) (sym (cut-Some 10 bytes p cuts)) (calls_say p.0 p.1 e (ap (read_by bytes) (sym cuts) ∙ is)))
 
 -- an entry of one line has no newline
-one_line : (bytes : List ℕ) (o : Option Entry) → Lacks 10 bytes → line_in bytes ≡ o → entry_in bytes ≡ o
+one_line : (bytes : List ℕ) (o : Option LogEntry) → LacksByte 10 bytes → line_in bytes ≡ o → entry_read bytes ≡ o
 one_line bytes o lacks is = ap (read_by bytes) (cut-lacks 10 bytes lacks) ∙ is
 
 -- words that have no newline have none together
-lacks_spaced : (ws : List (List ℕ)) → AllByRecursion (Lacks 10) ws → Lacks 10 (spaced ws)
+lacks_spaced : (ws : List (List ℕ)) → AllByRecursion (LacksByte 10) ws → LacksByte 10 (spaced ws)
 lacks_spaced [] lacks = tt
 lacks_spaced (w ∷ []) lacks = lacks.0
 lacks_spaced (w ∷ v ∷ ws) lacks = Lacks-append 10 w (32 ∷ spaced (v ∷ ws)) lacks.0 (refl, lacks_spaced (v ∷ ws) lacks.1)
 
-calls_lack : Lacks 10 (codes "calls")
+calls_lack : LacksByte 10 (codes "calls")
 calls_lack = (refl, (refl, (refl, (refl, (refl, tt)))))
 
-made : (s n q : ℕ) (d : List ℕ) (ls : List (List ℕ)) → are_full ls ≡ true → lines_of (s, (n, (length ls, (q, d)))) ls ≡ Some (Calls s n q d ls)
+made : (s n q : ℕ) (d : List ℕ) (ls : List (List ℕ)) → are_full ls ≡ true → lines_behind (s, (n, (length ls, (q, d)))) ls ≡ Some (Calls s n q d ls)
 made s n q d ls full = rw (same_eqb (length ls), full)
 
-calls_told : (s n q : ℕ) (d : List ℕ) (ls : List (List ℕ)) → IsGood (Calls s n q d ls) → entry_in (entry_text (Calls s n q d ls)) ≡ Some (Calls s n q d ls)
+calls_told : (s n q : ℕ) (d : List ℕ) (ls : List (List ℕ)) → IsGood (Calls s n q d ls) → entry_read (entry_text (Calls s n q d ls)) ≡ Some (Calls s n q d ls)
 calls_told s n q d ls good =
     let body = join_with_byte 10 ls in
     let head = codes "calls" ++ 32 ∷ head_words (s, (n, (length ls, (q, d)))) in
-    let lacks : Lacks 10 head = lacks_spaced (codes "calls" ∷ decimal s ∷ decimal n ∷ decimal (length ls) ∷ decimal q ∷ d ∷ [])
+    let lacks : LacksByte 10 head = lacks_spaced (codes "calls" ∷ decimal s ∷ decimal n ∷ decimal (length ls) ∷ decimal q ∷ d ∷ [])
     (calls_lack, (lacks_number s good.0, (lacks_number n good.1, (lacks_number (length ls) good.4, (lacks_number q good.2, (lacks_hex 16 10 d (lit≤ tt) good.3, tt)))))) in
     ap (read_by (head ++ 10 ∷ body)) (cut-append 10 head body lacks)
-    ∙ ap (λ o. option_and_then (λ h. lines_of h (lines_in body)) o)
+    ∙ ap (λ o. option_and_then (λ h. lines_behind h (lines_in body)) o)
     (head_read.told (s, (n, (length ls, (q, d)))) (good.0, (good.1, (good.4, (good.2, good.3))))).0
-    ∙ ap (lines_of (s, (n, (length ls, (q, d))))) (lines_in-join ls good.5 good.6)
+    ∙ ap (lines_behind (s, (n, (length ls, (q, d))))) (lines_in-join ls good.5 good.6)
     ∙ made s n q d ls (good_full ls good.6)
 
 -- what is written is read
-pub entry_told : (e : Entry) → IsGood e → entry_in (entry_text e) ≡ Some e
+pub entry_told : (e : LogEntry) → IsGood e → entry_read (entry_text e) ≡ Some e
 entry_told (Settings form pid_max model) good =
     one_line (entry_text (Settings form pid_max model)) (Some (Settings form pid_max model))
     (lacks_spaced (codes "pidtab-log" ∷ decimal form ∷ codes "pid_max" ∷ decimal pid_max ∷ codes "model" ∷ decimal model ∷ []) (
@@ -169,9 +169,9 @@ entry_told (Announced p d b sum key) good =
     (ap (option_map announced_of) (announced_read.told (p, (d, (b, (sum, key)))) (good.0, (good.1, (good.2, (good.3, good.4))))).0)
 
 -- no entry is written so
-pub none_told : (bytes : List ℕ) → None ≡ entry_in bytes → (e : Entry) → IsGood e → bytes ≡ entry_text e → ⊥
-none_told bytes none e good is = none-some e (none ∙ ap entry_in is ∙ entry_told e good)
+pub none_told : (bytes : List ℕ) → None ≡ entry_read bytes → (e : LogEntry) → IsGood e → bytes ≡ entry_text e → ⊥
+none_told bytes none e good is = none-some e (none ∙ ap entry_read is ∙ entry_told e good)
 
 -- one text is of one entry
-pub texts_tell : (a b : Entry) → IsGood a → IsGood b → entry_text a ≡ entry_text b → a ≡ b
-texts_tell a b good_a good_b is = same_Some a b (sym (entry_told a good_a) ∙ ap entry_in is ∙ entry_told b good_b)
+pub texts_tell : (a b : LogEntry) → IsGood a → IsGood b → entry_text a ≡ entry_text b → a ≡ b
+texts_tell a b good_a good_b is = same_Some a b (sym (entry_told a good_a) ∙ ap entry_read is ∙ entry_told b good_b)

@@ -1,6 +1,6 @@
 -- What is made of the bytes of an entry.
 use Rattle.std.specs.Prelude.{ℕ, ◌≡◌, ◌≢◌, ◌⊎◌, ◌<◌, ◌≤◌, ◌++◌, true, false, Ok, Err, List, []}
-use Rattle.replica.specs.Entries.{Entry, Opened, IsGood, entry_text}
+use Rattle.replica.specs.Entries.{LogEntry, Opened, IsGood, entry_text}
 use Rattle.replica.specs.declared.outcome.Outcome.{Outcome}
 use Rattle.replica.specs.declared.outcome.ReplicaFault.{ReplicaFault}
 use Rattle.replica.specs.declared.outcome.ReplicaFault.TheVariants.{NotRising, NoEntry, OtherSettings, Missing, Diverged, NoMemory, Torn}
@@ -8,7 +8,7 @@ use Rattle.replica.specs.Log.{Log}
 use Rattle.replica.specs.Replicas.{Replica, answers_at, checked, entered, may_come, outcome_at}
 
 -- a log that has not begun
-pub record IsNew (pid_max model : ℕ) (log : Log) : Type 0 where
+pub record IsNewLog (pid_max model : ℕ) (log : Log) : Type 0 where
   pub own_pid_max : log.pid_max ≡ pid_max
   pub own_model : log.model ≡ model
   pub form : log.form ≡ 0
@@ -26,7 +26,7 @@ pub record IsLookedAt (position : ℕ) (old : Replica) : Type 0 where
 
 -- the bytes are the text of the entry, which may be applied next: it is looked at, it may come, and the digest of its writer is the one
 -- here
-pub record IsNext (position : ℕ) (bytes : List ℕ) (old : Replica) (entry : Entry) : Type 0 where
+pub record IsNext (position : ℕ) (bytes : List ℕ) (old : Replica) (entry : LogEntry) : Type 0 where
   pub good : IsGood entry
   pub text : bytes ≡ entry_text entry
   pub looked : IsLookedAt position old
@@ -34,44 +34,45 @@ pub record IsNext (position : ℕ) (bytes : List ℕ) (old : Replica) (entry : E
   pub agrees : checked old.log entry ≡ Ok tt
 
 -- the entry has made this, with its outcome, and its answers are behind those before
-pub record Enters (e : Entry) (position : ℕ) (old : Replica) (before : List ℕ) (new : Replica) (what : Outcome) (after : List ℕ)
+pub record Enters (e : LogEntry) (position : ℕ) (old : Replica) (before : List ℕ) (new : Replica) (what : Outcome) (after : List ℕ)
     : Type 0 where
   pub made : new ≡ entered old position e
   pub outcome : what ≡ outcome_at old e
   pub answers : after ≡ before ++ answers_at old e
 
 -- nothing has changed
-pub record IsSame (old : Replica) (before : List ℕ) (new : Replica) (after : List ℕ) : Type 0 where
+pub record ChangesNothing (old : Replica) (before : List ℕ) (new : Replica) (after : List ℕ) : Type 0 where
   pub replica : new ≡ old
   pub answers : after ≡ before
 
 -- there was no memory: nothing has changed of a session that was to open, or the replica is torn
-abbrev pub IsStopped : Entry → Replica → List ℕ → Replica → List ℕ → ReplicaFault → Type 0
-IsStopped e old before new after NoMemory = (e ≡ Opened) × IsSame old before new after
-IsStopped e old before new after Torn = new.log.torn ≡ true
-IsStopped e old before new after NotRising = ⊥
-IsStopped e old before new after NoEntry = ⊥
-IsStopped e old before new after OtherSettings = ⊥
-IsStopped e old before new after Missing = ⊥
-IsStopped e old before new after Diverged = ⊥
+abbrev pub StopsApplying : LogEntry → Replica → List ℕ → Replica → List ℕ → ReplicaFault → Type 0
+StopsApplying e old before new after NoMemory = (e ≡ Opened) × ChangesNothing old before new after
+StopsApplying e old before new after Torn = new.log.torn ≡ true
+StopsApplying e old before new after NotRising = ⊥
+StopsApplying e old before new after NoEntry = ⊥
+StopsApplying e old before new after OtherSettings = ⊥
+StopsApplying e old before new after Missing = ⊥
+StopsApplying e old before new after Diverged = ⊥
 
 -- an entry that may come is not applied, since the digest of its writer is at no entry of the log, or is another one
 abbrev pub IsAtOdds : List ℕ → Replica → ReplicaFault → Type 0
 IsAtOdds bytes old fault =
-    (e : Entry) × IsGood e × (bytes ≡ entry_text e) × (may_come old.log e ≡ true) × (checked old.log e ≡ Err fault)
+    (e : LogEntry) × IsGood e × (bytes ≡ entry_text e) × (may_come old.log e ≡ true) × (checked old.log e ≡ Err fault)
 
 -- when each fault comes, and what it leaves: they are looked for in this order, but for want of memory
 abbrev pub Refuses : ℕ → List ℕ → Replica → List ℕ → Replica → List ℕ → ReplicaFault → Type 0
 Refuses position bytes old before new after NotRising =
-    (old.log.torn ≡ false) × (position ≤ old.log.position) × IsSame old before new after
+    (old.log.torn ≡ false) × (position ≤ old.log.position) × ChangesNothing old before new after
 Refuses position bytes old before new after NoEntry =
-    IsLookedAt position old × ((e : Entry) → IsGood e → bytes ≢ entry_text e) × IsSame old before new after
+    IsLookedAt position old × ((e : LogEntry) → IsGood e → bytes ≢ entry_text e) × ChangesNothing old before new after
 Refuses position bytes old before new after OtherSettings =
-    IsLookedAt position old × ((e : Entry) × IsGood e × (bytes ≡ entry_text e) × (may_come old.log e ≡ false)) × IsSame old before new after
+    IsLookedAt position old × ((e : LogEntry) × IsGood e × (bytes ≡ entry_text e) × (may_come old.log e ≡ false))
+    × ChangesNothing old before new after
 Refuses position bytes old before new after Missing =
-    IsLookedAt position old × IsAtOdds bytes old Missing × IsSame old before new after
+    IsLookedAt position old × IsAtOdds bytes old Missing × ChangesNothing old before new after
 Refuses position bytes old before new after Diverged =
-    IsLookedAt position old × IsAtOdds bytes old Diverged × IsSame old before new after
-Refuses position bytes old before new after NoMemory = IsNext position bytes old Opened × IsSame old before new after
+    IsLookedAt position old × IsAtOdds bytes old Diverged × ChangesNothing old before new after
+Refuses position bytes old before new after NoMemory = IsNext position bytes old Opened × ChangesNothing old before new after
 Refuses position bytes old before new after Torn =
-    (new.log.torn ≡ true) × ((old.log.torn ≡ true) ⊎ ((e : Entry) × IsNext position bytes old e))
+    (new.log.torn ≡ true) × ((old.log.torn ≡ true) ⊎ ((e : LogEntry) × IsNext position bytes old e))

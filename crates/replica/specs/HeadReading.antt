@@ -28,15 +28,15 @@ abbrev pub labelled : {A : Type 0} → List ℕ → Front A → Front A
 labelled word front text = before (passed (is_word word)) text >>= λ p. front p.1
 
 -- one, and another behind it
-abbrev pub joined : {A B : Type 0} → Front A → Front B → Front (A × B)
-joined first second text = do
+abbrev pub followed_by : {A B : Type 0} → Front A → Front B → Front (A × B)
+followed_by first second text = do
   a ← first text
   b ← second a.1
   Some ((a.0, b.0), b.1)
 
 -- a number behind its label, with a space behind it; and one with a newline
-unfoldable pub field : List ℕ → Front ℕ
-field label = labelled label (number_then (2 ^ 64))
+unfoldable pub number_field : List ℕ → Front ℕ
+number_field label = labelled label (number_then (2 ^ 64))
 
 unfoldable pub line_number : Front ℕ
 line_number = ended 10 control_of
@@ -53,25 +53,27 @@ count_field = labelled (codes "sessions") line_number
 
 -- the settings, and the rest of the first line
 unfoldable pub settings_in : Front (ℕ × (ℕ × ℕ))
-settings_in = joined (field (codes "pidtab-snapshot")) (joined (field (codes "pid_max")) (field (codes "model")))
+settings_in =
+    followed_by (number_field (codes "pidtab-snapshot"))
+    (followed_by (number_field (codes "pid_max")) (number_field (codes "model")))
 
-unfoldable pub state_in : Front (ℕ × (List ℕ × (ℕ × ℕ)))
-state_in = joined (field (codes "position")) (joined digest_field (joined (field (codes "calls")) count_field))
+unfoldable pub place_in : Front (ℕ × (List ℕ × (ℕ × ℕ)))
+place_in = followed_by (number_field (codes "position")) (followed_by digest_field (followed_by (number_field (codes "calls")) count_field))
 
 -- the line of a session
 unfoldable pub session_in : Front (ℕ × ℕ)
-session_in = joined (number_then (2 ^ 64)) line_number
+session_in = followed_by (number_then (2 ^ 64)) line_number
 
 -- the sessions and one more, which is none of them
-unfoldable pub opened : List (ℕ × ℕ) → Front (List (ℕ × ℕ))
-opened sessions lines = do
+unfoldable pub with_session : List (ℕ × ℕ) → Front (List (ℕ × ℕ))
+with_session sessions lines = do
   p ← session_in lines
   if is_some (lookup (λ s. p.0.0 == s) sessions) then None else Some (p.0 ∷ sessions, p.1)
 
 -- the sessions and so many more
 abbrev pub opened_more : ℕ → List (ℕ × ℕ) → Front (List (ℕ × ℕ))
 opened_more zero sessions lines = Some (sessions, lines)
-opened_more (suc n) sessions lines = opened sessions lines >>= λ p. opened_more n p.0 p.1
+opened_more (suc n) sessions lines = with_session sessions lines >>= λ p. opened_more n p.0 p.1
 
 unfoldable pub sessions_in : ℕ → Front (List (ℕ × ℕ))
 sessions_in count lines = if nat_le count 4096 then opened_more count [] lines else None
@@ -98,10 +100,10 @@ log_of settings state sessions = record {
   torn = false;
 }
 
-unfoldable pub head_in : Front Log
-head_in text = do
+unfoldable pub snapshot_head_in : Front Log
+snapshot_head_in text = do
   settings ← settings_in text
-  state ← state_in settings.1
+  state ← place_in settings.1
   sessions ← sessions_in state.0.1.1.1 state.1
   Some (log_of settings.0 state.0 sessions.0, sessions.1)
 

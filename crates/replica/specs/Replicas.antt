@@ -11,7 +11,7 @@ use Rattle.pid_script.specs.declared.line.Line.TheVariants as says
 use Rattle.pid_script.specs.Answers.{reply_text}
 use Rattle.pid_script.specs.Reading.{parsed}
 use Rattle.pid_script.specs.Script.{with_newline}
-use Rattle.replica.specs.Entries.{Entry, Settings, Opened, Ended, Calls, Wanted, Announced, entry_text}
+use Rattle.replica.specs.Entries.{LogEntry, Settings, Opened, Ended, Calls, Wanted, Announced, entry_text}
 use Rattle.replica.specs.declared.outcome.Outcome.{Outcome}
 use Rattle.replica.specs.declared.outcome.Outcome.TheVariants as outcome
 use Rattle.replica.specs.declared.outcome.Applied.{Applied}
@@ -58,11 +58,11 @@ dialogue t (line ∷ lines) =
 
 -- pairs without that of a key; and with one that was used just now, for which the last may go: there are at most 4,096. The sessions
 -- are so, each with its last number, and the digests behind entries, each at its position
-abbrev pub without : {V : Type 0} → ℕ → List (ℕ × V) → List (ℕ × V)
-without key = filter (λ e. not (key == e.0))
+abbrev pub without_key : {V : Type 0} → ℕ → List (ℕ × V) → List (ℕ × V)
+without_key key = filter (λ e. not (key == e.0))
 
 abbrev pub used : {V : Type 0} → ℕ → V → List (ℕ × V) → List (ℕ × V)
-used key value pairs = (key, value) ∷ take 4095 (without key pairs)
+used key value pairs = (key, value) ∷ take 4095 (without_key key pairs)
 
 -- what becomes of the entry with a number, behind the last one of its session
 abbrev pub outcome_of : Option ℕ → ℕ → Outcome
@@ -90,7 +90,7 @@ called r session sequence lines outcome.Gap = r
 called r session sequence lines outcome.Noted = r
 
 -- what becomes of an entry
-abbrev pub outcome_at : Replica → Entry → Outcome
+abbrev pub outcome_at : Replica → LogEntry → Outcome
 outcome_at r (Calls session sequence position digest lines) = outcome_of (lookup (λ s. session == s) r.log.sessions) sequence
 outcome_at r (Settings form pid_max model) = outcome.Noted
 outcome_at r Opened = outcome.Noted
@@ -99,15 +99,15 @@ outcome_at r Wanted = outcome.Noted
 outcome_at r (Announced position digest size sum key) = outcome.Noted
 
 -- the log begins; later settings mean nothing
-abbrev pub begins : Log → Entry → ℕ → Log
+abbrev pub begins : Log → LogEntry → ℕ → Log
 begins log e form =
     if log.begun then log else record log { begun = true; form = form; digest = sha256 (entry_text e) }
 
 -- what an entry makes
-abbrev pub entered : Replica → ℕ → Entry → Replica
+abbrev pub entered : Replica → ℕ → LogEntry → Replica
 entered r position (Settings form pid_max model) = record r { log = begins r.log (Settings form pid_max model) form }
 entered r position Opened = record r { log = record r.log { sessions = used position 0 r.log.sessions } }
-entered r position (Ended session) = record r { log = record r.log { sessions = without session r.log.sessions } }
+entered r position (Ended session) = record r { log = record r.log { sessions = without_key session r.log.sessions } }
 entered r position (Calls session sequence place digest lines) =
     called r session sequence lines (outcome_at r (Calls session sequence place digest lines))
 entered r position Wanted = r
@@ -117,7 +117,7 @@ entered r position (Announced place digest size sum key) = r
 abbrev pub at : ℕ → Replica → Replica
 at position r = record r { log = record r.log { position = position; kept = used position r.log.digest r.log.kept } }
 
-abbrev pub applied : Replica → ℕ → Entry → Replica
+abbrev pub applied : Replica → ℕ → LogEntry → Replica
 applied r position e = at position (entered r position e)
 
 -- the answers to an entry
@@ -128,7 +128,7 @@ made_answers r lines outcome.Gone = []
 made_answers r lines outcome.Gap = []
 made_answers r lines outcome.Noted = []
 
-abbrev pub lines_at : Entry → List (List ℕ)
+abbrev pub lines_at : LogEntry → List (List ℕ)
 lines_at (Calls session sequence position digest lines) = lines
 lines_at (Settings form pid_max model) = []
 lines_at Opened = []
@@ -137,15 +137,15 @@ lines_at Wanted = []
 lines_at (Announced position digest size sum key) = []
 
 -- the session of calls, and their number in it; of another entry there are none
-abbrev pub session_of : Entry → ℕ
-session_of (Calls session sequence position digest lines) = session
-session_of (Settings form pid_max model) = 0
-session_of Opened = 0
-session_of (Ended session) = 0
-session_of Wanted = 0
-session_of (Announced position digest size sum key) = 0
+abbrev pub session_in_entry : LogEntry → ℕ
+session_in_entry (Calls session sequence position digest lines) = session
+session_in_entry (Settings form pid_max model) = 0
+session_in_entry Opened = 0
+session_in_entry (Ended session) = 0
+session_in_entry Wanted = 0
+session_in_entry (Announced position digest size sum key) = 0
 
-abbrev pub sequence_of : Entry → ℕ
+abbrev pub sequence_of : LogEntry → ℕ
 sequence_of (Calls session sequence position digest lines) = sequence
 sequence_of (Settings form pid_max model) = 0
 sequence_of Opened = 0
@@ -154,14 +154,14 @@ sequence_of Wanted = 0
 sequence_of (Announced position digest size sum key) = 0
 
 -- what is said of an entry
-abbrev pub said_of : Replica → Entry → Applied
-said_of r e = record { outcome = outcome_at r e; session = session_of e; sequence = sequence_of e }
+abbrev pub applied_of : Replica → LogEntry → Applied
+applied_of r e = record { outcome = outcome_at r e; session = session_in_entry e; sequence = sequence_of e }
 
-abbrev pub answers_at : Replica → Entry → List ℕ
+abbrev pub answers_at : Replica → LogEntry → List ℕ
 answers_at r e = made_answers r (lines_at e) (outcome_at r e)
 
 -- the entry may come: the settings of this replica as the first one, and later what the form of the log has
-abbrev pub is_first : Log → Entry → Bool
+abbrev pub is_first : Log → LogEntry → Bool
 is_first log (Settings form pid_max model) = (form == 1 || form == 2) && (pid_max == log.pid_max && model == log.model)
 is_first log Opened = false
 is_first log (Ended session) = false
@@ -169,7 +169,7 @@ is_first log (Calls session sequence position digest lines) = false
 is_first log Wanted = false
 is_first log (Announced position digest size sum key) = false
 
-abbrev pub is_later : Log → Entry → Bool
+abbrev pub is_later : Log → LogEntry → Bool
 is_later log Wanted = not (log.form == 1)
 is_later log (Announced position digest size sum key) = not (log.form == 1)
 is_later log (Settings form pid_max model) = true
@@ -177,7 +177,7 @@ is_later log Opened = true
 is_later log (Ended session) = true
 is_later log (Calls session sequence position digest lines) = true
 
-abbrev pub may_come : Log → Entry → Bool
+abbrev pub may_come : Log → LogEntry → Bool
 may_come log e = if log.begun then is_later log e else is_first log e
 
 -- whether the position is before the oldest that is kept
@@ -192,7 +192,7 @@ judged (Some digest) before digits = if starts_with nat_eq (encode_lower digest)
 
 -- whether the writer of an entry had the digest that this replica had: that of calls at an entry that the log has, or had once; that of
 -- a snapshot where it is kept
-abbrev pub checked : Log → Entry → Result Unit ReplicaFault
+abbrev pub checked : Log → LogEntry → Result Unit ReplicaFault
 checked log (Calls session sequence position digest lines) =
     judged (lookup (λ p. position == p) log.kept) (is_before position (last_entry log.kept)) digest
 checked log (Announced position digest size sum key) = judged (lookup (λ p. position == p) log.kept) true digest

@@ -4,7 +4,7 @@ use Rattle.std.specs.List.{AllByRecursion, IsDistinct, flat_map}
 use Rattle.std.specs.Map.{keys_of}
 use Rattle.hex.specs.Hex.{IsBytes, encode_lower}
 use Rattle.pid_script.specs.Script.{with_newline}
-use Rattle.replica.specs.Entries.{IsWord, spaced}
+use Rattle.replica.specs.Entries.{IsWord64, spaced}
 use Rattle.replica.specs.Log.{Log}
 use Rattle.replica.specs.declared.snapshot.HeadFault.{HeadFault}
 use Rattle.replica.specs.declared.snapshot.HeadFault.TheVariants.{NoSnapshot, OtherSettings, NoMemory}
@@ -34,17 +34,17 @@ head_text log = with_newline (spaced (settings_text log ∷ state_text log ∷ [
 
 -- a session of 64 bits, with its last number
 abbrev pub IsSession : ℕ × ℕ → Type 0
-IsSession session = IsWord session.0 × IsWord session.1
+IsSession session = IsWord64 session.0 × IsWord64 session.1
 
 -- the numbers of a log have 64 bits, and its digest has 32 bytes
 pub record IsSized (log : Log) : Type 0 where
-  pub form : IsWord log.form
-  pub pid_max : IsWord log.pid_max
-  pub model : IsWord log.model
-  pub position : IsWord log.position
+  pub form : IsWord64 log.form
+  pub pid_max : IsWord64 log.pid_max
+  pub model : IsWord64 log.model
+  pub position : IsWord64 log.position
   pub digest : length log.digest ≡ 32
   pub bytes : IsBytes log.digest
-  pub calls : IsWord log.calls
+  pub calls : IsWord64 log.calls
 
 -- sessions that may be open together: at most 4,096, each once
 pub record MayBeOpen (sessions : List (ℕ × ℕ)) : Type 0 where
@@ -67,21 +67,21 @@ abbrev pub has_settings : ℕ → ℕ → Log → Bool
 has_settings pid_max model log = (log.form == 1 || log.form == 2) && (log.pid_max == pid_max && log.model == model)
 
 -- the text begins with the head of the log
-pub record Begins (text : List ℕ) (log : Log) (rest : List ℕ) : Type 0 where
+pub record BeginsWithHead (text : List ℕ) (log : Log) (rest : List ℕ) : Type 0 where
   pub good : IsSnapshot log
   pub head : text ≡ head_text log ++ rest
 
 -- a log with these settings, whose head is so many bytes at the front of the text, was restored
 pub record Restores (text : List ℕ) (pid_max model : ℕ) (new : Log) (used : ℕ) : Type 0 where
   pub log : Log
-  pub begins : Begins text log (drop used text)
+  pub begins : BeginsWithHead text log (drop used text)
   pub whole : used ≡ length (head_text log)
   pub fits : has_settings pid_max model log ≡ true
   pub is : new ≡ restored log
 
 -- when each fault comes
-abbrev pub Fails : List ℕ → ℕ → ℕ → HeadFault → Type 0
-Fails text pid_max model NoSnapshot = (log : Log) (rest : List ℕ) → IsSnapshot log → text ≢ head_text log ++ rest
-Fails text pid_max model OtherSettings =
-    (log : Log) × (rest : List ℕ) × Begins text log rest × (has_settings pid_max model log ≡ false)
-Fails text pid_max model NoMemory = Unit {0}
+abbrev pub FailsAtHead : List ℕ → ℕ → ℕ → HeadFault → Type 0
+FailsAtHead text pid_max model NoSnapshot = (log : Log) (rest : List ℕ) → IsSnapshot log → text ≢ head_text log ++ rest
+FailsAtHead text pid_max model OtherSettings =
+    (log : Log) × (rest : List ℕ) × BeginsWithHead text log rest × (has_settings pid_max model log ≡ false)
+FailsAtHead text pid_max model NoMemory = Unit {0}

@@ -1,7 +1,6 @@
 //! The answer to one line.
 ghost use Rattle.std.specs.Prelude.{◌≡◌, codes, IfOk, OnOk};
-ghost use Rattle.pid_script.specs.Answers.{answer_of, lent};
-ghost use Rattle.pid_script.specs.Reading.{parsed};
+ghost use Rattle.pid_script.specs.{Answers.{answer_of, lent}, Reading.{parsed}};
 ghost use Rattle.replica.specs.Replicas.{after_line, answer_to};
 
 use arrayvec::ArrayVec;

@@ -1,7 +1,6 @@
 //! Laws of the entries.
 ghost use Rattle.std.specs.Prelude.{◌≡◌};
-ghost use Rattle.replica.specs.Entries.{Entry as LogEntry, IsGood, entry_text};
-ghost use Rattle.replica.specs.Told.{entry_of};
+ghost use Rattle.replica.specs.{Entries.{LogEntry, IsGood, entry_text}, Told.{told_entry}};
 
 use crate::entry::Entry;
 use crate::read::read_entry;
@@ -13,9 +12,9 @@ pub fn texts_tell_entries()
 
 /// What is written of an entry is read as that entry.
 pub fn what_is_written_is_read<'a>(text: &'a [u8], entry: &Entry) -> Entry<'a>
-    requires good { IsGood (entry_of entry.now) }
-    requires written { text.now ≡ entry_text (entry_of entry.now) }
-    ensures { entry_of result ≡ entry_of entry.now }
+    requires good { IsGood (told_entry entry.now) }
+    requires written { text.now ≡ entry_text (told_entry entry.now) }
+    ensures { told_entry result ≡ told_entry entry.now }
 {
     match read_entry(text) {
         Ok(read) => read,

@@ -1,8 +1,7 @@
 //! The head of a snapshot from bytes: its first line, and the line of a session.
-ghost use Rattle.std.specs.Prelude.{◌≡◌};
-ghost use Rattle.std.specs.Option.{option_map};
-ghost use Rattle.replica.specs.HeadReading.{count_field, digest_field, digest_of, field, line_number, session_in};
-ghost use Rattle.replica.specs.HeadReading.{settings_in, state_in, words_of_settings, words_of_state};
+ghost use Rattle.std.specs.{Prelude.{◌≡◌}, Option.{option_map}};
+ghost use Rattle.replica.specs.HeadReading.{count_field, digest_field, digest_of, number_field, line_number};
+ghost use Rattle.replica.specs.HeadReading.{session_in, settings_in, place_in, words_of_settings, words_of_state};
 
 use crate::read::read_behind;
 use crate::words::{is_hex_word, read_number_then};
@@ -29,9 +28,9 @@ pub(crate) struct State {
 }
 
 /// The number behind the label, and what stands after the space behind it.
-#[tactic(auto, unfolding(crate::specs::HeadReading::field))]
+#[tactic(auto, unfolding(crate::specs::HeadReading::number_field))]
 fn read_field<'a>(text: &'a [u8], label: &[u8]) -> Option<(u64, &'a [u8])>
-    ensures { option_map (λ p. (p.0, p.1.now)) result ≡ field label.now text.now }
+    ensures { option_map (λ p. (p.0, p.1.now)) result ≡ number_field label.now text.now }
 {
     read_number_then(read_behind(text, label)?)
 }
@@ -94,9 +93,9 @@ pub(crate) fn read_settings(text: &[u8]) -> Option<(Settings, &[u8])>
 }
 
 /// The rest of a first line, and what stands behind its newline.
-#[tactic(auto, unfolding(crate::specs::HeadReading::state_in))]
+#[tactic(auto, unfolding(crate::specs::HeadReading::place_in))]
 pub(crate) fn read_state(text: &[u8]) -> Option<(State, &[u8])>
-    ensures { option_map (λ p. (words_of_state p.0, p.1.now)) result ≡ state_in text.now }
+    ensures { option_map (λ p. (words_of_state p.0, p.1.now)) result ≡ place_in text.now }
 {
     let (position, rest) = read_field(text, b"position")?;
     let (digest, rest) = read_digest(rest)?;

@@ -1,8 +1,6 @@
 //! A replica with the answers to the entry that it applied last.
 ghost use Rattle.std.specs.Prelude.{◌≡◌, [], IfOk, IfErr};
-ghost use Rattle.replica.specs.Applied.{IsNew, Refuses};
-ghost use Rattle.replica.specs.Laws.{Applies};
-ghost use Rattle.replica.specs.Replicas.{replica_of};
+ghost use Rattle.replica.specs.{Applied.{IsNewLog, Refuses}, Laws.{Applies}, Replicas.{replica_of}};
 
 use crate::outcome::{Applied, ReplicaFault};
 use crate::replica::Replica;
@@ -31,7 +29,7 @@ impl Model for Host {
 impl Host {
     /// A host whose log has not begun, with its settings. The error is want of memory.
     pub fn new(alloc: Global, pid_max: u64, model: u64) -> Result<Host, AllocError>
-        ensures new { IfOk result (λ h. IsNew pid_max model h.log) }
+        ensures new { IfOk result (λ h. IsNewLog pid_max model h.log) }
         ensures answers { IfOk result (λ h. h.answers ≡ []) }
     {
         Ok(Host::of(alloc, Replica::new(alloc, pid_max, model)?))

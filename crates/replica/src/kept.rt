@@ -1,11 +1,10 @@
 //! Digests that are kept, to be compared with those of others.
-ghost use Rattle.std.specs.Prelude.{◌≡◌, ◌==◌, OnOk, OnErr, IfOk, []};
-ghost use Rattle.std.specs.List.{starts_with};
-ghost use Rattle.std.specs.Map.{lookup};
-ghost use Rattle.hex.specs.Hex.{encode_lower};
-ghost use Rattle.lru.specs.LruCache.{last_entry};
-ghost use Rattle.replica.specs.Replicas.{is_before, judged, used};
-ghost use Rattle.std.specs.Prelude.{nat_eq};
+ghost use Rattle.std.specs.{Prelude.{◌≡◌, ◌==◌, OnOk, OnErr, IfOk, [], nat_eq}, List.{starts_with}, Map.{lookup}};
+ghost use Rattle.{
+  hex.specs.Hex.{encode_lower},
+  lru.specs.LruCache.{last_entry},
+  replica.specs.Replicas.{is_before, judged, used},
+};
 
 use crate::outcome::ReplicaFault;
 use hex::encode_to_slice;

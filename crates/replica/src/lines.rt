@@ -1,11 +1,10 @@
 //! The lines of an entry, made one after the other.
 ghost use Rattle.std.specs.Prelude.{◌≡◌, ◌++◌, List, ℕ, IfOk, OnOk};
-ghost use Rattle.sha2.specs.Hashers.{Holds256};
-ghost use Rattle.sha2.specs.Sha256.{sha256};
-ghost use Rattle.pid_script.specs.Reading.{parsed};
-ghost use Rattle.pid_script.specs.Script.{with_newline};
-ghost use Rattle.replica.specs.Reading.{lines_in};
-ghost use Rattle.replica.specs.Replicas.{after_line, after_lines, answer_to, answers_to, dialogue};
+ghost use Rattle.{
+  sha2.specs.{Hashers.{Holds256}, Sha256.{sha256}},
+  pid_script.specs.{Reading.{parsed}, Script.{with_newline}},
+  replica.specs.{Reading.{lines_in}, Replicas.{after_line, after_lines, answer_to, answers_to, dialogue}},
+};
 
 use crate::answer::answer_line;
 use pid_script::bytes::split_line;

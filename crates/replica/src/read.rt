@@ -1,12 +1,11 @@
 //! Entries from bytes.
-ghost use Rattle.std.specs.Prelude.{◌≡◌, length, codes, Some, IfOk, OnErr, ◌≢◌};
-ghost use Rattle.std.specs.Option.{option_map};
-ghost use Rattle.pid_script.specs.Reading.{is_word, before, control_of};
-ghost use Rattle.replica.specs.Entries.{Entry as LogEntry, Ended, IsGood, entry_text, is_hex};
-ghost use Rattle.replica.specs.Reading.{announced_of, announced_in, settings_of, settings_in, rest_in};
-ghost use Rattle.replica.specs.Reading.{word_in, line_in};
-ghost use Rattle.replica.specs.Reading.{head_in, calls_in, entry_in, lines_in, lines_of, passed};
-ghost use Rattle.replica.specs.Told.{entry_of, words_of};
+ghost use Rattle.std.specs.{Prelude.{◌≡◌, length, codes, Some, IfOk, OnErr, ◌≢◌}, Option.{option_map}};
+ghost use Rattle.{
+  pid_script.specs.Reading.{is_word, before, control_of},
+  replica.specs.{Entries.{LogEntry, Ended, IsGood, entry_text, is_hex}, Reading.{announced_of, announced_in}},
+  replica.specs.Reading.{settings_of, settings_in, rest_in, word_in, line_in, calls_head_in, calls_in, entry_read},
+  replica.specs.{Reading.{lines_in, lines_behind, passed}, Told.{told_entry, words_of_head}},
+};
 
 use crate::entry::{Entry, EntryFault};
 use crate::words::{
@@ -38,7 +37,7 @@ pub(crate) fn read_behind<'a>(words: &'a [u8], word: &[u8]) -> Option<&'a [u8]>
 
 /// The settings, behind their first word.
 fn read_settings<'a>(words: &[u8]) -> Option<Entry<'a>>
-    ensures { option_map entry_of result ≡ option_map settings_of (settings_in words.now) }
+    ensures { option_map told_entry result ≡ option_map settings_of (settings_in words.now) }
 {
     let (form, rest) = read_number_then(words)?;
     let rest = read_behind(rest, b"pid_max")?;
@@ -54,7 +53,7 @@ fn read_settings<'a>(words: &[u8]) -> Option<Entry<'a>>
 
 /// What announces a snapshot, behind its first word.
 fn read_announced(words: &[u8]) -> Option<Entry<'_>>
-    ensures { option_map entry_of result ≡ option_map announced_of (announced_in words.now) }
+    ensures { option_map told_entry result ≡ option_map announced_of (announced_in words.now) }
 {
     let (position, rest) = read_number_then(words)?;
     let (digest, rest) = read_hex_then(rest, 64)?;
@@ -74,7 +73,7 @@ fn read_announced(words: &[u8]) -> Option<Entry<'_>>
 
 /// The end of a session, behind its first word.
 fn read_ended<'a>(words: &[u8]) -> Option<Entry<'a>>
-    ensures { option_map entry_of result ≡ option_map Ended (control_of words.now) }
+    ensures { option_map told_entry result ≡ option_map Ended (control_of words.now) }
 {
     let session = read_u64(words)?;
     Some(Entry::Ended { session })
@@ -82,7 +81,7 @@ fn read_ended<'a>(words: &[u8]) -> Option<Entry<'a>>
 
 /// An entry of one line, of its first word and what stands behind that.
 fn read_rest<'a>(word: &[u8], rest: &'a [u8]) -> Option<Entry<'a>>
-    ensures { option_map entry_of result ≡ rest_in word.now rest.now }
+    ensures { option_map told_entry result ≡ rest_in word.now rest.now }
 {
     if word == b"end".as_slice() {
         return read_ended(rest);
@@ -98,7 +97,7 @@ fn read_rest<'a>(word: &[u8], rest: &'a [u8]) -> Option<Entry<'a>>
 
 /// An entry of one word.
 fn read_bare<'a>(word: &[u8]) -> Option<Entry<'a>>
-    ensures { option_map entry_of result ≡ word_in word.now }
+    ensures { option_map told_entry result ≡ word_in word.now }
 {
     if word == b"open".as_slice() {
         return Some(Entry::Opened);
@@ -111,7 +110,7 @@ fn read_bare<'a>(word: &[u8]) -> Option<Entry<'a>>
 
 /// An entry of one line.
 fn read_line(line: &[u8]) -> Option<Entry<'_>>
-    ensures { option_map entry_of result ≡ line_in line.now }
+    ensures { option_map told_entry result ≡ line_in line.now }
 {
     match split_word(line) {
         None => read_bare(line),
@@ -121,7 +120,7 @@ fn read_line(line: &[u8]) -> Option<Entry<'_>>
 
 /// The head of an entry of calls, behind its first word.
 fn read_head(words: &[u8]) -> Option<Head<'_>>
-    ensures { option_map words_of result ≡ head_in words.now }
+    ensures { option_map words_of_head result ≡ calls_head_in words.now }
 {
     let (session, rest) = read_number_then(words)?;
     let (sequence, rest) = read_number_then(rest)?;
@@ -141,7 +140,7 @@ fn read_head(words: &[u8]) -> Option<Head<'_>>
 
 /// The calls of a head with the lines behind it, if they are as many as it says, and none is empty.
 fn read_lines<'a>(head: Head<'a>, lines: &'a [u8]) -> Option<Entry<'a>>
-    ensures { option_map entry_of result ≡ lines_of (words_of head.entry) (lines_in lines.now) }
+    ensures { option_map told_entry result ≡ lines_behind (words_of_head head.entry) (lines_in lines.now) }
 {
     if head.count != count_lines(lines) as u64 || !are_lines_full(lines) {
         return None;
@@ -157,7 +156,7 @@ fn read_lines<'a>(head: Head<'a>, lines: &'a [u8]) -> Option<Entry<'a>>
 
 /// An entry of calls, of its first line and what stands behind the newline.
 fn read_calls<'a>(line: &'a [u8], lines: &'a [u8]) -> Option<Entry<'a>>
-    ensures { option_map entry_of result ≡ calls_in line.now lines.now }
+    ensures { option_map told_entry result ≡ calls_in line.now lines.now }
 {
     let (word, rest) = split_word(line)?;
     if word != b"calls".as_slice() {
@@ -168,7 +167,7 @@ fn read_calls<'a>(line: &'a [u8], lines: &'a [u8]) -> Option<Entry<'a>>
 
 /// An entry.
 fn find_entry(bytes: &[u8]) -> Option<Entry<'_>>
-    ensures { option_map entry_of result ≡ entry_in bytes.now }
+    ensures { option_map told_entry result ≡ entry_read bytes.now }
 {
     match split_line(bytes) {
         None => read_line(bytes),
@@ -179,7 +178,7 @@ fn find_entry(bytes: &[u8]) -> Option<Entry<'_>>
 /// Reads an entry. The error says that the bytes are the text of none. A number that has more than 64 bits is in no
 /// entry. The cost is linear in the bytes, and nothing takes memory.
 pub fn read_entry(bytes: &[u8]) -> Result<Entry<'_>, EntryFault>
-    ensures ok { IfOk result (λ e. IsGood (entry_of e) × (bytes.now ≡ entry_text (entry_of e))) }
+    ensures ok { IfOk result (λ e. IsGood (told_entry e) × (bytes.now ≡ entry_text (told_entry e))) }
     ensures err { OnErr result ((e : LogEntry) → IsGood e → bytes.now ≢ entry_text e) }
 {
     match find_entry(bytes) {

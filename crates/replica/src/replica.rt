@@ -1,18 +1,14 @@
 //! What a host knows of a log, and how an entry is applied.
-ghost use Rattle.std.specs.Prelude.{◌≡◌, ◌++◌, ◌==◌, Err, true, IfOk, IfErr, OnOk, OnErr, IsSome, if◌then◌else◌};
-ghost use Rattle.std.specs.Map.{lookup};
-ghost use Rattle.sha2.specs.Sha256.{sha256};
-ghost use Rattle.replica.specs.Entries.{IsWord, entry_text};
-ghost use Rattle.replica.specs.Reading.{lines_in};
-ghost use Rattle.replica.specs.Told.{entry_of};
-ghost use Rattle.replica.specs.Replicas.{answers_to, called, checked, made, made_answers, may_come, outcome_of};
-ghost use Rattle.replica.specs.Replicas.{replica_of, sequence_of, session_of, used};
-ghost use Rattle.replica.specs.Applied.{Enters, IsNew, IsStopped, Refuses};
-ghost use Rattle.replica.specs.Laws.{Applies};
-ghost use Rattle.std.specs.Prelude.{◌∷◌, [], length};
-ghost use Rattle.hex.specs.Hex.{IsBytes};
-ghost use Rattle.replica.specs.HeadReading.{log_of, words_of_settings, words_of_state};
-ghost use Rattle.replica.specs.Snapshots.{IsSized};
+ghost use Rattle.std.specs.Prelude.{◌≡◌, ◌++◌, ◌==◌, Err, true, IfOk, IfErr, OnOk, OnErr, IsSome, if◌then◌else◌, ◌∷◌};
+ghost use Rattle.std.specs.{Prelude.{[], length}, Map.{lookup}};
+ghost use Rattle.{
+  sha2.specs.Sha256.{sha256},
+  replica.specs.{Entries.{IsWord64, entry_text}, Reading.{lines_in}, Told.{told_entry}, Replicas.{answers_to, called}},
+  replica.specs.Replicas.{checked, made, made_answers, may_come, outcome_of, replica_of, sequence_of, session_in_entry},
+  replica.specs.{Replicas.{used}, Applied.{Enters, IsNewLog, StopsApplying, Refuses}, Laws.{Applies}},
+  replica.specs.{HeadReading.{log_of, words_of_settings, words_of_state}, Snapshots.{IsSized}},
+  hex.specs.Hex.{IsBytes},
+};
 
 use crate::entry::Entry;
 use crate::head::{Settings, State};
@@ -82,8 +78,8 @@ fn outcome_behind(last: Option<u64>, sequence: u64) -> Outcome
 fn applied_of(entry: &Entry, outcome: Outcome) -> Applied
     ensures { result ≡ record {
       outcome = outcome;
-      session = session_of (entry_of entry.now);
-      sequence = sequence_of (entry_of entry.now);
+      session = session_in_entry (told_entry entry.now);
+      sequence = sequence_of (told_entry entry.now);
     } }
 {
     match *entry {
@@ -118,7 +114,7 @@ fn noted(outcome: Outcome) -> Applied
 impl Replica {
     /// A replica of a log that has not begun, with the settings of this host. The error is want of memory.
     pub fn new(alloc: Global, pid_max: u64, model: u64) -> Result<Replica, AllocError>
-        ensures { IfOk result (λ r. IsNew pid_max model r) }
+        ensures { IfOk result (λ r. IsNewLog pid_max model r) }
     {
         Ok(Replica {
             form: 0,
@@ -207,7 +203,7 @@ impl Replica {
 
     /// Whether the entry may come next.
     fn admits(&self, entry: &Entry) -> bool
-        ensures { result ≡ may_come self.now (entry_of entry.now) }
+        ensures { result ≡ may_come self.now (told_entry entry.now) }
     {
         match *entry {
             Entry::Settings {
@@ -229,7 +225,7 @@ impl Replica {
 
     /// Compares the digest that the writer of the entry had with the one here. The error is `Missing` or `Diverged`.
     fn check(&self, entry: &Entry) -> Result<(), ReplicaFault>
-        ensures { result ≡ checked self.now (entry_of entry.now) }
+        ensures { result ≡ checked self.now (told_entry entry.now) }
     {
         match *entry {
             Entry::Calls {
@@ -360,11 +356,11 @@ impl Replica {
         bytes: &[u8],
         answers: &mut Vec<u8>,
     ) -> Result<Outcome, ReplicaFault>
-        requires { bytes.now ≡ entry_text (entry_of entry.now) }
-        ensures ok { IfOk result (λ what. Enters (entry_of entry.now) position
+        requires { bytes.now ≡ entry_text (told_entry entry.now) }
+        ensures ok { IfOk result (λ what. Enters (told_entry entry.now) position
             (replica_of self.old table.old) answers.old.items
             (replica_of self.new table.new) what answers.new.items) }
-        ensures err { IfErr result (IsStopped (entry_of entry.now)
+        ensures err { IfErr result (StopsApplying (told_entry entry.now)
             (replica_of self.old table.old) answers.old.items
             (replica_of self.new table.new) answers.new.items) }
     {
@@ -448,13 +444,13 @@ impl Replica {
 
 /// The numbers have 64 bits, and the digest has 32 bytes.
 fn show_types(form: u64, pid_max: u64, model: u64, position: u64, digest: [u8; 32], calls: u64)
-    ensures form { IsWord form }
-    ensures pid_max { IsWord pid_max }
-    ensures model { IsWord model }
-    ensures position { IsWord position }
+    ensures form { IsWord64 form }
+    ensures pid_max { IsWord64 pid_max }
+    ensures model { IsWord64 model }
+    ensures position { IsWord64 position }
     ensures digest { length digest ≡ 32 }
     ensures bytes { IsBytes digest }
-    ensures calls { IsWord calls }
+    ensures calls { IsWord64 calls }
 {}
 
 // What a snapshot has of a replica.

@@ -1,10 +1,8 @@
 //! Sessions that are open.
-ghost use Rattle.std.specs.Prelude.{◌≡◌, ◌==◌, OnOk, OnErr, IfOk, IsSome, IsOk, [], option_copied};
-ghost use Rattle.std.specs.Prelude.{◌++◌, length};
+ghost use Rattle.std.specs.Prelude.{◌≡◌, ◌==◌, OnOk, OnErr, IfOk, IsSome, IsOk, [], option_copied, ◌++◌, length};
 ghost use Rattle.std.specs.Map.{lookup};
 ghost use Rattle.pid_script.specs.Script.{with_newline};
-ghost use Rattle.replica.specs.Replicas.{used, without};
-ghost use Rattle.replica.specs.Snapshots.{MayBeOpen, session_text, sessions_text};
+ghost use Rattle.replica.specs.{Replicas.{used, without_key}, Snapshots.{MayBeOpen, session_text, sessions_text}};
 
 use lru::LruCache;
 use pid_script::list::push_field;
@@ -75,7 +73,7 @@ impl Sessions {
 
     /// Ends a session, if it is open.
     pub(crate) fn end(&mut self, session: u64)
-        ensures { self.new ≡ without session self.old }
+        ensures { self.new ≡ without_key session self.old }
     {
         let _count = self.open.len();
         self.open.pop(&session);

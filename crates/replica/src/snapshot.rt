@@ -11,12 +11,13 @@
 //!
 //! Numbers are decimal, below 2^64, without a leading zero, and the digest has 64 hexadecimal digits with small
 //! letters. [`crate::snapshot_laws`] has that what is written is read.
-ghost use Rattle.std.specs.Prelude.{◌≡◌, ◌++◌, ◌∷◌, ◌<◌, ◌==◌, ◌&&◌, ◌||◌, [], codes, length, true};
-ghost use Rattle.std.specs.Prelude.{IfErr, IfOk, OnOk, Some};
-ghost use Rattle.hex.specs.Hex.{encode_lower};
-ghost use Rattle.replica.specs.HeadReading.{IsUnread, opened, sessions_in};
-ghost use Rattle.replica.specs.Snapshots.{Fails, IsSnapshot, Restores, head_text, settings_text};
-ghost use Rattle.replica.specs.Snapshots.{state_text};
+ghost use Rattle.std.specs.Prelude.{◌≡◌, ◌++◌, ◌∷◌, ◌<◌, ◌==◌, ◌&&◌, ◌||◌, [], codes, length, true, IfErr, IfOk, OnOk};
+ghost use Rattle.std.specs.Prelude.{Some};
+ghost use Rattle.{
+  hex.specs.Hex.{encode_lower},
+  replica.specs.HeadReading.{IsUnread, with_session, sessions_in},
+  replica.specs.Snapshots.{FailsAtHead, IsSnapshot, Restores, head_text, settings_text, state_text},
+};
 
 use crate::head::{Settings, read_session, read_settings, read_state};
 use crate::kept::Kept;
@@ -79,11 +80,11 @@ fn has_settings(settings: &Settings, pid_max: u64, model: u64) -> bool
 
 /// Opens the session of the next line, which comes before the others then, and answers what stands behind the line. The
 /// error is `NoSnapshot` where no such line comes next or its session is open, and else `NoMemory`.
-#[tactic(auto, unfolding(crate::specs::HeadReading::opened))]
+#[tactic(auto, unfolding(crate::specs::HeadReading::with_session))]
 fn open_next<'a>(lines: &'a [u8], sessions: &mut Sessions) -> Result<&'a [u8], HeadFault>
     requires room { length sessions.old < 4096 }
-    ensures ok { IfOk result (λ rest. opened sessions.old lines.now ≡ Some (sessions.new, rest.now)) }
-    ensures err { IfErr result (IsUnread (opened sessions.old lines.now)) }
+    ensures ok { IfOk result (λ rest. with_session sessions.old lines.now ≡ Some (sessions.new, rest.now)) }
+    ensures err { IfErr result (IsUnread (with_session sessions.old lines.now)) }
 {
     let Some((session, last, rest)) = read_session(lines) else {
         return Err(HeadFault::NoSnapshot);
@@ -166,7 +167,7 @@ impl Replica {
         model: u64,
     ) -> Result<(Replica, usize), HeadFault>
         ensures ok { IfOk result (λ r. Restores text.now pid_max model r.0 r.1) }
-        ensures err { IfErr result (Fails text.now pid_max model) }
+        ensures err { IfErr result (FailsAtHead text.now pid_max model) }
     {
         let Some((settings, rest)) = read_settings(text) else {
             return Err(HeadFault::NoSnapshot);

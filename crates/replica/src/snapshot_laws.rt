@@ -1,7 +1,6 @@
 //! Laws of the head of a snapshot.
 ghost use Rattle.std.specs.Prelude.{◌≡◌, ◌++◌, List, ℕ, true, length, IfErr, IfOk};
-ghost use Rattle.replica.specs.Log.{Log};
-ghost use Rattle.replica.specs.Snapshots.{Begins, IsSnapshot, has_settings, head_text, restored};
+ghost use Rattle.replica.specs.{Log.{Log}, Snapshots.{BeginsWithHead, IsSnapshot, has_settings, head_text, restored}};
 
 use crate::replica::Replica;
 use crate::snapshot::HeadFault;
@@ -20,9 +19,9 @@ pub fn head_is_read_as_its_log(
     pid_max: u64,
     model: u64,
 ) -> Result<(Replica, usize), HeadFault>
-    ensures ok { (log : Log) (rest : List ℕ) → Begins text.now log rest → has_settings pid_max model log ≡ true
+    ensures ok { (log : Log) (rest : List ℕ) → BeginsWithHead text.now log rest → has_settings pid_max model log ≡ true
         → IfOk result (λ r. (r.0 ≡ restored log) × (r.1 ≡ length (head_text log))) }
-    ensures err { (log : Log) (rest : List ℕ) → Begins text.now log rest → has_settings pid_max model log ≡ true
+    ensures err { (log : Log) (rest : List ℕ) → BeginsWithHead text.now log rest → has_settings pid_max model log ≡ true
         → IfErr result (λ fault. fault ≡ HeadFault.NoMemory) }
 {
     Replica::read_head(alloc, text, pid_max, model)

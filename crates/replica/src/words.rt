@@ -1,10 +1,7 @@
 //! The words of an entry.
-ghost use Rattle.std.specs.Prelude.{◌≡◌, ◌^◌, length};
-ghost use Rattle.std.specs.List.{list_all};
-ghost use Rattle.std.specs.Option.{option_map};
+ghost use Rattle.std.specs.{Prelude.{◌≡◌, ◌^◌, length}, List.{list_all}, Option.{option_map}};
 ghost use Rattle.pid_script.specs.Reading.{before, number_then};
-ghost use Rattle.replica.specs.Entries.{is_digit, is_hex, is_key};
-ghost use Rattle.replica.specs.Reading.{are_full, lines_in, passed};
+ghost use Rattle.replica.specs.{Entries.{is_digit, is_hex, is_key}, Reading.{are_full, lines_in, passed}};
 
 use pid_script::bytes::{split_line, split_word};
 use pid_script::number::read_u64;

@@ -1,8 +1,7 @@
 //! Entries to bytes.
 ghost use Rattle.std.specs.Prelude.{◌≡◌, ◌++◌, ◌∷◌, [], OnOk, IfOk, codes, decimal};
-ghost use Rattle.replica.specs.Entries.{Settings, Calls, Announced, entry_text, spaced};
-ghost use Rattle.replica.specs.Reading.{lines_in};
-ghost use Rattle.replica.specs.Told.{entry_of};
+ghost use Rattle.replica.specs.{Entries.{Settings, Calls, Announced, entry_text, spaced}, Reading.{lines_in}};
+ghost use Rattle.replica.specs.Told.{told_entry};
 
 use crate::entry::Entry;
 use crate::words::count_lines;
@@ -98,7 +97,7 @@ fn push_calls(
 
 /// Appends an entry. After an `Err` the text has some of its bytes.
 fn push_entry(text: &mut Vec<u8>, entry: &Entry) -> Result<(), AllocError>
-    ensures { OnOk result (text.new.items ≡ text.old.items ++ entry_text (entry_of entry.now)) }
+    ensures { OnOk result (text.new.items ≡ text.old.items ++ entry_text (told_entry entry.now)) }
 {
     match *entry {
         Entry::Settings {
@@ -130,7 +129,7 @@ fn push_entry(text: &mut Vec<u8>, entry: &Entry) -> Result<(), AllocError>
 /// digits are digits, and it has lines, none of them empty ([`crate::laws`]). The error is want of memory. The cost is
 /// linear in the text.
 pub fn write_entry(alloc: Global, entry: &Entry) -> Result<Vec<u8>, AllocError>
-    ensures { IfOk result (λ text. text.items ≡ entry_text (entry_of entry.now)) }
+    ensures { IfOk result (λ text. text.items ≡ entry_text (told_entry entry.now)) }
 {
     let mut text = Vec::new(alloc);
     push_entry(&mut text, entry)?;

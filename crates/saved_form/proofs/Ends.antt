@@ -6,7 +6,7 @@ use Rattle.std.proofs.lemmas.Bool.Decides.{eqb_tells}
 use Rattle.std.proofs.lemmas.Bool.{cases_lt, cases_Bool, true≢false}
 use Rattle.std.proofs.lemmas.List.{get_or_append_left, take-append-le, drop-append-le, length-append, length-drop}
 use Rattle.saved_form.specs.Form.{sealed, further}
-use Rattle.saved_form.specs.Taking.{bodies, blocks_said, AreRight, IsTorn, IsWhole, IsWrongSum, IsWrongAt}
+use Rattle.saved_form.specs.Taking.{bodies, blocks_said, AreRight, IsTorn, IsWholeEntry, IsWrongSum, IsWrongAt}
 use Rattle.saved_form.specs.Taking.IsWrongAt.{by_sum, too_many_levels, no_entry}
 use Rattle.saved_form.specs.Ends.{are_zero, AreZeroes, IsUnwritten, HasWrongByte, IsPassed, IsOpen, undecided, IsTornEnd}
 use Rattle.saved_form.specs.Ends.IsOpen.{zeroes_so_far}
@@ -74,7 +74,7 @@ wrong_sum_one sum a b bytes at other less =
     let split : b ≡ a + 1 + (b - (a + 1)) = omega arith in
     at.wrong (right_front (a + 1) (b - (a + 1)) sum bytes (subst (λ n. AreRight n sum bytes) split other.before))
 
-sum_not_whole : (sum count : ℕ) (bytes : List ℕ) → IsWrongSum count sum bytes → IsWhole sum bytes → ⊥
+sum_not_whole : (sum count : ℕ) (bytes : List ℕ) → IsWrongSum count sum bytes → IsWholeEntry sum bytes → ⊥
 sum_not_whole sum count bytes bad whole =
     let split : blocks_said bytes ≡ count + 1 + (blocks_said bytes - (count + 1)) = omega (arith, bad.of_entry) in
     bad.wrong (right_front (count + 1) (blocks_said bytes - (count + 1)) sum bytes (subst (λ n. AreRight n sum bytes) split whole.right))

@@ -10,7 +10,7 @@ use Rattle.std.proofs.lemmas.Nat.{from_le_bytes-to_le_bytes_4, from_le_bytes-to_
 use Rattle.saved_form.specs.declared.numbers.CallNumbers.{CallNumbers}
 use Rattle.saved_form.specs.declared.numbers.ReplyNumbers.{ReplyNumbers}
 use Rattle.saved_form.specs.declared.numbers.EntryNumbers.{EntryNumbers}
-use Rattle.saved_form.specs.Form.{level_blocks, four, eight, fours, asked, told, first_block, entry_blocks, sealed, further}
+use Rattle.saved_form.specs.Form.{level_blocks, four, eight, fours, asked, reply_bytes, first_block, entry_blocks, sealed, further}
 use Rattle.saved_form.specs.Crc.{crc64}
 use Rattle.saved_form.specs.Places.{HasCallPlaces, HasPlaces, FitsTypes}
 use Rattle.saved_form.specs.Reading.{four_in, eight_in, call_in, plain_reply_in, levels_reply_in}
@@ -23,9 +23,9 @@ headed c worker r rest =
     c.operation ∷ c.choice ∷ worker ∷ r.kind ∷ r.errno ∷ r.refusal ∷ r.count ∷ 0 ∷ (four c.caller ++ (four c.number ++ rest))
 
 pub first_block_headed : (e : EntryNumbers) (rest : List ℕ)
-    → first_block e ++ rest ≡ headed e.call e.worker e.reply (asked e.call ++ (told e.reply ++ rest))
+    → first_block e ++ rest ≡ headed e.call e.worker e.reply (asked e.call ++ (reply_bytes e.reply ++ rest))
 unfolding first_block
-first_block_headed e rest = ap (headed e.call e.worker e.reply) (append_assoc (asked e.call) (told e.reply) rest)
+first_block_headed e rest = ap (headed e.call e.worker e.reply) (append_assoc (asked e.call) (reply_bytes e.reply) rest)
 
 group_back : (c : CallNumbers) (worker : ℕ) (r : ReplyNumbers) (rest : List ℕ)
     → HasCallPlaces c → c.caller < 2 ^ 32 → c.number < 2 ^ 32 → FitsSigned w32 c.pid → FitsSigned w32 c.pgid
@@ -92,12 +92,12 @@ call_back e rest places fits =
           ∙ other_back c e.worker e.reply rest places.call fits.caller fits.number fits.id away.0 away.1
     ]
 
-pub told_plain : (r : ReplyNumbers) → (r.kind == 3) ≡ false → told r ≡ eight r.first ++ eight r.second
-unfolding told
+pub told_plain : (r : ReplyNumbers) → (r.kind == 3) ≡ false → reply_bytes r ≡ eight r.first ++ eight r.second
+unfolding reply_bytes
 told_plain r test = ap (λ b. if b then fours (take 4 r.levels) else eight r.first ++ eight r.second) test
 
-pub told_levels : (r : ReplyNumbers) → (r.kind == 3) ≡ true → told r ≡ fours (take 4 r.levels)
-unfolding told
+pub told_levels : (r : ReplyNumbers) → (r.kind == 3) ≡ true → reply_bytes r ≡ fours (take 4 r.levels)
+unfolding reply_bytes
 told_levels r test = ap (λ b. if b then fours (take 4 r.levels) else eight r.first ++ eight r.second) test
 
 -- what the reply tells stands behind the call
@@ -105,12 +105,12 @@ pub told_at : (c : CallNumbers) (worker : ℕ) (r : ReplyNumbers) (rest : List �
 told_at c worker r rest = drop_at (asked c) rest 8 (asked_long c)
 
 pub plain_back : (e : EntryNumbers) (rest : List ℕ) → HasPlaces e → FitsTypes e → (e.reply.kind == 3) ≡ false → e.reply.kind ≢ 3
-    → plain_reply_in (headed e.call e.worker e.reply (asked e.call ++ (told e.reply ++ rest))) ≡ e.reply
+    → plain_reply_in (headed e.call e.worker e.reply (asked e.call ++ (reply_bytes e.reply ++ rest))) ≡ e.reply
 plain_back e rest places fits test is =
     let r : ReplyNumbers = e.reply in
-    let bytes : List ℕ = headed e.call e.worker r (asked e.call ++ (told r ++ rest)) in
+    let bytes : List ℕ = headed e.call e.worker r (asked e.call ++ (reply_bytes r ++ rest)) in
     let behind : drop 24 bytes ≡ (eight r.first ++ eight r.second) ++ rest =
-    told_at e.call e.worker r (told r ++ rest) ∙ ap (λ middle. middle ++ rest) (told_plain r test) in
+    told_at e.call e.worker r (reply_bytes r ++ rest) ∙ ap (λ middle. middle ++ rest) (told_plain r test) in
     let first : eight_in bytes 24 ≡ r.first = ap (from_le_bytes w64) behind ∙ from_le_bytes-to_le_bytes_8 r.first fits.first in
     let second : eight_in bytes 32 ≡ r.second =
     ap (from_le_bytes w64) (sym (drop-drop 8 24 bytes) ∙ ap (drop 8) behind) ∙ from_le_bytes-to_le_bytes_8 r.second fits.second in
@@ -146,7 +146,7 @@ regroup a b c d = simp append_assoc
 
 -- the bytes that begin with those of an entry are its first block, and others behind it
 pub begins_headed : (sum : ℕ) (e : EntryNumbers) (bytes : List ℕ) → BeginsEntry sum e bytes
-    → (rest : List ℕ) × (bytes ≡ headed e.call e.worker e.reply (asked e.call ++ (told e.reply ++ rest)))
+    → (rest : List ℕ) × (bytes ≡ headed e.call e.worker e.reply (asked e.call ++ (reply_bytes e.reply ++ rest)))
 unfolding entry_blocks sealed
 begins_headed sum e bytes begins =
     let first : List ℕ = first_block e in

@@ -4,7 +4,7 @@ use Rattle.std.proofs.lemmas.List.{length-append, length-take}
 use Rattle.saved_form.specs.declared.numbers.EntryNumbers.{EntryNumbers}
 use Rattle.saved_form.specs.declared.numbers.CallNumbers.{CallNumbers}
 use Rattle.saved_form.specs.declared.numbers.ReplyNumbers.{ReplyNumbers}
-use Rattle.saved_form.specs.Form.{four, eight, fours, asked, told, first_block, level_block, level_blocks, further, entry_blocks, entry_size}
+use Rattle.saved_form.specs.Form.{four, eight, fours, asked, reply_bytes, first_block, level_block, level_blocks, further, entry_blocks, entry_size}
 use Rattle.std.specs.Int.{w32, cast_unsigned}
 use Rattle.saved_form.proofs.Levels.{levels_from, length-fours, ten_places}
 use Rattle.saved_form.proofs.Sealed.{AreLong}
@@ -48,8 +48,8 @@ pub asked_long : (c : CallNumbers) → length (asked c) ≡ 8
 unfolding asked
 asked_long c = elim (c.operation == 7) as (λ b. length (if b then four (cast_unsigned w32 c.pid) ++ four (cast_unsigned w32 c.pgid) else eight c.id) ≡ 8) [ true ↦ refl | false ↦ refl ]
 
-told_long : (r : ReplyNumbers) → length r.levels ≡ 33 → length (told r) ≡ 16
-unfolding told
+told_long : (r : ReplyNumbers) → length r.levels ≡ 33 → length (reply_bytes r) ≡ 16
+unfolding reply_bytes
 told_long r long = elim (r.kind == 3) as (λ b. length (if b then fours (take 4 r.levels) else eight r.first ++ eight r.second) ≡ 16)
     [ true ↦ omega (arith, length-fours (take 4 r.levels), length-take 4 r.levels) | false ↦ refl ]
 
@@ -59,7 +59,7 @@ first_block_long e long =
     let front : List ℕ =
     e.call.operation ∷ e.call.choice ∷ e.worker ∷ e.reply.kind ∷ e.reply.errno ∷ e.reply.refusal ∷ e.reply.count ∷ 0 ∷ []
     ++ four e.call.caller ++ four e.call.number in
-    omega (arith, length-append (front ++ asked e.call) (told e.reply), length-append front (asked e.call), asked_long e.call, told_long e.reply long)
+    omega (arith, length-append (front ++ asked e.call) (reply_bytes e.reply), length-append front (asked e.call), asked_long e.call, told_long e.reply long)
 
 pub level_block_long : (place : ℕ) (levels : List ℕ) → place < 3 → length levels ≡ 33 → length (level_block place levels) ≡ 40
 unfolding level_block

@@ -6,9 +6,9 @@ use Rattle.std.proofs.lemmas.Bool.{cases_lt, eq-eqb, lt-ltb, le-ltb}
 use Rattle.std.proofs.lemmas.List.{append_assoc, drop_at, drop-drop, take-append-drop, get_or-take, length-take, ext_get_or}
 use Rattle.saved_form.specs.declared.numbers.EntryNumbers.{EntryNumbers}
 use Rattle.saved_form.specs.Crc.{crc64}
-use Rattle.saved_form.specs.Form.{eight, fours, told, first_block, level_block, level_blocks, entry_blocks, sealed, sum_behind, further}
+use Rattle.saved_form.specs.Form.{eight, fours, reply_bytes, first_block, level_block, level_blocks, entry_blocks, sealed, sum_behind, further}
 use Rattle.saved_form.specs.Places.{HasPlaces, FitsTypes, IsZeroFrom}
-use Rattle.saved_form.specs.Reading.{four_in, level_place, HasLevels}
+use Rattle.saved_form.specs.Reading.{four_in, level_place, ReadsLevels}
 use Rattle.saved_form.specs.Taking.{BeginsEntry}
 use Rattle.saved_form.proofs.Fronts.{regroup, begins_headed, told_at, told_levels}
 use Rattle.saved_form.proofs.Laid.{laid, laid_long, entry_blocks_laid, length-level_blocks}
@@ -62,7 +62,7 @@ first_level sum e bytes k begins fits is lt =
     let levels : List ℕ = e.reply.levels in
     let found = begins_headed sum e bytes begins in
     let behind : drop 24 bytes ≡ fours (take 4 levels) ++ found.0 =
-    ap (drop 24) found.1 ∙ told_at e.call e.worker e.reply (told e.reply ++ found.0)
+    ap (drop 24) found.1 ∙ told_at e.call e.worker e.reply (reply_bytes e.reply ++ found.0)
     ∙ ap (λ middle. middle ++ found.0) (told_levels e.reply (eq-eqb e.reply.kind 3 is)) in
     let item : get_or (take 4 levels) k 0 ≡ get_or levels k 0 = get_or-take 4 levels k 0 lt in
     let small : get_or levels k 0 < 2 ^ 32 = fits.levels k 0 (omega (arith, fits.length)) in
@@ -118,7 +118,7 @@ level_back sum e bytes k begins places fits is lt =
     ]
 
 -- lists of 33 with the same items up to a place, and zeroes from there on, are one
-pub levels_back : (count : ℕ) (bytes xs ys : List ℕ) → HasLevels count bytes xs → length ys ≡ 33
+pub levels_back : (count : ℕ) (bytes xs ys : List ℕ) → ReadsLevels count bytes xs → length ys ≡ 33
     → ((k : ℕ) → k < count → four_in bytes (level_place k) ≡ get_or ys k 0) → IsZeroFrom count ys → xs ≡ ys
 levels_back count bytes xs ys has long each behind =
     let fronts : take count xs ≡ take count ys =

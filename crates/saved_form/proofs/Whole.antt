@@ -7,7 +7,7 @@ use Rattle.saved_form.specs.Crc.{crc64}
 use Rattle.saved_form.specs.Form.{eight, sealed, entry_blocks, further}
 use Rattle.saved_form.specs.Places.{HasPlaces, FitsTypes}
 use Rattle.saved_form.specs.Taking.IsWrongAt.{by_sum, too_many_levels, no_entry}
-use Rattle.saved_form.specs.Taking.{bodies, blocks_said, AreRight, BeginsEntry, IsTorn, IsWhole, IsWrongSum, IsWrongAt}
+use Rattle.saved_form.specs.Taking.{bodies, blocks_said, AreRight, BeginsEntry, IsTorn, IsWholeEntry, IsWrongSum, IsWrongAt}
 use Rattle.saved_form.proofs.Fronts.{regroup, begins_headed}
 use Rattle.saved_form.proofs.Laid.{laid_long, entry_blocks_laid, length-level_blocks}
 use Rattle.saved_form.proofs.Said.{further_none, said_plain, said_levels}
@@ -69,7 +69,7 @@ begins_said sum e bytes places begins =
     ]
 
 -- where an entry begins the bytes, its blocks are there and right
-pub begins_whole : (sum : ℕ) (e : EntryNumbers) (bytes : List ℕ) → HasPlaces e → FitsTypes e → BeginsEntry sum e bytes → IsWhole sum bytes
+pub begins_whole : (sum : ℕ) (e : EntryNumbers) (bytes : List ℕ) → HasPlaces e → FitsTypes e → BeginsEntry sum e bytes → IsWholeEntry sum bytes
 begins_whole sum e bytes places fits begins =
     let said : blocks_said bytes ≡ length (entry_blocks e) = begins_said sum e bytes places begins in
     record {
@@ -109,7 +109,7 @@ right_front a b sum bytes right =
     (length-sealed sum (bodies a bytes) (bodies_long a bytes (omega (arith, right.there))) ∙ ap (λ n. 48 * n) (length-bodies a bytes)) in
     record { there = omega (arith, right.there); sums = cut }
 
-torn_not_whole : (sum wanted : ℕ) (bytes : List ℕ) → IsTorn sum bytes wanted → IsWhole sum bytes → ⊥
+torn_not_whole : (sum wanted : ℕ) (bytes : List ℕ) → IsTorn sum bytes wanted → IsWholeEntry sum bytes → ⊥
 torn_not_whole sum wanted bytes torn whole =
     elim torn [
       | inl short ↦ omega (arith, short.0, whole.some, whole.right.there)

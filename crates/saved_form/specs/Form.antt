@@ -33,14 +33,14 @@ unfoldable pub asked : CallNumbers → List ℕ
 asked c = if c.operation == 7 then four (cast_unsigned w32 c.pid) ++ four (cast_unsigned w32 c.pgid) else eight c.id
 
 -- what the reply tells: of levels, the first four
-unfoldable pub told : ReplyNumbers → List ℕ
-told r = if r.kind == 3 then fours (take 4 r.levels) else eight r.first ++ eight r.second
+unfoldable pub reply_bytes : ReplyNumbers → List ℕ
+reply_bytes r = if r.kind == 3 then fours (take 4 r.levels) else eight r.first ++ eight r.second
 
 -- what of an entry's first block is summed
 unfoldable pub first_block : EntryNumbers → List ℕ
 first_block e =
     e.call.operation ∷ e.call.choice ∷ e.worker ∷ e.reply.kind ∷ e.reply.errno ∷ e.reply.refusal ∷ e.reply.count ∷ 0 ∷ []
-    ++ four e.call.caller ++ four e.call.number ++ asked e.call ++ told e.reply
+    ++ four e.call.caller ++ four e.call.number ++ asked e.call ++ reply_bytes e.reply
 
 -- what of a further block is summed: ten levels behind the first four. The thirty blocks' places have one more than there are levels
 unfoldable pub level_block : ℕ → List ℕ → List ℕ

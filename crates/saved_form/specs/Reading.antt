@@ -58,7 +58,7 @@ levels_reply_in levels bytes = record {
 }
 
 -- these are so many levels, from their places, and zeroes behind them
-pub record HasLevels (count : ℕ) (bytes levels : List ℕ) : Type 0 where
+pub record ReadsLevels (count : ℕ) (bytes levels : List ℕ) : Type 0 where
   pub long : length levels ≡ 33
   pub each : (k : ℕ) → k < count → slice_index levels k ≡ four_in bytes (level_place k)
   pub behind : IsZeroFrom count levels
@@ -67,4 +67,4 @@ pub record HasLevels (count : ℕ) (bytes levels : List ℕ) : Type 0 where
 pub record IsReplyIn (bytes : List ℕ) (r : ReplyNumbers) : Type 0 where
   pub plain : slice_index bytes 3 ≢ 3 → r ≡ plain_reply_in bytes
   pub leveled : slice_index bytes 3 ≡ 3
-      → (levels : List ℕ) × HasLevels (slice_index bytes 6) bytes levels × (r ≡ levels_reply_in levels bytes)
+      → (levels : List ℕ) × ReadsLevels (slice_index bytes 6) bytes levels × (r ≡ levels_reply_in levels bytes)

@@ -60,7 +60,7 @@ pub record IsWrongSum (count sum : ℕ) (bytes : List ℕ) : Type 0 where
   pub wrong : AreRight (count + 1) sum bytes → ⊥
 
 -- all blocks of the entry, as the first one says, are there and right
-pub record IsWhole (sum : ℕ) (bytes : List ℕ) : Type 0 where
+pub record IsWholeEntry (sum : ℕ) (bytes : List ℕ) : Type 0 where
   pub some : 0 < blocks_said bytes
   pub right : AreRight (blocks_said bytes) sum bytes
 
@@ -68,12 +68,12 @@ pub record IsWhole (sum : ℕ) (bytes : List ℕ) : Type 0 where
 pub data IsWrongAt (sum : ℕ) (bytes : List ℕ) : ℕ → Type 0 where
   by_sum : (count : ℕ) → IsWrongSum count sum bytes → IsWrongAt sum bytes (48 * count)
   too_many_levels : 48 ≤ length bytes → blocks_said bytes ≡ 0 → IsWrongAt sum bytes 0
-  no_entry : IsWhole sum bytes → IsWrongAt sum bytes 0
+  no_entry : IsWholeEntry sum bytes → IsWrongAt sum bytes 0
 
 -- all blocks of the entry are there and right: so many, and this is the checksum behind them
 pub record IsFoundWhole (sum : ℕ) (bytes : List ℕ) (blocks behind : ℕ) : Type 0 where
   pub count : blocks ≡ blocks_said bytes
-  pub whole : IsWhole sum bytes
+  pub whole : IsWholeEntry sum bytes
   pub checksum : behind ≡ sum_behind sum (bodies blocks bytes)
 
 -- the bytes begin with those of the entry that was taken

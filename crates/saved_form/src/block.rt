@@ -1,7 +1,6 @@
 //! Blocks: what is summed, and the checksum of all up to there behind it.
 ghost use Rattle.std.specs.Prelude.{◌≡◌, ◌+◌, ◌*◌, ◌≤◌, ◌++◌, length, take, drop};
-ghost use Rattle.saved_form.specs.Crc.{crc64};
-ghost use Rattle.saved_form.specs.Form.{eight};
+ghost use Rattle.saved_form.specs.{Crc.{crc64}, Form.{eight}};
 
 use crate::crc::sum_of;
 

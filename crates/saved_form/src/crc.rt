@@ -1,7 +1,6 @@
 //! The CRC-64/XZ of bytes, eight at a time.
 ghost use Rattle.std.specs.Prelude.{◌≡◌, ◌+◌, ◌*◌, ◌<◌, ◌≤◌, ◌++◌, List, ℕ, length, drop, codes};
-ghost use Rattle.saved_form.specs.Crc.{bit_step, bit_steps, byte_step, crc64, nibble};
-ghost use Rattle.saved_form.specs.Reading.{eight_in};
+ghost use Rattle.saved_form.specs.{Crc.{bit_step, bit_steps, byte_step, crc64, nibble}, Reading.{eight_in}};
 
 /// The polynomial with its bits in the other order.
 const REFLECTED: u64 = 0xc96c_5795_d787_0f42;

@@ -1,9 +1,7 @@
 //! Heads to bytes, and bytes to heads.
-ghost use Rattle.std.specs.Prelude.{◌≡◌, ◌+◌, ◌<◌, ◌≤◌, ◌↔◌, ◌++◌, [], ◌∷◌, length, take, drop};
-ghost use Rattle.std.specs.Prelude.{IsTrue, IfOk, MatchResult, Err};
-ghost use Rattle.saved_form.specs.Form.{sum_behind, head_block, head_bytes};
-ghost use Rattle.saved_form.specs.Places.{HeadFits};
-ghost use Rattle.saved_form.specs.Reading.{head_in};
+ghost use Rattle.std.specs.Prelude.{◌≡◌, ◌+◌, ◌<◌, ◌≤◌, ◌↔◌, ◌++◌, [], ◌∷◌, length, take, drop, IsTrue, IfOk};
+ghost use Rattle.std.specs.Prelude.{MatchResult, Err};
+ghost use Rattle.saved_form.specs.{Form.{sum_behind, head_block, head_bytes}, Places.{HeadFits}, Reading.{head_in}};
 ghost use Rattle.saved_form.specs.Taking.{MayBegin, IsOtherVersion, IsTakenHead, BeginsHead};
 ghost use Rattle.saved_form.specs.declared.numbers.Head.{Head};
 

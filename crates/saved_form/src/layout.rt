@@ -1,6 +1,6 @@
 //! What of each block is summed.
 ghost use Rattle.std.specs.Prelude.{◌≡◌, ◌<◌, ◌++◌, slice_index};
-ghost use Rattle.saved_form.specs.Form.{four, asked, told, head_block, first_block, level_block};
+ghost use Rattle.saved_form.specs.Form.{four, asked, reply_bytes, head_block, first_block, level_block};
 ghost use Rattle.saved_form.specs.Places.{HasPlaces};
 
 use crate::block::SUMMED;
@@ -63,9 +63,9 @@ fn asked(call: &CallNumbers) -> [u8; 8]
 
 /// What the reply tells, in the first block: eight bytes twice.
 #[inline(always)]
-#[tactic(auto, unfolding(crate::specs::Form::told))]
+#[tactic(auto, unfolding(crate::specs::Form::reply_bytes))]
 fn told(reply: &ReplyNumbers) -> ([u8; 8], [u8; 8])
-    ensures { result.0 ++ result.1 ≡ told reply.now }
+    ensures { result.0 ++ result.1 ≡ reply_bytes reply.now }
 {
     let levels = &reply.levels;
     if reply.kind == LEVELS_KIND {

@@ -1,11 +1,10 @@
 //! Entries one after another, to the end of bytes that come in pieces.
 ghost use Rattle.std.specs.Prelude.{◌≡◌, ◌≢◌, ◌+◌, ◌^◌, ◌<◌, ◌≤◌, ◌++◌, ℕ, List, length, drop, true, false};
-ghost use Rattle.saved_form.specs.Places.{HasPlaces, FitsTypes};
-ghost use Rattle.saved_form.specs.Taking.{BeginsEntry, IsTaken};
-ghost use Rattle.saved_form.specs.Ends.{are_zero, AreZeroes, undecided, StaysOpen, EndsHere, IsWrongHere, IsPassed};
-ghost use Rattle.saved_form.specs.Ends.{IsTornEnd};
-ghost use Rattle.saved_form.specs.declared.numbers.EntryNumbers.{EntryNumbers};
-ghost use Rattle.saved_form.specs.declared.take.TakenEntry.{TakenEntry};
+ghost use Rattle.{
+  saved_form.specs.{Places.{HasPlaces, FitsTypes}, Taking.{BeginsEntry, IsTaken}},
+  saved_form.specs.Ends.{are_zero, AreZeroes, undecided, StaysOpen, EndsHere, IsWrongHere, IsPassed, IsTornEnd},
+  saved_form.specs.{declared.numbers.EntryNumbers.{EntryNumbers}, declared.take.TakenEntry.{TakenEntry}},
+};
 
 use crate::block::SUMMED;
 use crate::take::{EntryFault, TakenEntry, take_entry};

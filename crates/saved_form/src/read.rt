@@ -1,10 +1,10 @@
 //! The numbers that stand in an entry's bytes, whatever these are.
 ghost use Rattle.std.specs.Prelude.{◌≡◌, ◌+◌, ◌*◌, ◌<◌, ◌≤◌, ℕ, length};
-ghost use Rattle.saved_form.specs.Form.{further};
-ghost use Rattle.saved_form.specs.Places.{HasPlaces, FitsTypes};
-ghost use Rattle.saved_form.specs.Taking.{blocks_said, BeginsEntry};
-ghost use Rattle.saved_form.specs.Reading.{four_in, eight_in, call_in, level_place};
-ghost use Rattle.saved_form.specs.Reading.{plain_reply_in, levels_reply_in, HasLevels, IsReplyIn};
+ghost use Rattle.{
+  saved_form.specs.{Form.{further}, Places.{HasPlaces, FitsTypes}, Taking.{blocks_said, BeginsEntry}},
+  saved_form.specs.Reading.{four_in, eight_in, call_in, level_place, plain_reply_in, levels_reply_in, ReadsLevels},
+  saved_form.specs.Reading.{IsReplyIn},
+};
 
 use crate::crc::eight_at;
 use crate::numbers::{CallNumbers, EntryNumbers, LEVELS_KIND, ReplyNumbers, SET_PGID};
@@ -69,7 +69,7 @@ fn place_of(k: usize) -> usize
 fn read_levels(bytes: &[u8], count: usize) -> [u32; LEVELS]
     requires few { count ≤ 33 }
     requires there { 48 * (1 + further 3 count) ≤ length bytes.now }
-    ensures levels { HasLevels count bytes.now result }
+    ensures levels { ReadsLevels count bytes.now result }
 {
     let mut levels = [0; LEVELS];
     for k in 0..count {

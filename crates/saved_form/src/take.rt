@@ -1,9 +1,8 @@
 //! Bytes to entries.
-ghost use Rattle.std.specs.Prelude.{◌≡◌, ◌+◌, ◌*◌, ◌<◌, ◌≤◌, ◌↔◌, ℕ, length, take, drop};
-ghost use Rattle.std.specs.Prelude.{IsTrue, IfOk, IfErr, OnErr, MatchResult, Err};
-ghost use Rattle.saved_form.specs.Form.{sum_behind, further, entry_blocks};
-ghost use Rattle.saved_form.specs.Places.{HasPlaces, FitsTypes};
-ghost use Rattle.saved_form.specs.Taking.{bodies, blocks_said, AreRight, BeginsEntry, IsWhole, IsFoundWhole};
+ghost use Rattle.std.specs.Prelude.{◌≡◌, ◌+◌, ◌*◌, ◌<◌, ◌≤◌, ◌↔◌, ℕ, length, take, drop, IsTrue, IfOk, IfErr, OnErr};
+ghost use Rattle.std.specs.Prelude.{MatchResult, Err};
+ghost use Rattle.saved_form.specs.{Form.{sum_behind, further, entry_blocks}, Places.{HasPlaces, FitsTypes}};
+ghost use Rattle.saved_form.specs.Taking.{bodies, blocks_said, AreRight, BeginsEntry, IsWholeEntry, IsFoundWhole};
 ghost use Rattle.saved_form.specs.Taking.{IsTorn, IsWrongAt, IsTaken};
 
 use crate::block::{BLOCK, SUMMED};
@@ -89,7 +88,7 @@ fn blocks_in(bytes: &[u8]) -> usize
 #[inline(always)]
 fn find_blocks(bytes: &[u8], sum: u64) -> Result<Found, EntryFault>
     ensures found { IfOk result (λ found. IsFoundWhole sum bytes.now found.blocks found.behind) }
-    ensures lacking { OnErr result (IsWhole sum bytes.now → ⊥) }
+    ensures lacking { OnErr result (IsWholeEntry sum bytes.now → ⊥) }
     ensures torn { (wanted : ℕ) → result ≡ Err (EntryFault.Torn wanted) → IsTorn sum bytes.now wanted }
     ensures wrong { (place : ℕ) → result ≡ Err (EntryFault.WrongByte place) → IsWrongAt sum bytes.now place }
 {

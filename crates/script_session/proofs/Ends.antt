@@ -1,15 +1,15 @@
 -- How a script ends.
 use Rattle.std.proofs.Common.{◌≡◌, ℕ, Bool, List, [], ◌++◌, Option, Some, sym, ap, ◌∙◌, subst, append-nil}
-use Rattle.script_session.proofs.Names.{Appends, Consumes, IsAtEnd, State, Call, Reply, Event, heard, said, Line, Tally, begun, said_of, said_within, kept_after, last_said, progress_of, ended_at, Says, Answers, Finishes}
+use Rattle.script_session.proofs.Names.{Appends, Consumes, IsAtEnd, State, Call, Reply, Event, heard, said, Line, Tally, at_start, said_of, said_within, kept_after, last_said, progress_of, ended_at, SaysScript, Answers, Finishes}
 use Rattle.pid_script.proofs.Said.{said_within-all}
 use Rattle.pid_script.proofs.Within.{said_within-append, kept_after-append}
 
 module _ {may : Call → Bool} {state : State} {stamp : ℕ} {from to before after : Option (List ℕ)} where
   -- all lines were answered, and nothing waits
   pub finishes : {AreMade : List (Call × Reply) → Type 0} {state' : State} {stamp' : ℕ} (tally : Tally) {held : List ℕ} {lines : List Line} (events : List Event)
-      → Answers may (begun state stamp) (progress_of state' stamp' tally held) (λ sent. said events ≡ sent) AreMade lines → held ≡ [] → lines ≡ said_of (heard events)
+      → Answers may (at_start state stamp) (progress_of state' stamp' tally held) (λ sent. said events ≡ sent) AreMade lines → held ≡ [] → lines ≡ said_of (heard events)
       → Consumes from to (heard events) → Appends before after (said events) → IsAtEnd to
-      → (text : List ℕ) × (calls : List (Call × Reply)) × AreMade calls × Finishes may (begun state stamp) (ended_at state' stamp' tally text calls) from to before after
+      → (text : List ℕ) × (calls : List (Call × Reply)) × AreMade calls × Finishes may (at_start state stamp) (ended_at state' stamp' tally text calls) from to before after
   finishes {state' = state'} {stamp' = stamp'} tally events answers empty are consumed appended at_end = (
     answers.sent,
     answers.calls,
@@ -19,7 +19,7 @@ module _ {may : Call → Bool} {state : State} {stamp : ℕ} {from to before aft
       script = answers.script;
       consumed = consumed;
       at_end = at_end;
-      says = subst (Says may answers.script) are answers.says;
+      says = subst (SaysScript may answers.script) are answers.says;
       reached =
           (λ i. ended_at state' stamp' tally ((sym (append-nil answers.sent) ∙ ap (λ held. answers.sent ++ held) (sym empty)) i) (sym (append-nil answers.calls) i))
           ∙ answers.reached;

@@ -3,7 +3,7 @@ use Rattle.std.proofs.Common.{◌≡◌, ℕ, ◌+◌, ◌^◌, ◌<◌, ◌≤�
 use Rattle.std.proofs.lemmas.Bool.{cases_lt}
 use Rattle.std.proofs.lemmas.List.Elements.{All-append, All-nil}
 use Rattle.std.proofs.Math.Seq.{take-append-add}
-use Rattle.script_session.proofs.Names.{Consumes, IsAtEnd, Call, JobFault, Line, said_whole, said_of, said_within, IsMet, IsRead, calls_said, AreGood, IsReached, Yields, Refuses, Adds, IsStopped}
+use Rattle.script_session.proofs.Names.{Consumes, IsAtEnd, Call, JobFault, Line, said_whole, said_of, said_within, IsMet, IsLineRead, calls_said, AreGood, IsReached, Yields, MeetsFault, Adds, IsStopped}
 use Rattle.script_session.specs.declared.job.JobFault.TheVariants as fault
 use Rattle.pid_script.specs.declared.line.Line.TheVariants as says
 use Rattle.pid_script.proofs.Said.{said_within-whole}
@@ -102,7 +102,7 @@ yields read calls adds short consumed at_end = record {
 
 module _ {from to : Option (List ℕ)} {failed : Bool} where
   -- a fault is met where each line that is reached among these is read
-  refuses : (read : List ℕ) (lines : List Line) (e : JobFault) → ((line : Line) (number : ℕ) → IsReached line number lines → IsRead read to line number) → IsStopped 0 lines e → Consumes from to read → Refuses from to failed e
+  refuses : (read : List ℕ) (lines : List Line) (e : JobFault) → ((line : Line) (number : ℕ) → IsReached line number lines → IsLineRead read to line number) → IsStopped 0 lines e → Consumes from to read → MeetsFault from to failed e
   refuses read lines e reach stops consumed = record { read = read; consumed = consumed; met = met e stops }
     where
       met : (e : JobFault) → IsStopped 0 lines e → IsMet read to failed e
@@ -112,16 +112,16 @@ module _ {from to : Option (List ℕ)} {failed : Bool} where
       met fault.NoMemory stops = (stops.0, stops.1, reach (says.Call stops.0) stops.1 stops.2)
 
   -- one among the lines that end within the most bytes, and one at the last line, which has no newline
-  pub refuses_within : (read : List ℕ) (e : JobFault) → IsStopped 0 (said_within (Some []) (take (2 ^ 20) read)) e → Consumes from to read → Refuses from to failed e
+  pub refuses_within : (read : List ℕ) (e : JobFault) → IsStopped 0 (said_within (Some []) (take (2 ^ 20) read)) e → Consumes from to read → MeetsFault from to failed e
   refuses_within read e stops consumed =
       refuses read (said_whole (take (2 ^ 20) read)) e (λ line number reached. inl reached) (subst (λ lines. IsStopped 0 lines e) (said_within-whole (take (2 ^ 20) read)) stops) consumed
 
-  pub refuses_last : (read : List ℕ) (e : JobFault) → IsStopped 0 (said_of read) e → length read ≤ 2 ^ 20 → Consumes from to read → IsAtEnd to → Refuses from to failed e
+  pub refuses_last : (read : List ℕ) (e : JobFault) → IsStopped 0 (said_of read) e → length read ≤ 2 ^ 20 → Consumes from to read → IsAtEnd to → MeetsFault from to failed e
   refuses_last read e stops short consumed at_end = refuses read (said_of read) e (λ line number reached. inr (short, at_end, reached)) stops consumed
 
   -- a source that fails
   pub refuses_read : {cs cs' : List Call} {n n' : ℕ} (read : List ℕ) → Adds cs n cs' n' (said_within (Some []) read) → length read ≤ 2 ^ 20
-      → Consumes from to read → IsTrue failed → Refuses from to failed fault.Read
+      → Consumes from to read → IsTrue failed → MeetsFault from to failed fault.Read
   refuses_read read adds short consumed fails = record {
     read = read;
     consumed = consumed;
@@ -130,7 +130,7 @@ module _ {from to : Option (List ℕ)} {failed : Bool} where
 
   -- one byte too many
   pub refuses_long : {cs cs' : List Call} {n n' : ℕ} (read : List ℕ) → Adds cs n cs' n' (said_within (Some []) (take (2 ^ 20) read)) → 2 ^ 20 < length read
-      → Consumes from to read → Refuses from to failed fault.TooLong
+      → Consumes from to read → MeetsFault from to failed fault.TooLong
   refuses_long read adds long consumed = record {
     read = read;
     consumed = consumed;

@@ -3,7 +3,7 @@ use Rattle.std.proofs.Common.{◌≡◌, ℕ, ◌+◌, ◌-◌, ◌^◌, Bool, t
 use Rattle.std.proofs.lemmas.Bool.{ne_eqb}
 use Rattle.std.proofs.lemmas.List.Sums.{fold-append}
 use Rattle.std.proofs.lemmas.List.{map-append}
-use Rattle.script_session.proofs.Names.{Call, CallFault, Reply, State, Line, Tally, reply_text, fault_text, answer_of, replied, Progress, HasStopped, with_newline, told, stepped, found_none, MayAllStarve, Says, after_call, after_saying, after_line, after_script, Acts, is_starved, made_by, Leads, ended_at, progress_of, Answers, StopsShort, Event, RunScriptFault, Write, Sends, Queues, Stops, Responds}
+use Rattle.script_session.proofs.Names.{Call, CallFault, Reply, State, Line, Tally, reply_text, fault_text, answer_of, replied, Progress, HasStopped, with_newline, with_answer, with_step, found_none, MayAllStarve, SaysScript, after_asking, after_saying, after_script_line, after_script, Acts, is_starved, made_by, Leads, ended_at, progress_of, Answers, StopsShort, Event, RunScriptFault, Write, Sends, Queues, SendsPart, Responds}
 use Rattle.pid_types.specs.declared.reply.CallFault.TheVariants.{NoMemory, Spent}
 use Rattle.pid_script.specs.declared.line.Line.TheVariants as says
 use Rattle.script_session.proofs.Sent.{Joins, Sends-more, Stalls-more}
@@ -18,7 +18,7 @@ same_progress s s' n n' t t' c c' l l' r r' b b' f f' es en et ec el er eb ef =
 pub call_leads : (may : Call → Bool) (state : State) (stamp : ℕ) (tally : Tally) (call : Call) (made : Result Unit CallFault) (held : Option Reply) (state' : State) (stamp' : ℕ) (tally' : Tally)
     → Acts may state stamp call (replied made held) state' stamp' → tally'.lines ≡ tally.lines + 1 → tally'.recorded ≡ cond (is_ok made) (tally.recorded + 1) tally.recorded → tally'.bad ≡ tally.bad
     → tally'.starved ≡ cond (is_starved made) (tally.starved + 1) tally.starved → Leads may state stamp tally (says.Call call) (with_newline (answer_of (replied made held))) (made_by call (replied made held)) state' stamp' tally'
-unfolding after_call
+unfolding after_asking
 call_leads may state stamp tally call (Ok done) reply state' stamp' tally' acts lines recorded bad starved = (
   false,
   tt,
@@ -58,7 +58,7 @@ bad_leads may state stamp tally tally' lines recorded bad starved = (
 -- how a line goes whose answer is sent or waits, or could not be sent
 pub responds : {T : Type 0} {may : Call → Bool} {state state' : State} {stamp stamp' : ℕ} {tally tally' : Tally} {held held' : List ℕ} {line : Line} {did : List Event → Type 0} {AreMade : List (Call × Reply) → Type 0} {failed full : Bool}
     (r : Result T RunScriptFault) (text : List ℕ) (calls : List (Call × Reply)) → Leads may state stamp tally line text calls state' stamp' tally' → AreMade calls
-    → OnOk r (Queues did (held ++ text) held') → OnErr r (Stops did (held ++ text)) → IfErr r (λ e. e ≡ Write) → OnErr r (HasStopped failed full)
+    → OnOk r (Queues did (held ++ text) held') → OnErr r (SendsPart did (held ++ text)) → IfErr r (λ e. e ≡ Write) → OnErr r (HasStopped failed full)
     → Responds may r (progress_of state stamp tally held) (progress_of state' stamp' tally' held') did AreMade (line ∷ []) failed full
 unfolding after_script
 responds {held = held} {line = line} (Ok x) text calls leads made queues stops fault stopped = record {
@@ -94,17 +94,17 @@ responds {held = held} {line = line} (Err e) text calls leads made queues stops 
 abbrev fronted : List ℕ → List (Call × Reply) → Progress → Progress
 fronted front calls p = record p { text = front ++ p.text; calls = calls ++ p.calls }
 
-told-fronted : (front : List ℕ) (calls : List (Call × Reply)) (p : Progress) (answer : List ℕ) → told (fronted front calls p) answer ≡ fronted front calls (told p answer)
+told-fronted : (front : List ℕ) (calls : List (Call × Reply)) (p : Progress) (answer : List ℕ) → with_answer (fronted front calls p) answer ≡ fronted front calls (with_answer p answer)
 told-fronted front calls p answer =
     same_progress _ _ _ _ _ _ _ _ _ _ _ _ _ _ _ _ refl refl (append_assoc front p.text (with_newline answer)) refl refl refl refl refl
 
 after_call-fronted : (front : List ℕ) (calls : List (Call × Reply)) (p : Progress) (starved : Bool) (call : Call)
-    → after_call (fronted front calls p) starved call ≡ fronted front calls (after_call p starved call)
-unfolding after_call
+    → after_asking (fronted front calls p) starved call ≡ fronted front calls (after_asking p starved call)
+unfolding after_asking
 after_call-fronted front calls p starved call = at (eqb p.stamp (2 ^ 64 - 1)) starved
   where
-    at : (spent starved : Bool) → cond spent (told (fronted front calls p) (fault_text Spent)) (cond starved (found_none (fronted front calls p)) (stepped (fronted front calls p) call))
-        ≡ fronted front calls (cond spent (told p (fault_text Spent)) (cond starved (found_none p) (stepped p call)))
+    at : (spent starved : Bool) → cond spent (with_answer (fronted front calls p) (fault_text Spent)) (cond starved (found_none (fronted front calls p)) (with_step (fronted front calls p) call))
+        ≡ fronted front calls (cond spent (with_answer p (fault_text Spent)) (cond starved (found_none p) (with_step p call)))
     at true starved = told-fronted front calls p (fault_text Spent)
     at false true = let f : Progress → Progress = λ q. record q { starved = p.starved + 1 } in ap f (told-fronted front calls p (fault_text NoMemory))
     at false false = same_progress _ _ _ _ _ _ _ _ _ _ _ _ _ _ _ _ refl refl (append_assoc front p.text _) (append_assoc calls p.calls _) refl refl refl refl
@@ -121,18 +121,18 @@ after_script-fronted : (front : List ℕ) (calls : List (Call × Reply)) (p : Pr
 unfolding after_script
 after_script-fronted front calls p [] = refl
 after_script-fronted front calls p (l ∷ ls) =
-    ap (λ q. fold after_line q ls) (after_line-fronted front calls p l.0 l.1) ∙ after_script-fronted front calls (after_line p l) ls
+    ap (λ q. fold after_script_line q ls) (after_line-fronted front calls p l.0 l.1) ∙ after_script-fronted front calls (after_script_line p l) ls
 
 after_script-append : (p : Progress) (xs ys : List (Line × Bool)) → after_script p (xs ++ ys) ≡ after_script (after_script p xs) ys
 unfolding after_script
-after_script-append p xs ys = fold-append after_line p xs ys
+after_script-append p xs ys = fold-append after_script_line p xs ys
 
 -- lines, and then others
 MayAllStarve-more : (may : Call → Bool) (xs ys : List (Line × Bool)) → MayAllStarve may xs → MayAllStarve may ys → MayAllStarve may (xs ++ ys)
 MayAllStarve-more may [] ys first second = second
 MayAllStarve-more may (x ∷ xs) ys first second = (first.0, MayAllStarve-more may xs ys first.1 second)
 
-Says-more : {may : Call → Bool} {script script' : List (Line × Bool)} {xs ys : List Line} → Says may script xs → Says may script' ys → Says may (script ++ script') (xs ++ ys)
+Says-more : {may : Call → Bool} {script script' : List (Line × Bool)} {xs ys : List Line} → SaysScript may script xs → SaysScript may script' ys → SaysScript may (script ++ script') (xs ++ ys)
 Says-more {may} {script} {script'} first second = record {
   lines = map-append (λ l. l.0) script script' ∙ (λ i. first.lines i ++ second.lines i);
   starved = MayAllStarve-more may script script' first.starved second.starved;
@@ -180,7 +180,7 @@ StopsShort-more more p q xs ys first second = record {
 with_memory : List Line → List (Line × Bool)
 with_memory lines = map (λ l. (l, false)) lines
 
-said-with_memory : (may : Call → Bool) (lines : List Line) → Says may (with_memory lines) lines
+said-with_memory : (may : Call → Bool) (lines : List Line) → SaysScript may (with_memory lines) lines
 unfolding with_memory
 said-with_memory may [] = record { lines = refl; starved = tt }
 said-with_memory may (l ∷ ls) =
@@ -212,7 +212,7 @@ StopsShort-later {may} p IsSent xs ys stops =
 -- some lines, and then what waits is sent: all of it, or not
 pub flushes : {T : Type 0} {may : Call → Bool} {p : Progress} {state : State} {stamp : ℕ} {tally : Tally} {held held' : List ℕ} {lines : List Line} {first second all : List Event → Type 0} {AreMade : List (Call × Reply) → Type 0} {failed full : Bool}
     (r : Result T RunScriptFault) → Joins first second all → Answers may p (progress_of state stamp tally held) (Sends first) AreMade lines
-    → OnOk r (Sends second held) → OnOk r (held' ≡ []) → OnErr r (Stops second held) → IfErr r (λ e. e ≡ Write) → OnErr r (HasStopped failed full)
+    → OnOk r (Sends second held) → OnOk r (held' ≡ []) → OnErr r (SendsPart second held) → IfErr r (λ e. e ≡ Write) → OnErr r (HasStopped failed full)
     → Responds may r p (progress_of state stamp tally held') all AreMade lines failed full
 flushes {state = state} {stamp = stamp} {tally = tally} {held = held} (Ok x) joins answers sends empty stops fault stopped = record {
   ok = record {

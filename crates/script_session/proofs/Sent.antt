@@ -2,7 +2,7 @@
 use Rattle.std.proofs.Common.{◌≡◌, ℕ, List, [], ◌∷◌, ◌++◌, Option, Some, refl, sym, ap, ◌∙◌, subst, append_assoc, append-nil, Result, Ok, Err, OnErr, length, length-append, ◌<◌, take, drop, take-append-drop, ◌-◌, ◌≤◌, arith}
 use Rattle.std.proofs.lemmas.Slice.{between_to_end}
 use Rattle.std.proofs.lemmas.List.Concat.{flat_map-append}
-use Rattle.script_session.proofs.Names.{Event, Writing, said_by, IsWell, AreWell-more, no_readings, Sends, Stalls, Stops}
+use Rattle.script_session.proofs.Names.{Event, Writing, said_by, IsWell, AreWell-more, no_readings, Sends, Stalls, SendsPart}
 
 -- what is done one after another
 abbrev pub Joins : (List Event → Type 0) → (List Event → Type 0) → (List Event → Type 0) → Type 0
@@ -64,7 +64,7 @@ OnErr-always T E (Ok x) P p = tt
 OnErr-always T E (Err e) P p = p
 
 -- where sending stopped in the front, it stopped before what follows it
-pub stops_before : (did : List Event → Type 0) (bytes more : List ℕ) → Stops did bytes → Stops did (bytes ++ more)
+pub stops_before : (did : List Event → Type 0) (bytes more : List ℕ) → SendsPart did bytes → SendsPart did (bytes ++ more)
 stops_before did bytes more at = (
   at.0,
   at.1 ++ more,
@@ -75,7 +75,7 @@ stops_before did bytes more at = (
 
 -- where the next write took none, the bytes that are left were not sent
 pub stops_after : {first second all : List Event → Type 0} → Joins first second all → (bytes sent left : List ℕ) → Sends first sent → Stalls second [] → bytes ≡ sent ++ left
-    → 0 < length left → Stops all bytes
+    → 0 < length left → SendsPart all bytes
 stops_after joins bytes sent left front back is some_left =
     (sent ++ [], left, Stalls-more joins sent [] front back, is ∙ ap (λ front. front ++ left) (sym (append-nil sent)), some_left)
 

@@ -3,16 +3,16 @@ use Rattle.std.proofs.Common.{◌≡◌, ℕ, ◌+◌, ◌<◌, ◌≤◌, Bool,
 use Rattle.std.specs.List.{list_any}
 use Rattle.std.proofs.lemmas.List.Folds.{list_any-append}
 use Rattle.std.proofs.lemmas.List.Concat.{flat_map-append}
-use Rattle.script_session.proofs.Names.{Appends, Consumes, IsAtEnd, Event, Reading, Writing, heard_by, heard, said_by, said, readings, IsWell, AreWell, some_is_none, AreWell-more, readings-more, no_readings, Call, Reply, Line, Progress, Says, said_of, said_whole, said_within, kept_after, said_next, Answers, StopsShort, Halts, Breaks, Sends, Stalls, is_end, lines_heard, IsAnswered, IsCutShort, Follows, Each, Converses, Write}
+use Rattle.script_session.proofs.Names.{Appends, Consumes, IsAtEnd, Event, Reading, Writing, heard_by, heard, said_by, said, readings, IsWell, AreWell, some_is_none, AreWell-more, readings-more, no_readings, Call, Reply, Line, Progress, SaysScript, said_of, said_whole, said_within, kept_after, said_next, Answers, StopsShort, Halts, Breaks, Sends, Stalls, is_end, lines_heard, IsAnswered, IsCutShort, Follows, EachAfter, Converses, Write}
 use Rattle.pid_script.proofs.Said.{said_within-whole}
 use Rattle.script_session.proofs.Progress.{Answers-more, StopsShort-more}
 pub use Rattle.script_session.proofs.Ends.{finishes, more_kept, more_said, last_of}
 
 -- each event of some, and then each of others
-pub Each-more : (P : List Event → Event → Type 0) (before xs ys : List Event) → Each P before xs → Each P (before ++ xs) ys → Each P before (xs ++ ys)
-Each-more P before [] ys front back = subst (λ b. Each P b ys) (append-nil before) back
+pub Each-more : (P : List Event → Event → Type 0) (before xs ys : List Event) → EachAfter P before xs → EachAfter P (before ++ xs) ys → EachAfter P before (xs ++ ys)
+Each-more P before [] ys front back = subst (λ b. EachAfter P b ys) (append-nil before) back
 Each-more P before (x ∷ xs) ys front back =
-    (front.0, Each-more P (before ++ x ∷ []) xs ys front.1 (subst (λ b. Each P b ys) (sym (append_assoc before (x ∷ []) xs)) back))
+    (front.0, Each-more P (before ++ x ∷ []) xs ys front.1 (subst (λ b. EachAfter P b ys) (sym (append_assoc before (x ∷ []) xs)) back))
 
 or_false : (b : Bool) → (b || false) ≡ b
 or_false true = refl
@@ -25,7 +25,7 @@ hears_nothing (Reading asked given ∷ es) none = absurd (some_is_none _ _ none)
 hears_nothing (Writing offered taken ∷ es) none = hears_nothing es none
 
 -- writes that took some may follow where no device has failed
-pub writes_follow : (may : Call → Bool) (start : Progress) (before es : List Event) → AreWell before → AreWell es → readings es ≡ [] → Each (Follows may start) before es
+pub writes_follow : (may : Call → Bool) (start : Progress) (before es : List Event) → AreWell before → AreWell es → readings es ≡ [] → EachAfter (Follows may start) before es
 writes_follow may start before [] well all none = tt
 writes_follow may start before (Reading asked given ∷ es) well all none = absurd (some_is_none _ _ none)
 writes_follow may start before (Writing offered taken ∷ es) well all none =
@@ -33,7 +33,7 @@ writes_follow may start before (Writing offered taken ∷ es) well all none =
 
 -- events of which none is a fault, and in which each read came once all before it was answered; and whether they found the end
 pub record GoesOn (may : Call → Bool) (start p : Progress) (AreMade : List (Call × Reply) → Type 0) (lines : List Line) (events : List Event) (ended : Bool) : Type 0 where
-  pub each : Each (Follows may start) [] events
+  pub each : EachAfter (Follows may start) [] events
   pub well : AreWell events
   pub ends : list_any is_end events ≡ ended
   pub answered : Answers may start p (λ sent. said events ≡ sent) AreMade lines
@@ -56,7 +56,7 @@ pub all_answered : {may : Call → Bool} {AreMade : List (Call × Reply) → Typ
     → IsAnswered may start events
 all_answered {may} start p events lines answers empty are = record {
   script = answers.script;
-  says = subst (Says may answers.script) are answers.says;
+  says = subst (SaysScript may answers.script) are answers.says;
   text = answers.appended ∙ sym (append-nil answers.sent) ∙ ap (λ text. answers.sent ++ text) (sym empty) ∙ ap (λ q. q.text) answers.reached;
 }
 
@@ -73,7 +73,7 @@ halts {may = may} {before = before} {after = after} start least events answered 
   script = answered.script;
   consumed = consumed;
   long = long;
-  says = subst (Says may answered.script) (ap (λ ended. if ended then said_of (heard events) else said_whole (heard events)) endless) answered.says;
+  says = subst (SaysScript may answered.script) (ap (λ ended. if ended then said_of (heard events) else said_whole (heard events)) endless) answered.says;
   written = subst (Appends before after) answered.text appended;
 }
 
@@ -141,7 +141,7 @@ module _ {may : Call → Bool} {start p : Progress} {AreMade : List (Call × Rep
 module _ {may : Call → Bool} {start p : Progress} {AreMade : List (Call × Reply) → Type 0} {events : List Event} (on : GoesOn may start p AreMade (said_within (Some []) (heard events)) events false)
     (empty : p.text ≡ []) {asked : ℕ} (size : asked ≡ 4096) where
   -- a read may follow, and then what follows it
-  pub read_follows : (given : Option (List ℕ)) (es : List Event) → Each (Follows may start) (events ++ Reading asked given ∷ []) es → Each (Follows may start) [] (turn events asked given es)
+  pub read_follows : (given : Option (List ℕ)) (es : List Event) → EachAfter (Follows may start) (events ++ Reading asked given ∷ []) es → EachAfter (Follows may start) [] (turn events asked given es)
   read_follows given es rest = Each-more (Follows may start) [] events (Reading asked given ∷ es) on.each ((on.well, on.ends, omega (arith, size), is_answered on empty), rest)
 
   module _ (piece : List ℕ) where
@@ -189,7 +189,7 @@ module _ {may : Call → Bool} {start p : Progress} {AreMade : List (Call × Rep
           record {
             script = short.script;
             left = short.left;
-            says = subst (Says may short.script) (are ∙ sym (turn_lines piece (stalled stops) stalled_writes)) short.says;
+            says = subst (SaysScript may short.script) (are ∙ sym (turn_lines piece (stalled stops) stalled_writes)) short.says;
             text = short.short ∙ ap (λ sent. sent ++ short.left) (sym short.appended);
             some_left = short.some_left;
           }
@@ -206,7 +206,7 @@ module _ {may : Call → Bool} {start p : Progress} {AreMade : List (Call × Rep
             sent = said all;
             left = stalled_short.left;
             consumed = consumed;
-            says = by_end (Says may stalled_short.script) to (heard all) (list_any is_end all) (λ ended. at_end (sym ends ∙ ended) stalled_writes) stalled_short.says;
+            says = by_end (SaysScript may stalled_short.script) to (heard all) (list_any is_end all) (λ ended. at_end (sym ends ∙ ended) stalled_writes) stalled_short.says;
             text = stalled_short.text;
             some_left = stalled_short.some_left;
             written = appended;

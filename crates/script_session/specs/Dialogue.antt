@@ -9,7 +9,7 @@ use Rattle.script_session.specs.declared.tally.RunScriptFault.TheVariants as fau
 use Rattle.pid_types.specs.declared.call.Call.{Call}
 use Rattle.pid_types.specs.declared.reply.Reply.{Reply}
 use Rattle.pid_script.specs.Script.{said_of, said_whole}
-use Rattle.script_session.specs.Progress.{Progress, HasStopped, after_script, Says}
+use Rattle.script_session.specs.Progress.{Progress, HasStopped, after_script, SaysScript}
 use Rattle.script_session.specs.Session.{Answers, StopsShort}
 
 -- the sink took these bytes, by writes that each took some
@@ -36,14 +36,14 @@ abbrev pub Queues : (List Event → Type 0) → List ℕ → List ℕ → Type 0
 Queues did bytes held = (sent : List ℕ) × Sends did sent × (bytes ≡ sent ++ held)
 
 -- of these bytes not all were sent
-abbrev pub Stops : (List Event → Type 0) → List ℕ → Type 0
-Stops did bytes = (sent left : List ℕ) × Stalls did sent × (bytes ≡ sent ++ left) × (0 < length left)
+abbrev pub SendsPart : (List Event → Type 0) → List ℕ → Type 0
+SendsPart did bytes = (sent left : List ℕ) × Stalls did sent × (bytes ≡ sent ++ left) × (0 < length left)
 
 -- these bytes were sent, or not all of them, since the sink has stopped
 pub record Writes {T : Type 0} (result : Result T RunScriptFault) (did : List Event → Type 0) (bytes : List ℕ)
     (failed full : Bool) : Type 0 where
   pub ok : OnOk result (Sends did bytes)
-  pub err : OnErr result (Stops did bytes)
+  pub err : OnErr result (SendsPart did bytes)
   pub fault : IfErr result (λ e. e ≡ fault.Write)
   pub stopped : OnErr result (HasStopped failed full)
 
@@ -51,7 +51,7 @@ pub record Writes {T : Type 0} (result : Result T RunScriptFault) (did : List Ev
 pub record Holds {T : Type 0} (result : Result T RunScriptFault) (did : List Event → Type 0) (bytes held : List ℕ)
     (failed full : Bool) : Type 0 where
   pub ok : OnOk result (Queues did bytes held)
-  pub err : OnErr result (Stops did bytes)
+  pub err : OnErr result (SendsPart did bytes)
   pub fault : IfErr result (λ e. e ≡ fault.Write)
   pub stopped : OnErr result (HasStopped failed full)
 
@@ -77,14 +77,14 @@ lines_heard events = if list_any is_end events then said_of (heard events) else 
 -- what was written is what the lines that were read come to
 pub record IsAnswered (may : Call → Bool) (start : Progress) (events : List Event) : Type 0 where
   pub script : List (Line × Bool)
-  pub says : Says may script (lines_heard events)
+  pub says : SaysScript may script (lines_heard events)
   pub text : said events ≡ (after_script start script).text
 
 -- what was written is not all that the lines that were read come to, but its front
 pub record IsCutShort (may : Call → Bool) (start : Progress) (events : List Event) : Type 0 where
   pub script : List (Line × Bool)
   pub left : List ℕ
-  pub says : Says may script (lines_heard events)
+  pub says : SaysScript may script (lines_heard events)
   pub text : (after_script start script).text ≡ said events ++ left
   pub some_left : 0 < length left
 
@@ -96,9 +96,9 @@ Follows may start before (Reading asked given) =
 Follows may start before (Writing offered taken) = AreWell before
 
 -- each event is so, given those before it
-abbrev pub Each : (List Event → Event → Type 0) → List Event → List Event → Type 0
-Each P before [] = ⊤
-Each P before (e ∷ es) = P before e × Each P (before ++ e ∷ []) es
+abbrev pub EachAfter : (List Event → Event → Type 0) → List Event → List Event → Type 0
+EachAfter P before [] = ⊤
+EachAfter P before (e ∷ es) = P before e × EachAfter P (before ++ e ∷ []) es
 
 -- how the events end: at the end of the source, with all answered; with the fault of a device; or after so many reads
 abbrev pub EndsBy : (Call → Bool) → ℕ → Progress → Option RunScriptFault → List Event → Type 0
@@ -117,6 +117,6 @@ pub record Converses
     (result : Result T RunScriptFault) : Type 0 where
   pub events : List Event
   pub done : did events
-  pub each : Each (Follows may start) [] events
+  pub each : EachAfter (Follows may start) [] events
   pub few : length (readings events) ≤ turns
   pub ended : EndsBy may turns start (result_err result) events

@@ -36,8 +36,8 @@ pub record Yields (from to : Option (List ℕ)) (calls : List Call) : Type 0 whe
   pub said : calls ≡ calls_said (said_of read)
 
 -- a line that ends within the most bytes that a job may have is reached; or the last one is, which ends with the source
-abbrev pub IsRead : List ℕ → Option (List ℕ) → Line → ℕ → Type 0
-IsRead read to line number =
+abbrev pub IsLineRead : List ℕ → Option (List ℕ) → Line → ℕ → Type 0
+IsLineRead read to line number =
     IsReached line number (said_whole (take (2 ^ 20) read)) ⊎ ((length read ≤ 2 ^ 20) × IsAtEnd to × IsReached line number (said_of read))
 
 -- the fault is the first that is met in these bytes, read forwards. A line is judged where it ends, and the byte behind the most
@@ -45,11 +45,11 @@ IsRead read to line number =
 abbrev pub IsMet : List ℕ → Option (List ℕ) → Bool → JobFault → Type 0
 IsMet read to failed fault.Read = (length read ≤ 2 ^ 20) × AreGood (said_whole read) × IsTrue failed
 IsMet read to failed fault.TooLong = (2 ^ 20 < length read) × AreGood (said_whole (take (2 ^ 20) read))
-IsMet read to failed (fault.BadLine number) = IsRead read to says.Bad number
-IsMet read to failed fault.NoMemory = (call : Call) × (number : ℕ) × IsRead read to (says.Call call) number
+IsMet read to failed (fault.BadLine number) = IsLineRead read to says.Bad number
+IsMet read to failed fault.NoMemory = (call : Call) × (number : ℕ) × IsLineRead read to (says.Call call) number
 
 -- some bytes were read, and the fault is the first in them
-pub record Refuses (from to : Option (List ℕ)) (failed : Bool) (fault : JobFault) : Type 0 where
+pub record MeetsFault (from to : Option (List ℕ)) (failed : Bool) (fault : JobFault) : Type 0 where
   pub read : List ℕ
   pub consumed : Consumes from to read
   pub met : IsMet read to failed fault

@@ -29,8 +29,8 @@ pub record Progress : Type 0 where
   pub starved : ℕ
 
 -- before the first line, at this state and stamp
-abbrev pub begun : State → ℕ → Progress
-begun state stamp = record {
+abbrev pub at_start : State → ℕ → Progress
+at_start state stamp = record {
   state = state;
   stamp = stamp;
   text = [];
@@ -43,19 +43,19 @@ begun state stamp = record {
 
 -- before the first line of a script: the root state of the configuration, and its first stamp
 abbrev pub start_of : Settings → Progress
-start_of config = begun (root_state config.pid_max) config.first_stamp
+start_of config = at_start (root_state config.pid_max) config.first_stamp
 
 -- one line more, with this answer
-abbrev pub told : Progress → List ℕ → Progress
-told p answer = record p { text = p.text ++ with_newline answer; lines = p.lines + 1 }
+abbrev pub with_answer : Progress → List ℕ → Progress
+with_answer p answer = record p { text = p.text ++ with_newline answer; lines = p.lines + 1 }
 
 -- a call that finds no memory
 abbrev pub found_none : Progress → Progress
-found_none p = record (told p (fault_text NoMemory)) { starved = p.starved + 1 }
+found_none p = record (with_answer p (fault_text NoMemory)) { starved = p.starved + 1 }
 
 -- a call that is recorded: one step, which uses a stamp
-abbrev pub stepped : Progress → Call → Progress
-stepped p call =
+abbrev pub with_step : Progress → Call → Progress
+with_step p call =
     let o = step p.state p.stamp call in
     record p {
       state = o.state;
@@ -67,23 +67,23 @@ stepped p call =
     }
 
 -- a call that finds no stamp below the greatest number of 64 bits changes nothing, and so does one that finds no memory
-unfoldable pub after_call : Progress → Bool → Call → Progress
-after_call p starved call =
-    if p.stamp == 2 ^ 64 - 1 then told p (fault_text Spent) else (if starved then found_none p else stepped p call)
+unfoldable pub after_asking : Progress → Bool → Call → Progress
+after_asking p starved call =
+    if p.stamp == 2 ^ 64 - 1 then with_answer p (fault_text Spent) else (if starved then found_none p else with_step p call)
 
 -- what one line adds
 abbrev pub after_saying : Progress → Bool → Line → Progress
 after_saying p starved says.Empty = record p { lines = p.lines + 1 }
-after_saying p starved (says.Call call) = after_call p starved call
-after_saying p starved says.Bad = record (told p (codes "bad line")) { bad = p.bad + 1 }
+after_saying p starved (says.Call call) = after_asking p starved call
+after_saying p starved says.Bad = record (with_answer p (codes "bad line")) { bad = p.bad + 1 }
 
 -- the next line, and whether its call finds no memory
-abbrev pub after_line : Progress → Line × Bool → Progress
-after_line p line = after_saying p line.1 line.0
+abbrev pub after_script_line : Progress → Line × Bool → Progress
+after_script_line p line = after_saying p line.1 line.0
 
 -- what the lines of a script come to, one after another
 unfoldable pub after_script : Progress → List (Line × Bool) → Progress
-after_script p script = fold after_line p script
+after_script p script = fold after_script_line p script
 
 -- a line may be said to find no memory if it is a call that may
 abbrev pub MayStarve : (Call → Bool) → Line → Bool → Type 0
@@ -98,6 +98,6 @@ MayAllStarve may [] = ⊤
 MayAllStarve may (line ∷ script) = MayStarve may line.0 line.1 × MayAllStarve may script
 
 -- the script is these lines, of which none finds no memory but calls that may
-pub record Says (may : Call → Bool) (script : List (Line × Bool)) (said : List Line) : Type 0 where
+pub record SaysScript (may : Call → Bool) (script : List (Line × Bool)) (said : List Line) : Type 0 where
   pub lines : map (λ l. l.0) script ≡ said
   pub starved : MayAllStarve may script

@@ -12,7 +12,7 @@ use Rattle.script_session.specs.declared.tally.Tally.{Tally}
 use Rattle.script_session.specs.declared.tally.RunScriptFault.{RunScriptFault}
 use Rattle.script_session.specs.declared.tally.RunScriptFault.TheVariants as fault
 use Rattle.pid_script.specs.Script.{said_of, said_whole}
-use Rattle.script_session.specs.Progress.{Progress, after_saying, after_script, MayStarve, Says}
+use Rattle.script_session.specs.Progress.{Progress, after_saying, after_script, MayStarve, SaysScript}
 
 -- a call of a table: one step at the stamp, which is used up then; or nothing has changed. Only a call that may find no memory finds none
 abbrev pub Acts : (Call → Bool) → State → ℕ → Call → Result Reply CallFault → State → ℕ → Type 0
@@ -68,7 +68,7 @@ pub record Answers (may : Call → Bool) (p q : Progress) (IsSent : List ℕ →
   pub sent : List ℕ
   pub calls : List (Call × Reply)
   pub script : List (Line × Bool)
-  pub says : Says may script lines
+  pub says : SaysScript may script lines
   pub appended : IsSent sent
   pub made : AreMade calls
   pub reached : record q { text = sent ++ q.text; calls = calls ++ q.calls } ≡ after_script p script
@@ -78,7 +78,7 @@ pub record StopsShort (may : Call → Bool) (p : Progress) (IsSent : List ℕ �
   pub sent : List ℕ
   pub left : List ℕ
   pub script : List (Line × Bool)
-  pub says : Says may script lines
+  pub says : SaysScript may script lines
   pub appended : IsSent sent
   pub short : (after_script p script).text ≡ sent ++ left
   pub some_left : 0 < length left
@@ -93,7 +93,7 @@ pub record Finishes (may : Call → Bool) (start end : Progress) (from to before
   pub script : List (Line × Bool)
   pub consumed : Consumes from to read
   pub at_end : IsAtEnd to
-  pub says : Says may script (said_of read)
+  pub says : SaysScript may script (said_of read)
   pub reached : end ≡ after_script start script
   pub written : Appends before after end.text
 
@@ -103,7 +103,7 @@ pub record Halts (may : Call → Bool) (least : ℕ) (start : Progress) (from to
   pub script : List (Line × Bool)
   pub consumed : Consumes from to read
   pub long : least ≤ length read
-  pub says : Says may script (said_whole read)
+  pub says : SaysScript may script (said_whole read)
   pub written : Appends before after (after_script start script).text
 
 -- what was written is not all of the meaning of the lines that had ended, or at the end of the source of all lines, but its front
@@ -113,7 +113,7 @@ pub record Breaks (may : Call → Bool) (start : Progress) (from to before after
   pub sent : List ℕ
   pub left : List ℕ
   pub consumed : Consumes from to read
-  pub says : Says may script (said_whole read) ⊎ (IsAtEnd to × Says may script (said_of read))
+  pub says : SaysScript may script (said_whole read) ⊎ (IsAtEnd to × SaysScript may script (said_of read))
   pub text : (after_script start script).text ≡ sent ++ left
   pub some_left : 0 < length left
   pub written : Appends before after sent

@@ -1,7 +1,7 @@
 //! Jobs: scripts that are read to their end before any call is made.
 ghost use Rattle.std.specs.Prelude.{◌≡◌, Some, ◌+◌, ◌^◌, ◌<◌, ◌≤◌, [], ◌∷◌, length, OnOk, IfOk, IfErr};
 ghost use Rattle.pid_script.specs.Script.{said_within, kept_after, last_said};
-ghost use Rattle.script_session.specs.Job.{Adds, IsStopped, Yields, Refuses};
+ghost use Rattle.script_session.specs.Job.{Adds, IsStopped, Yields, MeetsFault};
 
 use crate::session::CHUNK;
 use pid_script::bytes::split_line;
@@ -117,7 +117,8 @@ impl Job {
 /// nothing more is read. The cost is linear in the bytes, and so is the memory, in the calls.
 pub fn read_job<S: Source>(alloc: Global, source: &mut S) -> Result<Vec<Call>, JobFault>
     ensures ok { IfOk result (λ calls. Yields (S.remaining source.old) (S.remaining source.new) calls.items) }
-    ensures err { IfErr result (Refuses (S.remaining source.old) (S.remaining source.new) (S.has_failed source.new)) }
+    ensures err { IfErr result
+        (MeetsFault (S.remaining source.old) (S.remaining source.new) (S.has_failed source.new)) }
 {
     let mut job = Job::new(alloc);
     let mut room = MOST_JOB_BYTES;

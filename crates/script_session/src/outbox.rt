@@ -1,7 +1,6 @@
 //! Answers that wait to be written.
 ghost use Rattle.std.specs.Prelude.{◌≡◌, ◌<◌, ◌++◌, [], length, OnOk};
-ghost use Rattle.pid_script.specs.Script.{with_newline};
-ghost use Rattle.pid_script.specs.Answers.{answer_of, lent};
+ghost use Rattle.pid_script.specs.{Script.{with_newline}, Answers.{answer_of, lent}};
 ghost use Rattle.script_session.specs.Dialogue.{Holds, Writes};
 
 use crate::tally::RunScriptFault;

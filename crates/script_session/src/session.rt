@@ -3,21 +3,16 @@
 //! memory of its own.
 ghost use Rattle.std.specs.Prelude.{◌≡◌, ◌≢◌, Some, ◌+◌, ◌^◌, ◌<◌, ◌≤◌, ◌++◌, ◌∷◌, [], List, ℕ, length, OnOk, OnErr};
 ghost use Rattle.std.specs.Prelude.{Bool, IfOk, IfErr, Err, Option, IsSome, option_copied, IsTrue, if◌then◌else◌};
-ghost use Rattle.std.specs.Result.{is_ok};
-ghost use Rattle.std.specs.Io.KnownBytes.{ReadConsumes};
-ghost use Rattle.pid_types.specs.Devices.{DidBoth, reading};
-ghost use Rattle.pid_types.specs.State.{State};
-ghost use Rattle.pid_types.specs.declared.call.Call.{Call};
-ghost use Rattle.pid_types.specs.declared.reply.Reply.{Reply};
-ghost use Rattle.script_session.specs.declared.tally.RunScriptFault.TheVariants.{NoMemory, Read, Write};
-ghost use Rattle.pid_script.specs.Script.{with_newline, said_within, kept_after};
-ghost use Rattle.script_session.specs.Progress.{begun, HasStopped};
-ghost use Rattle.pid_script.specs.Script.{last_said, said_next};
-ghost use Rattle.pid_script.specs.Answers.{answer_of, lent, replied};
-ghost use Rattle.script_session.specs.Dialogue.{Converses, Holds, Responds};
-ghost use Rattle.script_session.specs.Counts.{CountsLine, CountsPiece, MayCount};
-ghost use Rattle.script_session.specs.Session.{Acts, made_by, is_starved, ended_at, progress_of, IsTallied};
-ghost use Rattle.script_session.specs.Session.{Finishes, Leaves};
+ghost use Rattle.std.specs.{Result.{is_ok}, Io.KnownBytes.{ReadConsumes}};
+ghost use Rattle.{
+  pid_types.specs.{Devices.{DidBoth, reading}, State.{State}, declared.call.Call.{Call}, declared.reply.Reply.{Reply}},
+  script_session.specs.declared.tally.RunScriptFault.TheVariants.{NoMemory, Read, Write},
+  script_session.specs.{Progress.{at_start, HasStopped}, Dialogue.{Converses, Holds, Responds}},
+  script_session.specs.Counts.{CountsLine, CountsPiece, MayCount},
+  script_session.specs.Session.{Acts, made_by, is_starved, ended_at, progress_of, IsTallied, Finishes, Leaves},
+  pid_script.specs.Script.{with_newline, said_within, kept_after, last_said, said_next},
+  pid_script.specs.Answers.{answer_of, lent, replied},
+};
 
 use crate::outbox::Outbox;
 use crate::tally::{RunScriptFault, Tally};
@@ -315,13 +310,13 @@ pub fn run_dialogue<T: Table, D: Dialogue>(
     turns: u32,
 ) -> Result<Tally, RunScriptFault>
     ensures ok { IfOk result (λ tally. (text : List ℕ) × (calls : List (Call × Reply))
-        × T.did table.old table.new calls × Finishes T.may_starve (begun (T.state table.old) (T.stamp table.old))
+        × T.did table.old table.new calls × Finishes T.may_starve (at_start (T.state table.old) (T.stamp table.old))
         (ended_at (T.state table.new) (T.stamp table.new) tally text calls)
         (D.remaining devices.old) (D.remaining devices.new) (D.contents devices.old) (D.contents devices.new)) }
-    ensures err { IfErr result (Leaves T.may_starve turns (begun (T.state table.old) (T.stamp table.old))
+    ensures err { IfErr result (Leaves T.may_starve turns (at_start (T.state table.old) (T.stamp table.old))
         (D.remaining devices.old) (D.remaining devices.new) (D.contents devices.old) (D.contents devices.new)
         (D.Source.has_failed devices.new)) }
-    ensures talk { Converses T.may_starve turns (begun (T.state table.old) (T.stamp table.old))
+    ensures talk { Converses T.may_starve turns (at_start (T.state table.old) (T.stamp table.old))
         (D.Source.did devices.old devices.new) result }
     ensures same { D.is_same devices.old devices.new }
     ensures whole { OnOk result ((D.Source.has_failed devices.new ≡ D.Source.has_failed devices.old)
@@ -351,13 +346,13 @@ pub fn run_script<T: Table, S: Source, K: Sink>(
     turns: u32,
 ) -> Result<Tally, RunScriptFault>
     ensures ok { IfOk result (λ tally. (text : List ℕ) × (calls : List (Call × Reply))
-        × T.did table.old table.new calls × Finishes T.may_starve (begun (T.state table.old) (T.stamp table.old))
+        × T.did table.old table.new calls × Finishes T.may_starve (at_start (T.state table.old) (T.stamp table.old))
         (ended_at (T.state table.new) (T.stamp table.new) tally text calls)
         (S.remaining source.old) (S.remaining source.new) (K.contents sink.old) (K.contents sink.new)) }
-    ensures err { IfErr result (Leaves T.may_starve turns (begun (T.state table.old) (T.stamp table.old))
+    ensures err { IfErr result (Leaves T.may_starve turns (at_start (T.state table.old) (T.stamp table.old))
         (S.remaining source.old) (S.remaining source.new) (K.contents sink.old) (K.contents sink.new)
         (S.has_failed source.new)) }
-    ensures talk { Converses T.may_starve turns (begun (T.state table.old) (T.stamp table.old))
+    ensures talk { Converses T.may_starve turns (at_start (T.state table.old) (T.stamp table.old))
         (DidBoth (S.did source.old source.new) (K.did sink.old sink.new)) result }
     ensures whole { OnOk result ((S.has_failed source.new ≡ S.has_failed source.old)
         × (K.has_failed sink.new ≡ K.has_failed sink.old) × (K.is_full sink.new ≡ K.is_full sink.old)) }

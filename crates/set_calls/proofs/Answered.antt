@@ -14,7 +14,7 @@ use Rattle.pid_types.specs.State.{State}
 use Rattle.pid_types.specs.Controls.{control_at, control_path, parent_control, count}
 use Rattle.pid_types.specs.Outcome.{Outcome, answered, changed, refused, for_found, refuse_if, sweep}
 use Rattle.pid_types.specs.Changes.{is_busy, limited, with_control, without_control, with_limit, make_control, remove_control, set_limit, count_tasks}
-use Rattle.pids_charge.specs.Charges.{home_at, handed_on, stands, id_at as home_id, remove_refusal, limit_refusal}
+use Rattle.pids_charge.specs.Charges.{home_at, handed_on, stands, home_id, remove_refusal, limit_refusal}
 use Rattle.task_table.specs.Store.{Store}
 use Rattle.task_table.specs.View.{state_of}
 use Rattle.task_table.specs.Lawful.{IsLawful}

@@ -19,7 +19,7 @@ use Rattle.task_tree.specs.Tree.{task_at, parent_of}
 use Rattle.groups_sessions.specs.declared.ask.GroupAsk.{GroupAsk}
 use Rattle.groups_sessions.specs.declared.ask.Target.{Target}
 use Rattle.groups_sessions.specs.Membership.{Membership, membership_at, session_of, AreInSession}
-use Rattle.groups_sessions.specs.Setpgid.{target_refusal, answer_for, setpgid_answer, is_numbered as is_numbered_key, session_group as session_group_key, group_for as group_for_key, refuse_if as refuse_key}
+use Rattle.groups_sessions.specs.Setpgid.{target_refusal, answer_for, setpgid_answer, has_number, session_group_key, group_key_for, refusal_if}
 use Rattle.groups_sessions.proofs.SessionGroups.{session_group-some}
 use Rattle.task_table.specs.Store.{Store}
 use Rattle.task_table.proofs.Changes.{in_range}
@@ -30,7 +30,7 @@ use Rattle.task_table.specs.Whole.{IsWhole}
 use Rattle.task_table.proofs.Keys.{number-is_key}
 use Rattle.task_table.proofs.LookUps.{named, group-named, session-named, same-name, rows-in}
 use Rattle.task_table.proofs.InUse.{member}
-use Rattle.set_calls.specs.Asked.{IsTarget, IsNamed, MayJoin}
+use Rattle.set_calls.specs.Asked.{IsAskedTarget, IsNamed, MayJoin}
 use Rattle.task_table.proofs.Seated.{group-name, session-name, who, one-key}
 use Rattle.set_calls.proofs.InSession.{session-group-is}
 
@@ -67,17 +67,17 @@ module _ (s : Store) (l : IsLawful s) (w : IsWhole s) (own : Task) (pid : ℤ) (
   session_there : IsSome (identifier_at b ask.session)
   session_there = let m = own_session in let z = session-named s l ask.caller m.0 m.1 in ap is_some (ap (identifier_at b) (sym m.2) ∙ z.1)
 
-  module _ (target : Target) (t : Task) (h : IsTarget s ask.caller t target) where
+  module _ (target : Target) (t : Task) (h : IsAskedTarget s ask.caller t target) where
     target_named : (u : Identifier) × (identifier_at b target.ident ≡ Some u)
     target_named = named s l target.ident t h.there
 
     -- the group that the number names for the target
-    group-is : (z : ℤ) → group_for state row (row_of s target.ident t) z ≡ option_map (name_at b) (group_for_key s.members b ask target z)
+    group-is : (z : ℤ) → group_for state row (row_of s target.ident t) z ≡ option_map (name_at b) (group_key_for s.members b ask target z)
     group-is (negsuc n) = refl
     group-is (pos n) =
         let u = target_named in
         ap (λ o. if (n == 0) || option_eq ◌==◌ o (Some n) then Some (name_at b target.ident) else session_group state row n)
-        (number-is_key b l.numbering ask.space row.name.space target.ident u.0 a.space u.1) ∙ test ((n == 0) || is_numbered_key b target.ident ask.space n)
+        (number-is_key b l.numbering ask.space row.name.space target.ident u.0 a.space u.1) ∙ test ((n == 0) || has_number b target.ident ask.space n)
       where
         test : (x : Bool) → (if x then Some (name_at b target.ident) else session_group state row n)
             ≡ option_map (name_at b) (if x then Some target.ident else session_group_key s.members b ask.session ask.space n)
@@ -112,7 +112,7 @@ module _ (s : Store) (l : IsLawful s) (w : IsWhole s) (own : Task) (pid : ℤ) (
     in_turn : (v x y z : Bool) (g : Option ℕ)
         → refuse_if state v OtherSession (refuse_if state x Executed (refuse_if state y NoTask (refuse_if state z IsLeader
         (for_found state (option_map (name_at b) g) NoGroup (λ group. changed (with_row state (name_at b target.ident) (set_group group)) Done)))))
-        ≡ comes_to (option_map_or Err (refuse_key v OtherSession (refuse_key x Executed (refuse_key y NoTask (refuse_key z IsLeader None)))) (ok_or g NoGroup))
+        ≡ comes_to (option_map_or Err (refusal_if v OtherSession (refusal_if x Executed (refusal_if y NoTask (refusal_if z IsLeader None)))) (ok_or g NoGroup))
     in_turn true x y z g = refl
     in_turn false true y z g = refl
     in_turn false false true z g = refl
@@ -124,7 +124,7 @@ module _ (s : Store) (l : IsLawful s) (w : IsWhole s) (own : Task) (pid : ℤ) (
     unfolding set_group_of
     set-group-is =
         (λ i. form (child-is i) (session i) (executed i) (self i) (leader i) (group-is ask.pgid i))
-        ∙ in_turn (target.is_child && not (target.session == ask.session)) (target.is_child && target.executed) (not (target.is_child || (target.ident == ask.caller))) (target.session == target.ident) (group_for_key s.members b ask target ask.pgid)
+        ∙ in_turn (target.is_child && not (target.session == ask.session)) (target.is_child && target.executed) (not (target.is_child || (target.ident == ask.caller))) (target.session == target.ident) (group_key_for s.members b ask target ask.pgid)
       where
         form : Bool → Bool → Bool → Bool → Bool → Option Name → Outcome
         form child session executed self leader group =
@@ -156,8 +156,8 @@ module _ (s : Store) (l : IsLawful s) (w : IsWhole s) (own : Task) (pid : ℤ) (
         go : (x : Bool) → target.is_child ≡ x → (y : Bool) → (target.session == ask.session) ≡ y → (z : Bool) → (target.ident == ask.caller) ≡ z → target.session ≡ ask.session
         go x xs true ys z zs = eqb-true target.session ask.session ys
         go true xs false ys z zs =
-            let r : target_refusal ask target ≡ Some OtherSession = λ i. refuse_key (xs i && not (ys i)) OtherSession (refuse_key (target.is_child && target.executed) Executed
-            (refuse_key (not (target.is_child || (target.ident == ask.caller))) NoTask (refuse_key (target.session == target.ident) IsLeader None))) in
+            let r : target_refusal ask target ≡ Some OtherSession = λ i. refusal_if (xs i && not (ys i)) OtherSession (refusal_if (target.is_child && target.executed) Executed
+            (refusal_if (not (target.is_child || (target.ident == ask.caller))) NoTask (refusal_if (target.session == target.ident) IsLeader None))) in
             absurd (let z : Some OtherSession ≡ None = sym r ∙ e in cc)
         go false xs false ys true zs =
             let same : target.ident ≡ ask.caller = eqb-true target.ident ask.caller zs in
@@ -166,14 +166,14 @@ module _ (s : Store) (l : IsLawful s) (w : IsWhole s) (own : Task) (pid : ℤ) (
             let z : Some m.0 ≡ Some c.0 = sym m.1 ∙ ap (membership_at s.members) same ∙ c.1 in
             sym m.2 ∙ ap (λ o. option_map_or (λ (i : Membership). i.session) o 0) z ∙ c.2
         go false xs false ys false zs =
-            let r : target_refusal ask target ≡ Some NoTask = λ i. refuse_key (xs i && not (target.session == ask.session)) OtherSession (refuse_key (xs i && target.executed) Executed
-            (refuse_key (not (xs i || zs i)) NoTask (refuse_key (target.session == target.ident) IsLeader None))) in
+            let r : target_refusal ask target ≡ Some NoTask = λ i. refusal_if (xs i && not (target.session == ask.session)) OtherSession (refusal_if (xs i && target.executed) Executed
+            (refusal_if (not (xs i || zs i)) NoTask (refusal_if (target.session == target.ident) IsLeader None))) in
             absurd (let z : Some NoTask ≡ None = sym r ∙ e in cc)
 
     -- whose group it is
-    whose : (g : ℕ) (z : ℤ) → group_for_key s.members b ask target z ≡ Some g → (g ≡ target.ident) ⊎ ((k : ℕ) × (membership_at s.members k ≡ Some (record { group = g; session = ask.session })))
+    whose : (g : ℕ) (z : ℤ) → group_key_for s.members b ask target z ≡ Some g → (g ≡ target.ident) ⊎ ((k : ℕ) × (membership_at s.members k ≡ Some (record { group = g; session = ask.session })))
     whose g (negsuc n) e = absurd (cc)
-    whose g (pos n) e = go ((n == 0) || is_numbered_key b target.ident ask.space n) e
+    whose g (pos n) e = go ((n == 0) || has_number b target.ident ask.space n) e
       where
         go : (x : Bool) → (if x then Some target.ident else session_group_key s.members b ask.session ask.space n) ≡ Some g
             → (g ≡ target.ident) ⊎ ((k : ℕ) × (membership_at s.members k ≡ Some (record { group = g; session = ask.session })))
@@ -198,7 +198,7 @@ module _ (s : Store) (l : IsLawful s) (w : IsWhole s) (own : Task) (pid : ℤ) (
 
     pub may-join : ((k : ℕ) (m : Membership) → membership_at s.members k ≡ Some m → m.group < length s.members) → (g : ℕ) → answer_for s.members b ask target ≡ Ok g → MayJoin s target.ident g
     may-join room g e =
-        let parts = go_on (target_refusal ask target) (group_for_key s.members b ask target ask.pgid) g e in
+        let parts = go_on (target_refusal ask target) (group_key_for s.members b ask target ask.pgid) g e in
         go (whose g ask.pgid parts.1) (not_refused parts.0)
       where
         go : (g ≡ target.ident) ⊎ ((k : ℕ) × (membership_at s.members k ≡ Some (record { group = g; session = ask.session }))) → target.session ≡ ask.session → MayJoin s target.ident g

@@ -8,7 +8,7 @@ use Rattle.pid_types.specs.declared.plain.Row.{Row}
 use Rattle.pid_types.specs.Names.{is_live}
 use Rattle.pid_types.specs.Changes.{is_busy}
 use Rattle.model_laws.proofs.Lists.{some_passes, list_any-from_one}
-use Rattle.pids_charge.specs.Charges.{stands, live_at, id_at as home_id, is_busy as is_busy_key}
+use Rattle.pids_charge.specs.Charges.{stands, live_at, home_id, is_occupied}
 use Rattle.pids_charge.proofs.Sums.{sum-zero, sum_by-places}
 use Rattle.task_tree.specs.declared.Task.{Task}
 use Rattle.task_tree.specs.Tree.{task_at, lives}
@@ -63,6 +63,6 @@ module _ (s : Store) (l : IsLawful s) (c : ℕ) (standing : stands s.charges c �
       go false e = let none = nobody e in sym (let z : nat_lt 0 (live_at s.charges c) ≡ false = grind (arith, nat_tests, none) in z)
 
   -- a control group is busy in the model where it is by its key
-  pub busy-is : is_busy (state_of s) (home_id s.charges c) ≡ is_busy_key s.charges c
+  pub busy-is : is_busy (state_of s) (home_id s.charges c) ≡ is_occupied s.charges c
   unfolding is_busy
   busy-is = ap (λ (b : Bool). b || list_any (λ g. option_eq ◌==◌ g.parent (Some (home_id s.charges c))) s.charges.controls) live-is

@@ -11,7 +11,7 @@ use Rattle.model_laws.proofs.Lists.{find-none, find-found, find-Some}
 use Rattle.pid_numbers.specs.Numbering.{identifier_at, id_at, number_of}
 use Rattle.task_tree.specs.declared.Task.{Task}
 use Rattle.groups_sessions.specs.Membership.{Membership, membership_at}
-use Rattle.groups_sessions.specs.Setpgid.{is_numbered as is_numbered_key, session_group as session_group_key}
+use Rattle.groups_sessions.specs.Setpgid.{has_number, session_group_key}
 use Rattle.groups_sessions.proofs.SessionGroups.{session_group-some, session_group-none}
 use Rattle.task_table.specs.Store.{Store}
 use Rattle.task_table.specs.View.{name_at, row_of, state_of}
@@ -29,7 +29,7 @@ module _ (s : Store) (l : IsLawful s) (row : Row) (session space : ℕ) (here : 
   passes r = same_name r.session row.session && is_numbered (state_of s).spaces r.group row.name.space n
 
   abbrev passes_key : Membership → Bool
-  passes_key m = (m.session == session) && is_numbered_key s.numbering m.group space n
+  passes_key m = (m.session == session) && has_number s.numbering m.group space n
 
   passes-is : (k : ℕ) (t : Task) (m : Membership) → membership_at s.members k ≡ Some m → passes (row_of s k t) ≡ passes_key m
   passes-is k t m at = λ i. in_session i && numbered i
@@ -39,7 +39,7 @@ module _ (s : Store) (l : IsLawful s) (row : Row) (session space : ℕ) (here : 
           let z = session-named s l k m at in
           ap (λ x. same_name x row.session) (session-name s l k t m at) ∙ ap (same_name (name_at s.numbering m.session)) here ∙ same-name s l m.session session (ap is_some z.1) there
 
-      numbered : is_numbered (state_of s).spaces (row_of s k t).group row.name.space n ≡ is_numbered_key s.numbering m.group space n
+      numbered : is_numbered (state_of s).spaces (row_of s k t).group row.name.space n ≡ has_number s.numbering m.group space n
       numbered =
           let g = group-named s l k m at in
           ap (λ x. is_numbered (state_of s).spaces x row.name.space n) (group-name s l k t m at)
@@ -47,7 +47,7 @@ module _ (s : Store) (l : IsLawful s) (row : Row) (session space : ℕ) (here : 
 
   passes-group : (m : Membership) → passes_key m ≡ true → (m.session ≡ session) × (number_of s.numbering m.group space ≡ Some n)
   passes-group m e =
-      let h = and_parts (m.session == session) (is_numbered_key s.numbering m.group space n) e in
+      let h = and_parts (m.session == session) (has_number s.numbering m.group space n) e in
       (eqb-true m.session session h.0, some_number (number_of s.numbering m.group space) n h.1)
 
   -- no task of the session is in such a group
@@ -81,7 +81,7 @@ module _ (s : Store) (l : IsLawful s) (row : Row) (session space : ℕ) (here : 
           let m : Membership = record { group = g; session = session } in
           let k = (h.1).0 in
           let t = who s l k m (h.1).1 in
-          let on : passes_key m ≡ true = and_from (session == session) (is_numbered_key s.numbering g space n) (eq-eqb session session refl) (ap (λ o. option_eq ◌==◌ o (Some n)) h.0 ∙ eq-eqb n n refl) in
+          let on : passes_key m ≡ true = and_from (session == session) (has_number s.numbering g space n) (eq-eqb session session refl) (ap (λ o. option_eq ◌==◌ o (Some n)) h.0 ∙ eq-eqb n n refl) in
           let y = find-found passes (state_of s).rows (row_of s k t.0) (rows-in s l k t.0 t.1) (passes-is k t.0 m (h.1).1 ∙ on) in
           let z = find-Some passes (state_of s).rows y.0 y.1 in
           ap (option_map (λ (r : Row). r.group)) y.1 ∙ ap Some (group-of g h.0 y.0 z.0 z.1)

@@ -8,7 +8,7 @@ use Rattle.pid_types.specs.Outcome.{sweep}
 use Rattle.pid_numbers.specs.Numbering.{number_of}
 use Rattle.task_tree.specs.declared.Task.{Task}
 use Rattle.task_tree.specs.Tree.{task_at, parent_of}
-use Rattle.pids_charge.specs.Charges.{Home, home_at, kept, handed_on, id_at as home_id}
+use Rattle.pids_charge.specs.Charges.{Home, home_at, kept, handed_on, home_id}
 use Rattle.task_table.specs.Store.{Store, IsLess}
 use Rattle.task_table.specs.View.{row_of, row_with, state_of}
 use Rattle.task_table.specs.Lawful.{IsLawful}

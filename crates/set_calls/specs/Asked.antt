@@ -11,7 +11,7 @@ use Rattle.task_table.specs.Store.{Store}
 use Rattle.task_table.specs.View.{row_of, state_of}
 
 -- what is asked about the task that the caller names
-pub record IsTarget (s : Store) (caller : ℕ) (t : Task) (target : Target) : Type 0 where
+pub record IsAskedTarget (s : Store) (caller : ℕ) (t : Task) (target : Target) : Type 0 where
   pub there : task_at s.tree target.ident ≡ Some t
   pub session : session_of s.members target.ident ≡ Some target.session
   pub is_child : target.is_child ≡ option_eq ◌==◌ (parent_of s.tree target.ident) (Some caller)
@@ -21,7 +21,7 @@ pub record IsTarget (s : Store) (caller : ℕ) (t : Task) (target : Target) : Ty
 abbrev pub IsNamed : Store → ℕ → Task → ℤ → Option Target → Type 0
 IsNamed s caller own pid None = target_of (state_of s) (row_of s caller own) pid ≡ None
 IsNamed s caller own pid (Some target) =
-    (t : Task) × IsTarget s caller t target × (target_of (state_of s) (row_of s caller own) pid ≡ Some (row_of s target.ident t))
+    (t : Task) × IsAskedTarget s caller t target × (target_of (state_of s) (row_of s caller own) pid ≡ Some (row_of s target.ident t))
 
 -- the task is there, and so is the group's identifier, and whoever is in the group is in the task's session
 pub record MayJoin (s : Store) (k g : ℕ) : Type 0 where

@@ -5,12 +5,11 @@
 //! at a task. Only making one takes memory.
 
 ghost use Rattle.std.specs.Prelude.{◌≡◌, IfOk, OnErr, OnOk};
-ghost use Rattle.pid_types.specs.Changes.{count_tasks, make_control as make_control_of};
-ghost use Rattle.pid_types.specs.Changes.{remove_control as remove_control_of, set_limit as set_limit_of};
-ghost use Rattle.pid_types.specs.Sound.{IsBelow};
-ghost use Rattle.pid_types.specs.Short.{reply_of};
-ghost use Rattle.task_table.specs.View.{state_of};
-ghost use Rattle.task_table.specs.Whole.{IsWhole, HasParents};
+ghost use Rattle.{
+  pid_types.specs.Changes.{count_tasks, make_control as make_control_of, remove_control as remove_control_of},
+  pid_types.specs.{Changes.{set_limit as set_limit_of}, Sound.{IsBelow}, Short.{reply_of}},
+  task_table.specs.{View.{state_of}, Whole.{IsWhole, HasParents}},
+};
 
 use pid_types::reply::{Refusal, ShortReply};
 use pids_charge::ControlFault;

@@ -5,20 +5,16 @@
 //! look-up, and whether somebody is in a group is asked by the group's key. They take no memory.
 
 ghost use Rattle.std.specs.Prelude.{◌≡◌, ℕ, Some, IsSome, IfOk, IfSome, MatchResult, option_map};
-ghost use Rattle.pid_types.specs.declared.reply.Reply.{Reply};
-ghost use Rattle.pid_types.specs.Groups.{set_pgid as set_pgid_of, set_sid as set_sid_of, set_group, target_of};
-ghost use Rattle.pid_types.specs.Names.{number_or_zero, with_row};
-ghost use Rattle.pid_types.specs.Outcome.{changed, refused};
-ghost use Rattle.pid_types.specs.Short.{reply_of};
-ghost use Rattle.pid_numbers.specs.Numbering.{id_at};
-ghost use Rattle.task_tree.specs.declared.Task.{Task};
-ghost use Rattle.task_tree.specs.Tree.{task_at};
-ghost use Rattle.task_table.specs.declared.view.Found.{Found};
-ghost use Rattle.task_table.specs.Found.{IsFound};
-ghost use Rattle.task_table.specs.View.{name_at, row_of, state_of};
-ghost use Rattle.task_table.specs.Whole.{IsWhole, HasParents};
-ghost use Rattle.set_calls.specs.declared.groups.Move.{Move};
-ghost use Rattle.set_calls.specs.Asked.{IsTarget, IsNamed, MayJoin};
+ghost use Rattle.{
+  pid_types.specs.declared.reply.Reply.{Reply},
+  pid_types.specs.Groups.{set_pgid as set_pgid_of, set_sid as set_sid_of, set_group, target_of},
+  pid_types.specs.{Names.{number_or_zero, with_row}, Outcome.{changed, refused}, Short.{reply_of}},
+  pid_numbers.specs.Numbering.{id_at},
+  task_tree.specs.{declared.Task.{Task}, Tree.{task_at}},
+  task_table.specs.{declared.view.Found.{Found}, Found.{IsFound}, View.{name_at, row_of, state_of}},
+  task_table.specs.Whole.{IsWhole, HasParents},
+  set_calls.specs.{declared.groups.Move.{Move}, Asked.{IsAskedTarget, IsNamed, MayJoin}},
+};
 
 use groups_sessions::{GroupAsk, Target};
 use pid_types::keys::{IdentKey, Pid, TaskKey};
@@ -51,7 +47,7 @@ fn find_target(store: &Tasks, caller: &Found, pid: i32) -> Option<Found>
 fn target(store: &Tasks, caller: IdentKey, found: &Found) -> Target
     requires there { task_at store.now.tree found.now.key ≡ Some found.now.task }
     ensures ident { result.ident ≡ found.now.key }
-    ensures told { IsTarget store.now caller found.now.task result }
+    ensures told { IsAskedTarget store.now caller found.now.task result }
 {
     laws(store);
     Target {

@@ -5,11 +5,11 @@
 //! move. They take no memory.
 
 ghost use Rattle.std.specs.Prelude.{◌≡◌};
-ghost use Rattle.pid_types.specs.Changes.{exec as exec_of, join as join_of, set_subreaper as set_subreaper_of};
-ghost use Rattle.pid_types.specs.Changes.{move_task as move_of};
-ghost use Rattle.pid_types.specs.Short.{reply_of};
-ghost use Rattle.task_table.specs.View.{state_of};
-ghost use Rattle.task_table.specs.Whole.{IsWhole, HasParents};
+ghost use Rattle.{
+  pid_types.specs.Changes.{exec as exec_of, join as join_of, set_subreaper as set_subreaper_of, move_task as move_of},
+  pid_types.specs.Short.{reply_of},
+  task_table.specs.{View.{state_of}, Whole.{IsWhole, HasParents}},
+};
 
 use pid_types::keys::Pid;
 use pid_types::reply::{Refusal, ShortReply};

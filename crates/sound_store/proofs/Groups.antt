@@ -9,7 +9,7 @@ use Rattle.pid_types.specs.Sound.{IsRising}
 use Rattle.model_laws.proofs.Chains.{climb_cases, IsIn-climb_first, IsIn-climb_parent}
 use Rattle.model_laws.proofs.Lists.{IsIn-map, IsIn-from_map}
 use Rattle.model_laws.proofs.Rising.{find-key}
-use Rattle.pids_charge.specs.Charges.{Charges, limit_of}
+use Rattle.pids_charge.specs.Charges.{Charges, control_limit}
 use Rattle.task_table.proofs.Results.{if_some, from_some}
 use Rattle.sound_store.specs.Groups.{HasGoodControls, IsGoodControl, ids_of}
 
@@ -22,7 +22,7 @@ module _ (v : Charges) (rising : IsRising (ids_of v)) where
   parent-of : (g : Control) → IsIn g v.controls → parent_control v.controls g.id ≡ g.parent
   parent-of g i = ap (option_and_then (λ (x : Control). x.parent)) (found g i)
 
-  limit-of : (g : Control) → IsIn g v.controls → limit_of v g.id ≡ g.limit
+  limit-of : (g : Control) → IsIn g v.controls → control_limit v g.id ≡ g.limit
   limit-of g i = ap (option_and_then (λ (x : Control). x.limit)) (found g i)
 
   -- good ids with a root are a tree

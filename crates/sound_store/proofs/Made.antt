@@ -19,7 +19,7 @@ use Rattle.pid_numbers.specs.Numbering.{Identifier, id_at, identifier_at, number
 use Rattle.task_tree.specs.declared.Task.{Task}
 use Rattle.task_tree.specs.Tree.{task_at, parent_of, lives}
 use Rattle.groups_sessions.specs.Membership.{Membership, membership_at, group_of, session_of}
-use Rattle.pids_charge.specs.Charges.{id_at as home_id}
+use Rattle.pids_charge.specs.Charges.{home_id}
 use Rattle.task_table.specs.declared.view.Found.{Found}
 use Rattle.task_table.specs.Store.{Store}
 use Rattle.task_table.specs.View.{name_at, row_of, row_numbered, parent_id, space_of, state_of}
@@ -32,8 +32,8 @@ use Rattle.task_table.proofs.Results.{if_some}
 use Rattle.task_table.proofs.Places.{place-of, rising-ids, found-rise}
 use Rattle.task_table.proofs.Around.{id-of_key, space-from, around-in, in-around, fallen-in, number-on_way, key-named, number-by_key, well_numbered}
 use Rattle.sound_store.proofs.Ways.{number-at, way-chain}
-use Rattle.sound_store.specs.Tasks.{IsTask, lives_at, is_init, is_around, may_be_parent, has_good_parent, has_good_children, has_good_leader, is_led, may_live, has_home, is_good_task, HasGoodTasks}
-use Rattle.sound_store.specs.Spaces.{HasInit, HasGoodSpaces}
+use Rattle.sound_store.specs.Tasks.{IsTask, lives_at, is_own_init, is_around, may_be_parent, has_good_parent, has_good_children, has_good_leader, is_led, may_live, has_home, is_good_task, AllTasksPass}
+use Rattle.sound_store.specs.Spaces.{HasInitTask, HasGoodSpaces}
 use Rattle.sound_store.specs.Groups.{HasGoodControls}
 use Rattle.sound_store.specs.Ways.{HasWays}
 
@@ -176,7 +176,7 @@ module _ (s : Store) (l : IsLawful s) where
 
   -- ---- what the checks of tasks give
 
-  module _ (h : HasGoodTasks s) where
+  module _ (h : AllTasksPass s) where
     passes : (k : ℕ) (t : Task) → task_at s.tree k ≡ Some t → (u : Identifier) → identifier_at s.numbering k ≡ Some u → Passes s (root_number (name_at s.numbering k)) (found_at k u t)
     passes k t e u at = passes-from s (root_number (name_at s.numbering k)) (found_at k u t) (h (root_number (name_at s.numbering k)) (found_at k u t) (is_task-at s k u t e at) (number-at s l k t e))
 
@@ -207,14 +207,14 @@ module _ (s : Store) (l : IsLawful s) where
         let g = parent_is k t e u.0 u.1 p up in
         let id_k = space-id s l k u.0 u.1 in
         let id_p = space-id s l p g.3 g.4 in
-        let around = both (contains (path_at s.numbering u.0.space) g.3.space) (not ((g.3.space == u.0.space) && is_init s (found_at k u.0 t))) g.5 in
+        let around = both (contains (path_at s.numbering u.0.space) g.3.space) (not ((g.3.space == u.0.space) && is_own_init s (found_at k u.0 t))) g.5 in
         record {
           lives = (row_of s p g.0, rows-in s l p g.0 g.1, refl, g.2);
           around = around-in s.numbering l.numbering u.0.space g.3.space (name_at s.numbering k).space (name_at s.numbering p).space id_k id_p (IsIn-from_contains (path_at s.numbering u.0.space) g.3.space around.0);
           outside = λ one same. (
               let here = l.numbering.ids g.3.space u.0.space (name_at s.numbering k).space (id_p ∙ ap Some same) id_k in
-              let init : is_init s (found_at k u.0 t) ≡ true = number_tested (number_of s.numbering k u.0.space) 1 (sym (number-is_key s.numbering l.numbering u.0.space (name_at s.numbering k).space k u.0 id_k u.1) ∙ one) in
-              let z : false ≡ true = sym (ap (λ c. not (c && is_init s (found_at k u.0 t))) (eq-eqb g.3.space u.0.space here) ∙ ap not init) ∙ around.1 in
+              let init : is_own_init s (found_at k u.0 t) ≡ true = number_tested (number_of s.numbering k u.0.space) 1 (sym (number-is_key s.numbering l.numbering u.0.space (name_at s.numbering k).space k u.0 id_k u.1) ∙ one) in
+              let z : false ≡ true = sym (ap (λ c. not (c && is_own_init s (found_at k u.0 t))) (eq-eqb g.3.space u.0.space here) ∙ ap not init) ∙ around.1 in
               let no : ⊥ = cc in no);
         }
 
@@ -293,7 +293,7 @@ module _ (s : Store) (l : IsLawful s) where
           let k = in-rows s l r i in
           subst (HasGoodParents (state_of s).rows (state_of s).spaces) (sym k.3) (of_key k.0 k.1 k.2)
         where
-          init : HasInit s 0
+          init : HasInitTask s 0
           init = (spaces_good.each 0 0 spaces_good.root).init spaces_good.stands
 
           -- the first task has no parent
@@ -333,7 +333,7 @@ module _ (s : Store) (l : IsLawful s) where
                   subst (IsGoodParent (state_of s).rows (state_of s).spaces (row_of s k t)) (ap (λ o. option_map_or (λ (x : Name). x) o a) z) (good_parent k t e p at)
 
 -- the store is whole
-pub whole-from : (s : Store) → IsLawful s → HasGoodSpaces s → HasGoodControls s.charges → HasGoodTasks s → HasWays s → IsWhole s
+pub whole-from : (s : Store) → IsLawful s → HasGoodSpaces s → HasGoodControls s.charges → AllTasksPass s → HasWays s → IsWhole s
 whole-from s l spaces_good controls_good tasks_good ways = record {
   sound = record {
     coherent = record {

@@ -10,7 +10,7 @@ use Rattle.model_laws.proofs.Chains.{climb_cases, IsIn-climb_first, IsIn-climb_p
 use Rattle.task_tree.specs.Tree.{parent_of}
 use Rattle.task_table.specs.Store.{Store}
 use Rattle.task_table.specs.Lawful.{IsLawful}
-use Rattle.sound_store.specs.Ways.{IsFirst, LeadsUp, Reaches, AreMarked}
+use Rattle.sound_store.specs.Ways.{IsFirstTask, LeadsUp, Reaches, AreReached}
 
 -- no mark
 blank : (n k : ℕ) → slice_index_or (replicate n false) k false ≡ true → ⊥
@@ -28,7 +28,7 @@ blank n k e = go (cases_le k n)
 
 module _ (s : Store) where
   -- the first task leads to itself
-  pub reaches-first : (k : ℕ) → IsFirst s k → Reaches s k
+  pub reaches-first : (k : ℕ) → IsFirstTask s k → Reaches s k
   reaches-first k one = (1, (k, one, IsIn-climb_first (parent_of s.tree) 0 k))
 
   -- one whose parent leads up does too
@@ -36,21 +36,21 @@ module _ (s : Store) where
   reaches-child k p up r = (suc r.0, (r.1.0, r.1.1, IsIn-climb_parent (parent_of s.tree) r.0 k p r.1.0 up r.1.2))
 
   -- and the other way, but at the first
-  pub reaches-parent : (k p : ℕ) → parent_of s.tree k ≡ Some p → (IsFirst s k → ⊥) → Reaches s k → Reaches s p
+  pub reaches-parent : (k p : ℕ) → parent_of s.tree k ≡ Some p → (IsFirstTask s k → ⊥) → Reaches s k → Reaches s p
   unfolding climb
   reaches-parent k p up differs r = go r.0 r.1
     where
       go : (most : ℕ) → LeadsUp s most k → Reaches s p
       go zero w = absurd w.2
       go (suc most) w = elim (climb_cases (parent_of s.tree) most k w.0 w.2) [
-        | inl same ↦ absurd (differs (subst (IsFirst s) same w.1))
+        | inl same ↦ absurd (differs (subst (IsFirstTask s) same w.1))
         | inr q ↦
             let z : Some q.0 ≡ Some p = sym q.1 ∙ up in
             (most, (w.0, w.1, subst (λ x. IsIn w.0 (climb (parent_of s.tree) most x)) (ap (λ o. option_map_or (λ n. n) o p) z) q.2))
       ]
 
   -- one more mark
-  pub marked-set : (known : List Bool) (k : ℕ) → k < length known → Reaches s k → AreMarked s known → AreMarked s (slice_set known k true)
+  pub marked-set : (known : List Bool) (k : ℕ) → k < length known → Reaches s k → AreReached s known → AreReached s (slice_set known k true)
   marked-set known k lt reach h = record {
     room = length-set known k true ∙ h.room;
     first = λ j one. elim (cases_eq j k) [
@@ -64,7 +64,7 @@ module _ (s : Store) where
   }
 
   -- the first mark of all
-  pub marked-one : (l : IsLawful s) (n k : ℕ) → n ≡ length s.tree.tasks → k < n → IsFirst s k → AreMarked s (slice_set (replicate n false) k true)
+  pub marked-one : (l : IsLawful s) (n k : ℕ) → n ≡ length s.tree.tasks → k < n → IsFirstTask s k → AreReached s (slice_set (replicate n false) k true)
   marked-one l n k room lt one = record {
     room = length-set (replicate n false) k true ∙ length-replicate n false ∙ room;
     first = λ j also. ap (λ i. get_or (slice_set (replicate n false) k true) i false) (l.numbering.distinct j k 0 1 also one) ∙ get_or-set_same (replicate n false) k true false long;
@@ -78,7 +78,7 @@ module _ (s : Store) where
       long = let e = length-replicate n false in omega (arith, lt, e)
 
   -- what is not marked is not the first
-  pub unmarked : (known : List Bool) (k : ℕ) → AreMarked s known → slice_index_or known k false ≡ false → IsFirst s k → ⊥
+  pub unmarked : (known : List Bool) (k : ℕ) → AreReached s known → slice_index_or known k false ≡ false → IsFirstTask s k → ⊥
   unmarked known k h off one = let z : true ≡ false = sym (h.first k one) ∙ off in cc
 
   -- ---- a walk up that met no mark yet
@@ -100,7 +100,7 @@ module _ (s : Store) where
       ]
 
   -- a walk that ended at no mark
-  pub ahead-none : (known : List Bool) (key left at : ℕ) → AreMarked s known → slice_index_or known at false ≡ false → parent_of s.tree at ≡ None → IsAhead known key left at
+  pub ahead-none : (known : List Bool) (key left at : ℕ) → AreReached s known → slice_index_or known at false ≡ false → parent_of s.tree at ≡ None → IsAhead known key left at
       → LeadsUp s s.numbering.pid_max key → ⊥
   unfolding climb
   ahead-none known key left at h off top before w = go left (before w.0 w.2)
@@ -114,6 +114,6 @@ module _ (s : Store) where
       ]
 
   -- a walk that took all its steps
-  pub ahead-out : (known : List Bool) (key at : ℕ) → AreMarked s known → IsAhead known key 0 at → LeadsUp s s.numbering.pid_max key → ⊥
+  pub ahead-out : (known : List Bool) (key at : ℕ) → AreReached s known → IsAhead known key 0 at → LeadsUp s s.numbering.pid_max key → ⊥
   unfolding climb
   ahead-out known key at h before w = elim (before w.0 w.2) [ inl e ↦ unmarked known w.0 h e w.1 | inr j ↦ j ]

@@ -31,8 +31,8 @@ use Rattle.task_table.proofs.Results.{from_some}
 use Rattle.task_table.proofs.Around.{id-of_key, space-in, in-around, key-named}
 use Rattle.sound_store.proofs.Ways.{number-at, chain-way}
 use Rattle.sound_store.proofs.Made.{owned, space-id_of, found_at, is_task-at, session-of, group-of, some_of}
-use Rattle.sound_store.specs.Tasks.{IsTask, lives_at, is_init, is_around, may_be_parent, has_good_parent, has_good_children, has_good_leader, is_led, may_live, has_home}
-use Rattle.sound_store.specs.Spaces.{HasInit}
+use Rattle.sound_store.specs.Tasks.{IsTask, lives_at, is_own_init, is_around, may_be_parent, has_good_parent, has_good_children, has_good_leader, is_led, may_live, has_home}
+use Rattle.sound_store.specs.Spaces.{HasInitTask}
 use Rattle.sound_store.specs.declared.Flaw.{Flaw}
 use Rattle.sound_store.specs.declared.Flaw.TheVariants.{NoMemory, Space as OfSpace, NoInit, Control, Parent, ChildrenSpace, Group, Fallen, Home}
 use Rattle.sound_store.specs.Flaws.{IsFlaw, IsWrong, IsLedWell, LivesWell, IsSpaceFlaw, IsControlFlaw, IsTaskFlaw, IsWayFlaw}
@@ -63,7 +63,7 @@ module _ (s : Store) (l : IsLawful s) where
       none (id, h.1 (space_of s.numbering (0, 0)) (space-in s.numbering l.numbering 0 0 id) refl)
 
   -- a live init of the model is one by key
-  init-of : (id k : ℕ) → id_at s.numbering k ≡ Some id → HasLiveInit (state_of s).rows (state_of s).spaces id → HasInit s k
+  init-of : (id k : ℕ) → id_at s.numbering k ≡ Some id → HasLiveInit (state_of s).rows (state_of s).spaces id → HasInitTask s k
   init-of id k e r =
       let j = in-rows s l r.0 r.1 in
       let u = named s l j.0 j.1 j.2 in
@@ -137,7 +137,7 @@ module _ (s : Store) (l : IsLawful s) where
           let way = in-around s.numbering l.numbering f.space (name_at s.numbering f.key).space (name_at s.numbering p).space id g.around in
           let here = l.numbering.ids way.0 x.0.space (name_at s.numbering p).space way.2 (space-id s l p x.0 x.1) in
           let inside : contains (path_at s.numbering f.space) x.0.space ≡ true = contains-from_IsIn (path_at s.numbering f.space) x.0.space (subst (λ z. IsIn z (path_at s.numbering f.space)) here way.1) in
-          let out : not ((x.0.space == f.space) && is_init s f) ≡ true = outside x.0.space p (space-id s l p x.0 x.1) g.outside (cases_eq x.0.space f.space) (is_init s f) refl in
+          let out : not ((x.0.space == f.space) && is_own_init s f) ≡ true = outside x.0.space p (space-id s l p x.0 x.1) g.outside (cases_eq x.0.space f.space) (is_own_init s f) refl in
           and_true live (ap (λ o. option_map_or (λ (z : Identifier). is_around s f z.space) o false) x.1 ∙ and_true inside out)
         where
           and_true : {a b : Bool} → a ≡ true → b ≡ true → (a && b) ≡ true
@@ -145,7 +145,7 @@ module _ (s : Store) (l : IsLawful s) where
 
           outside : (space p : ℕ) → id_at s.numbering space ≡ Some (name_at s.numbering p).space
               → (number (state_of s).spaces (name_at s.numbering f.key) (name_at s.numbering f.key).space ≡ Some 1 → (name_at s.numbering p).space ≡ (name_at s.numbering f.key).space → ⊥)
-              → (space ≡ f.space) ⊎ (space ≢ f.space) → (b : Bool) → is_init s f ≡ b → not ((space == f.space) && is_init s f) ≡ true
+              → (space ≡ f.space) ⊎ (space ≢ f.space) → (b : Bool) → is_own_init s f ≡ b → not ((space == f.space) && is_own_init s f) ≡ true
           outside space p at never (inl same) true is = absurd (
               never (own_name ∙ some_number (number_of s.numbering f.key f.space) 1 is)
               (some_of s l (name_at s.numbering p).space (name_at s.numbering f.key).space (sym at ∙ ap (id_at s.numbering) same ∙ id)))
@@ -154,7 +154,7 @@ module _ (s : Store) (l : IsLawful s) where
               either : (b : Bool) → not (b && false) ≡ true
               either true = refl
               either false = refl
-          outside space p at never (inr differs) b is = ap (λ d. not (d && is_init s f)) (let z : (space == f.space) ≡ false = grind (arith, differs) in z)
+          outside space p at never (inr differs) b is = ap (λ d. not (d && is_own_init s f)) (let z : (space == f.space) ≡ false = grind (arith, differs) in z)
 
       parent-passes : (n : ℕ) → number_of s.numbering f.key 0 ≡ Some n → has_good_parent s n f ≡ true
       parent-passes n at = go (parent_of s.tree f.key) refl
@@ -235,7 +235,7 @@ module _ (s : Store) (l : IsLawful s) where
   -- ---- chains
 
   -- a way that leads to no first task is a chain that does not end
-  pub way-told : HasInit s 0 → (flaw : Flaw) → IsWayFlaw s flaw → IsFlaw s flaw
+  pub way-told : HasInitTask s 0 → (flaw : Flaw) → IsWayFlaw s flaw → IsFlaw s flaw
   way-told init NoMemory told = tt
   way-told init (Parent n) told = record {
     row = row_of s told.key told.task;

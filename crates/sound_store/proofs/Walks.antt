@@ -6,7 +6,7 @@ use Rattle.task_tree.specs.Tree.{task_at}
 use Rattle.task_table.specs.declared.view.Found.{Found}
 use Rattle.task_table.specs.Store.{Store}
 use Rattle.task_table.proofs.Changes.{in_range}
-use Rattle.sound_store.specs.Tasks.{IsTask, is_good_task, IsGoodAt, HasGoodTasks}
+use Rattle.sound_store.specs.Tasks.{IsTask, is_good_task, IsGoodAt, AllTasksPass}
 
 module _ (s : Store) where
   -- what was found at one key is one
@@ -32,5 +32,5 @@ module _ (s : Store) where
   none-good key none m g hg at same = absurd (let z : None ≡ Some g.task = sym none ∙ ap (task_at s.tree) (sym same) ∙ hg.there in cc)
 
   -- each key is one that there is room for
-  pub all-good : (most : ℕ) → length s.tree.tasks ≤ most → ((k : ℕ) → k < most → IsGoodAt s k) → HasGoodTasks s
+  pub all-good : (most : ℕ) → length s.tree.tasks ≤ most → ((k : ℕ) → k < most → IsGoodAt s k) → AllTasksPass s
   all-good most all each n f h at = (let room = in_range s.tree.tasks f.key (ap is_some h.there) in each f.key (omega (arith, room, all)) n f h at refl)

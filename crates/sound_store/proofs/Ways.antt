@@ -16,7 +16,7 @@ use Rattle.task_table.specs.View.{name_at, row_of, row_numbered, state_of}
 use Rattle.task_table.specs.Lawful.{IsLawful}
 use Rattle.task_table.proofs.LookUps.{named, root-number, row-at, row_at-key, keyed}
 use Rattle.task_table.proofs.Places.{found-few}
-use Rattle.sound_store.specs.Ways.{IsFirst, LeadsUp, Reaches}
+use Rattle.sound_store.specs.Ways.{IsFirstTask, LeadsUp, Reaches}
 
 -- what a chain has it has for more steps
 pub climb-longer : (f : ℕ → Option ℕ) (k m id x : ℕ) → IsIn x (climb f k id) → IsIn x (climb f (m + k) id)
@@ -29,7 +29,7 @@ module _ (s : Store) (l : IsLawful s) where
   number-at k t e = let u = named s l k t e in root-number s l k u.0 u.1
 
   -- the key of number 1 is the first task's
-  pub first-key : (j k : ℕ) → IsFirst s j → IsFirst s k → j ≡ k
+  pub first-key : (j k : ℕ) → IsFirstTask s j → IsFirstTask s k → j ≡ k
   first-key j k a b = l.numbering.distinct j k 0 1 a b
 
   -- the parent of a task, by its number
@@ -59,7 +59,7 @@ module _ (s : Store) (l : IsLawful s) where
     ]
 
     -- and the other way
-    pub way-back : (most k : ℕ) (t : Task) → task_at s.tree k ≡ Some t → (first : ℕ) → IsFirst s first
+    pub way-back : (most k : ℕ) (t : Task) → task_at s.tree k ≡ Some t → (first : ℕ) → IsFirstTask s first
         → IsIn 1 (climb (parent_number (state_of s).rows) most (root_number (name_at s.numbering k))) → IsIn first (climb (parent_of s.tree) most k)
     unfolding climb
     way-back zero k t e first one i = absurd i
@@ -82,7 +82,7 @@ module _ (s : Store) (l : IsLawful s) where
             (again p v.0 v.1 (subst (λ m. IsIn 1 (climb (parent_number (state_of s).rows) most m)) same j))
 
     -- where a task leads to the first one, which has no parent, its chain of numbers is long enough
-    pub way-chain : (k : ℕ) (t : Task) → task_at s.tree k ≡ Some t → Reaches s k → (first : ℕ) (v : Task) → IsFirst s first → task_at s.tree first ≡ Some v → parent_of s.tree first ≡ None
+    pub way-chain : (k : ℕ) (t : Task) → task_at s.tree k ≡ Some t → Reaches s k → (first : ℕ) (v : Task) → IsFirstTask s first → task_at s.tree first ≡ Some v → parent_of s.tree first ≡ None
         → IsIn 1 (climb (parent_number (state_of s).rows) (length (state_of s).rows) (root_number (name_at s.numbering k)))
     way-chain k t e reach first v one at top =
         let far = way-far reach.0 k t e reach.1 in
@@ -92,11 +92,11 @@ module _ (s : Store) (l : IsLawful s) where
         (ap (parent_number (state_of s).rows) (sym is_one) ∙ parent-number first v at ∙ ap (option_map (λ p. root_number (name_at s.numbering p))) top)
         (IsIn-roots (state_of s).rows 1 (row_of s first v) row) far.0 (root_number (name_at s.numbering k)) far.1
       where
-        row-numbered : (k : ℕ) (t : Task) → task_at s.tree k ≡ Some t → IsFirst s k → row_numbered s 0 1 ≡ Some (row_of s k t)
+        row-numbered : (k : ℕ) (t : Task) → task_at s.tree k ≡ Some t → IsFirstTask s k → row_numbered s 0 1 ≡ Some (row_of s k t)
         row-numbered k t e one = row-at s l k 0 1 t e one
 
     -- a chain that is long enough is a short way
-    pub chain-way : (k : ℕ) (t : Task) → task_at s.tree k ≡ Some t → (first : ℕ) → IsFirst s first
+    pub chain-way : (k : ℕ) (t : Task) → task_at s.tree k ≡ Some t → (first : ℕ) → IsFirstTask s first
         → IsIn 1 (climb (parent_number (state_of s).rows) (length (state_of s).rows) (root_number (name_at s.numbering k))) → LeadsUp s s.numbering.pid_max k
     chain-way k t e first one i =
         let few : length (state_of s).rows ≤ s.numbering.pid_max = found-few (row_numbered s 0) (λ (r : Row). root_number r.name) (λ n r e. keyed s l n r e) 0 s.numbering.pid_max in

@@ -17,7 +17,7 @@ use Rattle.task_table.specs.Whole.{HasParents}
 use Rattle.sound_store.specs.declared.Flaw.{Flaw}
 use Rattle.sound_store.specs.declared.Flaw.TheVariants.{NoMemory, Space as OfSpace, NoInit, Control, Parent, ChildrenSpace, Group, Fallen, Home}
 use Rattle.sound_store.specs.Tasks.{has_good_parent, has_good_children, is_led, may_live, has_home}
-use Rattle.sound_store.specs.Spaces.{HasInit}
+use Rattle.sound_store.specs.Spaces.{HasInitTask}
 use Rattle.sound_store.specs.Groups.{HasGoodControls}
 use Rattle.sound_store.specs.Ways.{LeadsUp}
 
@@ -59,7 +59,7 @@ IsFlaw s (Home n) = IsWrong s n (λ row. IsSome (control_at (state_of s).control
 -- a flaw of the namespace with the id and the key
 abbrev pub IsSpaceFlaw : Store → ℕ → ℕ → Flaw → Type 0
 IsSpaceFlaw s id space (OfSpace i) = ((p : ℕ) → parent_id s.numbering space ≡ Some p → p < id) → ⊥
-IsSpaceFlaw s id space (NoInit i) = (i ≡ id) × (has_fallen_at s.numbering space ≡ false) × (HasInit s space → ⊥)
+IsSpaceFlaw s id space (NoInit i) = (i ≡ id) × (has_fallen_at s.numbering space ≡ false) × (HasInitTask s space → ⊥)
 IsSpaceFlaw s id space _ = ⊥
 
 -- a flaw of control groups

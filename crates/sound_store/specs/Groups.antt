@@ -5,7 +5,7 @@ use Rattle.pid_types.specs.Bounds.{greatest_limit}
 use Rattle.pid_types.specs.Controls.{parent_control, control_path}
 use Rattle.pid_types.specs.Membership.{IsIn}
 use Rattle.pid_types.specs.Sound.{IsTreeOfControls, HasGoodLimit}
-use Rattle.pids_charge.specs.Charges.{Charges, limit_of}
+use Rattle.pids_charge.specs.Charges.{Charges, control_limit}
 
 -- the control groups are a tree, with limits that may be
 pub record HasGoodControls (v : Charges) : Type 0 where
@@ -20,5 +20,5 @@ ids_of v = map (λ c. c.id) v.controls
 pub record IsGoodControl (v : Charges) (id : ℕ) : Type 0 where
   pub younger : (p : ℕ) → parent_control v.controls id ≡ Some p → p < id
   pub path : IsIn 0 (control_path v.controls id)
-  pub root : id ≡ 0 → limit_of v id ≡ None
-  pub bounded : (limit : ℕ) → limit_of v id ≡ Some limit → limit ≤ greatest_limit
+  pub root : id ≡ 0 → control_limit v id ≡ None
+  pub bounded : (limit : ℕ) → control_limit v id ≡ Some limit → limit ≤ greatest_limit

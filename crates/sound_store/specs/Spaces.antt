@@ -14,13 +14,13 @@ pub record IsInit (s : Store) (space : ℕ) (f : Found) : Type 0 where
   pub own : f.space ≡ space
   pub one : number_of s.numbering f.key space ≡ Some 1
 
-abbrev pub HasInit : Store → ℕ → Type 0
-HasInit s space = (f : Found) × IsInit s space f
+abbrev pub HasInitTask : Store → ℕ → Type 0
+HasInitTask s space = (f : Found) × IsInit s space f
 
 -- the namespace with the id and the key is younger than the one that it is in, and has fallen or has an init
 pub record IsGoodSpace (s : Store) (id space : ℕ) : Type 0 where
   pub younger : (p : ℕ) → parent_id s.numbering space ≡ Some p → p < id
-  pub init : has_fallen_at s.numbering space ≡ false → HasInit s space
+  pub init : has_fallen_at s.numbering space ≡ false → HasInitTask s space
 
 -- the root namespace has the id 0 and stands, and each namespace is a good one
 pub record HasGoodSpaces (s : Store) : Type 0 where

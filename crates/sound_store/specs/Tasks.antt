@@ -7,7 +7,7 @@ use Rattle.pid_types.specs.Controls.{control_at}
 use Rattle.pid_numbers.specs.Numbering.{identifier_at, number_of, path_at, has_fallen_at}
 use Rattle.task_tree.specs.Tree.{task_at, parent_of, lives}
 use Rattle.groups_sessions.specs.Membership.{group_of, session_of}
-use Rattle.pids_charge.specs.Charges.{id_at as home_id}
+use Rattle.pids_charge.specs.Charges.{home_id}
 use Rattle.task_table.specs.declared.view.Found.{Found}
 use Rattle.task_table.specs.Store.{Store}
 
@@ -21,12 +21,12 @@ abbrev pub lives_at : Store → ℕ → Bool
 lives_at s k = option_map_or lives (task_at s.tree k) false
 
 -- whether the task is the init of its own namespace
-abbrev pub is_init : Store → Found → Bool
-is_init s f = option_eq ◌==◌ (number_of s.numbering f.key f.space) (Some 1)
+abbrev pub is_own_init : Store → Found → Bool
+is_own_init s f = option_eq ◌==◌ (number_of s.numbering f.key f.space) (Some 1)
 
 -- whether the namespace is the task's own or around it, and not its own if the task is its init
 abbrev pub is_around : Store → Found → ℕ → Bool
-is_around s f space = contains (path_at s.numbering f.space) space && not ((space == f.space) && is_init s f)
+is_around s f space = contains (path_at s.numbering f.space) space && not ((space == f.space) && is_own_init s f)
 
 -- whether the task with the key lives, in such a namespace
 abbrev pub may_be_parent : Store → Found → ℕ → Bool
@@ -65,5 +65,5 @@ abbrev pub IsGoodAt : Store → ℕ → Type 0
 IsGoodAt s key = (n : ℕ) (f : Found) → IsTask s f → number_of s.numbering f.key 0 ≡ Some n → f.key ≡ key → is_good_task s n f ≡ true
 
 -- each task passes
-abbrev pub HasGoodTasks : Store → Type 0
-HasGoodTasks s = (n : ℕ) (f : Found) → IsTask s f → number_of s.numbering f.key 0 ≡ Some n → is_good_task s n f ≡ true
+abbrev pub AllTasksPass : Store → Type 0
+AllTasksPass s = (n : ℕ) (f : Found) → IsTask s f → number_of s.numbering f.key 0 ≡ Some n → is_good_task s n f ≡ true

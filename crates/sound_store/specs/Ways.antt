@@ -8,21 +8,21 @@ use Rattle.task_tree.specs.Tree.{task_at, parent_of}
 use Rattle.task_table.specs.Store.{Store}
 
 -- the key is that of the task with number 1 in the root namespace
-abbrev pub IsFirst : Store → ℕ → Type 0
-IsFirst s k = number_of s.numbering k 0 ≡ Some 1
+abbrev pub IsFirstTask : Store → ℕ → Type 0
+IsFirstTask s k = number_of s.numbering k 0 ≡ Some 1
 
 -- so many keys of the way, the task's own among them, have the first task's
 abbrev pub LeadsUp : Store → ℕ → ℕ → Type 0
-LeadsUp s most k = (first : ℕ) × IsFirst s first × IsIn first (climb (parent_of s.tree) most k)
+LeadsUp s most k = (first : ℕ) × IsFirstTask s first × IsIn first (climb (parent_of s.tree) most k)
 
 -- the way leads to the first task
 abbrev pub Reaches : Store → ℕ → Type 0
 Reaches s k = (most : ℕ) × LeadsUp s most k
 
 -- the first task is marked, and whatever is marked leads to it
-pub record AreMarked (s : Store) (known : List Bool) : Type 0 where
+pub record AreReached (s : Store) (known : List Bool) : Type 0 where
   pub room : length known ≡ length s.tree.tasks
-  pub first : (k : ℕ) → IsFirst s k → slice_index_or known k false ≡ true
+  pub first : (k : ℕ) → IsFirstTask s k → slice_index_or known k false ≡ true
   pub reach : (k : ℕ) → slice_index_or known k false ≡ true → Reaches s k
 
 -- the way of the task with the key does, if there is one

@@ -1,9 +1,8 @@
 //! Whether the chains of parents end at the root init.
 
 ghost use Rattle.std.specs.Prelude.{◌≡◌, ◌≢◌, ℕ, ◌<◌, length, true, false, Some, OnOk, IfOk, IfErr};
-ghost use Rattle.sound_store.specs.Flaws.{IsWayFlaw};
-ghost use Rattle.sound_store.specs.Spaces.{HasInit};
-ghost use Rattle.sound_store.specs.Ways.{LeadsUp, Reaches, AreMarked, HasWayAt, HasWays};
+ghost use Rattle.sound_store.specs.{Flaws.{IsWayFlaw}, Spaces.{HasInitTask}};
+ghost use Rattle.sound_store.specs.Ways.{LeadsUp, Reaches, AreReached, HasWayAt, HasWays};
 
 use crate::Flaw;
 use crate::walk::task_with;
@@ -14,7 +13,7 @@ use task_table::view::{find_task, laws};
 
 /// Whether the way up from a key comes to a marked one, in as many steps as there are numbers.
 fn leads_up(store: &Tasks, known: &[bool], key: TaskKey) -> bool
-    requires marked { AreMarked store.now known.now }
+    requires marked { AreReached store.now known.now }
     requires key { key < length known.now }
     ensures yes { result ≡ true → Reaches store.now key }
     ensures no { result ≡ false → LeadsUp store.now store.now.numbering.pid_max key → ⊥ }
@@ -35,10 +34,10 @@ fn leads_up(store: &Tasks, known: &[bool], key: TaskKey) -> bool
 
 /// Marks the way up from a key as far as it is not marked.
 fn mark_way(store: &Tasks, known: &mut [bool], key: TaskKey)
-    requires marked { AreMarked store.now known.old }
+    requires marked { AreReached store.now known.old }
     requires key { key < length known.old }
     requires reach { Reaches store.now key }
-    ensures { AreMarked store.now known.new }
+    ensures { AreReached store.now known.new }
 {
     store.tree().laws();
     let mut at = key;
@@ -56,8 +55,8 @@ fn mark_way(store: &Tasks, known: &mut [bool], key: TaskKey)
 
 /// Asks for the way of the task with the key, if there is one, and marks it.
 fn check_way(store: &Tasks, known: &mut [bool], key: TaskKey) -> Result<(), Flaw>
-    requires { AreMarked store.now known.old }
-    ensures marked { OnOk result (AreMarked store.now known.new) }
+    requires { AreReached store.now known.old }
+    ensures marked { OnOk result (AreReached store.now known.new) }
     ensures ok { OnOk result (HasWayAt store.now key) }
     ensures told { IfErr result (λ flaw. IsWayFlaw store.now flaw) }
 {
@@ -73,7 +72,7 @@ fn check_way(store: &Tasks, known: &mut [bool], key: TaskKey) -> Result<(), Flaw
 
 /// Asks for the way of each task.
 fn check_ways(store: &Tasks, known: &mut [bool]) -> Result<(), Flaw>
-    requires { AreMarked store.now known.old }
+    requires { AreReached store.now known.old }
     ensures ok { OnOk result (HasWays store.now) }
     ensures told { IfErr result (λ flaw. IsWayFlaw store.now flaw) }
 {
@@ -87,8 +86,8 @@ fn check_ways(store: &Tasks, known: &mut [bool]) -> Result<(), Flaw>
 
 /// A mark for each key, of which that of the root init is set. The error is want of memory.
 fn first_marks(alloc: Global, store: &Tasks) -> Result<Vec<bool>, AllocError>
-    requires { HasInit store.now 0 }
-    ensures { IfOk result (λ known. AreMarked store.now known.items) }
+    requires { HasInitTask store.now 0 }
+    ensures { IfOk result (λ known. AreReached store.now known.items) }
 {
     laws(store);
     let Some(init) = find_task(store, 0, 1) else {
@@ -101,7 +100,7 @@ fn first_marks(alloc: Global, store: &Tasks) -> Result<Vec<bool>, AllocError>
 
 /// Asks for the chains of all tasks, where the root namespace has an init.
 pub(crate) fn check_chains(alloc: Global, store: &Tasks) -> Result<(), Flaw>
-    requires { HasInit store.now 0 }
+    requires { HasInitTask store.now 0 }
     ensures ok { OnOk result (HasWays store.now) }
     ensures told { IfErr result (λ flaw. IsWayFlaw store.now flaw) }
 {

@@ -1,14 +1,12 @@
 //! What is asked of control groups.
 
 ghost use Rattle.std.specs.Prelude.{◌≡◌, ◌↔◌, ℕ, ◌<◌, ◌≤◌, true, Some, None, OnOk, IfErr, IsTrue};
-ghost use Rattle.pid_types.specs.Bounds.{greatest_limit};
-ghost use Rattle.pid_types.specs.declared.plain.Control.{Control};
-ghost use Rattle.pid_types.specs.Controls.{control_at, parent_control, control_path};
-ghost use Rattle.pid_types.specs.Membership.{IsIn};
-ghost use Rattle.pid_types.specs.Sound.{IsRising};
-ghost use Rattle.pids_charge.specs.Charges.{stands, id_at, limit_of};
-ghost use Rattle.sound_store.specs.Flaws.{IsControlFlaw};
-ghost use Rattle.sound_store.specs.Groups.{HasGoodControls, IsGoodControl, ids_of};
+ghost use Rattle.{
+  pid_types.specs.{Bounds.{greatest_limit}, declared.plain.Control.{Control}},
+  pid_types.specs.{Controls.{control_at, parent_control, control_path}, Membership.{IsIn}, Sound.{IsRising}},
+  pids_charge.specs.Charges.{stands, home_id, control_limit},
+  sound_store.specs.{Flaws.{IsControlFlaw}, Groups.{HasGoodControls, IsGoodControl, ids_of}},
+};
 
 use crate::Flaw;
 use pid_types::keys::ControlKey;
@@ -23,7 +21,7 @@ const GREATEST_LIMIT: u32 = 4_194_304;
 /// Whether the root is on the path from the control group up.
 fn leads_to_root(controls: &Controls, control: ControlKey) -> bool
     requires { stands controls.now control ≡ true }
-    ensures { IsTrue result ↔ IsIn 0 (control_path controls.now.controls (id_at controls.now control)) }
+    ensures { IsTrue result ↔ IsIn 0 (control_path controls.now.controls (home_id controls.now control)) }
 {
     let mut at = control;
     for _ in 0..LONGEST_PATH {
@@ -41,8 +39,8 @@ fn leads_to_root(controls: &Controls, control: ControlKey) -> bool
 /// Whether the control group has a greater id than the one that it is in.
 fn is_younger(controls: &Controls, control: ControlKey) -> bool
     requires { stands controls.now control ≡ true }
-    ensures { IsTrue result ↔ ((p : ℕ) → parent_control controls.now.controls (id_at controls.now control) ≡ Some p
-        → p < id_at controls.now control) }
+    ensures { IsTrue result ↔ ((p : ℕ) → parent_control controls.now.controls (home_id controls.now control) ≡ Some p
+        → p < home_id controls.now control) }
 {
     match controls.parent(control) {
         Some(parent) => controls.id(parent) < controls.id(control),
@@ -54,8 +52,8 @@ fn is_younger(controls: &Controls, control: ControlKey) -> bool
 fn has_good_limit(controls: &Controls, control: ControlKey) -> bool
     requires { stands controls.now control ≡ true }
     ensures { IsTrue result
-        ↔ ((id_at controls.now control ≡ 0 → limit_of controls.now (id_at controls.now control) ≡ None)
-        × ((l : ℕ) → limit_of controls.now (id_at controls.now control) ≡ Some l → l ≤ greatest_limit)) }
+        ↔ ((home_id controls.now control ≡ 0 → control_limit controls.now (home_id controls.now control) ≡ None)
+        × ((l : ℕ) → control_limit controls.now (home_id controls.now control) ≡ Some l → l ≤ greatest_limit)) }
 {
     match controls.limit(control) {
         Some(limit) => controls.id(control) != 0 && limit <= GREATEST_LIMIT,
@@ -66,7 +64,7 @@ fn has_good_limit(controls: &Controls, control: ControlKey) -> bool
 /// Asks one control group.
 fn is_good_control(controls: &Controls, control: ControlKey) -> bool
     requires { stands controls.now control ≡ true }
-    ensures { IsTrue result ↔ IsGoodControl controls.now (id_at controls.now control) }
+    ensures { IsTrue result ↔ IsGoodControl controls.now (home_id controls.now control) }
 {
     is_younger(controls, control)
         && leads_to_root(controls, control)

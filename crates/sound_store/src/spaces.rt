@@ -1,10 +1,11 @@
 //! What is asked of namespaces.
 
 ghost use Rattle.std.specs.Prelude.{◌≡◌, ◌↔◌, ℕ, ◌<◌, false, Some, OnOk, IfErr, IsTrue};
-ghost use Rattle.pid_numbers.specs.Numbering.{id_at, has_fallen_at};
-ghost use Rattle.task_table.specs.View.{parent_id};
-ghost use Rattle.sound_store.specs.Flaws.{IsFlaw, IsSpaceFlaw};
-ghost use Rattle.sound_store.specs.Spaces.{HasInit, IsGoodSpace, HasGoodSpaces};
+ghost use Rattle.{
+  pid_numbers.specs.Numbering.{id_at, has_fallen_at},
+  task_table.specs.View.{parent_id},
+  sound_store.specs.{Flaws.{IsFlaw, IsSpaceFlaw}, Spaces.{HasInitTask, IsGoodSpace, HasGoodSpaces}},
+};
 
 use crate::Flaw;
 use pid_types::keys::SpaceKey;
@@ -36,7 +37,7 @@ fn is_younger(store: &Tasks, id: u64, space: SpaceKey) -> bool
 
 /// Whether a live task of the namespace is number 1 in it.
 fn has_init(store: &Tasks, space: SpaceKey) -> bool
-    ensures { IsTrue result ↔ HasInit store.now space }
+    ensures { IsTrue result ↔ HasInitTask store.now space }
 {
     laws(store);
     match find_task(store, space, 1) {

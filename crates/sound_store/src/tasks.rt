@@ -1,12 +1,13 @@
 //! What is asked of each task.
 
 ghost use Rattle.std.specs.Prelude.{◌≡◌, ℕ, true, false, IsSome, Some, OnOk, IfErr};
-ghost use Rattle.groups_sessions.specs.Membership.{membership_at};
-ghost use Rattle.task_tree.specs.Tree.{task_at, parent_of};
-ghost use Rattle.sound_store.specs.Flaws.{IsFlaw, IsTaskFlaw};
-ghost use Rattle.sound_store.specs.Tasks.{IsTask, lives_at, is_init, is_around, may_be_parent, has_good_parent};
-ghost use Rattle.sound_store.specs.Tasks.{has_good_children, is_led, may_live, has_home, is_good_task};
-ghost use Rattle.sound_store.specs.Tasks.{IsGoodAt, HasGoodTasks};
+ghost use Rattle.{
+  groups_sessions.specs.Membership.{membership_at},
+  task_tree.specs.Tree.{task_at, parent_of},
+  sound_store.specs.{Flaws.{IsFlaw, IsTaskFlaw}, Tasks.{IsTask, lives_at, is_own_init, is_around, may_be_parent}},
+  sound_store.specs.Tasks.{has_good_parent, has_good_children, is_led, may_live, has_home, is_good_task, IsGoodAt},
+  sound_store.specs.Tasks.{AllTasksPass},
+};
 
 use crate::Flaw;
 use crate::walk::task_with;
@@ -26,7 +27,7 @@ fn lives_at(store: &Tasks, key: TaskKey) -> bool
 
 /// Whether the task is the init of its own namespace.
 fn is_init(store: &Tasks, found: &Found) -> bool
-    ensures { result ≡ is_init store.now found.now }
+    ensures { result ≡ is_own_init store.now found.now }
 {
     match store.numbers().number_in(found.key, found.space) {
         Some(number) => number == 1,
@@ -145,7 +146,7 @@ fn check_key(store: &Tasks, key: TaskKey) -> Result<(), Flaw>
 
 /// Asks all tasks.
 pub(crate) fn check_tasks(store: &Tasks) -> Result<(), Flaw>
-    ensures ok { OnOk result (HasGoodTasks store.now) }
+    ensures ok { OnOk result (AllTasksPass store.now) }
     ensures told { IfErr result (λ flaw. IsFlaw store.now flaw) }
 {
     let tree = store.tree();

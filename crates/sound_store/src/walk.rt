@@ -1,9 +1,11 @@
 //! The tasks of a store by their keys.
 
 ghost use Rattle.std.specs.Prelude.{◌≡◌, Some, None, IfSome};
-ghost use Rattle.pid_numbers.specs.Numbering.{number_of};
-ghost use Rattle.task_tree.specs.Tree.{task_at};
-ghost use Rattle.sound_store.specs.Tasks.{IsTask};
+ghost use Rattle.{
+  pid_numbers.specs.Numbering.{number_of},
+  task_tree.specs.Tree.{task_at},
+  sound_store.specs.Tasks.{IsTask},
+};
 
 use pid_types::keys::{Pid, TaskKey};
 use task_table::Tasks;

@@ -5,15 +5,14 @@
 #![tactic(auto)]
 
 ghost use Rattle.std.specs.Prelude.{◌≡◌, ◌≢◌, ◌+◌, ◌<◌, ◌≤◌, ◌↔◌, IfOk, IfErr, OnOk, OnErr, Err, IsTrue, length, false};
-ghost use Rattle.call_effects.specs.Touched.{is_touching, most_in, most_of, Watches};
-ghost use Rattle.model_laws.specs.Refusals.{is_query};
-ghost use Rattle.pid_table.specs.Lists.{answers_list};
-ghost use Rattle.pid_types.specs.Short.{reply_of};
-ghost use Rattle.pid_types.specs.Sound.{IsSound, IsBelow};
-ghost use Rattle.pid_types.specs.State.{root_state};
-ghost use Rattle.pid_types.specs.Step.{may_grow};
-ghost use Rattle.stamped_table.specs.Stamped.{IsInOrder, after_call, reply_to};
-ghost use Rattle.translate.specs.Stat.{stat_at};
+ghost use Rattle.{
+  call_effects.specs.Touched.{is_touching, most_in, most_of, Watches},
+  model_laws.specs.Refusals.{is_query},
+  pid_table.specs.Lists.{answers_list},
+  pid_types.specs.{Short.{reply_of}, Sound.{IsSound, IsBelow}, State.{root_state}, Step.{may_grow}},
+  stamped_table.specs.Stamped.{IsInOrder, after_call, reply_to},
+  translate.specs.Stat.{stat_at},
+};
 
 use call_effects::Touched;
 use model_laws::soundness::{root_state_is_sound, soundness_is_kept};
@@ -144,6 +143,17 @@ impl StampedTable {
         let mut reply = Reply::Done;
         self.table.ask(call, &mut reply);
         reply
+    }
+
+    /// Answers a query as [`StampedTable::ask`] does, where that is answered by no list
+    /// ([`answers_list`](pid_table::answers_list)).
+    #[inline(always)]
+    pub fn ask_short(&self, call: Call) -> ShortReply
+        requires asks { IsTrue (is_query call) }
+        requires short { answers_list call ≡ false }
+        ensures { reply_of result ≡ reply_to self.now call }
+    {
+        self.table.ask_short(call)
     }
 
     /// Writes the reply that the call would get as the next one: [`PidTable::would`]. It uses no stamp, and changes

@@ -19,7 +19,7 @@ use Rattle.task_table.specs.View.{parent_id, space_of, spaces_of, state_of}
 use Rattle.task_table.proofs.Around.{around-in, space-from, space-in}
 use Rattle.task_table.proofs.InUse.{used-from}
 use Rattle.task_table.proofs.Keys.{id_for, id_of_there, number-is_key, on_path}
-use Rattle.table_build.specs.Bare.{AreFlagged, MayHaveFalls, bare, steady}
+use Rattle.table_build.specs.Bare.{AreFlagged, MayHaveFalls, undrawn, steady}
 use Rattle.table_build.proofs.Parts.{numbered, same-number, same-up}
 use Rattle.table_build.proofs.Places.{at_place, place_of}
 
@@ -28,18 +28,18 @@ two : (p : List ℕ) (n : ℕ) → slice_get p 1 ≡ Some n → (q : ℕ) × (qs
 two [] n e = absurd (cc)
 two (q ∷ qs) n e = (q, qs, refl)
 
-module _ (b : Numbering) (l : HasLaws b) (spaces : List Space) (listed : map steady (spaces_of b) ≡ map bare spaces) where
+module _ (b : Numbering) (l : HasLaws b) (spaces : List Space) (listed : map steady (spaces_of b) ≡ map undrawn spaces) where
   -- the namespace of a line is there, in the one of its line
   pub line-there : (x : Space) → IsIn x spaces → (s : ℕ) × (id_at b s ≡ Some x.id) × (parent_id b s ≡ x.parent)
   line-there x i =
-      let r = IsIn-from_map steady (bare x) (spaces_of b) (subst (IsIn (bare x)) (sym listed) (IsIn-map bare x spaces i)) in
+      let r = IsIn-from_map steady (undrawn x) (spaces_of b) (subst (IsIn (undrawn x)) (sym listed) (IsIn-map undrawn x spaces i)) in
       let k = space-from b l r.0 r.1 in
       (k.0, k.1 ∙ ap (λ (y : Space). Some y.id) (sym r.2), sym (ap (λ (y : Space). y.parent) k.2) ∙ sym (ap (λ (y : Space). y.parent) r.2))
 
   -- and the other way
   pub there-line : (s i : ℕ) → id_at b s ≡ Some i → (x : Space) × IsIn x spaces × (x.id ≡ i)
   there-line s i e =
-      let r = IsIn-from_map bare (steady (space_of b (i, s))) spaces (subst (IsIn (steady (space_of b (i, s)))) listed (IsIn-map steady (space_of b (i, s)) (spaces_of b) (space-in b l s i e))) in
+      let r = IsIn-from_map undrawn (steady (space_of b (i, s))) spaces (subst (IsIn (steady (space_of b (i, s)))) listed (IsIn-map steady (space_of b (i, s)) (spaces_of b) (space-in b l s i e))) in
       (r.0, r.1, sym (ap (λ (y : Space). y.id) r.2))
 
   module _ (flags : List Bool) (flagged : AreFlagged b spaces (length spaces) flags) where
@@ -78,7 +78,7 @@ used-as b l i s n e =
     go u at used true t true gs true fs = absurd (let z = sym used ∙ ap (λ x. not (x && ((u.groups == 0) && (u.sessions == 0)))) t ∙ ap (λ x. not (x && (u.sessions == 0))) gs ∙ ap not fs in cc)
 
 -- in a store of a sound state each line may have what it says
-module _ (s : Store) (l : IsLawful s) (text : State) (sound : IsSound text) (listed : map steady (spaces_of s.numbering) ≡ map bare text.spaces) (rows : (state_of s).rows ≡ text.rows)
+module _ (s : Store) (l : IsLawful s) (text : State) (sound : IsSound text) (listed : map steady (spaces_of s.numbering) ≡ map undrawn text.spaces) (rows : (state_of s).rows ≡ text.rows)
     (flags : List Bool) (flagged : AreFlagged s.numbering text.spaces (length text.spaces) flags) where
   -- the namespace with the first key is the root
   root-id : (x : Space) → IsIn x text.spaces → id_at s.numbering 0 ≡ Some x.id → x.id ≡ 0

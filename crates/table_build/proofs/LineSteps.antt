@@ -12,7 +12,7 @@ use Rattle.table_build.specs.declared.placed.Placed.{Placed}
 use Rattle.table_build.specs.Recent.{Bears}
 use Rattle.table_build.specs.Sessions.{AddsGroup}
 use Rattle.table_build.specs.Stages.{AddsRow, KeepsBearers, SetsRow}
-use Rattle.table_build.specs.Lines.{AreGroups, AreLines, IsLine, SameLines, SetsLine, is_held, stage}
+use Rattle.table_build.specs.Lines.{AreGroups, AreLines, IsRowAt, SameLines, SetsLine, is_held, stage}
 use Rattle.table_build.proofs.Places.{below_length}
 use Rattle.table_build.proofs.Steps.{bears-kept}
 
@@ -48,7 +48,7 @@ module _ {X : Type 0} where
   get-past (y ∷ ys) x e = get-past ys x e
 
 -- a held key is not that of a line
-differs : {s : Store} {p : Placed} {k j : ℕ} {r : Row} → IsLine s p k r → is_held p j ≡ true → k ≢ j
+differs : {s : Store} {p : Placed} {k j : ℕ} {r : Row} → IsRowAt s p k r → is_held p j ≡ true → k ≢ j
 differs {s} {p} line held same = let z : true ≡ false = sym held ∙ ap (is_held p) (sym same) ∙ line.real in cc
 
 -- a placeholder came
@@ -130,7 +130,7 @@ lines-push s t p q f key row lines a at keys held real = record {
     not_new : (k : ℕ) (r : Row) → row_with s k ≡ Some r → k ≢ key
     not_new k r shown same_key = let z : None ≡ Some r = sym a.fresh ∙ ap (row_with s) (sym same_key) ∙ shown in cc
 
-    forth : (k : ℕ) (r : Row) → IsLine s p k r → IsLine t q k r
+    forth : (k : ℕ) (r : Row) → IsRowAt s p k r → IsRowAt t q k r
     forth k r line = record { shown = a.sets.others k (not_new k r line.shown) ∙ line.shown; real = same k ∙ line.real }
 
     two : (i j k : ℕ) → (slice_get p.keys.items i ≡ Some k) ⊎ ((i ≡ length p.keys.items) × (k ≡ key))
@@ -166,7 +166,7 @@ lines-set s t p q f g i key row lines m keys at here others = record {
     new : (j k : ℕ) → slice_get p.keys.items j ≡ Some k → slice_get q.keys.items j ≡ Some k
     new j k e = ap (λ (v : Vec ℕ Global). slice_get v.items j) keys ∙ e
 
-    each : (j k : ℕ) → slice_get p.keys.items j ≡ Some k → (j ≡ i) ⊎ (j ≢ i) → (r : Row) × (g j ≡ Some r) × IsLine t q k r
+    each : (j k : ℕ) → slice_get p.keys.items j ≡ Some k → (j ≡ i) ⊎ (j ≢ i) → (r : Row) × (g j ≡ Some r) × IsRowAt t q k r
     each j k e (inl same) =
         let own : k ≡ key = (let z = sym e ∙ ap (slice_get p.keys.items) same ∙ at in let y : k ≡ key = cc in y) in
         (row, ap g same ∙ here, record { shown = ap (row_with t) own ∙ m.here.shown; real = ap (is_held q) own ∙ m.here.real })
@@ -215,11 +215,11 @@ module _ (done todo : Row → Row) (rows : List Row) where
   stage-others i j not = ap (λ b. option_map (if b then done else todo) (slice_get rows j)) (let z : nat_lt j (i + 1) ≡ nat_lt j i = grind (arith, not) in z)
 
 -- the row of a line's task
-pub line-at : (s : Store) (p : Placed) (f : ℕ → Option Row) (j key : ℕ) (row : Row) → AreLines s p f → slice_get p.keys.items j ≡ Some key → f j ≡ Some row → IsLine s p key row
+pub line-at : (s : Store) (p : Placed) (f : ℕ → Option Row) (j key : ℕ) (row : Row) → AreLines s p f → slice_get p.keys.items j ≡ Some key → f j ≡ Some row → IsRowAt s p key row
 line-at s p f j key row lines at is =
     let line = lines.each j key at in
     let same : line.0 ≡ row = (let z = sym line.1 ∙ is in let y : line.0 ≡ row = cc in y) in
-    subst (IsLine s p key) same line.2
+    subst (IsRowAt s p key) same line.2
 
 -- one group more
 pub groups-push : (s t : Store) (p q : Placed) (rows : List Row) (key : ℕ) (row : Row) → AreGroups s p rows → KeepsBearers s t → AddsGroup s t p q key row → slice_get rows (length p.groups.items) ≡ Some row

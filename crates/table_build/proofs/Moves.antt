@@ -9,11 +9,11 @@ use Rattle.pid_types.specs.declared.plain.Row.{Row}
 use Rattle.pid_types.specs.declared.plain.Ended.{Ended}
 use Rattle.pid_types.specs.declared.plain.Life.TheVariants.{Zombie}
 use Rattle.pid_types.specs.State.{root_name}
-use Rattle.pid_numbers.specs.Numbering.{Numbering, Namespace, Identifier, namespace_at, id_at, identifier_at, has_fallen_at, taken_in, is_dead, is_there}
+use Rattle.pid_numbers.specs.Numbering.{Numbering, Namespace, Identifier, namespace_at, id_at, identifier_at, has_fallen_at, taken_in, is_deserted, is_there}
 use Rattle.task_tree.specs.declared.Task.{Task}
 use Rattle.task_tree.specs.Tree.{task_at, parent_of}
 use Rattle.groups_sessions.specs.Membership.{Membership, group_of, session_of}
-use Rattle.pids_charge.specs.Charges.{Charges, Home, home_at, ChangesHome, id_at as home_id}
+use Rattle.pids_charge.specs.Charges.{Charges, Home, home_at, ChangesHome, home_id}
 use Rattle.task_table.specs.Store.{Store, IsLess, bare}
 use Rattle.task_table.specs.View.{name_at, row_of, row_with}
 use Rattle.task_table.specs.Whole.{HasParents}
@@ -35,7 +35,7 @@ spaces-stay b c h standing less = record {
   each = λ s. ap (option_map without_cursor) (same s);
 }
   where
-    left : (s : ℕ) (o : Option Namespace) → namespace_at b s ≡ o → option_and_then (λ t. if is_dead (record b { names = c.names }) s t then None else Some t) o ≡ o
+    left : (s : ℕ) (o : Option Namespace) → namespace_at b s ≡ o → option_and_then (λ t. if is_deserted (record b { names = c.names }) s t then None else Some t) o ≡ o
     left s None is = refl
     left s (Some t) is =
         ap (λ f. if f && (length (taken_in (record b { names = c.names }) s) == 0) then None else Some t)

@@ -27,10 +27,10 @@ use Rattle.task_table.proofs.LookUps.{named, session-named, space-id}
 use Rattle.table_build.specs.declared.placed.Placed.{Placed}
 use Rattle.table_build.specs.Grouping.{IsGroupIn, IsSeenByParent}
 use Rattle.table_build.specs.Lines.{AreGroups, AreLines, is_held, stage}
-use Rattle.table_build.specs.Parts.{AreAllBorne, AreSeated, HasPlaces, HaveSeats, IsPart, IsUnborne}
+use Rattle.table_build.specs.Parts.{AreAllBorne, AreSeated, HasParts, HaveSeats, IsPart, IsUnborne}
 use Rattle.table_build.specs.Recent.{Bears}
 use Rattle.table_build.specs.Sessions.{AddsGroup, AddsPlaceholder, Seats}
-use Rattle.table_build.specs.Stages.{AddsRow, KeepsBearers, KeepsPlaces, SetsRow, begun, seated}
+use Rattle.table_build.specs.Stages.{AddsRow, KeepsBearers, KeepsPlaces, SetsRow, as_begun, seated}
 use Rattle.table_build.specs.Ungrouped.{IsUngrouped}
 use Rattle.table_build.proofs.LineSteps.{get-is, get-pushed, group-at}
 use Rattle.table_build.proofs.Parts.{same-up}
@@ -38,7 +38,7 @@ use Rattle.table_build.proofs.Places.{at_place, below_length, place_of}
 use Rattle.table_build.proofs.SpaceFalls.{steady-same}
 use Rattle.table_build.proofs.Steps.{task-of}
 
-pub places-kept : (s t : Store) (text : State) → KeepsPlaces s t → HasPlaces s text → HasPlaces t text
+pub places-kept : (s t : Store) (text : State) → KeepsPlaces s t → HasParts s text → HasParts t text
 places-kept s t text k h = record {
   spaces = steady-same s.numbering t.numbering k.spaces ∙ h.spaces;
   controls = k.controls ∙ h.controls;
@@ -156,14 +156,14 @@ some_row f None r e = absurd (cc)
 some_row f (Some x) r e = (x, refl, (let z : f x ≡ r = cc in sym z))
 
 -- nobody bears the name of the next line yet
-pub unborne-next : (s : Store) (p : Placed) (rows : List Row) (i : ℕ) (row : Row) → AreLines s p (λ j. option_map begun (slice_get rows j)) → length p.keys.items ≡ i
+pub unborne-next : (s : Store) (p : Placed) (rows : List Row) (i : ℕ) (row : Row) → AreLines s p (λ j. option_map as_begun (slice_get rows j)) → length p.keys.items ≡ i
     → p.placeholders.items ≡ [] → slice_get rows i ≡ Some row → IsRising (map number_of_row rows) → IsUnborne s row.name
 unborne-next s p rows i row lines count none here rise k b =
     let r = row-borne s k row.name b in
     let real : is_held p k ≡ false = ap (λ (l : List Bool). is_flagged l k) none in
     let j = lines.all k r.0 (record { shown = r.1; real = real }) in
     let x = lines.each j.0 k j.1 in
-    let y = some_row begun (slice_get rows j.0) x.0 x.1 in
+    let y = some_row as_begun (slice_get rows j.0) x.0 x.1 in
     let lt = below_length p.keys.items j.0 k j.1 in
     let up = rising-at number_of_row rows j.0 i y.0 row rise y.1 here (omega (arith, lt, count)) in
     let same = ap (λ (z : Row). number_of_row z) (one-row s k r.0 x.0 r.1 x.2.shown) ∙ ap (λ (z : Row). number_of_row z) y.2 in

@@ -24,7 +24,7 @@ use Rattle.task_table.specs.Lawful.{IsLawful}
 use Rattle.task_table.proofs.Keys.{id_for, is_path, number-is_key, number-is_name, path-there}
 use Rattle.task_table.proofs.LookUps.{outermost}
 use Rattle.task_table.proofs.Places.{place-of}
-use Rattle.table_build.specs.Bare.{bare, steady}
+use Rattle.table_build.specs.Bare.{undrawn, steady}
 use Rattle.table_build.specs.Follows.{MayBear}
 use Rattle.table_build.specs.Parts.{IsPart, IsUnborne}
 use Rattle.table_build.specs.Recent.{AreBorne}
@@ -33,19 +33,19 @@ use Rattle.table_build.proofs.Places.{at_place}
 use Rattle.table_build.proofs.SpaceTrees.{id_of, parent_of, key-there, path-long}
 
 -- paths go by ids and parents alone
-module _ (xs ys : List Space) (same : map steady xs ≡ map bare ys) where
+module _ (xs ys : List Space) (same : map steady xs ≡ map undrawn ys) where
   pub same-up : (n : ℕ) → path_up xs n ≡ path_up ys n
   unfolding path_up
   same-up n =
       sym (chain-map Space id_of parent_of xs steady (λ x. refl) (λ x. refl) (deepest_space + 1) n)
       ∙ ap (λ zs. path_up zs n) same
-      ∙ chain-map Space id_of parent_of ys bare (λ x. refl) (λ x. refl) (deepest_space + 1) n
+      ∙ chain-map Space id_of parent_of ys undrawn (λ x. refl) (λ x. refl) (deepest_space + 1) n
 
   pub same-there : (n : ℕ) → IsSome (space_at ys n) → IsSome (space_at xs n)
   same-there n some =
       mapped steady (space_at xs n)
-      ∙ ap is_some (sym (at-map Space id_of parent_of xs steady (λ x. refl) (λ x. refl) n) ∙ ap (λ zs. space_at zs n) same ∙ at-map Space id_of parent_of ys bare (λ x. refl) (λ x. refl) n)
-      ∙ sym (mapped bare (space_at ys n)) ∙ some
+      ∙ ap is_some (sym (at-map Space id_of parent_of xs steady (λ x. refl) (λ x. refl) n) ∙ ap (λ zs. space_at zs n) same ∙ at-map Space id_of parent_of ys undrawn (λ x. refl) (λ x. refl) n)
+      ∙ sym (mapped undrawn (space_at ys n)) ∙ some
     where
       mapped : (f : Space → Space) (o : Option Space) → is_some o ≡ is_some (option_map f o)
       mapped f None = refl

@@ -10,7 +10,7 @@ use Rattle.pid_numbers.specs.Numbering.{Numbering, Namespace, namespace_at, id_a
 use Rattle.pid_numbers.specs.Restore.{is_flagged, fallen_if}
 use Rattle.task_table.specs.View.{space_of, spaces_of}
 use Rattle.task_table.specs.Lawful.{HasLaws}
-use Rattle.table_build.specs.Bare.{AddsFlag, AreFlagged, HasCursor, bare, steady}
+use Rattle.table_build.specs.Bare.{AddsFlag, AreFlagged, HasCursor, undrawn, steady}
 use Rattle.table_build.specs.Stages.{KeepsSpaces}
 use Rattle.table_build.proofs.Places.{at_place, place_of}
 use Rattle.table_build.proofs.Steps.{same_falls, same_ids, same_paths}
@@ -80,7 +80,7 @@ all_in P (q ∷ qs) all p (inl e) = subst P (sym e) all.0
 all_in P (q ∷ qs) all p (inr i) = all_in P qs all.1 p i
 
 -- the namespaces with a flag fell
-module _ (b c : Numbering) (l : HasLaws b) (spaces : List Space) (flags : List Bool) (listed : map steady (spaces_of b) ≡ map bare spaces) (flagged : AreFlagged b spaces (length spaces) flags)
+module _ (b c : Numbering) (l : HasLaws b) (spaces : List Space) (flags : List Bool) (listed : map steady (spaces_of b) ≡ map undrawn spaces) (flagged : AreFlagged b spaces (length spaces) flags)
     (order : c.order ≡ b.order) (fell : (s : ℕ) → namespace_at c s ≡ option_map (fallen_if (is_flagged flags s)) (namespace_at b s)) where
   pub fell-ids : (s : ℕ) → id_at c s ≡ id_at b s
   fell-ids s = ap (option_map (λ (t : Namespace). t.id)) (fell s) ∙ of (namespace_at b s)
@@ -119,20 +119,20 @@ module _ (b c : Numbering) (l : HasLaws b) (spaces : List Space) (flags : List B
       go false e true is =
           let j = flagged.only s is in
           let id : j.1.id ≡ x.id = (let z = sym j.4 ∙ at in let y : j.1.id ≡ x.id = cc in y) in
-          let one : j.1 ≡ x = one-each b.order spaces (ids-listed b bare spaces (λ x. refl) listed) l.rising j.1 x (at_place spaces j.0 j.1 j.2) i id in
+          let one : j.1 ≡ x = one-each b.order spaces (ids-listed b undrawn spaces (λ x. refl) listed) l.rising j.1 x (at_place spaces j.0 j.1 j.2) i id in
           absurd (let z = sym j.3 ∙ ap (λ (y : Space). y.fallen) one ∙ e in cc)
 
   pub spaces-fell : map steady (spaces_of c) ≡ map steady spaces
   spaces-fell =
       map_map (space_of c) steady c.order ∙ ap (map (λ p. steady (space_of c p))) order
-      ∙ alike (λ p. steady (space_of b p)) (λ p. steady (space_of c p)) bare steady b.order spaces (sym (map_map (space_of b) steady b.order) ∙ listed) (λ p x i j same. one p x i j same)
+      ∙ alike (λ p. steady (space_of b p)) (λ p. steady (space_of c p)) undrawn steady b.order spaces (sym (map_map (space_of b) steady b.order) ∙ listed) (λ p x i j same. one p x i j same)
     where
       up : (path : List ℕ) → option_and_then (id_at c) (slice_get path 1) ≡ option_and_then (id_at b) (slice_get path 1)
       up [] = refl
       up (q ∷ []) = refl
       up (q ∷ r ∷ rest) = fell-ids r
 
-      one : (p : ℕ × ℕ) (x : Space) → IsIn p b.order → IsIn x spaces → steady (space_of b p) ≡ bare x → steady (space_of c p) ≡ steady x
+      one : (p : ℕ × ℕ) (x : Space) → IsIn p b.order → IsIn x spaces → steady (space_of b p) ≡ undrawn x → steady (space_of c p) ≡ steady x
       one p x i j same =
           let at = all_in (λ p. id_at b p.1 ≡ Some p.0) b.order l.each p i in
           let id : p.0 ≡ x.id = ap (λ (y : Space). y.id) same in
@@ -198,6 +198,6 @@ next-cursor a l b c spaces i x listed put at here others j y lt e = elim (cases_
 ]
 
 -- a namespace that nothing was drawn in is steady
-pub steady-bare : (spaces : List Space) → map steady (map bare spaces) ≡ map bare spaces
+pub steady-bare : (spaces : List Space) → map steady (map undrawn spaces) ≡ map undrawn spaces
 steady-bare [] = refl
-steady-bare (x ∷ xs) = ap (λ l. bare x ∷ l) (steady-bare xs)
+steady-bare (x ∷ xs) = ap (λ l. undrawn x ∷ l) (steady-bare xs)

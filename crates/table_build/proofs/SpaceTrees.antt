@@ -14,7 +14,7 @@ use Rattle.pid_numbers.specs.Numbering.{Numbering, id_at, path_at}
 use Rattle.task_table.specs.View.{space_of, spaces_of}
 use Rattle.task_table.specs.Lawful.{HasLaws}
 use Rattle.task_table.proofs.Keys.{id_for, path-is, space_at-is}
-use Rattle.table_build.specs.Bare.{bare}
+use Rattle.table_build.specs.Bare.{undrawn}
 use Rattle.table_build.specs.Follows.{AreGoodSpaces, AreIdsUpTo, MayStandBehind}
 use Rattle.table_build.proofs.Following.{all-below, first-root, inside, lastly, parted}
 
@@ -41,21 +41,21 @@ may-stand before rest x y tree i =
     let up = all-below id_of parent_of deepest_space before rest x tree.rising y i in
     record { above = up; inside = inside id_of parent_of deepest_space before rest x tree (omega (arith, up)) }
 
-bare-tree : (ss : List Space) → IsTreeOfSpaces ss → IsTreeOfSpaces (map bare ss)
+bare-tree : (ss : List Space) → IsTreeOfSpaces ss → IsTreeOfSpaces (map undrawn ss)
 unfolding path_up
-bare-tree ss tree = IsTree-map Space id_of parent_of ss bare (λ x. refl) (λ x. refl) (path_up ss) (path_up (map bare ss))
-    (λ n. chain-map Space id_of parent_of ss bare (λ x. refl) (λ x. refl) (deepest_space + 1) n) tree
+bare-tree ss tree = IsTree-map Space id_of parent_of ss undrawn (λ x. refl) (λ x. refl) (path_up ss) (path_up (map undrawn ss))
+    (λ n. chain-map Space id_of parent_of ss undrawn (λ x. refl) (λ x. refl) (deepest_space + 1) n) tree
 
-pub stands-at : (ss : List Space) (i : ℕ) (x y : Space) → slice_get ss i ≡ Some x → slice_get ss (i - 1) ≡ Some y → 0 < i → AreGoodSpaces ss → MayStandBehind (map bare (take i ss)) y.id x
+pub stands-at : (ss : List Space) (i : ℕ) (x y : Space) → slice_get ss i ≡ Some x → slice_get ss (i - 1) ≡ Some y → 0 < i → AreGoodSpaces ss → MayStandBehind (map undrawn (take i ss)) y.id x
 stands-at ss i x y here last some good =
-    let parts = ap (map bare) (parted id_of parent_of deepest_space ss i x here) ∙ map-append bare (take i ss) (x ∷ drop (suc i) ss) in
-    let m = may-stand (map bare (take i ss)) (map bare (drop (suc i) ss)) (bare x) (bare y) (subst IsTreeOfSpaces parts (bare-tree ss good.tree))
+    let parts = ap (map undrawn) (parted id_of parent_of deepest_space ss i x here) ∙ map-append undrawn (take i ss) (x ∷ drop (suc i) ss) in
+    let m = may-stand (map undrawn (take i ss)) (map undrawn (drop (suc i) ss)) (undrawn x) (undrawn y) (subst IsTreeOfSpaces parts (bare-tree ss good.tree))
     (in_bare (take i ss) (lastly id_of parent_of deepest_space ss i y some last)) in
     record { above = m.above; inside = m.inside }
   where
-    in_bare : (zs : List Space) → IsIn y zs → IsIn (bare y) (map bare zs)
+    in_bare : (zs : List Space) → IsIn y zs → IsIn (undrawn y) (map undrawn zs)
     in_bare [] i = absurd i
-    in_bare (z ∷ zs) (inl e) = inl (ap bare e)
+    in_bare (z ∷ zs) (inl e) = inl (ap undrawn e)
     in_bare (z ∷ zs) (inr i) = inr (in_bare zs i)
 
 -- the ids of a store's namespaces are below
@@ -86,13 +86,13 @@ pub path-long : (b : Numbering) → HasLaws b → (s p : ℕ) → id_at b s ≡ 
 path-long b l s p at = ap length (path-is b l s p 0 at (l.some s p at)) ∙ length-map (path_at b s) (id_for b l 0)
 
 -- one more
-pub up-to-next : (spaces : List Space) (last : ℕ) (x : Space) → last < x.id → AreIdsUpTo last spaces → AreIdsUpTo x.id (spaces ++ bare x ∷ [])
+pub up-to-next : (spaces : List Space) (last : ℕ) (x : Space) → last < x.id → AreIdsUpTo last spaces → AreIdsUpTo x.id (spaces ++ undrawn x ∷ [])
 up-to-next [] last x above up = (omega arith, tt)
 up-to-next (s ∷ ss) last x above up = (let low = up.0 in omega (arith, low, above), up-to-next ss last x above up.1)
 
 -- the root alone, before the first place
-pub root-first : (ss : List Space) (before : List Space) → 0 < length ss → ((s : Space) → slice_get ss 0 ≡ Some s → bare s ≡ record { id = 0; parent = None; cursor = 0; fallen = false })
-    → before ≡ record { id = 0; parent = None; cursor = 0; fallen = false } ∷ [] → (before ≡ map bare (take 1 ss)) × ((s : Space) → slice_get ss 0 ≡ Some s → AreIdsUpTo s.id before)
+pub root-first : (ss : List Space) (before : List Space) → 0 < length ss → ((s : Space) → slice_get ss 0 ≡ Some s → undrawn s ≡ record { id = 0; parent = None; cursor = 0; fallen = false })
+    → before ≡ record { id = 0; parent = None; cursor = 0; fallen = false } ∷ [] → (before ≡ map undrawn (take 1 ss)) × ((s : Space) → slice_get ss 0 ≡ Some s → AreIdsUpTo s.id before)
 root-first [] before some root is = absurd (omega (arith, some))
 root-first (y ∷ ys) before some root is =
     (is ∙ ap (λ (s : Space). s ∷ []) (sym (root y refl)), λ s e. subst (AllByRecursion (λ (g : Space). g.id ≤ s.id)) (sym is) (omega arith, tt))

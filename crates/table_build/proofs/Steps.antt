@@ -11,7 +11,7 @@ use Rattle.pid_numbers.specs.Numbering.{Numbering, Namespace, Identifier, namesp
 use Rattle.task_tree.specs.declared.Task.{Task}
 use Rattle.task_tree.specs.Tree.{task_at, parent_of}
 use Rattle.groups_sessions.specs.Membership.{Membership, membership_at, group_of, session_of}
-use Rattle.pids_charge.specs.Charges.{id_at as home_id}
+use Rattle.pids_charge.specs.Charges.{home_id}
 use Rattle.task_table.specs.Store.{Store, bare}
 use Rattle.task_table.specs.View.{name_of, name_at, row_of, row_with, state_of}
 use Rattle.task_table.specs.Collect.{collect}

@@ -6,8 +6,8 @@ use Rattle.pid_numbers.specs.Numbering.{Numbering, id_at, namespace_at, number_o
 use Rattle.pid_numbers.specs.Restore.{is_flagged}
 
 -- before a number was drawn in it: it stands, and its draws begin at its first number
-abbrev pub bare : Space → Space
-bare s = record s { cursor = 0; fallen = false }
+abbrev pub undrawn : Space → Space
+undrawn s = record s { cursor = 0; fallen = false }
 
 -- whichever number it gives next
 abbrev pub steady : Space → Space

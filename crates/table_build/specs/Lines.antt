@@ -25,25 +25,25 @@ pub record KeepsLists (before after : Placed) : Type 0 where
   pub groups : after.groups ≡ before.groups
 
 -- the task with the key has the row, and is no placeholder
-pub record IsLine (s : Store) (p : Placed) (key : ℕ) (row : Row) : Type 0 where
+pub record IsRowAt (s : Store) (p : Placed) (key : ℕ) (row : Row) : Type 0 where
   pub shown : row_with s key ≡ Some row
   pub real : is_held p key ≡ false
 
 -- the tasks that are no placeholders are the same, with the same rows
 pub record SameLines (old new : Store) (before after : Placed) : Type 0 where
-  pub forth : (k : ℕ) (r : Row) → IsLine old before k r → IsLine new after k r
-  pub back : (k : ℕ) (r : Row) → IsLine new after k r → IsLine old before k r
+  pub forth : (k : ℕ) (r : Row) → IsRowAt old before k r → IsRowAt new after k r
+  pub back : (k : ℕ) (r : Row) → IsRowAt new after k r → IsRowAt old before k r
 
 -- the same, but for the one with the key, which has another row
 pub record SetsLine (old new : Store) (before after : Placed) (key : ℕ) (row : Row) : Type 0 where
-  pub here : IsLine new after key row
-  pub forth : (k : ℕ) (r : Row) → k ≢ key → IsLine old before k r → IsLine new after k r
-  pub back : (k : ℕ) (r : Row) → k ≢ key → IsLine new after k r → IsLine old before k r
+  pub here : IsRowAt new after key row
+  pub forth : (k : ℕ) (r : Row) → k ≢ key → IsRowAt old before k r → IsRowAt new after k r
+  pub back : (k : ℕ) (r : Row) → k ≢ key → IsRowAt new after k r → IsRowAt old before k r
 
 -- the tasks of the lines are in the order of their keys, and have these rows
 pub record AreLines (s : Store) (p : Placed) (shown : ℕ → Option Row) : Type 0 where
-  pub each : (j k : ℕ) → slice_get p.keys.items j ≡ Some k → (r : Row) × (shown j ≡ Some r) × IsLine s p k r
-  pub all : (k : ℕ) (r : Row) → IsLine s p k r → (j : ℕ) × (slice_get p.keys.items j ≡ Some k)
+  pub each : (j k : ℕ) → slice_get p.keys.items j ≡ Some k → (r : Row) × (shown j ≡ Some r) × IsRowAt s p k r
+  pub all : (k : ℕ) (r : Row) → IsRowAt s p k r → (j : ℕ) × (slice_get p.keys.items j ≡ Some k)
   pub apart : (i j k : ℕ) → slice_get p.keys.items i ≡ Some k → slice_get p.keys.items j ≡ Some k → i ≡ j
 
 -- the names of the groups of the first lines are borne

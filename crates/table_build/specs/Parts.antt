@@ -7,20 +7,20 @@ use Rattle.pid_types.specs.Names.{names_in_use}
 use Rattle.pid_types.specs.State.{State}
 use Rattle.task_table.specs.Store.{Store}
 use Rattle.task_table.specs.View.{row_with, spaces_of}
-use Rattle.table_build.specs.Bare.{bare, steady}
+use Rattle.table_build.specs.Bare.{undrawn, steady}
 use Rattle.table_build.specs.Lines.{is_held}
 use Rattle.table_build.specs.Recent.{Bears}
 use Rattle.table_build.specs.declared.placed.Placed.{Placed}
 
 -- the namespaces of the text, all of which stand, its control groups, and its bound
-pub record HasPlaces (s : Store) (text : State) : Type 0 where
-  pub spaces : map steady (spaces_of s.numbering) ≡ map bare text.spaces
+pub record HasParts (s : Store) (text : State) : Type 0 where
+  pub spaces : map steady (spaces_of s.numbering) ≡ map undrawn text.spaces
   pub controls : s.charges.controls ≡ text.controls
   pub bound : s.numbering.pid_max ≡ text.pid_max
 
 -- these, and tasks with names that the text uses
 pub record IsPart (s : Store) (text : State) : Type 0 where
-  pub places : HasPlaces s text
+  pub places : HasParts s text
   pub names : (k : ℕ) (r : Row) → row_with s k ≡ Some r → IsIn r.name (names_in_use text.rows)
 
 -- no task bears the name

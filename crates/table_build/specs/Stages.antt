@@ -1,18 +1,19 @@
 -- What a store holds while it is made: the rows of its tasks, and what a step leaves as it was.
-use Rattle.std.specs.Prelude.{◌≡◌, ◌≢◌, ℕ, Some, None, IsSome, option_map}
+use Rattle.std.specs.Prelude.{◌≡◌, ◌≢◌, ℕ, Some, None, IsSome, option_map, Result, IfErr}
 use Rattle.pid_types.specs.declared.plain.Name.{Name}
 use Rattle.pid_types.specs.declared.plain.Row.{Row}
 use Rattle.pid_types.specs.declared.plain.Life.TheVariants.{Live}
 use Rattle.pid_numbers.specs.Numbering.{Numbering, Namespace, namespace_at}
-use Rattle.pids_charge.specs.Charges.{id_at as home_id}
+use Rattle.pids_charge.specs.Charges.{home_id}
 use Rattle.task_tree.specs.declared.Task.{Task}
 use Rattle.task_table.specs.Store.{Store}
 use Rattle.task_tree.specs.Tree.{task_at}
 use Rattle.task_table.specs.View.{name_at, row_with}
+use Rattle.table_build.specs.declared.fault.BuildFault.{BuildFault}
 
 -- the row as its task begins: live, without a parent, in a group and a session of its own
-abbrev pub begun : Row → Row
-begun r = record r { parent = None; group = r.name; session = r.name; life = Live }
+abbrev pub as_begun : Row → Row
+as_begun r = record r { parent = None; group = r.name; session = r.name; life = Live }
 
 -- the row of a task in its session, and still in its own group
 abbrev pub seated : Row → Row
@@ -74,3 +75,7 @@ pub record ChangesSpaces (old new : Store) : Type 0 where
 -- who bears a name bears it still
 pub record KeepsBearers (old new : Store) : Type 0 where
   pub each : (k : ℕ) → IsSome (task_at old.tree k) → IsSome (task_at new.tree k) × (name_at new.numbering k ≡ name_at old.numbering k)
+
+-- a fault that is not want of memory says that this is so
+abbrev pub Blames : {A : Type 0} → Result A BuildFault → Type 0 → Type 0
+Blames result Why = IfErr result (λ fault. fault ≢ BuildFault.NoMemory → Why)

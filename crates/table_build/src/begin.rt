@@ -1,17 +1,12 @@
 //! The tasks of a text begin. Each is live, without a parent, and in a group and a session of its own name.
-ghost use Rattle.std.specs.Prelude.{◌≡◌, ◌≢◌, ◌<◌, ℕ, [], length, map, false};
-ghost use Rattle.std.specs.Prelude.{OnOk, IfOk, IfErr, IsSome, IsTrue, option_map, slice_get};
-ghost use Rattle.pid_types.specs.Controls.{control_at};
-ghost use Rattle.pid_types.specs.Names.{root_number};
-ghost use Rattle.pid_types.specs.Sound.{IsRising, IsSound};
-ghost use Rattle.table_text.specs.Reading.{saved_state};
-ghost use Rattle.table_build.specs.Parts.{HasPlaces, IsPart};
-ghost use Rattle.table_build.specs.Follows.{MayBear};
-ghost use Rattle.table_build.specs.Lines.{AreLines};
-ghost use Rattle.table_build.specs.Sorted.{IsNotBelow};
-ghost use Rattle.table_build.specs.Ungrouped.{IsUngrouped};
-ghost use Rattle.table_build.specs.Kept.{AddsTask, HasNobody, KeepsUngrouped};
-ghost use Rattle.table_build.specs.Stages.{begun};
+ghost use Rattle.std.specs.Prelude.{◌≡◌, ◌<◌, ℕ, [], length, map, false, OnOk, IfOk, IsSome, IsTrue, option_map};
+ghost use Rattle.std.specs.Prelude.{slice_get};
+ghost use Rattle.{
+  pid_types.specs.{Controls.{control_at}, Names.{root_number}, Sound.{IsRising, IsSound}},
+  table_text.specs.Reading.{saved_state},
+  table_build.specs.{Parts.{HasParts, IsPart}, Follows.{MayBear}, Lines.{AreLines}, Sorted.{IsNotBelow}},
+  table_build.specs.{Ungrouped.{IsUngrouped}, Kept.{AddsTask, HasNobody, KeepsUngrouped}, Stages.{as_begun, Blames}},
+};
 
 use crate::fault::BuildFault;
 use crate::lines::task_line;
@@ -45,9 +40,8 @@ fn is_unsorted(saved: &Saved, index: usize) -> bool
 /// The task of a line begins.
 fn begin_task(store: &mut Tasks, row: &Row, line: u64) -> Result<TaskKey, BuildFault>
     requires ungrouped { IsUngrouped store.old }
-    ensures added { IfOk result (λ key. AddsTask store.old store.new key (begun row.now)) }
-    ensures refused { IfErr result (λ fault. fault ≢ BuildFault.NoMemory
-        → IsSome (control_at store.old.charges.controls row.now.home)
+    ensures added { IfOk result (λ key. AddsTask store.old store.new key (as_begun row.now)) }
+    ensures refused { Blames result (IsSome (control_at store.old.charges.controls row.now.home)
         → MayBear store.old.numbering row.now.name → ⊥) }
 {
     let Some(home) = store.controls().find(row.home) else {
@@ -68,15 +62,15 @@ pub fn begin_tasks(alloc: Global, store: &mut Tasks, saved: &Saved) -> Result<Pl
     requires { HasNobody store.old }
     ensures keeps { OnOk result (KeepsUngrouped store.old store.new) }
     ensures lines { IfOk result (λ placed. AreLines store.new placed
-        (λ j. option_map begun (slice_get saved.now.rows j))) }
+        (λ j. option_map as_begun (slice_get saved.now.rows j))) }
     ensures keys { IfOk result (λ placed. length placed.keys.items ≡ length saved.now.rows) }
     ensures groups { IfOk result (λ placed. placed.groups.items ≡ []) }
     ensures nobody { IfOk result (λ placed. placed.placeholders.items ≡ []) }
     ensures sorted { OnOk result ((j : ℕ) → j < length saved.now.rows → IsNotBelow saved.now.rows j) }
-    ensures part { HasPlaces store.old (saved_state saved.now)
+    ensures part { HasParts store.old (saved_state saved.now)
         → OnOk result (IsPart store.new (saved_state saved.now)) }
-    ensures refused { IfErr result (λ fault. fault ≢ BuildFault.NoMemory → IsSound (saved_state saved.now)
-        → HasPlaces store.old (saved_state saved.now) → ⊥) }
+    ensures refused { Blames result (IsSound (saved_state saved.now)
+        → HasParts store.old (saved_state saved.now) → ⊥) }
 {
     let mut placed = Placed::new(alloc);
     let mut row = blank_row();

@@ -1,14 +1,12 @@
 //! A store with all that a text says.
-ghost use Rattle.std.specs.Prelude.{◌≡◌, ◌≢◌, map, IfOk, IfErr, OnOk};
-ghost use Rattle.pid_types.specs.Sound.{IsSound};
-ghost use Rattle.task_table.specs.View.{spaces_of, state_of};
-ghost use Rattle.task_table.specs.Whole.{HasParents};
-ghost use Rattle.table_text.specs.Reading.{saved_state};
-ghost use Rattle.table_build.specs.Bare.{bare, steady};
-ghost use Rattle.table_build.specs.Kept.{HasNobody};
-ghost use Rattle.table_build.specs.Parts.{HasPlaces};
-ghost use Rattle.table_build.specs.Stages.{KeepsPlaces};
-ghost use Rattle.table_build.specs.Tables.{IsOfTables};
+ghost use Rattle.std.specs.Prelude.{◌≡◌, map, IfOk, OnOk};
+ghost use Rattle.{
+  pid_types.specs.Sound.{IsSound},
+  task_table.specs.{View.{spaces_of, state_of}, Whole.{HasParents}},
+  table_text.specs.Reading.{saved_state},
+  table_build.specs.{Bare.{undrawn}, Kept.{HasNobody}, Parts.{HasParts}, Stages.{KeepsPlaces, Blames}},
+  table_build.specs.Tables.{IsOfTables},
+};
 
 use crate::begin::begin_tasks;
 use crate::controls::put_controls;
@@ -27,10 +25,10 @@ use task_table::view::laws;
 fn put_places(alloc: Global, saved: &Saved) -> Result<Tasks, BuildFault>
     ensures nobody { IfOk result (λ store. HasNobody store) }
     ensures controls { IfOk result (λ store. store.charges.controls ≡ saved.now.controls.items) }
-    ensures spaces { IfOk result (λ store. spaces_of store.numbering ≡ map bare saved.now.spaces.items) }
+    ensures spaces { IfOk result (λ store. spaces_of store.numbering ≡ map undrawn saved.now.spaces.items) }
     ensures bound { IfOk result (λ store. store.numbering.pid_max ≡ saved.now.pid_max) }
     ensures kin { IfOk result (λ store. HasParents store) }
-    ensures refused { IfErr result (λ fault. fault ≢ BuildFault.NoMemory → IsOfTables (saved_state saved.now) → ⊥) }
+    ensures refused { Blames result (IsOfTables (saved_state saved.now) → ⊥) }
 {
     let Ok(config) = Config::new(saved.pid_max, 1) else {
         return Err(BuildFault::BadSettings(1));
@@ -48,8 +46,8 @@ fn put_tasks(alloc: Global, store: &mut Tasks, saved: &Saved) -> Result<(), Buil
     ensures rows { OnOk result ((state_of store.new).rows ≡ saved.now.rows) }
     ensures places { OnOk result (KeepsPlaces store.old store.new) }
     ensures kin { OnOk result (HasParents store.new) }
-    ensures refused { IfErr result (λ fault. fault ≢ BuildFault.NoMemory → IsSound (saved_state saved.now)
-        → HasPlaces store.old (saved_state saved.now) → ⊥) }
+    ensures refused { Blames result (IsSound (saved_state saved.now)
+        → HasParts store.old (saved_state saved.now) → ⊥) }
 {
     let mut placed = begin_tasks(alloc, store, saved)?;
     enter_sessions(store, &mut placed, saved)?;
@@ -64,7 +62,7 @@ fn put_tasks(alloc: Global, store: &mut Tasks, saved: &Saved) -> Result<(), Buil
 pub fn build(alloc: Global, saved: &Saved) -> Result<Tasks, BuildFault>
     ensures state { IfOk result (λ store. state_of store ≡ saved_state saved.now) }
     ensures kin { IfOk result (λ store. HasParents store) }
-    ensures refused { IfErr result (λ fault. fault ≢ BuildFault.NoMemory → IsOfTables (saved_state saved.now) → ⊥) }
+    ensures refused { Blames result (IsOfTables (saved_state saved.now) → ⊥) }
 {
     let mut store = put_places(alloc, saved)?;
     put_tasks(alloc, &mut store, saved)?;

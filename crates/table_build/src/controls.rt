@@ -1,10 +1,12 @@
 //! The control groups of a text, put into a store.
-ghost use Rattle.std.specs.Prelude.{◌≡◌, ◌≢◌, ◌≤◌, ◌<◌, ◌++◌, ◌∷◌, [], true, false, None, IsTrue};
-ghost use Rattle.std.specs.Prelude.{OnOk, IfOk, IfErr, Some, length, slice_get, take, ◌+◌};
-ghost use Rattle.table_build.specs.Follows.{AreUpToLast, AreGoodControls, MayFollow};
-ghost use Rattle.std.specs.List.{AllByRecursion};
-ghost use Rattle.pid_types.specs.declared.plain.Control.{Control};
-ghost use Rattle.pids_charge.specs.Charges.{stands, id_at};
+ghost use Rattle.std.specs.Prelude.{◌≡◌, ◌≤◌, ◌<◌, ◌++◌, ◌∷◌, [], true, false, None, IsTrue, OnOk, IfOk, Some, length};
+ghost use Rattle.std.specs.{Prelude.{slice_get, take, ◌+◌}, List.{AllByRecursion}};
+ghost use Rattle.{
+  table_build.specs.{Follows.{AreUpToLast, AreGoodControls, MayFollow}, Stages.{Blames}},
+  pid_types.specs.declared.plain.Control.{Control},
+  pids_charge.specs.Charges.{stands, home_id},
+  task_table.specs.Store.{ChangesCharges},
+};
 
 use crate::fault::BuildFault;
 use crate::lines::control_line;
@@ -32,12 +34,11 @@ fn make_control(
     requires below { AllByRecursion (λ g. g.id ≤ last) store.old.charges.controls }
     ensures above { OnOk result (last < control.now.id) }
     ensures stands { IfOk result (λ key. stands store.new.charges key ≡ true) }
-    ensures id { IfOk result (λ key. id_at store.new.charges key ≡ control.now.id) }
+    ensures id { IfOk result (λ key. home_id store.new.charges key ≡ control.now.id) }
     ensures made { OnOk result (store.new.charges.controls
         ≡ store.old.charges.controls ++ record control.now { limit = None } ∷ []) }
-    ensures refused { IfErr result (λ fault. fault ≢ BuildFault.NoMemory
-        → MayFollow store.old.charges.controls last control.now → ⊥) }
-    ensures rest { store.new ≡ record store.old { charges = store.new.charges } }
+    ensures refused { Blames result (MayFollow store.old.charges.controls last control.now → ⊥) }
+    ensures rest { ChangesCharges store.old store.new }
 {
     let Some(around) = control.parent else {
         return Err(BuildFault::UnknownGroup(line));
@@ -60,9 +61,8 @@ fn put_control(store: &mut Tasks, control: &Control, last: u64, line: u64) -> Re
     requires below { AllByRecursion (λ g. g.id ≤ last) store.old.charges.controls }
     ensures below { OnOk result (AllByRecursion (λ g. g.id ≤ control.now.id) store.new.charges.controls) }
     ensures put { OnOk result (store.new.charges.controls ≡ store.old.charges.controls ++ control.now ∷ []) }
-    ensures refused { IfErr result (λ fault. fault ≢ BuildFault.NoMemory
-        → MayFollow store.old.charges.controls last control.now → ⊥) }
-    ensures rest { store.new ≡ record store.old { charges = store.new.charges } }
+    ensures refused { Blames result (MayFollow store.old.charges.controls last control.now → ⊥) }
+    ensures rest { ChangesCharges store.old store.new }
 {
     let key = make_control(store, control, last, line)?;
     if control.limit.is_none() {
@@ -79,8 +79,7 @@ fn check_root(saved: &Saved) -> Result<(), BuildFault>
     ensures root { OnOk result ((c : Control) → slice_get saved.now.controls.items 0 ≡ Some c
         → c ≡ record { id = 0; parent = None; limit = None }) }
     ensures some { OnOk result (0 < length saved.now.controls.items) }
-    ensures refused { IfErr result (λ fault. fault ≢ BuildFault.NoMemory
-        → AreGoodControls saved.now.controls.items → ⊥) }
+    ensures refused { Blames result (AreGoodControls saved.now.controls.items → ⊥) }
 {
     let Some(root) = saved.controls.first() else {
         return Err(BuildFault::Impossible(control_line(saved, 0)));
@@ -101,9 +100,8 @@ fn put_next(store: &mut Tasks, saved: &Saved, index: usize) -> Result<(), BuildF
     requires index { (0 < index) × (index < length saved.now.controls.items) }
     ensures put { OnOk result (store.new.charges.controls ≡ take (index + 1) saved.now.controls.items) }
     ensures below { OnOk result (AreUpToLast store.new.charges.controls saved.now.controls.items (index + 1)) }
-    ensures rest { store.new ≡ record store.old { charges = store.new.charges } }
-    ensures refused { IfErr result (λ fault. fault ≢ BuildFault.NoMemory
-        → AreGoodControls saved.now.controls.items → ⊥) }
+    ensures rest { ChangesCharges store.old store.new }
+    ensures refused { Blames result (AreGoodControls saved.now.controls.items → ⊥) }
 {
     let last = saved.controls[index - 1].id;
     put_control(
@@ -118,9 +116,8 @@ fn put_next(store: &mut Tasks, saved: &Saved, index: usize) -> Result<(), BuildF
 pub fn put_controls(store: &mut Tasks, saved: &Saved) -> Result<(), BuildFault>
     requires root { store.old.charges.controls ≡ record { id = 0; parent = None; limit = None } ∷ [] }
     ensures put { OnOk result (store.new.charges.controls ≡ saved.now.controls.items) }
-    ensures rest { store.new ≡ record store.old { charges = store.new.charges } }
-    ensures refused { IfErr result (λ fault. fault ≢ BuildFault.NoMemory
-        → AreGoodControls saved.now.controls.items → ⊥) }
+    ensures rest { ChangesCharges store.old store.new }
+    ensures refused { Blames result (AreGoodControls saved.now.controls.items → ⊥) }
 {
     check_root(saved)?;
     for index in 1..saved.controls.len() {

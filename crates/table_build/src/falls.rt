@@ -1,15 +1,14 @@
 //! The namespaces of a text fall, and their cursors are put.
-ghost use Rattle.std.specs.Prelude.{◌≡◌, ◌≢◌, ◌↔◌, ◌≤◌, ◌<◌, ◌^◌, ℕ, true, map, length, slice_get, Some};
-ghost use Rattle.std.specs.Prelude.{IsTrue, OnOk, OnErr, IfOk, IfErr};
-ghost use Rattle.pid_types.specs.Membership.{IsIn};
-ghost use Rattle.pid_types.specs.Sound.{IsSound};
-ghost use Rattle.pid_types.specs.declared.plain.Space.{Space};
-ghost use Rattle.pid_numbers.specs.Numbering.{IsNumberUsedAs, id_at, number_of, path_at};
-ghost use Rattle.pid_numbers.specs.Restore.{is_flagged};
-ghost use Rattle.table_text.specs.Reading.{saved_state};
-ghost use Rattle.task_table.specs.View.{spaces_of, state_of};
-ghost use Rattle.table_build.specs.Bare.{AddsFlag, AreFlagged, HasCursor, MayHaveFall, MayHaveFalls, bare, steady};
-ghost use Rattle.table_build.specs.Stages.{ChangesSpaces, MovesCursors};
+ghost use Rattle.std.specs.Prelude.{◌≡◌, ◌≢◌, ◌↔◌, ◌≤◌, ◌<◌, ◌^◌, ℕ, true, map, length, slice_get, Some, IsTrue, OnOk};
+ghost use Rattle.std.specs.Prelude.{OnErr, IfOk};
+ghost use Rattle.{
+  pid_types.specs.{Sound.{IsSound}, declared.plain.Space.{Space}},
+  pid_numbers.specs.{Numbering.{IsNumberUsedAs, id_at, number_of, path_at}, Restore.{is_flagged}},
+  table_text.specs.Reading.{saved_state},
+  task_table.specs.View.{spaces_of, state_of},
+  table_build.specs.Bare.{AddsFlag, AreFlagged, HasCursor, MayHaveFall, MayHaveFalls, undrawn, steady},
+  table_build.specs.Stages.{ChangesSpaces, MovesCursors, Blames},
+};
 
 use crate::fault::BuildFault;
 use crate::flags::{has_flag, set_flag};
@@ -31,8 +30,7 @@ fn add_flag(
 ) -> Result<(), BuildFault>
     ensures added { OnOk result (AddsFlag store.now.numbering flags.old.items flags.new.items space.now) }
     ensures few { length flags.old.items ≤ 2 ^ 32 → length flags.new.items ≤ 2 ^ 32 }
-    ensures refused { IfErr result (λ fault. fault ≢ BuildFault.NoMemory
-        → (s : ℕ) → id_at store.now.numbering s ≢ Some space.now.id) }
+    ensures refused { Blames result ((s : ℕ) → id_at store.now.numbering s ≢ Some space.now.id) }
 {
     let Some(key) = store.numbers().find_space(space.id) else {
         return Err(BuildFault::UnknownNamespace(line));
@@ -48,8 +46,8 @@ fn fallen_flags(alloc: Global, store: &Tasks, saved: &Saved) -> Result<Vec<bool>
     ensures flagged { IfOk result (λ flags. AreFlagged store.now.numbering saved.now.spaces.items
         (length saved.now.spaces.items) flags.items) }
     ensures few { IfOk result (λ flags. length flags.items ≤ 2 ^ 32) }
-    ensures refused { IfErr result (λ fault. fault ≢ BuildFault.NoMemory
-        → map steady (spaces_of store.now.numbering) ≡ map bare saved.now.spaces.items → ⊥) }
+    ensures refused { Blames result
+        (map steady (spaces_of store.now.numbering) ≡ map undrawn saved.now.spaces.items → ⊥) }
 {
     laws(store);
     let mut flags = Vec::new(alloc);
@@ -127,11 +125,11 @@ fn check_falls(store: &Tasks, flags: &[bool], saved: &Saved) -> Result<(), Build
 
 /// The namespaces fall that have fallen by their lines: in each a number is in use, and all in one have fallen too.
 pub fn put_falls(alloc: Global, store: &mut Tasks, saved: &Saved) -> Result<(), BuildFault>
-    requires listed { map steady (spaces_of store.old.numbering) ≡ map bare saved.now.spaces.items }
+    requires listed { map steady (spaces_of store.old.numbering) ≡ map undrawn saved.now.spaces.items }
     ensures listed { OnOk result (map steady (spaces_of store.new.numbering) ≡ map steady saved.now.spaces.items) }
     ensures rows { OnOk result ((state_of store.new).rows ≡ (state_of store.old).rows) }
     ensures rest { ChangesSpaces store.old store.new }
-    ensures refused { IfErr result (λ fault. fault ≢ BuildFault.NoMemory → IsSound (saved_state saved.now)
+    ensures refused { Blames result (IsSound (saved_state saved.now)
         → (state_of store.old).rows ≡ saved.now.rows → ⊥) }
 {
     laws(store);

@@ -1,20 +1,13 @@
 //! Names of a text: each gets its numbers by a task that bears it.
-ghost use Rattle.std.specs.Prelude.{◌≡◌, ◌≢◌, true, false, length, reverse};
-ghost use Rattle.std.specs.Prelude.{None, IsTrue, OnOk, OnErr, IfOk, IfErr, IfSome, IsSome};
-ghost use Rattle.pid_types.specs.Membership.{IsIn};
-ghost use Rattle.pid_types.specs.Names.{names_in_use};
-ghost use Rattle.pid_types.specs.Sound.{IsSound};
-ghost use Rattle.pid_types.specs.State.{State};
-ghost use Rattle.pid_numbers.specs.Numbering.{namespace_at, path_at};
-ghost use Rattle.pids_charge.specs.Charges.{stands};
-ghost use Rattle.task_tree.specs.Tree.{lives};
-ghost use Rattle.table_build.specs.Ungrouped.{IsUngrouped};
-ghost use Rattle.table_build.specs.Bare.{HasCursors};
-ghost use Rattle.table_build.specs.Follows.{MayBear};
-ghost use Rattle.table_build.specs.Parts.{IsPart, IsUnborne};
-ghost use Rattle.table_build.specs.Kept.{AddsTask};
-ghost use Rattle.table_build.specs.Recent.{Bears, IsRecent, MayFind};
-ghost use Rattle.table_build.specs.Stages.{MovesCursors, lone_row};
+ghost use Rattle.std.specs.Prelude.{◌≡◌, true, false, length, reverse, None, IsTrue, OnOk, OnErr, IfOk, IfSome, IsSome};
+ghost use Rattle.{
+  pid_types.specs.{Membership.{IsIn}, Names.{names_in_use}, Sound.{IsSound}, State.{State}},
+  pid_numbers.specs.Numbering.{namespace_at, path_at},
+  pids_charge.specs.Charges.{stands},
+  task_tree.specs.Tree.{lives},
+  table_build.specs.{Ungrouped.{IsUngrouped}, Bare.{HasCursors}, Follows.{MayBear}, Parts.{IsPart, IsUnborne}},
+  table_build.specs.{Kept.{AddsTask}, Recent.{Bears, IsRecent, MayFind}, Stages.{MovesCursors, lone_row, Blames}},
+};
 
 use crate::fault::BuildFault;
 use arrayvec::ArrayVec;
@@ -94,8 +87,7 @@ pub fn put_name(
     requires live { lives task ≡ true }
     requires home { stands store.old.charges task.home ≡ true }
     ensures added { IfOk result (λ key. AddsTask store.old store.new key (lone_row store.old name.now task)) }
-    ensures refused { IfErr result (λ fault. fault ≢ BuildFault.NoMemory
-        → MayBear store.old.numbering name.now → ⊥) }
+    ensures refused { Blames result (MayBear store.old.numbering name.now → ⊥) }
 {
     laws(store);
     let Some(space) = store.numbers().find_space(name.space) else {

@@ -1,25 +1,18 @@
 //! The tasks of a text go to their sessions, each still in the group of its own name. Names of groups and sessions that
 //! no line has are borne by placeholders.
-ghost use Rattle.std.specs.Prelude.{◌≡◌, ◌≢◌, [], true, length, OnOk, OnErr, IfOk, IfErr, Some, IsSome};
-ghost use Rattle.std.specs.Prelude.{option_map, slice_get};
-ghost use Rattle.pid_types.specs.Controls.{control_at};
-ghost use Rattle.pid_types.specs.Membership.{IsIn};
-ghost use Rattle.pid_types.specs.Names.{names_in_use};
-ghost use Rattle.pid_types.specs.Sound.{HasGoodGroups, IsSound};
-ghost use Rattle.pid_types.specs.State.{State};
-ghost use Rattle.table_text.specs.Reading.{saved_state};
-ghost use Rattle.task_tree.specs.Tree.{task_at};
-ghost use Rattle.table_build.specs.Follows.{MayBear};
-ghost use Rattle.pid_types.specs.declared.plain.Row.{Row};
-ghost use Rattle.task_table.specs.View.{name_at, row_with};
-ghost use Rattle.table_build.specs.Lines.{AreGroups, AreLines, IsLine, KeepsFew, KeepsLists, SameLines, SetsLine};
-ghost use Rattle.table_build.specs.Lines.{is_held};
-ghost use Rattle.table_build.specs.Kept.{KeepsUngrouped};
-ghost use Rattle.table_build.specs.Recent.{IsRecent};
-ghost use Rattle.table_build.specs.Parts.{AreSeated, IsPart};
-ghost use Rattle.table_build.specs.Sessions.{AddsGroup, AreRecent, PutsBearer, Seats};
-ghost use Rattle.table_build.specs.Stages.{SetsRow, begun, seated};
-ghost use Rattle.table_build.specs.Ungrouped.{IsUngrouped};
+ghost use Rattle.std.specs.Prelude.{◌≡◌, [], true, length, OnOk, OnErr, IfOk, Some, IsSome, option_map, slice_get};
+ghost use Rattle.{
+  pid_types.specs.{Controls.{control_at}, Membership.{IsIn}, Names.{names_in_use}, Sound.{HasGoodGroups, IsSound}},
+  pid_types.specs.{State.{State}, declared.plain.Row.{Row}},
+  table_text.specs.Reading.{saved_state},
+  task_tree.specs.Tree.{task_at},
+  table_build.specs.Follows.{MayBear},
+  table_build.specs.Lines.{AreGroups, AreLines, IsRowAt, KeepsFew, KeepsLists, SameLines, SetsLine, is_held},
+  table_build.specs.{Kept.{KeepsUngrouped}, Recent.{IsRecent}, Parts.{AreSeated, IsPart}},
+  table_build.specs.{Sessions.{AddsGroup, AreRecent, PutsBearer, Seats}, Stages.{SetsRow, as_begun, seated, Blames}},
+  table_build.specs.Ungrouped.{IsUngrouped},
+  task_table.specs.View.{name_at, row_with},
+};
 
 use crate::fault::BuildFault;
 use crate::lines::task_line;
@@ -44,8 +37,8 @@ fn begin_placeholder(
     ensures put { IfOk result (PutsBearer store.old store.new placed.old placed.new name.now) }
     ensures held { IfOk result (λ key. is_held placed.new key ≡ true) }
     ensures lists { KeepsLists placed.old placed.new }
-    ensures refused { IfErr result (λ fault. fault ≢ BuildFault.NoMemory
-        → IsSome (control_at store.old.charges.controls 0) → MayBear store.old.numbering name.now → ⊥) }
+    ensures refused { Blames result
+        (IsSome (control_at store.old.charges.controls 0) → MayBear store.old.numbering name.now → ⊥) }
 {
     let Some(home) = store.controls().find(0) else {
         return Err(BuildFault::UnknownGroup(line));
@@ -75,7 +68,7 @@ fn bearer(
     ensures put { IfOk result (PutsBearer store.old store.new placed.old placed.new name.now) }
     ensures recent { OnOk result (IsRecent store.new last.new) }
     ensures lists { KeepsLists placed.old placed.new }
-    ensures refused { IfErr result (λ fault. fault ≢ BuildFault.NoMemory → (text : State) → IsSound text
+    ensures refused { Blames result ((text : State) → IsSound text
         → IsPart store.old text → IsIn name.now (names_in_use text.rows) → ⊥) }
 {
     laws(store);
@@ -147,14 +140,14 @@ fn put_in_session(
 ) -> Result<(), BuildFault>
     requires ungrouped { IsUngrouped store.old }
     requires recent { AreRecent store.old last.old }
-    requires begun { IsLine store.old placed.old key (begun row.now) }
+    requires begun { IsRowAt store.old placed.old key (as_begun row.now) }
     ensures keeps { OnOk result (KeepsUngrouped store.old store.new) }
     ensures recent { OnOk result (AreRecent store.new last.new) }
     ensures set { OnOk result (SetsLine store.old store.new placed.old placed.new key (seated row.now)) }
     ensures group { OnOk result (AddsGroup store.old store.new placed.old placed.new key row.now) }
     ensures part { (text : State) → IsPart store.old text → IsIn row.now text.rows
         → OnOk result (IsPart store.new text) }
-    ensures refused { IfErr result (λ fault. fault ≢ BuildFault.NoMemory → (text : State) → IsSound text
+    ensures refused { Blames result ((text : State) → IsSound text
         → IsPart store.old text → IsIn row.now text.rows → ⊥) }
 {
     let session = bearer(store, placed, &row.session, &mut last.session, line)?;
@@ -172,7 +165,7 @@ pub fn enter_sessions(
     saved: &Saved,
 ) -> Result<(), BuildFault>
     requires ungrouped { IsUngrouped store.old }
-    requires lines { AreLines store.old placed.old (λ j. option_map begun (slice_get saved.now.rows j)) }
+    requires lines { AreLines store.old placed.old (λ j. option_map as_begun (slice_get saved.now.rows j)) }
     requires groups { placed.old.groups.items ≡ [] }
     requires keys { length placed.old.keys.items ≡ length saved.now.rows }
     ensures keeps { OnOk result (KeepsUngrouped store.old store.new) }
@@ -185,7 +178,7 @@ pub fn enter_sessions(
     ensures part { IsPart store.old (saved_state saved.now) → OnOk result (IsPart store.new (saved_state saved.now)) }
     ensures seated { HasGoodGroups saved.now.rows → OnOk result
         (AreSeated store.new placed.new saved.now.rows) }
-    ensures refused { IfErr result (λ fault. fault ≢ BuildFault.NoMemory → IsSound (saved_state saved.now)
+    ensures refused { Blames result (IsSound (saved_state saved.now)
         → IsPart store.old (saved_state saved.now) → ⊥) }
 {
     let mut last = RecentNames {

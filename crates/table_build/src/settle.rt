@@ -1,21 +1,17 @@
 //! The tasks of a text get their groups and parents, those that have ended end, and the placeholders go.
-ghost use Rattle.std.specs.Prelude.{◌≡◌, ◌≢◌, ◌↔◌, ℕ, ◌<◌, true, false, length};
-ghost use Rattle.std.specs.Prelude.{None, Some, IsSome, IsTrue, OnOk, OnErr, IfOk, option_map, slice_get};
-ghost use Rattle.pid_types.specs.Membership.{IsIn};
-ghost use Rattle.pid_types.specs.Names.{names_in_use};
-ghost use Rattle.pid_types.specs.Sound.{IsSound};
-ghost use Rattle.pid_types.specs.State.{State};
-ghost use Rattle.table_text.specs.Reading.{saved_state};
-ghost use Rattle.pid_types.specs.declared.plain.Row.{Row};
-ghost use Rattle.task_tree.specs.Tree.{parent_of, task_at};
-ghost use Rattle.task_table.specs.View.{name_at, row_with};
-ghost use Rattle.table_build.specs.Grouping.{HasRealParents, IsGroupIn, IsGrouping, IsSeenByParent, MaySettle};
-ghost use Rattle.table_build.specs.Lines.{AreGroups, AreLines, HasFew, is_held};
-ghost use Rattle.table_build.specs.Parts.{AreSeated, IsPart};
-ghost use Rattle.table_build.specs.Recent.{Bears, IsRecent, MayFind};
-ghost use Rattle.table_build.specs.Settling.{ChangesTask, IsSettled, IsToSettle, KeepsGrouping, KeepsSettled};
-ghost use Rattle.table_build.specs.Settling.{KeepsSettling};
-ghost use Rattle.table_build.specs.Stages.{SetsRow, seated};
+ghost use Rattle.std.specs.Prelude.{◌≡◌, ◌≢◌, ◌↔◌, ℕ, ◌<◌, true, false, length, None, Some, IsSome, IsTrue, OnOk};
+ghost use Rattle.std.specs.Prelude.{OnErr, IfOk, option_map, slice_get};
+ghost use Rattle.{
+  pid_types.specs.{Membership.{IsIn}, Names.{names_in_use}, Sound.{IsSound}, State.{State}, declared.plain.Row.{Row}},
+  table_text.specs.Reading.{saved_state},
+  task_tree.specs.Tree.{parent_of, task_at},
+  task_table.specs.View.{name_at, row_with},
+  table_build.specs.Grouping.{HasRealParents, IsGroupIn, IsGrouping, IsSeenByParent, MaySettle},
+  table_build.specs.{Lines.{AreGroups, AreLines, HasFew, is_held}, Parts.{AreSeated, IsPart}},
+  table_build.specs.Recent.{Bears, IsRecent, MayFind},
+  table_build.specs.Settling.{ChangesTask, IsSettled, IsToSettle, KeepsGrouping, KeepsSettled, KeepsSettling},
+  table_build.specs.Stages.{SetsRow, seated},
+};
 
 use crate::fault::BuildFault;
 use crate::lines::task_line;

@@ -10,7 +10,7 @@ use Rattle.pid_types.specs.State.{State}
 use Rattle.model_laws.proofs.Lists.{IsIn-from_filter}
 use Rattle.table_text.specs.Ranges.{Each}
 use Rattle.table_text.specs.Reading.{HasNumbers, IsHeldControl, IsHeldRow}
-use Rattle.table_text.specs.Texts.{without_count}
+use Rattle.table_text.specs.Texts.{control_shown}
 use Rattle.table_text.proofs.Snapshots.{has_numbers}
 use Rattle.table_text.proofs.Told.{uncounted}
 use Rattle.translate.specs.From.{rows_from}
@@ -28,5 +28,5 @@ held-from state from next row sound first fits each x i = go (subst (IsIn x) fir
     go (inr j) = each x j
 
 -- the control groups that are written, without their counts
-pub controls-held : (state : State) → Each IsHeldControl (map without_count (map (with_count state) state.controls)) → Each IsHeldControl state.controls
+pub controls-held : (state : State) → Each IsHeldControl (map control_shown (map (with_count state) state.controls)) → Each IsHeldControl state.controls
 controls-held state each = subst (Each IsHeldControl) (uncounted state state.controls) each

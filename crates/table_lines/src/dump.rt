@@ -1,9 +1,7 @@
 //! The text that a table is saved in.
-ghost use Rattle.std.specs.Prelude.{◌≡◌, ◌++◌, OnOk, IfOk};
-ghost use Rattle.std.specs.List.{flat_map};
-ghost use Rattle.table_text.specs.Ranges.{Each};
-ghost use Rattle.table_text.specs.Reading.{IsHeldRow, IsHeldState};
-ghost use Rattle.table_text.specs.Texts.{task_line, said, text_of};
+ghost use Rattle.std.specs.{Prelude.{◌≡◌, ◌++◌, OnOk, IfOk}, List.{flat_map}};
+ghost use Rattle.table_text.specs.{Ranges.{Each}, Reading.{IsHeldRow, IsHeldState}};
+ghost use Rattle.table_text.specs.Texts.{task_text_line, dump_text, text_of};
 
 use pid_script::list::push_spaces;
 use pid_table::PidTable;
@@ -14,7 +12,7 @@ use translate::shown::blank_row;
 
 /// Appends the lines of the tasks. After an `Err` the text has some of their bytes.
 fn push_tasks(text: &mut Vec<u8>, table: &PidTable) -> Result<(), AllocError>
-    ensures text { OnOk result (text.new.items ≡ text.old.items ++ flat_map task_line table.now.rows) }
+    ensures text { OnOk result (text.new.items ≡ text.old.items ++ flat_map task_text_line table.now.rows) }
     ensures held { OnOk result (Each IsHeldRow table.now.rows) }
 {
     table.laws();
@@ -29,9 +27,9 @@ fn push_tasks(text: &mut Vec<u8>, table: &PidTable) -> Result<(), AllocError>
 }
 
 /// Appends all that the text says before its last line.
-#[tactic(auto, unfolding(table_text::specs::Texts::said))]
+#[tactic(auto, unfolding(table_text::specs::Texts::dump_text))]
 fn push_said(text: &mut Vec<u8>, table: &PidTable, stamp: u64) -> Result<(), AllocError>
-    ensures text { OnOk result (text.new.items ≡ text.old.items ++ said stamp table.now) }
+    ensures text { OnOk result (text.new.items ≡ text.old.items ++ dump_text stamp table.now) }
     ensures held { OnOk result (IsHeldState table.now) }
 {
     push_head(text, table.pid_max(), stamp)?;

@@ -1,6 +1,5 @@
 //! The list of a table.
-ghost use Rattle.std.specs.Prelude.{◌≡◌, ◌++◌, OnOk, IfOk};
-ghost use Rattle.std.specs.List.{flat_map};
+ghost use Rattle.std.specs.{Prelude.{◌≡◌, ◌++◌, OnOk, IfOk}, List.{flat_map}};
 ghost use Rattle.pid_script.specs.Lists.{task_line};
 ghost use Rattle.table_lines.specs.Listed.{list_of_state};
 

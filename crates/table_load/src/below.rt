@@ -1,9 +1,6 @@
 //! Whether all ids of a text are below its stamp.
-ghost use Rattle.std.specs.Prelude.{◌≡◌, ◌↔◌, IsTrue, nat_lt};
-ghost use Rattle.std.specs.List.{list_all};
-ghost use Rattle.pid_types.specs.Sound.{IsBelow};
-ghost use Rattle.pid_types.specs.declared.plain.Control.{Control};
-ghost use Rattle.pid_types.specs.declared.plain.Space.{Space};
+ghost use Rattle.std.specs.{Prelude.{◌≡◌, ◌↔◌, IsTrue, nat_lt}, List.{list_all}};
+ghost use Rattle.pid_types.specs.{Sound.{IsBelow}, declared.plain.Control.{Control}, declared.plain.Space.{Space}};
 ghost use Rattle.table_text.specs.Reading.{saved_state};
 
 use pid_types::plain::{Control, Space};

@@ -1,13 +1,12 @@
 //! The way from a text to a table: [`load`].
 ghost use Rattle.std.specs.Prelude.{◌≡◌, ◌≢◌, IfOk, IfErr, OnOk};
-ghost use Rattle.pid_types.specs.Sound.{IsSound, IsBelow};
-ghost use Rattle.task_table.specs.Whole.{IsWhole};
-ghost use Rattle.table_build.specs.Tables.{IsOfTables};
-ghost use Rattle.table_load.specs.Faults.{IsOfForm};
-ghost use Rattle.table_load.specs.Texts.{IsTextOfNoTable};
-ghost use Rattle.table_text.specs.Ranges.{IsStateOfWords, IsWord};
-ghost use Rattle.table_text.specs.Reading.{IsNoText, saved_state};
-ghost use Rattle.table_text.specs.Texts.{text_of};
+ghost use Rattle.{
+  pid_types.specs.Sound.{IsSound, IsBelow},
+  task_table.specs.Whole.{IsWhole},
+  table_build.specs.Tables.{IsOfTables},
+  table_load.specs.{Faults.{IsOfForm}, Texts.{IsTextOfNoTable}},
+  table_text.specs.{Ranges.{IsStateOfWords, IsWord}, Reading.{IsNoText, saved_state}, Texts.{text_of}},
+};
 
 use crate::below::is_below;
 use crate::fault::RestoreFault;

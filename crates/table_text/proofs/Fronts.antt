@@ -10,7 +10,7 @@ use Rattle.pid_types.specs.Membership.{IsIn}
 use Rattle.pid_script.specs.Answers.{joined}
 use Rattle.pid_script.specs.Lists.{marked}
 use Rattle.table_text.specs.Ranges.{IsWord, Each}
-use Rattle.table_text.specs.Reading.{IsOther, Stops}
+use Rattle.table_text.specs.Reading.{IsOther, StopsDigits}
 
 -- std's words for digits and their value
 pub numerals : IsNumeralModel (AllDigits 10) (digits_value 10)
@@ -35,7 +35,7 @@ apart P a b x y e (inl lt) = let same = (first_told a b x y e).0 in absurd (omeg
 apart P a b x y e (inr gt) = let same = (first_told a b x y e).0 in absurd (omega (arith, same, gt))
 
 -- a text that stops begins with no digit
-no_digit : (x : List ℕ) (b : ℕ) (bs : List ℕ) → Stops x → x ≡ b ∷ bs → digit_value b < 10 → ⊥
+no_digit : (x : List ℕ) (b : ℕ) (bs : List ℕ) → StopsDigits x → x ≡ b ∷ bs → digit_value b < 10 → ⊥
 no_digit [] b bs stops e digit = cc e
 no_digit (c ∷ cs) b bs (inl low) e digit =
     let same = (first_told c b cs bs e).0 in let range = digit_from_value b digit in omega (arith, same, low, range)
@@ -43,7 +43,7 @@ no_digit (c ∷ cs) b bs (inr high) e digit =
     let same = (first_told c b cs bs e).0 in let range = digit_from_value b digit in omega (arith, same, high, range)
 
 -- digits up to a byte that is none
-pub digits_told : (ds es x y : List ℕ) → AllDigits 10 ds → AllDigits 10 es → Stops x → Stops y → ds ++ x ≡ es ++ y → (ds ≡ es) × (x ≡ y)
+pub digits_told : (ds es x y : List ℕ) → AllDigits 10 ds → AllDigits 10 es → StopsDigits x → StopsDigits y → ds ++ x ≡ es ++ y → (ds ≡ es) × (x ≡ y)
 digits_told [] [] x y a b stops_x stops_y e = (refl, e)
 digits_told [] (n ∷ es) x y a b stops_x stops_y e = absurd (no_digit x n (es ++ y) stops_x e b.0)
 digits_told (d ∷ ds) [] x y a b stops_x stops_y e = absurd (no_digit y d (ds ++ x) stops_y (sym e) a.0)
@@ -54,13 +54,13 @@ digits_told (d ∷ ds) (n ∷ es) x y a b stops_x stops_y e =
     (cc (head, tail), rest.1)
 
 -- a number up to a byte that is no digit
-pub number_told : (m n : ℕ) (x y : List ℕ) → decimal m ++ x ≡ decimal n ++ y → IsWord m → IsWord n → Stops x → Stops y → (m ≡ n) × (x ≡ y)
+pub number_told : (m n : ℕ) (x y : List ℕ) → decimal m ++ x ≡ decimal n ++ y → IsWord m → IsWord n → StopsDigits x → StopsDigits y → (m ≡ n) × (x ≡ y)
 number_told m n x y e small_m small_n stops_x stops_y =
     let parts = digits_told (decimal m) (decimal n) x y (digits_decimal numerals m small_m) (digits_decimal numerals n small_n) stops_x stops_y e in
     (decimal_injective m n small_m small_n parts.0, parts.1)
 
 -- a text that stops begins with no number
-pub no_number : (P : Type 0) (n : ℕ) (x y : List ℕ) → x ≡ decimal n ++ y → IsWord n → Stops x → Stops y → P
+pub no_number : (P : Type 0) (n : ℕ) (x y : List ℕ) → x ≡ decimal n ++ y → IsWord n → StopsDigits x → StopsDigits y → P
 no_number P n x y e small stops_x stops_y =
     let parts = digits_told [] (decimal n) x y tt (digits_decimal numerals n small) stops_x stops_y e in
     let none = ap length parts.0 in let some = decimal_nonempty n small in
@@ -73,7 +73,7 @@ if_some (Some x) P here = here
 
 -- a number, or the word for none, which begins with no digit. Behind the first word for none the text need not stop
 pub option_read : (f : Option ℕ → List ℕ) (c : ℕ) (cs : List ℕ) → IsOther c → f None ≡ c ∷ cs → ((n : ℕ) → f (Some n) ≡ decimal n)
-    → (p q : Option ℕ) (x y : List ℕ) → f p ++ x ≡ f q ++ y → IfSome p IsWord → IfSome q IsWord → IfSome p (λ n. Stops x) → Stops y → (p ≡ q) × (x ≡ y)
+    → (p q : Option ℕ) (x y : List ℕ) → f p ++ x ≡ f q ++ y → IfSome p IsWord → IfSome q IsWord → IfSome p (λ n. StopsDigits x) → StopsDigits y → (p ≡ q) × (x ≡ y)
 option_read f c cs other none some None None x y e a b stops_x stops_y = (refl, append_cancel_left (f None) x y e)
 option_read f c cs other none some None (Some n) x y e a b stops_x stops_y =
     no_number _ n (c ∷ (cs ++ x)) y (ap (λ w. w ++ x) (sym none) ∙ e ∙ ap (λ w. w ++ y) (some n)) b other stops_y
@@ -85,9 +85,9 @@ option_read f c cs other none some (Some m) (Some n) x y e a b stops_x stops_y =
 
 -- the same, where both stop
 pub option_told : (f : Option ℕ → List ℕ) (c : ℕ) (cs : List ℕ) → IsOther c → f None ≡ c ∷ cs → ((n : ℕ) → f (Some n) ≡ decimal n)
-    → (p q : Option ℕ) (x y : List ℕ) → f p ++ x ≡ f q ++ y → IfSome p IsWord → IfSome q IsWord → Stops x → Stops y → (p ≡ q) × (x ≡ y)
+    → (p q : Option ℕ) (x y : List ℕ) → f p ++ x ≡ f q ++ y → IfSome p IsWord → IfSome q IsWord → StopsDigits x → StopsDigits y → (p ≡ q) × (x ≡ y)
 option_told f c cs other none some p q x y e a b stops_x stops_y =
-    option_read f c cs other none some p q x y e a b (if_some p (Stops x) stops_x) stops_y
+    option_read f c cs other none some p q x y e a b (if_some p (StopsDigits x) stops_x) stops_y
 
 -- a mark, where what follows it does not begin with its word
 pub marked_told : (word : List ℕ) (a b : Bool) (x y : List ℕ) → marked a word ++ x ≡ marked b word ++ y
@@ -105,15 +105,15 @@ joined_first : (n : ℕ) (ns : List ℕ) → joined 44 (n ∷ ns) ≡ decimal n 
 joined_first n [] = simp append-nil
 joined_first n (m ∷ ns) = ap (λ rest. decimal n ++ 44 ∷ rest) (joined_first m ns)
 
-stops_commas : (ns x : List ℕ) → Stops x → Stops (behind ns ++ x)
+stops_commas : (ns x : List ℕ) → StopsDigits x → StopsDigits (behind ns ++ x)
 stops_commas [] x stops = stops
 stops_commas (n ∷ ns) x stops = inl (lit< tt)
 
-pub stops_behind : (ns x : List ℕ) → Stops (behind ns ++ 64 ∷ x)
+pub stops_behind : (ns x : List ℕ) → StopsDigits (behind ns ++ 64 ∷ x)
 stops_behind ns x = stops_commas ns (64 ∷ x) (inr (lit< tt))
 
 -- the first numbers behind a comma, and what is left of all up to an at sign
-behind_left : (ms ns x y : List ℕ) → behind ms ++ x ≡ behind ns ++ 64 ∷ y → Each IsWord ms → Each IsWord ns → Stops x
+behind_left : (ms ns x y : List ℕ) → behind ms ++ x ≡ behind ns ++ 64 ∷ y → Each IsWord ms → Each IsWord ns → StopsDigits x
     → (more : List ℕ) × (ns ≡ ms ++ more) × (x ≡ behind more ++ 64 ∷ y)
 behind_left [] ns x y e a b stops = (ns, refl, e)
 behind_left (m ∷ ms) [] x y e a b stops = apart _ 44 64 _ _ e (inl (lit< tt))
@@ -132,7 +132,7 @@ joined_flat n ns x = ap (λ w. w ++ x) (joined_first n ns) ∙ append_assoc (dec
 
 -- the first numbers with commas, and what is left of all up to an at sign
 pub numbers_left : (ms ns x y : List ℕ) → joined 44 ms ++ x ≡ joined 44 ns ++ 64 ∷ y → 0 < length ms → 0 < length ns
-    → Each IsWord ms → Each IsWord ns → Stops x → (more : List ℕ) × (ns ≡ ms ++ more) × (x ≡ behind more ++ 64 ∷ y)
+    → Each IsWord ms → Each IsWord ns → StopsDigits x → (more : List ℕ) × (ns ≡ ms ++ more) × (x ≡ behind more ++ 64 ∷ y)
 numbers_left [] ns x y e some_m some_n a b stops = absurd (omega (arith, some_m))
 numbers_left (m ∷ ms) [] x y e some_m some_n a b stops = absurd (omega (arith, some_n))
 numbers_left (m ∷ ms) (n ∷ ns) x y e some_m some_n a b stops =

@@ -8,9 +8,9 @@ use Rattle.pid_types.specs.declared.plain.Row.{Row}
 use Rattle.pid_types.specs.declared.plain.Space.{Space}
 use Rattle.pid_types.specs.declared.plain.Control.{Control}
 use Rattle.pid_script.specs.Lists.{marked, parent_text, limit_text, life_text, space_line}
-use Rattle.table_text.specs.Texts.{name_word, parent_word, names_text, places_text, marks_text, task_line, rest_line, control_line, settings_text, head_line}
+use Rattle.table_text.specs.Texts.{name_word, parent_word, names_text, places_text, flags_text, task_text_line, rest_line, control_text_line, bounds_text, head_line}
 use Rattle.table_text.specs.Ranges.{IsWord, Each, IsRowOfWords, IsSpaceOfWords, IsControlOfWords}
-use Rattle.table_text.specs.Reading.{Stops, IsNotAt}
+use Rattle.table_text.specs.Reading.{StopsDigits, IsNotAt}
 use Rattle.table_text.proofs.Fronts.{IsApart, GoesOnBut, apart, first_told, number_told, marked_told}
 use Rattle.table_text.proofs.Words.{name_told, parent_told, outer_told, limit_told, life_told}
 
@@ -23,28 +23,28 @@ pub places_flat : (r : Row) (x : List ℕ) → places_text r ++ x ≡ codes " co
 unfolding places_text
 places_flat r x = simp append_assoc
 
-pub marks_flat : (r : Row) (x : List ℕ) → marks_text r ++ x
+pub marks_flat : (r : Row) (x : List ℕ) → flags_text r ++ x
     ≡ codes " " ++ (life_text r.life ++ (marked r.executed (codes " executed") ++ (marked r.subreaper (codes " subreaper") ++ x)))
-unfolding marks_text
+unfolding flags_text
 marks_flat r x = simp append_assoc
 
-pub task_flat : (r : Row) (x : List ℕ) → task_line r ++ x ≡ names_text r ++ (places_text r ++ (marks_text r ++ 10 ∷ x))
-unfolding task_line
+pub task_flat : (r : Row) (x : List ℕ) → task_text_line r ++ x ≡ names_text r ++ (places_text r ++ (flags_text r ++ 10 ∷ x))
+unfolding task_text_line
 task_flat r x = simp append_assoc
 
 pub rest_flat : (r : Row) (x : List ℕ) → rest_line r ++ x
-    ≡ codes " parent " ++ (parent_word r.parent ++ (codes " group " ++ (name_word r.group ++ (codes " session " ++ (name_word r.session ++ (places_text r ++ (marks_text r ++ 10 ∷ x)))))))
+    ≡ codes " parent " ++ (parent_word r.parent ++ (codes " group " ++ (name_word r.group ++ (codes " session " ++ (name_word r.session ++ (places_text r ++ (flags_text r ++ 10 ∷ x)))))))
 unfolding rest_line
 rest_flat r x = simp append_assoc
 
 -- the line is the task's name, and the rest
-pub line_rest : (r : Row) → task_line r ≡ (codes "task " ++ name_word r.name) ++ rest_line r
-unfolding task_line names_text rest_line
+pub line_rest : (r : Row) → task_text_line r ≡ (codes "task " ++ name_word r.name) ++ rest_line r
+unfolding task_text_line names_text rest_line
 line_rest r = simp append_assoc
 
 -- whatever the name is
 pub rest_same : (r : Row) (name : Name) → rest_line (record r { name = name }) ≡ rest_line r
-unfolding rest_line places_text marks_text
+unfolding rest_line places_text flags_text
 rest_same r name = refl
 
 regrouped : (a b c d e f g h x : List ℕ) → ((((((a ++ b) ++ c) ++ d) ++ (e ++ f)) ++ g) ++ h) ++ x ≡ a ++ (b ++ (c ++ (d ++ (e ++ (f ++ (g ++ (h ++ x)))))))
@@ -56,24 +56,24 @@ unfolding space_line
 space_flat s x =
     regrouped (codes "space ") (decimal s.id) (codes " parent ") (parent_text s.parent) (codes " cursor ") (decimal s.cursor) (marked s.fallen (codes " fallen")) (10 ∷ []) x
 
-pub control_flat : (c : Control) (x : List ℕ) → control_line c ++ x
+pub control_flat : (c : Control) (x : List ℕ) → control_text_line c ++ x
     ≡ codes "control " ++ (decimal c.id ++ (codes " parent " ++ (parent_text c.parent ++ (codes " limit " ++ (limit_text c.limit ++ 10 ∷ x)))))
-unfolding control_line
+unfolding control_text_line
 control_flat c x = simp append_assoc
 
 pub head_flat : (pid_max stamp : ℕ) (x : List ℕ) → head_line pid_max stamp ++ x
     ≡ codes "pidtab table 1" ++ (codes " pid-max " ++ (decimal pid_max ++ (codes " stamp " ++ (decimal stamp ++ 10 ∷ x))))
-unfolding head_line settings_text
+unfolding head_line bounds_text
 head_flat pid_max stamp x = simp append_assoc
 
-pub stops_places : (r : Row) (z : List ℕ) → Stops (places_text r ++ z)
-stops_places r z = subst Stops (sym (places_flat r z)) (inl (lit< tt))
+pub stops_places : (r : Row) (z : List ℕ) → StopsDigits (places_text r ++ z)
+stops_places r z = subst StopsDigits (sym (places_flat r z)) (inl (lit< tt))
 
-pub stops_line : (r : Row) (z : List ℕ) → Stops (marks_text r ++ 10 ∷ z)
-stops_line r z = subst Stops (sym (marks_flat r (10 ∷ z))) (inl (lit< tt))
+pub stops_line : (r : Row) (z : List ℕ) → StopsDigits (flags_text r ++ 10 ∷ z)
+stops_line r z = subst StopsDigits (sym (marks_flat r (10 ∷ z))) (inl (lit< tt))
 
 -- the names of a task, and what follows them
-names_told : (a b : Row) (x y : List ℕ) → names_text a ++ x ≡ names_text b ++ y → IsRowOfWords a → IsRowOfWords b → Stops x → Stops y
+names_told : (a b : Row) (x y : List ℕ) → names_text a ++ x ≡ names_text b ++ y → IsRowOfWords a → IsRowOfWords b → StopsDigits x → StopsDigits y
     → (a.name ≡ b.name) × (a.parent ≡ b.parent) × (a.group ≡ b.group) × (a.session ≡ b.session) × (x ≡ y)
 names_told a b x y e words_a words_b stops_x stops_y =
     let name = name_told a.name b.name _ _ (append_cancel_left (codes "task ") _ _ (sym (names_flat a x) ∙ e ∙ names_flat b y)) words_a.name words_b.name (inl (lit< tt)) (inl (lit< tt)) in
@@ -83,14 +83,14 @@ names_told a b x y e words_a words_b stops_x stops_y =
     (name.0, parent.0, group.0, session.0, session.1)
 
 -- its control group, and where its children go
-places_told : (a b : Row) (x y : List ℕ) → places_text a ++ x ≡ places_text b ++ y → IsRowOfWords a → IsRowOfWords b → Stops x → Stops y
+places_told : (a b : Row) (x y : List ℕ) → places_text a ++ x ≡ places_text b ++ y → IsRowOfWords a → IsRowOfWords b → StopsDigits x → StopsDigits y
     → (a.home ≡ b.home) × (a.children_space ≡ b.children_space) × (x ≡ y)
 places_told a b x y e words_a words_b stops_x stops_y =
     let home = number_told a.home b.home _ _ (append_cancel_left (codes " control ") _ _ (sym (places_flat a x) ∙ e ∙ places_flat b y)) words_a.home words_b.home (inl (lit< tt)) (inl (lit< tt)) in
     let children = number_told a.children_space b.children_space _ _ (append_cancel_left (codes " children ") _ _ home.1) words_a.children_space words_b.children_space stops_x stops_y in
     (home.0, children.0, children.1)
 
-pub stops_marks : (e s : Bool) (x : List ℕ) → Stops (marked e (codes " executed") ++ (marked s (codes " subreaper") ++ 10 ∷ x))
+pub stops_marks : (e s : Bool) (x : List ℕ) → StopsDigits (marked e (codes " executed") ++ (marked s (codes " subreaper") ++ 10 ∷ x))
 stops_marks true s x = inl (lit< tt)
 stops_marks false true x = inl (lit< tt)
 stops_marks false false x = inl (lit< tt)
@@ -103,7 +103,7 @@ pub not_marked : (x z : List ℕ) → 10 ∷ x ≡ 32 ∷ z → ⊥
 not_marked x z e = apart ⊥ 10 32 _ _ e (inl (lit< tt))
 
 -- its life and its marks, up to the end of the line
-marks_told : (a b : Row) (x y : List ℕ) → marks_text a ++ 10 ∷ x ≡ marks_text b ++ 10 ∷ y → IsRowOfWords a → IsRowOfWords b
+marks_told : (a b : Row) (x y : List ℕ) → flags_text a ++ 10 ∷ x ≡ flags_text b ++ 10 ∷ y → IsRowOfWords a → IsRowOfWords b
     → (a.life ≡ b.life) × (a.executed ≡ b.executed) × (a.subreaper ≡ b.subreaper) × (x ≡ y)
 marks_told a b x y e words_a words_b =
     let life = life_told a.life b.life _ _ (append_cancel_left (codes " ") _ _ (sym (marks_flat a (10 ∷ x)) ∙ e ∙ marks_flat b (10 ∷ y))) words_a.life words_b.life
@@ -126,7 +126,7 @@ row_of name parent group session executed life home children_space subreaper = r
 }
 
 -- the line of a task
-pub task_told : (a b : Row) (x y : List ℕ) → task_line a ++ x ≡ task_line b ++ y → IsRowOfWords a → IsRowOfWords b → (a ≡ b) × (x ≡ y)
+pub task_told : (a b : Row) (x y : List ℕ) → task_text_line a ++ x ≡ task_text_line b ++ y → IsRowOfWords a → IsRowOfWords b → (a ≡ b) × (x ≡ y)
 task_told a b x y e words_a words_b =
     let names = names_told a b _ _ (sym (task_flat a x) ∙ e ∙ task_flat b y) words_a words_b (stops_places a _) (stops_places b _) in
     let places = places_told a b _ _ names.4 words_a words_b (stops_line a x) (stops_line b y) in
@@ -137,7 +137,7 @@ task_told a b x y e words_a words_b =
     ≡ row_of b.name b.parent b.group b.session b.executed b.life b.home b.children_space b.subreaper = cc (n, p, g, s, h, c, l, x, r) in
     (same, marks.3)
 
-pub stops_mark : (fallen : Bool) (x : List ℕ) → Stops (marked fallen (codes " fallen") ++ 10 ∷ x)
+pub stops_mark : (fallen : Bool) (x : List ℕ) → StopsDigits (marked fallen (codes " fallen") ++ 10 ∷ x)
 stops_mark true x = inl (lit< tt)
 stops_mark false x = inl (lit< tt)
 
@@ -154,7 +154,7 @@ space_told a b x y e words_a words_b =
     (same, (first_told 10 10 x y fallen.1).1)
 
 -- the line of a control group
-pub control_told : (a b : Control) (x y : List ℕ) → control_line a ++ x ≡ control_line b ++ y → IsControlOfWords a → IsControlOfWords b → (a ≡ b) × (x ≡ y)
+pub control_told : (a b : Control) (x y : List ℕ) → control_text_line a ++ x ≡ control_text_line b ++ y → IsControlOfWords a → IsControlOfWords b → (a ≡ b) × (x ≡ y)
 control_told a b x y e words_a words_b =
     let id = number_told a.id b.id _ _ (append_cancel_left (codes "control ") _ _ (sym (control_flat a x) ∙ e ∙ control_flat b y)) words_a.id words_b.id (inl (lit< tt)) (inl (lit< tt)) in
     let parent = outer_told a.parent b.parent _ _ (append_cancel_left (codes " parent ") _ _ id.1) words_a.parent words_b.parent (inl (lit< tt)) (inl (lit< tt)) in
@@ -175,17 +175,17 @@ head_told m n s t x y e word_m word_n word_s word_t =
 abbrev pub BeginsWith : {A : Type 0} → ℕ → (A → List ℕ) → Type 0
 BeginsWith {A} c line = (a : A) → (cs : List ℕ) × (line a ≡ c ∷ cs)
 
-pub task_begins : BeginsWith 116 task_line
-unfolding task_line names_text
-task_begins r = (drop 1 (task_line r), refl)
+pub task_begins : BeginsWith 116 task_text_line
+unfolding task_text_line names_text
+task_begins r = (drop 1 (task_text_line r), refl)
 
 pub space_begins : BeginsWith 115 space_line
 unfolding space_line
 space_begins s = (drop 1 (space_line s), refl)
 
-pub control_begins : BeginsWith 99 control_line
-unfolding control_line
-control_begins c = (drop 1 (control_line c), refl)
+pub control_begins : BeginsWith 99 control_text_line
+unfolding control_text_line
+control_begins c = (drop 1 (control_text_line c), refl)
 
 -- what goes on otherwise does not go on with the byte
 pub not_at : (c : ℕ) (text : List ℕ) → GoesOnBut c text → IsNotAt c text

@@ -5,7 +5,7 @@ use Rattle.pid_types.specs.Membership.{IsIn}
 use Rattle.pid_script.specs.Answers.{joined}
 use Rattle.table_text.specs.Texts.{name_word, parent_word}
 use Rattle.table_text.specs.Ranges.{IsWord, Each, IsNameOfWords}
-use Rattle.table_text.specs.Reading.{IsRead, Stops, Lacks, LacksField, LacksNumber, LacksNumbers, LacksAny, AreHeldNumbers, IsHeldName}
+use Rattle.table_text.specs.Reading.{IsRead, StopsDigits, Lacks, LacksField, LacksNumber, LacksNumbers, LacksAny, AreHeldNumbers, IsHeldName}
 use Rattle.table_text.proofs.Fronts.{apart, behind, stops_behind, joined_flat, numbers_left}
 use Rattle.table_text.proofs.Words.{name_flat, name_told, parent_read}
 use Rattle.table_text.proofs.Scanned.{dropped}
@@ -34,7 +34,7 @@ no_first text a lacks (n ∷ ns) rest held is =
 
 -- numbers that stand at the place, of which the first are read
 module _ (text ns rest : List ℕ) (held : AreHeldNumbers ns) (a b : ℕ) (ms : List ℕ) (within_a : a ≤ length text) (within_b : b ≤ length text)
-    (read : IsRead text a b (joined 44 ms)) (some : 0 < length ms) (words : Each IsWord ms) (stops : Stops (drop b text)) where
+    (read : IsRead text a b (joined 44 ms)) (some : 0 < length ms) (words : Each IsWord ms) (stops : StopsDigits (drop b text)) where
   left : drop a text ≡ joined 44 ns ++ 64 ∷ rest → (more : List ℕ) × (ns ≡ ms ++ more) × (drop b text ≡ behind more ++ 64 ∷ rest)
   left is = numbers_left ms ns (drop b text) rest (sym (dropped text a b (joined 44 ms) within_a within_b read) ∙ is) some held.some words (words_of_numbers ns held) stops
 
@@ -60,7 +60,7 @@ module _ (text ns rest : List ℕ) (held : AreHeldNumbers ns) (a b : ℕ) (ms : 
   numbers_behind lacks is = let parts = left is in all_read lacks parts.0 parts.1 parts.2
 
 -- an identifier behind its label, up to each of its parts
-module _ (text label : List ℕ) (name : Name) (held : IsHeldName name) (rest : List ℕ) (stops : Stops rest) (a : ℕ) (within : a ≤ length text)
+module _ (text label : List ℕ) (name : Name) (held : IsHeldName name) (rest : List ℕ) (stops : StopsDigits rest) (a : ℕ) (within : a ≤ length text)
     (is : drop a text ≡ (label ++ name_word name) ++ rest) where
   at_name : drop a text ≡ label ++ (joined 44 name.numbers.items ++ 64 ∷ (decimal name.space ++ rest))
   at_name = is ∙ append_assoc label (name_word name) rest ∙ ap (λ l. label ++ l) (name_flat name rest)
@@ -72,7 +72,7 @@ module _ (text label : List ℕ) (name : Name) (held : IsHeldName name) (rest : 
     pub no_name_numbers : LacksNumbers text b → ⊥
     no_name_numbers lacks = lacks name.numbers.items (decimal name.space ++ rest) held.numbers at_numbers
 
-    pub no_name_space : (c : ℕ) (ms : List ℕ) → c ≤ length text → IsRead text b c (joined 44 ms) → 0 < length ms → Each IsWord ms → Stops (drop c text)
+    pub no_name_space : (c : ℕ) (ms : List ℕ) → c ≤ length text → IsRead text b c (joined 44 ms) → 0 < length ms → Each IsWord ms → StopsDigits (drop c text)
         → (length ms < 33 → Lacks (44 ∷ []) text c) → LacksField (2 ^ 64) (codes "@") text c → ⊥
     no_name_space c ms within_numbers read_numbers some words stops_numbers no_comma lacks =
         no_field (2 ^ 64) text (codes "@") c name.space rest lacks held.space stops
@@ -80,7 +80,7 @@ module _ (text label : List ℕ) (name : Name) (held : IsHeldName name) (rest : 
 
 -- behind an identifier that is read
 pub name_behind : (text label : List ℕ) (a b : ℕ) (p q : Name) (rest : List ℕ) → a ≤ length text → b ≤ length text → IsRead text a b (label ++ name_word p)
-    → IsNameOfWords p → IsHeldName q → Stops (drop b text) → Stops rest → drop a text ≡ label ++ (name_word q ++ rest) → drop b text ≡ rest
+    → IsNameOfWords p → IsHeldName q → StopsDigits (drop b text) → StopsDigits rest → drop a text ≡ label ++ (name_word q ++ rest) → drop b text ≡ rest
 name_behind text label a b p q rest within_a within_b read words held stops stops_rest is =
     (name_told p q (drop b text) rest (left_by text label (name_word p) a b _ within_a within_b read is) words (words_of_name q held) stops stops_rest).1
 
@@ -93,7 +93,7 @@ no_parent_name text at start same no_word no_name (Some name) rest held stops is
 
 -- behind the name of a parent that is read
 pub parent_name_behind : (text : List ℕ) (a b : ℕ) (p q : Option Name) (rest : List ℕ) → a ≤ length text → b ≤ length text
-    → IsRead text a b (codes " parent " ++ parent_word p) → IfSome p IsNameOfWords → IfSome q IsHeldName → IfSome p (λ name. Stops (drop b text)) → Stops rest
+    → IsRead text a b (codes " parent " ++ parent_word p) → IfSome p IsNameOfWords → IfSome q IsHeldName → IfSome p (λ name. StopsDigits (drop b text)) → StopsDigits rest
     → drop a text ≡ codes " parent " ++ (parent_word q ++ rest) → drop b text ≡ rest
 parent_name_behind text a b p q rest within_a within_b read words held stops stops_rest is =
     (parent_read p q (drop b text) rest (left_by text (codes " parent ") (parent_word p) a b _ within_a within_b read is) words (words_of_parent q held) stops stops_rest).1

@@ -15,10 +15,10 @@ use Rattle.std.proofs.lemmas.Option.{none-some}
 use Rattle.pid_types.specs.declared.plain.Row.{Row}
 use Rattle.pid_script.specs.Answers.{joined}
 use Rattle.pid_script.specs.Lists.{field, marked, life_text}
-use Rattle.table_text.specs.Texts.{name_word, parent_word, places_text, marks_text, task_line, rest_line, end_line}
+use Rattle.table_text.specs.Texts.{name_word, parent_word, places_text, flags_text, task_text_line, rest_line, end_line}
 use Rattle.pid_script.specs.Reading.{number_below}
 use Rattle.pid_script.proofs.Numbers.{number_below-Some, number_below-decimal}
-use Rattle.table_text.specs.Reading.{IsRead, Stops, Lacks, LacksField, LacksNumber, LacksAny}
+use Rattle.table_text.specs.Reading.{IsRead, StopsDigits, Lacks, LacksField, LacksNumber, LacksAny}
 use Rattle.table_text.specs.Ranges.{IsWord}
 use Rattle.table_text.proofs.Fronts.{numerals, digits_told, number_told}
 use Rattle.table_text.proofs.Lines.{line_rest}
@@ -71,7 +71,7 @@ regrouped p q g h s i c k j l b m x y z = simp append_assoc
 rest_in_parts : (r : Row) → in_parts (codes " parent ") (parent_word r.parent) (codes " group ") (name_word r.group)
     (codes " session ") (name_word r.session) (codes " control ") (decimal r.home) (codes " children ") (decimal r.children_space)
     (codes " ") (life_text r.life) (marked r.executed (codes " executed")) (marked r.subreaper (codes " subreaper")) (10 ∷ []) ≡ rest_line r
-unfolding rest_line places_text marks_text
+unfolding rest_line places_text flags_text
 rest_in_parts r = regrouped (codes " parent ") (parent_word r.parent) (codes " group ") (name_word r.group)
     (codes " session ") (name_word r.session) (codes " control ") (decimal r.home) (codes " children ") (decimal r.children_space)
     (codes " ") (life_text r.life) (marked r.executed (codes " executed")) (marked r.subreaper (codes " subreaper")) (10 ∷ [])
@@ -89,7 +89,7 @@ rest_read text r a1 a2 a3 a4 a5 a6 a7 a8 a9 a10 e2 e3 e4 e5 e6 e7 e8 e9 e10 =
     (IsRead-more text a1 a4 a5 _ _ (IsRead-more text a1 a3 a4 _ _ (IsRead-more text a1 a2 a3 _ _ e2 e3) e4) e5) e6) e7) e8) e9) e10)
 
 -- the line of a task
-pub task_read : (text : List ℕ) (r : Row) (a0 a1 a2 : ℕ) → IsRead text a0 a1 (codes "task " ++ name_word r.name) → IsRead text a1 a2 (rest_line r) → IsRead text a0 a2 (task_line r)
+pub task_read : (text : List ℕ) (r : Row) (a0 a1 a2 : ℕ) → IsRead text a0 a1 (codes "task " ++ name_word r.name) → IsRead text a1 a2 (rest_line r) → IsRead text a0 a2 (task_text_line r)
 task_read text r a0 a1 a2 first second = subst (IsRead text a0 a2) (sym (line_rest r)) (IsRead-more text a0 a1 a2 _ _ first second)
 
 -- what stands at a second place again
@@ -177,7 +177,7 @@ value_more text at index from within =
     ∙ ap (λ b. digits_value 10 (take (index - at) (drop at text)) * 10 + digit_value b) same
 
 -- a number that does not stand there
-pub number_missing : (text : List ℕ) (at end : ℕ) → AllDigits 10 (take (end - at) (drop at text)) → at ≤ end → Stops (drop end text)
+pub number_missing : (text : List ℕ) (at end : ℕ) → AllDigits 10 (take (end - at) (drop at text)) → at ≤ end → StopsDigits (drop end text)
     → None ≡ number_below (2 ^ 64) (take (end - at) (drop at text)) → LacksNumber (2 ^ 64) text at
 number_missing text at end digits from stops none n rest small stops_rest is =
     let whole : at + (end - at) ≡ end = omega arith in
@@ -220,7 +220,7 @@ no_number_behind bound text label a b within_a within_b read lacks n rest below 
     lacks n rest below stops (behind_word text a b label (decimal n) rest within_a within_b read is)
 
 -- another number stands there, which is not below 2^32
-pub small_missing : (text : List ℕ) (a b m : ℕ) → a ≤ length text → b ≤ length text → IsRead text a b (decimal m) → IsWord m → Stops (drop b text)
+pub small_missing : (text : List ℕ) (a b m : ℕ) → a ≤ length text → b ≤ length text → IsRead text a b (decimal m) → IsWord m → StopsDigits (drop b text)
     → 2 ^ 32 ≤ m → LacksNumber (2 ^ 32) text a
 small_missing text a b m within_a within_b read word stops large n rest below stops_rest is =
     let same = (number_told m n (drop b text) rest (sym (dropped text a b (decimal m) within_a within_b read) ∙ is) word (omega arith) stops stops_rest).0 in

@@ -10,7 +10,7 @@ use Rattle.pid_types.specs.Chains.{climb}
 use Rattle.pid_types.specs.Names.{path_up, names_in_use}
 use Rattle.pid_types.specs.Sound.{IsSound, IsWellNumbered}
 use Rattle.pid_types.specs.Shown.{Shows}
-use Rattle.table_text.specs.Texts.{text_of, state_in}
+use Rattle.table_text.specs.Texts.{text_of, state_shown}
 use Rattle.table_text.specs.Ranges.{IsWord, Each, IsStateOfWords}
 use Rattle.table_text.specs.Reading.{IsNumbered, HasNumbers, IsHeldState, IsNoText, saved_state}
 use Rattle.table_text.specs.declared.read.Saved.{Saved}
@@ -66,16 +66,16 @@ words_of_state state held = record {
 
 -- a snapshot of a sound state
 module _ (state : State) (sound : IsSound state) (plain : Plain) (shows : Shows state plain)
-    (fits : Each HasNumbers plain.rows.items → IsHeldState (state_in plain)) where
-  held : IsHeldState (state_in plain)
+    (fits : Each HasNumbers plain.rows.items → IsHeldState (state_shown plain)) where
+  held : IsHeldState (state_shown plain)
   held = fits (subst (λ (rows : List Row). Each HasNumbers rows) (sym shows.rows) (has_numbers state sound))
 
-  module _ (stamp : ℕ) (word : IsWord stamp) (text : List ℕ) (is : text ≡ text_of stamp (state_in plain)) where
+  module _ (stamp : ℕ) (word : IsWord stamp) (text : List ℕ) (is : text ≡ text_of stamp (state_shown plain)) where
     -- has the state and the stamp that are read of its text
     pub is_read_back : (r : Result Saved LoadFault) → IfOk r (λ saved. text ≡ text_of saved.stamp (saved_state saved))
         → IfOk r (λ saved. IsWord saved.stamp × IsStateOfWords (saved_state saved)) → IfOk r (λ saved. (saved.stamp ≡ stamp) × (saved_state saved ≡ state))
     is_read_back (Ok saved) same words =
-        let told = text_told saved.stamp stamp (saved_state saved) (state_in plain) words.0 word words.1 (words_of_state (state_in plain) held) (sym same ∙ is) in
+        let told = text_told saved.stamp stamp (saved_state saved) (state_shown plain) words.0 word words.1 (words_of_state (state_shown plain) held) (sym same ∙ is) in
         (told.0, told.1 ∙ state_in-shown state plain shows)
     is_read_back (Err fault) same words = tt
 
@@ -83,5 +83,5 @@ module _ (state : State) (sound : IsSound state) (plain : Plain) (shows : Shows 
     pub no_fault : (r : Result Saved LoadFault) → IfErr r (λ fault. fault ≢ NoMemory → IsNoText text) → IfErr r (λ fault. fault ≡ NoMemory)
     no_fault (Ok saved) refused = tt
     no_fault (Err NoMemory) refused = refl
-    no_fault (Err (BadLine line)) refused = absurd (refused (λ same. cc same) stamp (state_in plain) word held is)
-    no_fault (Err (WrongDigest line)) refused = absurd (refused (λ same. cc same) stamp (state_in plain) word held is)
+    no_fault (Err (BadLine line)) refused = absurd (refused (λ same. cc same) stamp (state_shown plain) word held is)
+    no_fault (Err (WrongDigest line)) refused = absurd (refused (λ same. cc same) stamp (state_shown plain) word held is)

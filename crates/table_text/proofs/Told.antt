@@ -8,13 +8,13 @@ use Rattle.pid_types.specs.declared.plain.Plain.{Plain}
 use Rattle.pid_types.specs.State.{State}
 use Rattle.pid_types.specs.Shown.{Shows, with_count}
 use Rattle.pid_script.specs.Lists.{space_line}
-use Rattle.table_text.specs.Texts.{task_line, control_line, head_line, said, end_line, text_of, without_count, state_in}
+use Rattle.table_text.specs.Texts.{task_text_line, control_text_line, head_line, dump_text, end_line, text_of, control_shown, state_shown}
 use Rattle.table_text.specs.Ranges.{IsWord, IsRowOfWords, IsSpaceOfWords, IsControlOfWords, IsStateOfWords}
 use Rattle.table_text.proofs.Fronts.{IsApart, GoesOnBut}
 use Rattle.table_text.proofs.Lines.{task_told, space_told, control_told, head_told, task_begins, space_begins, control_begins, lines_front, lines_told}
 
 -- the control groups of a snapshot, without their counts
-pub uncounted : (state : State) (controls : List Control) → map without_count (map (with_count state) controls) ≡ controls
+pub uncounted : (state : State) (controls : List Control) → map control_shown (map (with_count state) controls) ≡ controls
 uncounted state [] = refl
 uncounted state (c ∷ controls) = ap (λ rest. c ∷ rest) (uncounted state controls)
 
@@ -22,11 +22,11 @@ abbrev state_of : List Row → List Space → List Control → ℕ → State
 state_of rows spaces controls pid_max = record { rows = rows; spaces = spaces; controls = controls; pid_max = pid_max }
 
 -- a snapshot has the state that it shows
-pub state_in-shown : (state : State) (plain : Plain) → Shows state plain → state_in plain ≡ state
+pub state_in-shown : (state : State) (plain : Plain) → Shows state plain → state_shown plain ≡ state
 state_in-shown state plain shows =
     let r = shows.rows in let s = shows.spaces in let m = shows.pid_max in
-    let c = ap (map without_count) shows.controls ∙ uncounted state state.controls in
-    let same : state_of plain.rows.items plain.spaces.items (map without_count plain.controls.items) plain.pid_max
+    let c = ap (map control_shown) shows.controls ∙ uncounted state state.controls in
+    let same : state_of plain.rows.items plain.spaces.items (map control_shown plain.controls.items) plain.pid_max
     ≡ state_of state.rows state.spaces state.controls state.pid_max = cc (r, s, c, m) in
     same
 
@@ -35,26 +35,26 @@ unfolding end_line
 end_front c text other = other
 
 pub text_flat : (stamp : ℕ) (state : State) → text_of stamp state
-    ≡ head_line state.pid_max stamp ++ (flat_map task_line state.rows ++ (flat_map space_line state.spaces ++ (flat_map control_line state.controls ++ end_line (said stamp state))))
-unfolding text_of said
+    ≡ head_line state.pid_max stamp ++ (flat_map task_text_line state.rows ++ (flat_map space_line state.spaces ++ (flat_map control_text_line state.controls ++ end_line (dump_text stamp state))))
+unfolding text_of dump_text
 text_flat stamp state = simp append_assoc
 
 module _ (controls : List Control) (text : List ℕ) where
-  pub controls_front : (d : ℕ) → IsApart d 99 → IsApart d 101 → GoesOnBut d (flat_map control_line controls ++ end_line text)
-  controls_front d other ends = lines_front control_line 99 control_begins d controls (end_line text) other (end_front d text ends)
+  pub controls_front : (d : ℕ) → IsApart d 99 → IsApart d 101 → GoesOnBut d (flat_map control_text_line controls ++ end_line text)
+  controls_front d other ends = lines_front control_text_line 99 control_begins d controls (end_line text) other (end_front d text ends)
 
-  pub spaces_front : (spaces : List Space) → GoesOnBut 116 (flat_map space_line spaces ++ (flat_map control_line controls ++ end_line text))
+  pub spaces_front : (spaces : List Space) → GoesOnBut 116 (flat_map space_line spaces ++ (flat_map control_text_line controls ++ end_line text))
   spaces_front spaces = lines_front space_line 115 space_begins 116 spaces _ (inr (lit< tt)) (controls_front 116 (inr (lit< tt)) (inr (lit< tt)))
 
 -- equal texts are of one state, with one stamp
 pub text_told : (m n : ℕ) (a b : State) → IsWord m → IsWord n → IsStateOfWords a → IsStateOfWords b → text_of m a ≡ text_of n b → (m ≡ n) × (a ≡ b)
 text_told m n a b word_m word_n words_a words_b e =
-    let ends_a = said m a in let ends_b = said n b in
+    let ends_a = dump_text m a in let ends_b = dump_text n b in
     let head = head_told a.pid_max b.pid_max m n _ _ (sym (text_flat m a) ∙ e ∙ text_flat n b) words_a.pid_max words_b.pid_max word_m word_n in
-    let rows = lines_told task_line 116 task_begins IsRowOfWords task_told a.rows b.rows _ _ head.2 words_a.rows words_b.rows (spaces_front a.controls ends_a a.spaces) (spaces_front b.controls ends_b b.spaces) in
+    let rows = lines_told task_text_line 116 task_begins IsRowOfWords task_told a.rows b.rows _ _ head.2 words_a.rows words_b.rows (spaces_front a.controls ends_a a.spaces) (spaces_front b.controls ends_b b.spaces) in
     let spaces = lines_told space_line 115 space_begins IsSpaceOfWords space_told a.spaces b.spaces _ _ rows.1 words_a.spaces words_b.spaces
     (controls_front a.controls ends_a 115 (inr (lit< tt)) (inr (lit< tt))) (controls_front b.controls ends_b 115 (inr (lit< tt)) (inr (lit< tt))) in
-    let controls = lines_told control_line 99 control_begins IsControlOfWords control_told a.controls b.controls _ _ spaces.1 words_a.controls words_b.controls
+    let controls = lines_told control_text_line 99 control_begins IsControlOfWords control_told a.controls b.controls _ _ spaces.1 words_a.controls words_b.controls
     (end_front 99 ends_a (inl (lit< tt))) (end_front 99 ends_b (inl (lit< tt))) in
     let r = rows.0 in let s = spaces.0 in let c = controls.0 in let p = head.0 in
     let same : state_of a.rows a.spaces a.controls a.pid_max ≡ state_of b.rows b.spaces b.controls b.pid_max = cc (r, s, c, p) in

@@ -8,7 +8,7 @@ use Rattle.pid_types.specs.declared.plain.Control.{Control}
 use Rattle.pid_types.specs.Membership.{IsIn}
 use Rattle.pid_types.specs.State.{State}
 use Rattle.pid_script.specs.Lists.{space_line}
-use Rattle.table_text.specs.Texts.{task_line, control_line, head_line, said, end_line, text_of}
+use Rattle.table_text.specs.Texts.{task_text_line, control_text_line, head_line, dump_text, end_line, text_of}
 use Rattle.table_text.specs.Ranges.{IsWord, Each, IsRowOfWords, IsSpaceOfWords, IsControlOfWords}
 use Rattle.table_text.specs.Reading.{IsRead, Lacks, LacksLine, LacksLines, IsNotAt, IsHeldRow, IsHeldSpace, IsHeldControl, IsHeldState}
 use Rattle.table_text.proofs.Lines.{BeginsWith, lines_left, task_told, space_told, control_told, head_told, task_begins, space_begins, control_begins, not_at}
@@ -65,16 +65,16 @@ module _ {A : Type 0} (line : A → List ℕ) (c : ℕ) (begins : BeginsWith c l
 -- the text of a state, up to each of its parts
 module _ (text : List ℕ) (stamp : ℕ) (state : State) (word : IsWord stamp) (held : IsHeldState state) (is : text ≡ text_of stamp state) where
   abbrev whole : List ℕ
-  whole = said stamp state
+  whole = dump_text stamp state
 
   abbrev behind_spaces : List ℕ
-  behind_spaces = flat_map control_line state.controls ++ end_line whole
+  behind_spaces = flat_map control_text_line state.controls ++ end_line whole
 
   abbrev behind_tasks : List ℕ
   behind_tasks = flat_map space_line state.spaces ++ behind_spaces
 
   abbrev behind_head : List ℕ
-  behind_head = flat_map task_line state.rows ++ behind_tasks
+  behind_head = flat_map task_text_line state.rows ++ behind_tasks
 
   at_head : drop 0 text ≡ head_line state.pid_max stamp ++ behind_head
   at_head = is ∙ text_flat stamp state
@@ -93,13 +93,13 @@ module _ (text : List ℕ) (stamp : ℕ) (state : State) (word : IsWord stamp) (
     at_tasks = (head_told pid_max state.pid_max next stamp (drop a1 text) behind_head (sym (dropped text 0 a1 (head_line pid_max next) (omega arith) within_head read_head) ∙ at_head)
         word_bound (word_of_small state.pid_max held.pid_max) word_next word).2
 
-    pub no_text_tasks : LacksLines IsHeldRow task_line 116 text a1 → ⊥
+    pub no_text_tasks : LacksLines IsHeldRow task_text_line 116 text a1 → ⊥
     no_text_tasks lacks = lacks state.rows behind_tasks held.rows not_task at_tasks
 
-    module _ (a2 : ℕ) (rows : List Row) (within_tasks : a2 ≤ length text) (read_tasks : IsRead text a1 a2 (flat_map task_line rows)) (words_tasks : Each IsRowOfWords rows)
+    module _ (a2 : ℕ) (rows : List Row) (within_tasks : a2 ≤ length text) (read_tasks : IsRead text a1 a2 (flat_map task_text_line rows)) (words_tasks : Each IsRowOfWords rows)
         (no_task : Lacks (116 ∷ []) text a2) where
       at_spaces : drop a2 text ≡ behind_tasks
-      at_spaces = lines_behind task_line 116 task_begins IsRowOfWords IsHeldRow task_told words_of_row text a1 a2 rows within_head within_tasks read_tasks words_tasks
+      at_spaces = lines_behind task_text_line 116 task_begins IsRowOfWords IsHeldRow task_told words_of_row text a1 a2 rows within_head within_tasks read_tasks words_tasks
           state.rows behind_tasks held.rows not_task at_tasks no_task
 
       pub no_text_spaces : LacksLines IsHeldSpace space_line 115 text a2 → ⊥
@@ -111,13 +111,13 @@ module _ (text : List ℕ) (stamp : ℕ) (state : State) (word : IsWord stamp) (
         at_controls = lines_behind space_line 115 space_begins IsSpaceOfWords IsHeldSpace space_told words_of_space text a2 a3 spaces within_tasks within_spaces read_spaces words_spaces
             state.spaces behind_spaces held.spaces not_space at_spaces no_space
 
-        pub no_text_controls : LacksLines IsHeldControl control_line 99 text a3 → ⊥
+        pub no_text_controls : LacksLines IsHeldControl control_text_line 99 text a3 → ⊥
         no_text_controls lacks = lacks state.controls (end_line whole) held.controls not_control at_controls
 
-        module _ (a4 : ℕ) (controls : List Control) (within_controls : a4 ≤ length text) (read_controls : IsRead text a3 a4 (flat_map control_line controls))
+        module _ (a4 : ℕ) (controls : List Control) (within_controls : a4 ≤ length text) (read_controls : IsRead text a3 a4 (flat_map control_text_line controls))
             (words_controls : Each IsControlOfWords controls) (no_control : Lacks (99 ∷ []) text a4) where
           at_end : drop a4 text ≡ end_line whole
-          at_end = lines_behind control_line 99 control_begins IsControlOfWords IsHeldControl control_told words_of_control text a3 a4 controls within_spaces within_controls read_controls words_controls
+          at_end = lines_behind control_text_line 99 control_begins IsControlOfWords IsHeldControl control_told words_of_control text a3 a4 controls within_spaces within_controls read_controls words_controls
               state.controls (end_line whole) held.controls not_control at_controls no_control
 
           before_end : take a4 text ≡ whole

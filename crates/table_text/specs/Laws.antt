@@ -3,13 +3,13 @@ use Rattle.std.specs.Prelude.{◌≡◌, ℕ}
 use Rattle.pid_types.specs.declared.plain.Plain.{Plain}
 use Rattle.pid_types.specs.State.{State}
 use Rattle.pid_types.specs.Shown.{Shows}
-use Rattle.table_text.specs.Texts.{text_of, state_in}
+use Rattle.table_text.specs.Texts.{text_of, state_shown}
 use Rattle.table_text.specs.Ranges.{IsWord, IsStateOfWords}
 use Rattle.table_text.specs.Reading.{IsHeldState}
 
 -- a snapshot has the state that it shows
 abbrev pub SnapshotsHaveTheirState : Type 0
-SnapshotsHaveTheirState = (state : State) (plain : Plain) → Shows state plain → state_in plain ≡ state
+SnapshotsHaveTheirState = (state : State) (plain : Plain) → Shows state plain → state_shown plain ≡ state
 
 -- equal texts are of one state, sound or not, with one stamp
 abbrev pub TextsTellStates : Type 0

@@ -24,9 +24,9 @@ abbrev pub IsOther : ℕ → Type 0
 IsOther b = (b < 48) ⊎ (57 < b)
 
 -- the text is at its end, or goes on with a byte that is no digit
-abbrev pub Stops : List ℕ → Type 0
-Stops [] = Unit {0}
-Stops (b ∷ bs) = IsOther b
+abbrev pub StopsDigits : List ℕ → Type 0
+StopsDigits [] = Unit {0}
+StopsDigits (b ∷ bs) = IsOther b
 
 -- what is answered stands between the two places, and is of a kind. The place is within the text, whatever is answered
 pub record Reads {A : Type 0} (text : List ℕ) (from to : ℕ) (result : Option A) (part : A → List ℕ) (IsGood : A → Type 0) : Type 0 where
@@ -40,11 +40,11 @@ pub record ReadsToStop {A : Type 0} (text : List ℕ) (from to : ℕ) (result : 
   pub within : to ≤ length text
   pub read : IfSome result (λ a. IsRead text from to (part a))
   pub words : IfSome result IsGood
-  pub stops : OnSome result (Stops (drop to text))
+  pub stops : OnSome result (StopsDigits (drop to text))
 
 -- no number below the bound stands behind this label at the place, with what stops behind it
 abbrev pub LacksField : ℕ → List ℕ → List ℕ → ℕ → Type 0
-LacksField bound label text at = (n : ℕ) (rest : List ℕ) → n < bound → Stops rest → drop at text ≡ field label n ++ rest → ⊥
+LacksField bound label text at = (n : ℕ) (rest : List ℕ) → n < bound → StopsDigits rest → drop at text ≡ field label n ++ rest → ⊥
 
 -- the same without a label
 abbrev pub LacksNumber : ℕ → List ℕ → ℕ → Type 0
@@ -52,7 +52,7 @@ LacksNumber bound text at = LacksField bound [] text at
 
 -- nothing of a kind stands at the place, with what stops behind it
 abbrev pub LacksAny : {A : Type 0} → (A → Type 0) → (A → List ℕ) → List ℕ → ℕ → Type 0
-LacksAny {A} IsHeld part text at = (a : A) (rest : List ℕ) → IsHeld a → Stops rest → drop at text ≡ part a ++ rest → ⊥
+LacksAny {A} IsHeld part text at = (a : A) (rest : List ℕ) → IsHeld a → StopsDigits rest → drop at text ≡ part a ++ rest → ⊥
 
 -- a number of 32 bits
 abbrev pub IsSmall : ℕ → Type 0
@@ -69,7 +69,7 @@ LacksLine {A} IsHeld line text at = (a : A) (rest : List ℕ) → IsHeld a → d
 -- no bound and stamp stand at the place, with what stops behind them
 abbrev pub LacksSettings : (ℕ → ℕ → List ℕ) → List ℕ → ℕ → Type 0
 LacksSettings part text at =
-    (pid_max stamp : ℕ) (rest : List ℕ) → IsSmall pid_max → IsWord stamp → Stops rest → drop at text ≡ part pid_max stamp ++ rest → ⊥
+    (pid_max stamp : ℕ) (rest : List ℕ) → IsSmall pid_max → IsWord stamp → StopsDigits rest → drop at text ≡ part pid_max stamp ++ rest → ⊥
 
 -- the same of the first line, whatever stands behind it
 abbrev pub LacksHead : (ℕ → ℕ → List ℕ) → List ℕ → ℕ → Type 0
@@ -100,7 +100,7 @@ IsHeldLife (Zombie Killed) = Unit {0}
 -- behind a status the text stops
 abbrev pub StopsBehind : Life → List ℕ → Type 0
 StopsBehind Live rest = Unit {0}
-StopsBehind (Zombie (Exited status)) rest = Stops rest
+StopsBehind (Zombie (Exited status)) rest = StopsDigits rest
 StopsBehind (Zombie Killed) rest = Unit {0}
 
 -- a task with such identifiers, and its other numbers as its type holds them

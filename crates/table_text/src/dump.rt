@@ -1,13 +1,12 @@
 //! Snapshots to texts: [`dump_text`] is the table of all lines. Below it stands a function for each
 //! part of a line, which appends it; each fails only for want of memory.
-ghost use Rattle.std.specs.Prelude.{◌≡◌, ◌++◌, OnOk, IfOk, map, codes};
-ghost use Rattle.std.specs.List.{flat_map};
-ghost use Rattle.pid_script.specs.Lists.{field};
-ghost use Rattle.table_text.specs.Texts.{name_word, parent_word, names_text, places_text, marks_text, task_line};
-ghost use Rattle.table_text.specs.Texts.{control_line, settings_text, head_line, said, end_line, text_of};
-ghost use Rattle.table_text.specs.Texts.{without_count, state_in};
-ghost use Rattle.table_text.specs.Ranges.{Each};
-ghost use Rattle.table_text.specs.Reading.{HasNumbers, IsHeldState};
+ghost use Rattle.std.specs.{Prelude.{◌≡◌, ◌++◌, OnOk, IfOk, map, codes}, List.{flat_map}};
+ghost use Rattle.{
+  pid_script.specs.Lists.{field},
+  table_text.specs.Texts.{name_word, parent_word, names_text, places_text, flags_text, task_text_line},
+  table_text.specs.Texts.{control_text_line, bounds_text, head_line, dump_text, end_line, text_of, control_shown},
+  table_text.specs.{Texts.{state_shown}, Ranges.{Each}, Reading.{HasNumbers, IsHeldState}},
+};
 
 use crate::fits::plain_fits;
 use hex::encode;
@@ -58,9 +57,9 @@ fn push_places(text: &mut Vec<u8>, row: &Row) -> Result<(), AllocError>
 }
 
 /// Appends the state, and the marks that hold.
-#[tactic(auto, unfolding(crate::specs::Texts::marks_text))]
+#[tactic(auto, unfolding(crate::specs::Texts::flags_text))]
 fn push_marks(text: &mut Vec<u8>, row: &Row) -> Result<(), AllocError>
-    ensures { OnOk result (text.new.items ≡ text.old.items ++ marks_text row.now) }
+    ensures { OnOk result (text.new.items ≡ text.old.items ++ flags_text row.now) }
 {
     push_life(text, row.life)?;
     push_mark(text, row.executed, b" executed")?;
@@ -68,9 +67,9 @@ fn push_marks(text: &mut Vec<u8>, row: &Row) -> Result<(), AllocError>
 }
 
 /// Appends a task's line. After an `Err` the text has some of its bytes.
-#[tactic(auto, unfolding(crate::specs::Texts::task_line))]
+#[tactic(auto, unfolding(crate::specs::Texts::task_text_line))]
 pub fn push_task(text: &mut Vec<u8>, row: &Row) -> Result<(), AllocError>
-    ensures { OnOk result (text.new.items ≡ text.old.items ++ task_line row.now) }
+    ensures { OnOk result (text.new.items ≡ text.old.items ++ task_text_line row.now) }
 {
     push_names(text, row)?;
     push_places(text, row)?;
@@ -79,9 +78,9 @@ pub fn push_task(text: &mut Vec<u8>, row: &Row) -> Result<(), AllocError>
 }
 
 /// Appends the line of a control group, without its count.
-#[tactic(auto, unfolding(crate::specs::Texts::control_line))]
+#[tactic(auto, unfolding(crate::specs::Texts::control_text_line))]
 fn push_control(text: &mut Vec<u8>, control: &ControlRow) -> Result<(), AllocError>
-    ensures { OnOk result (text.new.items ≡ text.old.items ++ control_line (without_count control.now)) }
+    ensures { OnOk result (text.new.items ≡ text.old.items ++ control_text_line (control_shown control.now)) }
 {
     push_field(text, b"control ", control.id)?;
     push_parent(text, control.parent)?;
@@ -91,7 +90,7 @@ fn push_control(text: &mut Vec<u8>, control: &ControlRow) -> Result<(), AllocErr
 
 /// Appends the lines of the tasks.
 fn push_tasks(text: &mut Vec<u8>, rows: &[Row]) -> Result<(), AllocError>
-    ensures { OnOk result (text.new.items ≡ text.old.items ++ flat_map task_line rows.now) }
+    ensures { OnOk result (text.new.items ≡ text.old.items ++ flat_map task_text_line rows.now) }
 {
     for row in rows {
         push_task(text, row)?;
@@ -101,7 +100,8 @@ fn push_tasks(text: &mut Vec<u8>, rows: &[Row]) -> Result<(), AllocError>
 
 /// Appends the lines of the control groups, without their counts. After an `Err` the text has some of their bytes.
 pub fn push_controls(text: &mut Vec<u8>, controls: &[ControlRow]) -> Result<(), AllocError>
-    ensures { OnOk result (text.new.items ≡ text.old.items ++ flat_map control_line (map without_count controls.now)) }
+    ensures { OnOk result
+        (text.new.items ≡ text.old.items ++ flat_map control_text_line (map control_shown controls.now)) }
 {
     for control in controls {
         push_control(text, control)?;
@@ -110,9 +110,9 @@ pub fn push_controls(text: &mut Vec<u8>, controls: &[ControlRow]) -> Result<(), 
 }
 
 /// Appends the bound of all numbers, and the stamp of the next call.
-#[tactic(auto, unfolding(crate::specs::Texts::settings_text))]
+#[tactic(auto, unfolding(crate::specs::Texts::bounds_text))]
 fn push_settings(text: &mut Vec<u8>, pid_max: u32, stamp: u64) -> Result<(), AllocError>
-    ensures { OnOk result (text.new.items ≡ text.old.items ++ settings_text pid_max stamp) }
+    ensures { OnOk result (text.new.items ≡ text.old.items ++ bounds_text pid_max stamp) }
 {
     push_field(text, b" pid-max ", u64::from(pid_max))?;
     push_field(text, b" stamp ", stamp)
@@ -130,9 +130,9 @@ pub fn push_head(text: &mut Vec<u8>, pid_max: u32, stamp: u64) -> Result<(), All
 }
 
 /// Appends all that the text says.
-#[tactic(auto, unfolding(crate::specs::Texts::said))]
+#[tactic(auto, unfolding(crate::specs::Texts::dump_text))]
 fn push_said(text: &mut Vec<u8>, plain: &Plain, stamp: u64) -> Result<(), AllocError>
-    ensures { OnOk result (text.new.items ≡ text.old.items ++ said stamp (state_in plain.now)) }
+    ensures { OnOk result (text.new.items ≡ text.old.items ++ dump_text stamp (state_shown plain.now)) }
 {
     push_head(text, plain.pid_max, stamp)?;
     push_tasks(text, &plain.rows)?;
@@ -168,8 +168,8 @@ pub fn end_of(alloc: Global, said: &[u8]) -> Result<Vec<u8>, AllocError>
 /// text, which is made in one piece.
 #[tactic(auto, unfolding(crate::specs::Texts::text_of))]
 pub fn dump_text(alloc: Global, plain: &Plain, stamp: u64) -> Result<Vec<u8>, AllocError>
-    ensures text { IfOk result (λ text. text.items ≡ text_of stamp (state_in plain.now)) }
-    ensures held { Each HasNumbers plain.now.rows.items → IsHeldState (state_in plain.now) }
+    ensures text { IfOk result (λ text. text.items ≡ text_of stamp (state_shown plain.now)) }
+    ensures held { Each HasNumbers plain.now.rows.items → IsHeldState (state_shown plain.now) }
 {
     // It does nothing but read the numbers, which are known to fit from then on.
     plain_fits(plain);

@@ -1,9 +1,8 @@
 //! The numbers of a table fit their types. Nothing here does anything: what a body reads is known to fit from then on.
 ghost use Rattle.std.specs.Prelude.{IfSome, map};
-ghost use Rattle.table_text.specs.Texts.{without_count, state_in};
-ghost use Rattle.table_text.specs.Ranges.{IsWord, Each};
-ghost use Rattle.table_text.specs.Reading.{IsSmall, IsNumbered, HasNumbers};
-ghost use Rattle.table_text.specs.Reading.{IsHeldName, IsHeldLife, IsHeldRow, IsHeldSpace, IsHeldControl, IsHeldState};
+ghost use Rattle.table_text.specs.{Texts.{control_shown, state_shown}, Ranges.{IsWord, Each}, Reading.{IsSmall}};
+ghost use Rattle.table_text.specs.Reading.{IsNumbered, HasNumbers, IsHeldName, IsHeldLife, IsHeldRow, IsHeldSpace};
+ghost use Rattle.table_text.specs.Reading.{IsHeldControl, IsHeldState};
 
 use pid_types::keys::Pid;
 use pid_types::plain::{ControlRow, Ended, Life, Name, Plain, Row, Space};
@@ -73,7 +72,7 @@ fn space_fits(space: &Space)
 }
 
 fn control_fits(control: &ControlRow)
-    ensures { IsHeldControl (without_count control.now) }
+    ensures { IsHeldControl (control_shown control.now) }
 {
     let _id = control.id;
     outer_fits(control.parent);
@@ -99,7 +98,7 @@ pub fn spaces_fit(spaces: &[Space])
 
 /// Control groups, without their counts, are such as lines are read of.
 pub fn controls_fit(controls: &[ControlRow])
-    ensures { Each IsHeldControl (map without_count controls.now) }
+    ensures { Each IsHeldControl (map control_shown controls.now) }
 {
     for control in controls {
         control_fits(control);
@@ -108,7 +107,7 @@ pub fn controls_fit(controls: &[ControlRow])
 
 /// Where each identifier of its tasks has a number, the state that the snapshot has is one that a text is read of.
 pub fn plain_fits(plain: &Plain)
-    ensures { Each HasNumbers plain.now.rows.items → IsHeldState (state_in plain.now) }
+    ensures { Each HasNumbers plain.now.rows.items → IsHeldState (state_shown plain.now) }
 {
     let _pid_max = plain.pid_max;
     rows_fit(&plain.rows);

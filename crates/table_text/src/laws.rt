@@ -1,11 +1,10 @@
 //! Laws of the form.
 ghost use Rattle.std.specs.Prelude.{◌≡◌, IfOk, IfErr};
-ghost use Rattle.pid_types.specs.State.{State};
-ghost use Rattle.pid_types.specs.Sound.{IsSound};
-ghost use Rattle.pid_types.specs.Shown.{Shows};
-ghost use Rattle.table_text.specs.Laws.{SnapshotsHaveTheirState, TextsTellStates, WhatFitsIsOfWords};
-ghost use Rattle.table_text.specs.Reading.{saved_state};
-ghost use Rattle.table_text.specs.declared.fault.LoadFault.TheVariants.{NoMemory};
+ghost use Rattle.{
+  pid_types.specs.{State.{State}, Sound.{IsSound}, Shown.{Shows}},
+  table_text.specs.{Laws.{SnapshotsHaveTheirState, TextsTellStates, WhatFitsIsOfWords}, Reading.{saved_state}},
+  table_text.specs.declared.fault.LoadFault.TheVariants.{NoMemory},
+};
 
 use crate::dump::dump_text;
 use crate::fault::LoadFault;

@@ -1,21 +1,17 @@
 //! Texts to what they say: [`read_text`]. Above it stands a function for each line of the form, and for the parts of
 //! one.
-ghost use Rattle.std.specs.Prelude.{◌≡◌, ◌++◌, ◌<◌, ◌≤◌, length, take, codes, IfSome, IfOk, OnOk, map};
-ghost use Rattle.std.specs.List.{flat_map};
+ghost use Rattle.std.specs.Prelude.{◌≡◌, ◌++◌, ◌<◌, ◌≤◌, length, take, codes, IfSome, IfOk, OnOk, map, IfNone, OnSome};
+ghost use Rattle.std.specs.{Prelude.{IfErr, drop, true, false, ◌≢◌, [], ◌∷◌, ◌+◌, ◌-◌, ℕ, List}, List.{flat_map}};
 ghost use Rattle.std.specs.Result.{result_ok};
-ghost use Rattle.pid_script.specs.Answers.{joined};
-ghost use Rattle.pid_script.specs.Lists.{space_line};
-ghost use Rattle.table_text.specs.Texts.{name_word, parent_word, rest_line, task_line, control_line};
-ghost use Rattle.table_text.specs.Texts.{settings_text, head_line, end_line, text_of};
-ghost use Rattle.table_text.specs.Ranges.{IsWord, Each, IsNameOfWords, IsRowOfWords, IsSpaceOfWords, IsControlOfWords};
-ghost use Rattle.table_text.specs.Ranges.{IsStateOfWords};
-ghost use Rattle.std.specs.Prelude.{IfNone, OnSome, IfErr, drop, true, false, ◌≢◌, [], ◌∷◌, ◌+◌, ◌-◌, ℕ, List};
-ghost use Rattle.table_text.specs.Reading.{IsRead, Reads, ReadsToStop, Stops, saved_state};
-ghost use Rattle.table_text.specs.Reading.{LacksLine, LacksSettings, LacksHead};
-ghost use Rattle.table_text.specs.Reading.{Lacks, LacksNumbers, LacksAny, LacksLines, IsNoText};
-ghost use Rattle.table_text.specs.Reading.{IsHeldName, IsHeldRow, IsHeldSpace, IsHeldControl};
-ghost use Rattle.table_text.specs.Rests.{IsRest};
-ghost use Rattle.table_text.specs.declared.fault.LoadFault.TheVariants.{NoMemory};
+ghost use Rattle.{
+  pid_script.specs.{Answers.{joined}, Lists.{space_line}},
+  table_text.specs.Texts.{name_word, parent_word, rest_line, task_text_line, control_text_line, bounds_text, head_line},
+  table_text.specs.Texts.{end_line, text_of},
+  table_text.specs.Ranges.{IsWord, Each, IsNameOfWords, IsRowOfWords, IsSpaceOfWords, IsControlOfWords, IsStateOfWords},
+  table_text.specs.Reading.{IsRead, Reads, ReadsToStop, StopsDigits, saved_state, LacksLine, LacksSettings, LacksHead},
+  table_text.specs.Reading.{Lacks, LacksNumbers, LacksAny, LacksLines, IsNoText, IsHeldName, IsHeldRow, IsHeldSpace},
+  table_text.specs.{Reading.{IsHeldControl}, Rests.{IsRest}, declared.fault.LoadFault.TheVariants.{NoMemory}},
+};
 
 use crate::dump::end_of;
 use crate::fault::LoadFault;
@@ -52,12 +48,12 @@ struct Head {
 }
 
 /// The bound of all numbers, and the stamp of the next call.
-#[tactic(auto, unfolding(crate::specs::Texts::settings_text))]
+#[tactic(auto, unfolding(crate::specs::Texts::bounds_text))]
 fn read_settings(text: &[u8], at: &mut usize) -> Option<Head>
     requires { at.old ≤ length text.now }
-    ensures read { ReadsToStop text.now at.old at.new result (λ head. settings_text head.pid_max head.stamp)
+    ensures read { ReadsToStop text.now at.old at.new result (λ head. bounds_text head.pid_max head.stamp)
         (λ head. IsWord head.pid_max × IsWord head.stamp) }
-    ensures missing { IfNone result (LacksSettings settings_text text.now at.old) }
+    ensures missing { IfNone result (LacksSettings bounds_text text.now at.old) }
 {
     let pid_max = read_small_field(text, at, b" pid-max ")?;
     let stamp = read_field(text, at, b" stamp ")?;
@@ -86,7 +82,7 @@ fn read_numbers(text: &[u8], at: &mut usize, numbers: &mut ArrayVec<Pid, LEVELS>
     ensures some { OnSome result (0 < length numbers.new.items) }
     ensures whole { OnSome result (length numbers.new.items < 33 → Lacks (codes ",") text.now at.new) }
     ensures missing { IfNone result (LacksNumbers text.now at.old) }
-    ensures stops { OnSome result (Stops (drop at.new text.now)) }
+    ensures stops { OnSome result (StopsDigits (drop at.new text.now)) }
 {
     numbers.clear();
     numbers.push(read_small(text, at)?);
@@ -120,7 +116,7 @@ fn read_parent_name(text: &[u8], at: &mut usize, parent: &mut Option<Name>) -> O
         (λ _. IfSome parent.new IsNameOfWords) }
     ensures missing { IfNone result
         (LacksAny (λ p. IfSome p IsHeldName) (λ p. codes " parent " ++ parent_word p) text.now at.old) }
-    ensures stops { OnSome result (IfSome parent.new (λ name. Stops (drop at.new text.now))) }
+    ensures stops { OnSome result (IfSome parent.new (λ name. StopsDigits (drop at.new text.now))) }
 {
     if read_mark(text, at, b" parent -") {
         *parent = None;
@@ -178,9 +174,9 @@ fn is_again(text: &[u8], at: usize, last: Rest) -> bool
 fn read_task(text: &[u8], at: &mut usize, row: &mut Row, last: &mut Rest) -> Option<()>
     requires at { at.old ≤ length text.now }
     requires last { IsRest text.now last.old row.old }
-    ensures read { Reads text.now at.old at.new result (λ _. task_line row.new) (λ _. IsRowOfWords row.new) }
+    ensures read { Reads text.now at.old at.new result (λ _. task_text_line row.new) (λ _. IsRowOfWords row.new) }
     ensures last { OnSome result (IsRest text.now last.new row.new) }
-    ensures missing { IfNone result (LacksLine IsHeldRow task_line text.now at.old) }
+    ensures missing { IfNone result (LacksLine IsHeldRow task_text_line text.now at.old) }
 {
     read_name(text, at, b"task ", &mut row.name)?;
     if is_again(text, *at, *last) {
@@ -229,11 +225,11 @@ fn read_space(text: &[u8], at: &mut usize) -> Option<Space>
 }
 
 /// The line of a control group.
-#[tactic(auto, unfolding(crate::specs::Texts::control_line))]
+#[tactic(auto, unfolding(crate::specs::Texts::control_text_line))]
 fn read_control(text: &[u8], at: &mut usize) -> Option<Control>
     requires { at.old ≤ length text.now }
-    ensures read { Reads text.now at.old at.new result control_line IsControlOfWords }
-    ensures missing { IfNone result (LacksLine IsHeldControl control_line text.now at.old) }
+    ensures read { Reads text.now at.old at.new result control_text_line IsControlOfWords }
+    ensures missing { IfNone result (LacksLine IsHeldControl control_text_line text.now at.old) }
 {
     let id = read_field(text, at, b"control ")?;
     let parent = read_parent(text, at)?;
@@ -262,10 +258,10 @@ fn line_behind(lines: u64, more: usize) -> u64 {
 /// The lines of the tasks, behind so many lines.
 fn read_tasks(alloc: Global, text: &[u8], at: &mut usize, lines: u64) -> Result<Rows, LoadFault>
     requires { at.old ≤ length text.now }
-    ensures read { Reads text.now at.old at.new (result_ok result) (flat_map task_line) (Each IsRowOfWords) }
+    ensures read { Reads text.now at.old at.new (result_ok result) (flat_map task_text_line) (Each IsRowOfWords) }
     ensures over { OnOk result (Lacks (codes "t") text.now at.new) }
     ensures missing { IfErr result
-        (λ fault. fault ≢ NoMemory → LacksLines IsHeldRow task_line 116 text.now at.old) }
+        (λ fault. fault ≢ NoMemory → LacksLines IsHeldRow task_text_line 116 text.now at.old) }
 {
     let mut rows = Rows::new(alloc);
     let mut row = no_row();
@@ -315,11 +311,11 @@ fn read_controls(
     lines: u64,
 ) -> Result<Vec<Control>, LoadFault>
     requires { at.old ≤ length text.now }
-    ensures read { Reads text.now at.old at.new (result_ok result) (λ controls. flat_map control_line controls.items)
-        (λ controls. Each IsControlOfWords controls.items) }
+    ensures read { Reads text.now at.old at.new (result_ok result)
+        (λ controls. flat_map control_text_line controls.items) (λ controls. Each IsControlOfWords controls.items) }
     ensures over { OnOk result (Lacks (codes "c") text.now at.new) }
     ensures missing { IfErr result
-        (λ fault. fault ≢ NoMemory → LacksLines IsHeldControl control_line 99 text.now at.old) }
+        (λ fault. fault ≢ NoMemory → LacksLines IsHeldControl control_text_line 99 text.now at.old) }
 {
     let mut controls = Vec::new(alloc);
     while begins_with(text, *at, b'c') {
@@ -360,7 +356,7 @@ fn check_end(alloc: Global, text: &[u8], at: usize, line: u64) -> Result<(), Loa
 /// or want of memory; and at the end a digest of another text. A last line that something follows, or that is missing,
 /// is a bad line. Then nothing is kept. The cost grows with the text; of a task's line that is that of the line before
 /// behind its own name, that name alone is read.
-#[tactic(auto, unfolding(crate::specs::Texts::text_of, crate::specs::Texts::said))]
+#[tactic(auto, unfolding(crate::specs::Texts::text_of, crate::specs::Texts::dump_text))]
 pub fn read_text(alloc: Global, text: &[u8]) -> Result<Saved, LoadFault>
     ensures text { IfOk result (λ saved. text.now ≡ text_of saved.stamp (saved_state saved)) }
     ensures words { IfOk result (λ saved. IsWord saved.stamp × IsStateOfWords (saved_state saved)) }

@@ -1,11 +1,12 @@
 //! The rows of a text, in little room: the numbers of all names stand one behind another, and a parent, a group or a
 //! session that is that of the row before, as most are, has the same place.
 ghost use Rattle.std.specs.Prelude.{◌≡◌, ◌++◌, ◌∷◌, ◌<◌, ◌≤◌, ◌-◌, [], true, ℕ, List, length, slice_get, option_map};
-ghost use Rattle.std.specs.Prelude.{Some, IfSome, IfOk, OnOk, OnErr, IsTrue, nat_lt};
-ghost use Rattle.std.specs.List.{list_all};
-ghost use Rattle.pid_types.specs.declared.plain.Row.{Row};
-ghost use Rattle.table_text.specs.declared.rows.Line.{Line};
-ghost use Rattle.table_text.specs.Rows.{name_in, row_in, IsWithin, IsLineWithin, AreWithin, IsGrown, PlacesName};
+ghost use Rattle.std.specs.{Prelude.{Some, IfSome, IfOk, OnOk, OnErr, IsTrue, nat_lt}, List.{list_all}};
+ghost use Rattle.{
+  pid_types.specs.declared.plain.Row.{Row},
+  table_text.specs.declared.rows.Line.{Line},
+  table_text.specs.Rows.{name_in, row_in, IsWithin, IsLineWithin, AreWithin, IsGrown, PlacesName},
+};
 
 use arrayvec::ArrayVec;
 use pid_types::keys::Pid;

@@ -1,13 +1,12 @@
 //! Words and numbers of a text, each read from a place on. Where a function answers, the place is behind what it read;
 //! where it does not, the place is somewhere within the text.
-ghost use Rattle.std.specs.Prelude.{◌≡◌, ◌++◌, ◌<◌, ◌≤◌, length, take, decimal, codes};
-ghost use Rattle.std.specs.Prelude.{IsTrue, OnSome, IfSome, IfNone, false, drop, ◌+◌, ◌-◌, ◌^◌, ◌↔◌};
-ghost use Rattle.std.specs.Str.Parse.{AllDigits, digits_value};
-ghost use Rattle.pid_script.specs.Reading.{IsPlain};
-ghost use Rattle.pid_script.specs.Lists.{field, marked, parent_text, limit_text, life_text};
-ghost use Rattle.table_text.specs.Ranges.{IsWord, IsLifeOfWords};
-ghost use Rattle.table_text.specs.Reading.{IsRead, Lacks, LacksNumber, LacksField, LacksAny, IsSmall, Stops};
-ghost use Rattle.table_text.specs.Reading.{IsHeldLife, Reads, ReadsToStop, StopsBehind};
+ghost use Rattle.std.specs.Prelude.{◌≡◌, ◌++◌, ◌<◌, ◌≤◌, length, take, decimal, codes, IsTrue, OnSome, IfSome, IfNone};
+ghost use Rattle.std.specs.{Prelude.{false, drop, ◌+◌, ◌-◌, ◌^◌, ◌↔◌}, Str.Parse.{AllDigits, digits_value}};
+ghost use Rattle.{
+  pid_script.specs.{Reading.{IsPlain}, Lists.{field, marked, parent_text, limit_text, life_text}},
+  table_text.specs.{Ranges.{IsWord, IsLifeOfWords}, Reading.{IsRead, Lacks, LacksNumber, LacksField, LacksAny}},
+  table_text.specs.Reading.{IsSmall, StopsDigits, IsHeldLife, Reads, ReadsToStop, StopsBehind},
+};
 
 use pid_script::number::read_u64;
 use pid_types::plain::{Ended, Life};
@@ -32,7 +31,7 @@ fn digits_end(text: &[u8], at: usize) -> usize
     ensures from { at ≤ result }
     ensures within { result ≤ length text.now }
     ensures digits { AllDigits 10 (take (result - at) (drop at text.now)) }
-    ensures stops { Stops (drop result text.now) }
+    ensures stops { StopsDigits (drop result text.now) }
 {
     for index in at..text.len() {
         if !text[index].is_ascii_digit() {
@@ -59,7 +58,7 @@ fn read_front(text: &[u8], at: usize) -> Front
     ensures few { result.end ≤ at + 9 }
     ensures digits { AllDigits 10 (take (result.end - at) (drop at text.now)) }
     ensures value { result.number ≡ digits_value 10 (take (result.end - at) (drop at text.now)) }
-    ensures stops { result.end < at + 9 → Stops (drop result.end text.now) }
+    ensures stops { result.end < at + 9 → StopsDigits (drop result.end text.now) }
 {
     let most = text.len().min(at.saturating_add(9));
     let mut number = 0_u32;
@@ -162,7 +161,7 @@ pub fn read_parent(text: &[u8], at: &mut usize) -> Option<Option<u64>>
     ensures read { Reads text.now at.old at.new result (λ p. codes " parent " ++ parent_text p) (λ n. IfSome n IsWord) }
     ensures missing { IfNone result
         (LacksAny (λ p. IfSome p IsWord) (λ p. codes " parent " ++ parent_text p) text.now at.old) }
-    ensures stops { IfSome result (λ p. IfSome p (λ n. Stops (drop at.new text.now))) }
+    ensures stops { IfSome result (λ p. IfSome p (λ n. StopsDigits (drop at.new text.now))) }
 {
     if read_mark(text, at, b" parent -") {
         return Some(None);
@@ -176,7 +175,7 @@ pub fn read_limit(text: &[u8], at: &mut usize) -> Option<Option<u32>>
     ensures read { Reads text.now at.old at.new result (λ n. codes " limit " ++ limit_text n) (λ n. IfSome n IsWord) }
     ensures missing { IfNone result
         (LacksAny (λ n. IfSome n IsSmall) (λ n. codes " limit " ++ limit_text n) text.now at.old) }
-    ensures stops { IfSome result (λ limit. IfSome limit (λ n. Stops (drop at.new text.now))) }
+    ensures stops { IfSome result (λ limit. IfSome limit (λ n. StopsDigits (drop at.new text.now))) }
 {
     if read_mark(text, at, b" limit max") {
         return Some(None);

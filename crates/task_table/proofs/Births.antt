@@ -9,7 +9,7 @@ use Rattle.pid_types.specs.declared.call.Kind.TheVariants.{Task as AsTask, Group
 use Rattle.pid_types.specs.Names.{beside}
 use Rattle.pid_numbers.specs.Numbering.{Numbering, Identifier, identifier_at, namespace_at, path_at, number_in, number_of, new_identifier, uses}
 use Rattle.task_tree.specs.declared.Task.{Task}
-use Rattle.task_tree.specs.Tree.{Tree, task_at, parent_of, rank_of, waits_for, lives}
+use Rattle.task_tree.specs.Tree.{TreeOfTasks, task_at, parent_of, rank_of, waits_for, lives}
 use Rattle.pids_charge.specs.Charges.{Home, home_at, stands, all_tasks, ChangesHome}
 use Rattle.groups_sessions.specs.Membership.{Membership, membership_at}
 use Rattle.task_table.specs.Store.{Store, IsStore, IsSame, uses_at, one_if, is_kind, is_in_group, is_in_session, lives_in, waits_in, bare, bare_at, joins, use_of}
@@ -81,7 +81,7 @@ module _ (b c : Numbering) (key space : ℕ) (numbers : List ℕ) (fresh : ident
       at_most_one false = omega arith
 
 -- ranks stay where those who were there are what they were, on the paths that were there
-pub ranks-born : (b c : Numbering) (old new : Tree) (key : ℕ) → identifier_at b key ≡ None → ((j : ℕ) → j ≢ key → bare_at c j ≡ bare_at b j) → ((p : ℕ) → 0 < length (path_at b p) → path_at c p ≡ path_at b p)
+pub ranks-born : (b c : Numbering) (old new : TreeOfTasks) (key : ℕ) → identifier_at b key ≡ None → ((j : ℕ) → j ≢ key → bare_at c j ≡ bare_at b j) → ((p : ℕ) → 0 < length (path_at b p) → path_at c p ≡ path_at b p)
     → ((i : ℕ) (u : Identifier) → identifier_at b i ≡ Some u → (0 < length u.numbers) × (length u.numbers ≡ length (path_at b u.space)))
     → ((k : ℕ) → rank_of new k ≡ rank_of old k)
     → ((k p r : ℕ) → rank_of old k ≡ Some (p, r) → (IsSome (identifier_at b k)) × (IsSome (identifier_at b p)))

@@ -10,11 +10,11 @@ use Rattle.pid_types.specs.declared.plain.Row.{Row}
 use Rattle.pid_types.specs.State.{State, root_name}
 use Rattle.pid_types.specs.Names.{with_row, on_row}
 use Rattle.pid_types.specs.Outcome.{sweep}
-use Rattle.pid_numbers.specs.Numbering.{Numbering, Namespace, Identifier, namespace_at, id_at, identifier_at, number_of, taken_in, is_dead, is_there, swept_at}
+use Rattle.pid_numbers.specs.Numbering.{Numbering, Namespace, Identifier, namespace_at, id_at, identifier_at, number_of, taken_in, is_deserted, is_there, swept_at}
 use Rattle.task_tree.specs.declared.Task.{Task}
 use Rattle.task_tree.specs.Tree.{task_at, parent_of}
 use Rattle.groups_sessions.specs.Membership.{membership_at, group_of, session_of}
-use Rattle.pids_charge.specs.Charges.{Home, home_at, moved, id_at as home_id}
+use Rattle.pids_charge.specs.Charges.{Home, home_at, after_move, home_id}
 use Rattle.task_table.specs.Store.{Store, IsLess, IsSame}
 use Rattle.task_table.proofs.Changes.{in_range}
 use Rattle.task_table.specs.Collect.{collect}
@@ -40,8 +40,8 @@ IsLess-same b h = record {
     nobody n some = grind (arith, some)
 
     go : (s : ℕ) (o : Option Namespace) → namespace_at b s ≡ o → namespace_at b s ≡ swept_at b s
-    go s None is = is ∙ sym (ap (option_and_then (λ t. if is_dead b s t then None else Some t)) is)
-    go s (Some t) is = is ∙ sym (ap (option_and_then (λ t. if is_dead b s t then None else Some t)) is ∙ test t.fallen refl)
+    go s None is = is ∙ sym (ap (option_and_then (λ t. if is_deserted b s t then None else Some t)) is)
+    go s (Some t) is = is ∙ sym (ap (option_and_then (λ t. if is_deserted b s t then None else Some t)) is ∙ test t.fallen refl)
       where
         test : (f : Bool) → t.fallen ≡ f → (if t.fallen && (length (taken_in b s) == 0) then None else Some t) ≡ Some t
         test false e = ap (λ f. if f && (length (taken_in b s) == 0) then None else Some t) e
@@ -146,7 +146,7 @@ updated s s' k t tasks rest = record {
 
 -- a task that went to another control group
 pub rehomed : (s s' : Store) (k : ℕ) (t : Task) (from to : ℕ) → s'.tree.tasks ≡ slice_set s.tree.tasks k (Some t) → s'.charges.controls ≡ s.charges.controls
-    → ((c : ℕ) → home_at s'.charges c ≡ option_map (moved from to c) (home_at s.charges c)) → s' ≡ record s { tree = record s.tree { tasks = s'.tree.tasks }; charges = s'.charges } → IsRetasked s s' k t
+    → ((c : ℕ) → home_at s'.charges c ≡ option_map (after_move from to c) (home_at s.charges c)) → s' ≡ record s { tree = record s.tree { tasks = s'.tree.tasks }; charges = s'.charges } → IsRetasked s s' k t
 rehomed s s' k t from to tasks controls homes rest = record {
   tasks = tasks;
   parents = λ j. ap (λ s. parent_of s.tree j) rest;
@@ -156,7 +156,7 @@ rehomed s s' k t from to tasks controls homes rest = record {
   homes = λ c. ap (λ o. option_map_or (λ h. h.id) o 0) (homes c) ∙ same c (home_at s.charges c);
 }
   where
-    same : (c : ℕ) (o : Option Home) → option_map_or (λ h. h.id) (option_map (moved from to c) o) 0 ≡ option_map_or (λ h. h.id) o 0
+    same : (c : ℕ) (o : Option Home) → option_map_or (λ h. h.id) (option_map (after_move from to c) o) 0 ≡ option_map_or (λ h. h.id) o 0
     same c None = refl
     same c (Some h) = refl
 

@@ -8,7 +8,7 @@ use Rattle.std.proofs.lemmas.Bool.{cases_eq, eq-eqb}
 use Rattle.pid_types.specs.declared.call.Kind.TheVariants.{Task as AsTask, Group, Session}
 use Rattle.pid_numbers.specs.Numbering.{Numbering, Identifier, identifier_at, number_of}
 use Rattle.task_tree.specs.declared.Task.{Task}
-use Rattle.task_tree.specs.Tree.{Tree, task_at, parent_of, rank_of, waits_for, lives}
+use Rattle.task_tree.specs.Tree.{TreeOfTasks, task_at, parent_of, rank_of, waits_for, lives}
 use Rattle.groups_sessions.specs.Membership.{Membership, membership_at}
 use Rattle.pids_charge.specs.Charges.{live_at, zombies_at, all_tasks}
 use Rattle.task_table.proofs.Less.{AreRanks}
@@ -139,7 +139,7 @@ pub waits_same : (c : ℕ) (s t : Task) → s.home ≡ t.home → s.life ≡ t.l
 waits_same c s t home life = ap (λ h. one_if ((h == c) && not (lives s))) home ∙ ap (λ l. one_if ((t.home == c) && not (lives (record s { life = l })))) life
 
 -- a live task waits for nobody
-pub no_rank : (tree : Tree) (key : ℕ) (task : Task) → task_at tree key ≡ Some task → lives task ≡ true
+pub no_rank : (tree : TreeOfTasks) (key : ℕ) (task : Task) → task_at tree key ≡ Some task → lives task ≡ true
     → option_map (λ (m : ℕ × ℕ). m.0) (rank_of tree key) ≡ waits_for (task_at tree key) (parent_of tree key) → (m : ℕ × ℕ) → rank_of tree key ≢ Some m
 no_rank tree key task there live waiting m e =
     let a : Some m.0 ≡ None = sym (ap (option_map (λ (m : ℕ × ℕ). m.0)) e) ∙ waiting ∙ ap (λ o. waits_for o (parent_of tree key)) there ∙ ap (λ b. if not b then parent_of tree key else None) live in
@@ -154,7 +154,7 @@ live_some s w key task there live =
     let count = w.live task.home in
     omega (arith, e, here, count)
 
-pub ranks-finished : (b : Numbering) (old new : Tree) (key rank : ℕ) → AreRanks b old
+pub ranks-finished : (b : Numbering) (old new : TreeOfTasks) (key rank : ℕ) → AreRanks b old
     → ((p : ℕ) → parent_of old key ≡ Some p → (u : Identifier) → identifier_at b p ≡ Some u → number_of b key u.space ≡ Some rank)
     → rank_of new key ≡ option_map (λ p. (p, rank)) (parent_of old key) → ((k : ℕ) → k ≢ key → rank_of new k ≡ rank_of old k) → AreRanks b new
 ranks-finished b old new key rank ranks mine here others k p r e u is = go (cases_eq k key)

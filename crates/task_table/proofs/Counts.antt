@@ -11,7 +11,7 @@ use Rattle.pid_numbers.specs.Numbering.{number_of}
 use Rattle.task_tree.specs.declared.Task.{Task}
 use Rattle.task_tree.specs.Tree.{task_at, lives}
 use Rattle.pids_charge.specs.Sums.{sum_below}
-use Rattle.pids_charge.specs.Charges.{home_at, tasks_of, count, id_at as home_id}
+use Rattle.pids_charge.specs.Charges.{home_at, tasks_of, charged_count, home_id}
 use Rattle.pids_charge.proofs.Sums.{sum-ext, sum-at, sum-zero, sum_by-places}
 use Rattle.pids_charge.proofs.Listed.{count-listed, tasks_of-both}
 use Rattle.task_table.specs.Store.{Store, lives_in, waits_in}
@@ -146,7 +146,7 @@ module _ (s : Store) (l : IsLawful s) where
       (count-keys (λ t. not (lives t) && (t.home == k)) (waits_in k) refl (λ t. flip (t.home == k) (not (lives t))) ∙ sym (l.agree.zombies k))
 
   -- a count is the model's
-  pub count-is : (id : ℕ) → count s.charges id ≡ count_in (state_of s) id
+  pub count-is : (id : ℕ) → charged_count s.charges id ≡ count_in (state_of s) id
   unfolding count_in
   count-is id =
       count-listed (λ (t : Task). t.home) s.charges tasks_in_rows homes id

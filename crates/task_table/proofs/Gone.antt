@@ -4,7 +4,7 @@ use Rattle.std.specs.Prelude.{slice_set}
 use Rattle.std.specs.Option.{option_map_or}
 use Rattle.std.proofs.lemmas.Bool.{cases_eq}
 use Rattle.std.proofs.lemmas.List.{get_or-set_same, get_or-set_other}
-use Rattle.pids_charge.specs.Charges.{Home, home_at, live_at, zombies_at, kept, ChangesHome, id_at as home_id}
+use Rattle.pids_charge.specs.Charges.{Home, home_at, live_at, zombies_at, kept, ChangesHome, home_id}
 use Rattle.task_tree.specs.declared.Task.{Task}
 use Rattle.task_tree.specs.Tree.{task_at, parent_of, lives}
 use Rattle.task_table.specs.Store.{Store, IsLess, home_without}

@@ -8,7 +8,7 @@ use Rattle.std.proofs.lemmas.List.Sums.{count_by-le-length}
 use Rattle.pid_types.specs.declared.call.Kind.{Kind}
 use Rattle.pid_types.specs.declared.call.Kind.TheVariants.{Task as AsTask, Group, Session}
 use Rattle.pid_numbers.specs.Numbering.{Numbering}
-use Rattle.task_tree.specs.Tree.{Tree, task_at}
+use Rattle.task_tree.specs.Tree.{TreeOfTasks, task_at}
 use Rattle.task_tree.specs.declared.Task.{Task}
 use Rattle.groups_sessions.specs.Membership.{Membership, membership_at, group_of, session_of}
 use Rattle.pids_charge.specs.Charges.{live_at, zombies_at, all_tasks}
@@ -185,7 +185,7 @@ get_or-set_none (x ∷ xs) zero = refl
 get_or-set_none (x ∷ xs) (suc i) = get_or-set_none xs i
 
 -- where one task went the identifiers of the others are left
-pub others_left : (s : Store) → IsStore s → (key : ℕ) (m : Membership) (b : Numbering) (tree : Tree) → tree.tasks ≡ slice_set s.tree.tasks key None → UsesLeft s.numbering b key m
+pub others_left : (s : Store) → IsStore s → (key : ℕ) (m : Membership) (b : Numbering) (tree : TreeOfTasks) → tree.tasks ≡ slice_set s.tree.tasks key None → UsesLeft s.numbering b key m
     → (k : ℕ) → is_some (task_at tree k) ≡ true → 0 < uses_at b AsTask k
 others_left s w key m b tree tasks uses k on = go (cases_eq k key)
   where

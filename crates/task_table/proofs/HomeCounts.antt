@@ -3,7 +3,7 @@ use Rattle.std.proofs.Common.{◌≡◌, ◌≢◌, ◌⊎◌, inl, inr, ℕ, �
 use Rattle.std.proofs.lemmas.Bool.Decides.{nat_tests}
 use Rattle.std.specs.Option.{option_map_or}
 use Rattle.std.proofs.lemmas.Bool.{cases_eq, eq-eqb, eqb-true}
-use Rattle.pids_charge.specs.Charges.{Charges, Home, home_at, live_at, zombies_at, stands, kept, moved, ChangesHome}
+use Rattle.pids_charge.specs.Charges.{Charges, Home, home_at, live_at, zombies_at, stands, kept, after_move, ChangesHome}
 use Rattle.task_tree.specs.declared.Task.{Task}
 use Rattle.task_tree.specs.Tree.{lives}
 use Rattle.task_table.specs.Store.{one_if, lives_in, waits_in, home_without}
@@ -68,7 +68,7 @@ module _ (old new : Charges) (s t : Task) (change : ChangesHome old new s.home (
       no true = refl
       no false = refl
 
-module _ (old new : Charges) (s : Task) (to : ℕ) (homes : (k : ℕ) → home_at new k ≡ option_map (moved s.home to k) (home_at old k)) (live : lives s ≡ true) where
+module _ (old new : Charges) (s : Task) (to : ℕ) (homes : (k : ℕ) → home_at new k ≡ option_map (after_move s.home to k) (home_at old k)) (live : lives s ≡ true) where
   pub live-moved : 0 < live_at old s.home → stands old to ≡ true → (c : ℕ) → live_at new c + one_if (lives_in c (Some s)) ≡ live_at old c + one_if (lives_in c (Some (record s { home = to })))
   live-moved some up c = go (home_at old c) refl
     where
@@ -93,7 +93,7 @@ module _ (old new : Charges) (s : Task) (to : ℕ) (homes : (k : ℕ) → home_a
       go : (o : Option Home) → home_at old c ≡ o → live_at new c + one_if (lives_in c (Some s)) ≡ live_at old c + one_if (lives_in c (Some (record s { home = to })))
       go None e =
           let was = empty c e in
-          let now : live_at new c ≡ 0 = ap (λ o. option_map_or (λ h. h.live) o 0) (homes c ∙ ap (option_map (moved s.home to c)) e) in
+          let now : live_at new c ≡ 0 = ap (λ o. option_map_or (λ h. h.live) o 0) (homes c ∙ ap (option_map (after_move s.home to c)) e) in
           let p : (s.home == c) ≡ false = elim (cases_eq s.home c) [
             | inl same ↦ absurd (let z = empty s.home (ap (home_at old) same ∙ e) in omega (arith, z, some))
             | inr differs ↦ grind (arith, differs)
@@ -107,7 +107,7 @@ module _ (old new : Charges) (s : Task) (to : ℕ) (homes : (k : ℕ) → home_a
           omega (arith, was, now, a, b, x, y)
       go (Some h) e =
           let was : live_at old c ≡ h.live = ap (λ o. option_map_or (λ h. h.live) o 0) e in
-          let now : live_at new c ≡ h.live - (if c == s.home then 1 else 0) + (if c == to then 1 else 0) = ap (λ o. option_map_or (λ h. h.live) o 0) (homes c ∙ ap (option_map (moved s.home to c)) e) in
+          let now : live_at new c ≡ h.live - (if c == s.home then 1 else 0) + (if c == to then 1 else 0) = ap (λ o. option_map_or (λ h. h.live) o 0) (homes c ∙ ap (option_map (after_move s.home to c)) e) in
           count h (c == s.home) (c == to) was now (a ∙ ap (λ b. one_if (b && true)) (flip s.home c)) (b ∙ ap (λ b. one_if (b && true)) (flip to c))
           (λ on. let same = eqb-true c s.home on in let z = ap (live_at old) same in omega (arith, z, some, was))
         where
@@ -132,7 +132,7 @@ module _ (old new : Charges) (s : Task) (to : ℕ) (homes : (k : ℕ) → home_a
       no true = refl
       no false = refl
 
-      same : (o : Option Home) → option_map_or (λ h. h.zombies) (option_map (moved s.home to c) o) 0 ≡ option_map_or (λ h. h.zombies) o 0
+      same : (o : Option Home) → option_map_or (λ h. h.zombies) (option_map (after_move s.home to c) o) 0 ≡ option_map_or (λ h. h.zombies) o 0
       same None = refl
       same (Some h) = refl
 

@@ -9,7 +9,7 @@ use Rattle.member_lists.specs.Owners.{owner_of, HasMoreRoom}
 use Rattle.pid_types.specs.Controls.{parent_control}
 use Rattle.pid_types.specs.declared.reply.Refusal.{Refusal}
 use Rattle.pid_types.specs.declared.reply.Refusal.TheVariants.{ControlBusy, RootControl}
-use Rattle.pids_charge.specs.Charges.{Charges, Home, home_at, stands, id_at, is_busy, kept, handed_on, moved, remove_refusal, ChangesHome}
+use Rattle.pids_charge.specs.Charges.{Charges, Home, home_at, stands, home_id, is_occupied, kept, handed_on, after_move, remove_refusal, ChangesHome}
 use Rattle.task_tree.specs.declared.Task.{Task}
 use Rattle.task_tree.specs.Tree.{lives}
 use Rattle.task_table.specs.Store.{home_without}
@@ -61,8 +61,8 @@ less-left old new t change =
         go true e = e
         go false e = e
 
-pub less-moved : (old new : Charges) (from to : ℕ) → ((k : ℕ) → home_at new k ≡ option_map (moved from to k) (home_at old k)) → StandsLess old new
-less-moved old new from to homes c up = up-map (moved from to c) (λ h e. e) (home_at old c) (sym (ap is_up (homes c)) ∙ up)
+pub less-moved : (old new : Charges) (from to : ℕ) → ((k : ℕ) → home_at new k ≡ option_map (after_move from to k) (home_at old k)) → StandsLess old new
+less-moved old new from to homes c up = up-map (after_move from to c) (λ h e. e) (home_at old c) (sym (ap is_up (homes c)) ∙ up)
 
 pub less-same : (old new : Charges) → ((k : ℕ) → home_at new k ≡ home_at old k) → StandsLess old new
 less-same old new homes c up = sym (ap is_up (homes c)) ∙ up
@@ -79,14 +79,14 @@ less-handed old new from to homes c up = up-then (handed_on from to) one (home_a
 
 -- a removal that was refused changed nothing
 pub less-removed : {X : Type 0} (old new : Charges) (c : ℕ) (result : Result X Refusal) → result_err result ≡ remove_refusal old c
-    → OnOk result ((parent : ℕ) → parent_control old.controls (id_at old c) ≡ Some parent → (k : ℕ) → home_at new k ≡ option_and_then (handed_on (id_at old c) parent) (home_at old k))
+    → OnOk result ((parent : ℕ) → parent_control old.controls (home_id old c) ≡ Some parent → (k : ℕ) → home_at new k ≡ option_and_then (handed_on (home_id old c) parent) (home_at old k))
     → OnErr result (new ≡ old) → StandsLess old new
 less-removed old new c (Err r) refusal homes same = less-same old new (λ k. ap (λ v. home_at v k) same)
-less-removed old new c (Ok x) refusal homes same = go (parent_control old.controls (id_at old c)) refl refusal
+less-removed old new c (Ok x) refusal homes same = go (parent_control old.controls (home_id old c)) refl refusal
   where
-    go : (o : Option ℕ) → parent_control old.controls (id_at old c) ≡ o → None ≡ (if is_some o then (if is_busy old c then Some ControlBusy else None) else Some RootControl) → StandsLess old new
+    go : (o : Option ℕ) → parent_control old.controls (home_id old c) ≡ o → None ≡ (if is_some o then (if is_occupied old c then Some ControlBusy else None) else Some RootControl) → StandsLess old new
     go None e z = absurd (cc)
-    go (Some parent) e z = less-handed old new (id_at old c) parent (homes parent e)
+    go (Some parent) e z = less-handed old new (home_id old c) parent (homes parent e)
 
 -- the tasks are the same
 pub kept-tasks : (tasks : List (Option Task)) (old new : Charges) (r : List (Option ℕ)) → AreHoused tasks old r → StandsLess old new → AreHoused tasks new r

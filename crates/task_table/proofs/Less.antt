@@ -5,12 +5,12 @@ use Rattle.std.specs.Option.{option_map_or}
 use Rattle.std.specs.List.{filter, filter_map, cons_option}
 use Rattle.std.proofs.lemmas.Bool.{cases_eq, eq-eqb, eqb-true}
 use Rattle.pid_types.specs.Names.{beside}
-use Rattle.pid_numbers.specs.Numbering.{Numbering, Namespace, Identifier, identifier_at, namespace_at, path_at, number_in, number_of, taken_in, is_dead, is_there, swept_at}
+use Rattle.pid_numbers.specs.Numbering.{Numbering, Namespace, Identifier, identifier_at, namespace_at, path_at, number_in, number_of, taken_in, is_deserted, is_there, swept_at}
 use Rattle.pid_types.specs.declared.call.Kind.{Kind}
 use Rattle.pid_types.specs.declared.call.Kind.TheVariants.{Task as AsTask}
 use Rattle.pid_numbers.specs.Numbering.{uses}
 use Rattle.task_tree.specs.declared.Task.{Task}
-use Rattle.task_tree.specs.Tree.{Tree, task_at, parent_of, rank_of, waits_for}
+use Rattle.task_tree.specs.Tree.{TreeOfTasks, task_at, parent_of, rank_of, waits_for}
 use Rattle.task_table.specs.Store.{bare, bare_at, uses_at, IsLess}
 
 module _ {X : Type 0} (f : X → Option ℕ) (d : X) (nothing : f d ≡ None) where
@@ -80,12 +80,12 @@ module _ (b : Numbering)
       l.namespaces v.space ∙ alive (record b { names = c.names }) v.space n.0 (ap (number_in (path_at b) v.space) e ∙ n.1) (namespace_at b v.space) refl
     where
       alive : (x : Numbering) (s n : ℕ) → number_in (path_at x) s (identifier_at x i) ≡ Some n → (o : Option Namespace) → namespace_at x s ≡ o → swept_at x s ≡ o
-      alive x s n has None is = ap (option_and_then (λ t. if is_dead x s t then None else Some t)) is
+      alive x s n has None is = ap (option_and_then (λ t. if is_deserted x s t then None else Some t)) is
       alive x s n has (Some t) is =
           let some = some_taken (number_in (path_at x) s) None refl x.names i n has in
           let some' : 0 < length (taken_in x s) = some in
           let off : (length (taken_in x s) == 0) ≡ false = grind (arith, some') in
-          ap (option_and_then (λ t. if is_dead x s t then None else Some t)) is ∙ ap (λ z. if t.fallen && z then None else Some t) off ∙ none t.fallen
+          ap (option_and_then (λ t. if is_deserted x s t then None else Some t)) is ∙ ap (λ z. if t.fallen && z then None else Some t) off ∙ none t.fallen
         where
           none : (f : Bool) → (if f && false then None else Some t) ≡ Some t
           none true = refl
@@ -108,11 +108,11 @@ used c kind i some = go (identifier_at c i) refl
     go (Some v) e = (v, e)
 
 -- each child that has ended waits by its number in its parent's namespace
-abbrev pub AreRanks : Numbering → Tree → Type 0
+abbrev pub AreRanks : Numbering → TreeOfTasks → Type 0
 AreRanks b tree = (k p r : ℕ) → rank_of tree k ≡ Some (p, r) → (u : Identifier) → identifier_at b p ≡ Some u → number_of b k u.space ≡ Some r
 
 -- only a task has a rank
-pub ranked_task : (tree : Tree) (k : ℕ) (m : ℕ × ℕ) → option_map (λ (m : ℕ × ℕ). m.0) (rank_of tree k) ≡ waits_for (task_at tree k) (parent_of tree k) → rank_of tree k ≡ Some m → is_some (task_at tree k) ≡ true
+pub ranked_task : (tree : TreeOfTasks) (k : ℕ) (m : ℕ × ℕ) → option_map (λ (m : ℕ × ℕ). m.0) (rank_of tree k) ≡ waits_for (task_at tree k) (parent_of tree k) → rank_of tree k ≡ Some m → is_some (task_at tree k) ≡ true
 ranked_task tree k m waiting e = go (task_at tree k) (sym (ap (option_map (λ (m : ℕ × ℕ). m.0)) e) ∙ waiting)
   where
     go : (o : Option Task) → Some m.0 ≡ waits_for o (parent_of tree k) → is_some o ≡ true
@@ -123,7 +123,7 @@ module _ (b : Numbering)
     (full : (i : ℕ) (u : Identifier) → identifier_at b i ≡ Some u → (0 < length u.numbers) × (length u.numbers ≡ length (path_at b u.space)))
     (own : (s : ℕ) → 0 < length (path_at b s) → slice_index_or (path_at b s) 0 0 ≡ s) (c : Numbering) (l : IsLess b c) where
   -- as long as each task's identifier is left, no rank changes
-  pub ranks-less : (tree : Tree) → ((k : ℕ) → option_map (λ (m : ℕ × ℕ). m.0) (rank_of tree k) ≡ waits_for (task_at tree k) (parent_of tree k))
+  pub ranks-less : (tree : TreeOfTasks) → ((k : ℕ) → option_map (λ (m : ℕ × ℕ). m.0) (rank_of tree k) ≡ waits_for (task_at tree k) (parent_of tree k))
       → ((k : ℕ) → is_some (task_at tree k) ≡ true → 0 < uses_at c AsTask k) → AreRanks b tree → AreRanks c tree
   ranks-less tree waiting left ranks k p r e u is =
       let v = used c AsTask k (left k (ranked_task tree k (p, r) (waiting k) e)) in
@@ -164,7 +164,7 @@ module _ (a : Numbering)
       was_there s on = step (namespace_at b s) refl (sym (ap is_some (second.namespaces s)) ∙ on)
         where
           step : (o : Option Namespace) → namespace_at b s ≡ o → is_some (swept_at (record b { names = c.names }) s) ≡ true → is_there b s ≡ true
-          step None e on = absurd (let z : false ≡ true = sym (ap is_some (ap (option_and_then (λ t. if is_dead (record b { names = c.names }) s t then None else Some t)) e)) ∙ on in cc)
+          step None e on = absurd (let z : false ≡ true = sym (ap is_some (ap (option_and_then (λ t. if is_deserted (record b { names = c.names }) s t then None else Some t)) e)) ∙ on in cc)
           step (Some t) e on = ap is_some e
 
       -- who is left at last was left before, with the same numbers
@@ -201,19 +201,19 @@ module _ (a : Numbering)
 
       go : (s : ℕ) (o : Option Namespace) → namespace_at a s ≡ o → namespace_at c s ≡ swept_at (record a { names = c.names }) s
       go s None is =
-          let gone : namespace_at b s ≡ None = first.namespaces s ∙ ap (option_and_then (λ t. if is_dead (record a { names = b.names }) s t then None else Some t)) is in
-          second.namespaces s ∙ ap (option_and_then (λ t. if is_dead (record b { names = c.names }) s t then None else Some t)) gone
-          ∙ sym (ap (option_and_then (λ t. if is_dead (record a { names = c.names }) s t then None else Some t)) is)
+          let gone : namespace_at b s ≡ None = first.namespaces s ∙ ap (option_and_then (λ t. if is_deserted (record a { names = b.names }) s t then None else Some t)) is in
+          second.namespaces s ∙ ap (option_and_then (λ t. if is_deserted (record b { names = c.names }) s t then None else Some t)) gone
+          ∙ sym (ap (option_and_then (λ t. if is_deserted (record a { names = c.names }) s t then None else Some t)) is)
       go s (Some t) is = split t.fallen refl (length (filter_map (number_in (path_at a) s) b.names) == 0) refl
         where
           at_b : namespace_at b s ≡ (if t.fallen && (length (filter_map (number_in (path_at a) s) b.names) == 0) then None else Some t)
-          at_b = first.namespaces s ∙ ap (option_and_then (λ t. if is_dead (record a { names = b.names }) s t then None else Some t)) is
+          at_b = first.namespaces s ∙ ap (option_and_then (λ t. if is_deserted (record a { names = b.names }) s t then None else Some t)) is
 
           wanted : swept_at (record a { names = c.names }) s ≡ (if t.fallen && (length (filter_map (number_in (path_at a) s) c.names) == 0) then None else Some t)
-          wanted = ap (option_and_then (λ t. if is_dead (record a { names = c.names }) s t then None else Some t)) is
+          wanted = ap (option_and_then (λ t. if is_deserted (record a { names = c.names }) s t then None else Some t)) is
 
           at_c : (o : Option Namespace) → namespace_at b s ≡ o → namespace_at c s ≡ option_and_then (λ t. if t.fallen && (length (filter_map (number_in (path_at b) s) c.names) == 0) then None else Some t) o
-          at_c o e = second.namespaces s ∙ ap (option_and_then (λ t. if is_dead (record b { names = c.names }) s t then None else Some t)) e
+          at_c o e = second.namespaces s ∙ ap (option_and_then (λ t. if is_deserted (record b { names = c.names }) s t then None else Some t)) e
 
           same : (length (filter_map (number_in (path_at b) s) c.names) == 0) ≡ (length (filter_map (number_in (path_at a) s) c.names) == 0)
           same = ap taken_by (same_taken (number_in (path_at b) s) (number_in (path_at a) s) None c.names (alike s))
@@ -234,7 +234,7 @@ module _ (a : Numbering)
               at_c None b_none ∙ sym (wanted ∙ ap (λ f. if f && (length (filter_map (number_in (path_at a) s) c.names) == 0) then None else Some t) fell ∙ ap (λ d. if d then None else Some t) zero)
 
 -- one rank less
-pub ranks-kept : (b : Numbering) (old new : Tree) (key : ℕ) → rank_of new key ≡ None → ((k : ℕ) → k ≢ key → rank_of new k ≡ rank_of old k) → AreRanks b old → AreRanks b new
+pub ranks-kept : (b : Numbering) (old new : TreeOfTasks) (key : ℕ) → rank_of new key ≡ None → ((k : ℕ) → k ≢ key → rank_of new k ≡ rank_of old k) → AreRanks b old → AreRanks b new
 ranks-kept b old new key gone others ranks k p r e u is = go (cases_eq k key)
   where
     go : (k ≡ key) ⊎ (k ≢ key) → number_of b k u.space ≡ Some r

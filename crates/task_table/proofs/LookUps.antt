@@ -10,7 +10,7 @@ use Rattle.pid_types.specs.declared.call.Kind.TheVariants.{Group, Session}
 use Rattle.pid_types.specs.Chains.{contains}
 use Rattle.pid_types.specs.Membership.{IsIn}
 use Rattle.pid_types.specs.State.{root_name}
-use Rattle.pid_types.specs.Names.{beside, root_number, same_name, is_live, row_at, live_row, task_at as task_in, is_numbered, number_or_zero}
+use Rattle.pid_types.specs.Names.{beside, root_number, same_name, is_live, row_at, live_row, task_numbered, is_numbered, number_or_zero}
 use Rattle.model_laws.proofs.Names.{same_name-true, same_name-refl}
 use Rattle.pid_numbers.specs.Numbering.{Identifier, id_at, identifier_at, number_in, number_of, path_at}
 use Rattle.pid_numbers.specs.Slabs.{IsPath}
@@ -191,14 +191,14 @@ module _ (s : Store) (l : IsLawful s) where
   numbered : (sp i n k : ℕ) (t : Task) → id_at s.numbering sp ≡ Some i → task_at s.tree k ≡ Some t → is_numbered (state_of s).spaces (name_at s.numbering k) i n ≡ option_eq ◌==◌ (number_of s.numbering k sp) (Some n)
   numbered sp i n k t e f = let u = named k t f in ap (λ o. option_eq ◌==◌ o (Some n)) (number-is_key s.numbering l.numbering sp i k u.0 e u.1)
 
-  pub task_at-key : (sp i n k : ℕ) (t : Task) → id_at s.numbering sp ≡ Some i → task_at s.tree k ≡ Some t → number_of s.numbering k sp ≡ Some n → task_in (state_of s) i n ≡ Some (row_of s k t)
-  unfolding task_in
+  pub task_at-key : (sp i n k : ℕ) (t : Task) → id_at s.numbering sp ≡ Some i → task_at s.tree k ≡ Some t → number_of s.numbering k sp ≡ Some n → task_numbered (state_of s) i n ≡ Some (row_of s k t)
+  unfolding task_numbered
   task_at-key sp i n k t e f at =
       find-task (λ row. is_numbered (state_of s).spaces row.name i n) k t f (numbered sp i n k t e f ∙ rw at (eq-eqb n n refl))
       (λ j v g is. l.numbering.distinct j k sp n (some_number (number_of s.numbering j sp) n (sym (numbered sp i n j v e g) ∙ is)) at)
 
-  pub task_at-none : (sp i n : ℕ) → id_at s.numbering sp ≡ Some i → ((k : ℕ) (t : Task) → task_at s.tree k ≡ Some t → number_of s.numbering k sp ≢ Some n) → task_in (state_of s) i n ≡ None
-  unfolding task_in
+  pub task_at-none : (sp i n : ℕ) → id_at s.numbering sp ≡ Some i → ((k : ℕ) (t : Task) → task_at s.tree k ≡ Some t → number_of s.numbering k sp ≢ Some n) → task_numbered (state_of s) i n ≡ None
+  unfolding task_numbered
   task_at-none sp i n e none = find-nobody (λ row. is_numbered (state_of s).spaces row.name i n) (λ j v g. numbered sp i n j v e g ∙ test j v g (option_eq ◌==◌ (number_of s.numbering j sp) (Some n)) refl)
     where
       test : (j : ℕ) (v : Task) → task_at s.tree j ≡ Some v → (b : Bool) → option_eq ◌==◌ (number_of s.numbering j sp) (Some n) ≡ b → b ≡ false

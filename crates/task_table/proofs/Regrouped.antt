@@ -7,7 +7,7 @@ use Rattle.pid_types.specs.declared.plain.Row.{Row}
 use Rattle.pid_types.specs.State.{root_name}
 use Rattle.pid_types.specs.Names.{with_row, on_row}
 use Rattle.pid_types.specs.Outcome.{sweep}
-use Rattle.pids_charge.specs.Charges.{id_at as home_id}
+use Rattle.pids_charge.specs.Charges.{home_id}
 use Rattle.task_tree.specs.declared.Task.{Task}
 use Rattle.task_tree.specs.Tree.{task_at, parent_of}
 use Rattle.groups_sessions.specs.Membership.{Membership, membership_at}

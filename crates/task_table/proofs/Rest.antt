@@ -7,7 +7,7 @@ use Rattle.pid_types.specs.declared.call.Kind.{Kind}
 use Rattle.pid_types.specs.declared.call.Kind.TheVariants.{Task as AsTask, Group, Session}
 use Rattle.pid_types.specs.Names.{beside}
 use Rattle.pid_numbers.specs.Numbering.{Numbering, Identifier, identifier_at, path_at, number_of, number_in, uses}
-use Rattle.pids_charge.specs.Charges.{Charges, Home, home_at, live_at, zombies_at, all_tasks, id_at, is_busy, kept, handed_on, remove_refusal}
+use Rattle.pids_charge.specs.Charges.{Charges, Home, home_at, live_at, zombies_at, all_tasks, home_id, is_occupied, kept, handed_on, remove_refusal}
 use Rattle.std.specs.Result.{result_err}
 use Rattle.std.specs.Prelude.{OnOk, OnErr}
 use Rattle.pid_types.specs.Controls.{parent_control}
@@ -122,11 +122,11 @@ roomier s s' w same = record {
 
 -- a removal that was refused changed nothing, and the other one handed the zombies over
 pub removed : (s : Store) (charges : Charges) → IsStore s → (c : ℕ) → {X : Type 0} → (result : Result X Refusal) → result_err result ≡ remove_refusal s.charges c
-    → OnOk result ((parent : ℕ) → parent_control s.charges.controls (id_at s.charges c) ≡ Some parent → (k : ℕ) → home_at charges k ≡ option_and_then (handed_on (id_at s.charges c) parent) (home_at s.charges k))
+    → OnOk result ((parent : ℕ) → parent_control s.charges.controls (home_id s.charges c) ≡ Some parent → (k : ℕ) → home_at charges k ≡ option_and_then (handed_on (home_id s.charges c) parent) (home_at s.charges k))
     → all_tasks charges ≡ all_tasks s.charges → OnErr result (charges ≡ s.charges) → IsStore (record s { charges = charges })
 removed s charges w c (Err r) refusal homes all same = recharged s charges w (λ k. ap (λ v. live_at v k) same) (λ k. ap (λ v. zombies_at v k) same) all
-removed s charges w c (Ok x) refusal homes all same = go (parent_control s.charges.controls (id_at s.charges c)) refl refusal
+removed s charges w c (Ok x) refusal homes all same = go (parent_control s.charges.controls (home_id s.charges c)) refl refusal
   where
-    go : (o : Option ℕ) → parent_control s.charges.controls (id_at s.charges c) ≡ o → None ≡ (if is_some o then (if is_busy s.charges c then Some ControlBusy else None) else Some RootControl) → IsStore (record s { charges = charges })
+    go : (o : Option ℕ) → parent_control s.charges.controls (home_id s.charges c) ≡ o → None ≡ (if is_some o then (if is_occupied s.charges c then Some ControlBusy else None) else Some RootControl) → IsStore (record s { charges = charges })
     go None e z = absurd (cc)
-    go (Some parent) e z = handed-over s charges w (id_at s.charges c) parent (homes parent e) all
+    go (Some parent) e z = handed-over s charges w (home_id s.charges c) parent (homes parent e) all

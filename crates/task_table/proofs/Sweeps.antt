@@ -10,7 +10,7 @@ use Rattle.pid_types.specs.State.{State, root_name}
 use Rattle.pid_types.specs.Names.{beside, names_in_use, number, taken}
 use Rattle.pid_types.specs.Outcome.{is_dead as is_dead_in}
 use Rattle.model_laws.proofs.Lists.{IsIn-filter_map, IsIn-from_filter_map}
-use Rattle.pid_numbers.specs.Numbering.{Numbering, Namespace, Identifier, namespace_at, id_at, identifier_at, number_in, path_at, taken_in, is_dead, is_there}
+use Rattle.pid_numbers.specs.Numbering.{Numbering, Namespace, Identifier, namespace_at, id_at, identifier_at, number_in, path_at, taken_in, is_deserted, is_there}
 use Rattle.task_table.specs.Store.{Store, IsLess}
 use Rattle.task_table.proofs.Less.{was, stays, some_taken}
 use Rattle.task_table.specs.View.{name_of, name_at, parent_id, space_of, spaces_of, state_of}
@@ -99,8 +99,8 @@ module _ (m : Numbering) (h : HasLaws m) (s' : Store) (l' : IsLawful s') (less :
       go : (o : Option Namespace) → namespace_at m p.1 ≡ o → is_there c p.1 ≡ not (is_dead_in state (space_of m p))
       go None is = absurd (let z : None ≡ Some p.0 = sym (ap (option_map (λ t. t.id)) is) ∙ at in cc)
       go (Some t) is =
-          ap is_some (less.namespaces p.1 ∙ ap (option_and_then (λ t. if is_dead (record m { names = c.names }) p.1 t then None else Some t)) is)
-          ∙ test (is_dead (record m { names = c.names }) p.1 t)
+          ap is_some (less.namespaces p.1 ∙ ap (option_and_then (λ t. if is_deserted (record m { names = c.names }) p.1 t then None else Some t)) is)
+          ∙ test (is_deserted (record m { names = c.names }) p.1 t)
           ∙ ap (λ z. not (t.fallen && z)) (sym (taken_left p.1 p.0 at))
           ∙ ap (λ z. not (z && (length (taken state p.0) == 0))) (sym (ap (λ o. option_map_or (λ t. t.fallen) o false) is))
         where
@@ -113,13 +113,13 @@ module _ (m : Numbering) (h : HasLaws m) (s' : Store) (l' : IsLawful s') (less :
   left_at s there = go (namespace_at m s) refl there
     where
       go : (o : Option Namespace) → namespace_at m s ≡ o → is_there c s ≡ true → namespace_at c s ≡ namespace_at m s
-      go None is there = less.namespaces s ∙ ap (option_and_then (λ t. if is_dead (record m { names = c.names }) s t then None else Some t)) is ∙ sym is
-      go (Some t) is there = test (is_dead (record m { names = c.names }) s t) refl
+      go None is there = less.namespaces s ∙ ap (option_and_then (λ t. if is_deserted (record m { names = c.names }) s t then None else Some t)) is ∙ sym is
+      go (Some t) is there = test (is_deserted (record m { names = c.names }) s t) refl
         where
-          swept : namespace_at c s ≡ (if is_dead (record m { names = c.names }) s t then None else Some t)
-          swept = less.namespaces s ∙ ap (option_and_then (λ t. if is_dead (record m { names = c.names }) s t then None else Some t)) is
+          swept : namespace_at c s ≡ (if is_deserted (record m { names = c.names }) s t then None else Some t)
+          swept = less.namespaces s ∙ ap (option_and_then (λ t. if is_deserted (record m { names = c.names }) s t then None else Some t)) is
 
-          test : (b : Bool) → is_dead (record m { names = c.names }) s t ≡ b → namespace_at c s ≡ namespace_at m s
+          test : (b : Bool) → is_deserted (record m { names = c.names }) s t ≡ b → namespace_at c s ≡ namespace_at m s
           test true e = absurd (let z : false ≡ true = sym (ap is_some (swept ∙ ap (λ b. if b then None else Some t) e)) ∙ there in cc)
           test false e = swept ∙ ap (λ b. if b then None else Some t) e ∙ sym is
 

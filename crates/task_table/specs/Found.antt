@@ -1,6 +1,6 @@
 -- A task that was found, and one that calls.
 use Rattle.std.specs.Prelude.{◌≡◌, Some, true}
-use Rattle.pid_numbers.specs.Numbering.{id_at}
+use Rattle.pid_numbers.specs.Numbering.{id_at, identifier_at, Identifier}
 use Rattle.task_tree.specs.Tree.{task_at, lives}
 use Rattle.task_table.specs.declared.view.Found.{Found}
 use Rattle.task_table.specs.Store.{Store}
@@ -15,3 +15,7 @@ pub record IsFound (s : Store) (f : Found) : Type 0 where
 pub record IsCaller (s : Store) (f : Found) : Type 0 where
   pub found : IsFound s f
   pub live : lives f.task ≡ true
+
+-- the namespace is the identifier's own
+abbrev pub HasOwnSpace : Store → Found → Type 0
+HasOwnSpace s f = (u : Identifier) → identifier_at s.numbering f.key ≡ Some u → f.space ≡ u.space

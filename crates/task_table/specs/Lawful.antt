@@ -9,7 +9,7 @@ use Rattle.pid_numbers.specs.Numbering.{Numbering, Identifier, identifier_at, id
 use Rattle.task_tree.specs.Tree.{task_at, parent_of}
 use Rattle.groups_sessions.specs.Membership.{Membership, membership_at, AreInSession}
 use Rattle.pid_types.specs.Controls.{control_at}
-use Rattle.pids_charge.specs.Charges.{stands, live_at, id_at as home_id}
+use Rattle.pids_charge.specs.Charges.{stands, live_at, home_id}
 use Rattle.task_table.specs.Store.{Store, IsStore}
 
 -- what is true of identifiers and namespaces

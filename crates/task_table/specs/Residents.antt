@@ -3,7 +3,7 @@ use Rattle.std.specs.Prelude.{◌≡◌, ◌<◌, ◌≤◌, ◌^◌, ℕ, true,
 use Rattle.std.specs.List.{AllByRecursion}
 use Rattle.member_lists.specs.Owners.{owner_of, times}
 use Rattle.task_tree.specs.declared.Task.{Task}
-use Rattle.task_tree.specs.Tree.{Tree, task_at, lives}
+use Rattle.task_tree.specs.Tree.{TreeOfTasks, task_at, lives}
 use Rattle.pids_charge.specs.Charges.{Charges, stands}
 use Rattle.task_table.specs.Store.{Store, IsStore}
 
@@ -12,7 +12,7 @@ abbrev pub live_home : Option Task → Option ℕ
 live_home task = option_and_then (λ t. if lives t then Some t.home else None) task
 
 -- the list has each live task directly in the control group with the key once, and nobody else
-pub record AreResidents (tree : Tree) (home : ℕ) (keys : List ℕ) : Type 0 where
+pub record AreResidents (tree : TreeOfTasks) (home : ℕ) (keys : List ℕ) : Type 0 where
   pub once : (k : ℕ) → live_home (task_at tree k) ≡ Some home → times k keys ≡ 1
   pub each : AllByRecursion (λ k. live_home (task_at tree k) ≡ Some home) keys
 
@@ -24,6 +24,6 @@ pub record AreHoused (tasks : List (Option Task)) (charges : Charges) (residents
   pub few : length residents ≤ 2 ^ 30
 
 -- the four parts agree, and the lists of residents with them
-pub record IsKept (s : Store) (residents : List (Option ℕ)) : Type 0 where
+pub record IsHousedStore (s : Store) (residents : List (Option ℕ)) : Type 0 where
   pub agree : IsStore s
   pub housed : AreHoused s.tree.tasks s.charges residents

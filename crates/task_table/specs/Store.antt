@@ -6,14 +6,14 @@ use Rattle.pid_types.specs.declared.call.Kind.TheVariants.{Task as AsTask, Group
 use Rattle.pid_numbers.specs.Numbering.{Numbering, Identifier, identifier_at, namespace_at, is_there, number_of, uses, swept_at}
 use Rattle.std.specs.List.{filter}
 use Rattle.task_tree.specs.declared.Task.{Task}
-use Rattle.task_tree.specs.Tree.{Tree, task_at, parent_of, rank_of, lives}
+use Rattle.task_tree.specs.Tree.{TreeOfTasks, task_at, parent_of, rank_of, lives}
 use Rattle.groups_sessions.specs.Membership.{Membership, membership_at}
 use Rattle.pids_charge.specs.Charges.{Charges, Home, home_at, ChangesHome, live_at, zombies_at, all_tasks}
 
 -- the identifiers and namespaces, the tree of tasks, their groups and sessions, and the control groups
 pub record Store : Type 0 where
   pub numbering : Numbering
-  pub tree : Tree
+  pub tree : TreeOfTasks
   pub members : List (Option Membership)
   pub charges : Charges
 
@@ -114,3 +114,13 @@ pub record Begins (old new : Store) (key : ℕ) (from : Option ℕ) (task : Task
   pub members : (k : ℕ) → k ≢ key → membership_at new.members k ≡ membership_at old.members k
   pub home : ChangesHome old.charges new.charges task.home
       (option_map (λ (h : Home). record h { live = h.live + 1 }) (home_at old.charges task.home))
+
+-- nothing but the part that is named has changed
+abbrev pub ChangesNumbering : Store → Store → Type 0
+ChangesNumbering old new = new ≡ record old { numbering = new.numbering }
+
+abbrev pub ChangesCharges : Store → Store → Type 0
+ChangesCharges old new = new ≡ record old { charges = new.charges }
+
+abbrev pub ChangesTree : Store → Store → Type 0
+ChangesTree old new = new ≡ record old { tree = new.tree }

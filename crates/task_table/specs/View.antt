@@ -9,7 +9,7 @@ use Rattle.pid_numbers.specs.Numbering.{Numbering, Identifier, namespace_at, id_
 use Rattle.task_tree.specs.declared.Task.{Task}
 use Rattle.task_tree.specs.Tree.{task_at, parent_of}
 use Rattle.groups_sessions.specs.Membership.{group_of, session_of}
-use Rattle.pids_charge.specs.Charges.{id_at as home_id}
+use Rattle.pids_charge.specs.Charges.{home_id}
 use Rattle.task_table.specs.Store.{Store}
 use Rattle.task_table.specs.Collect.{collect}
 

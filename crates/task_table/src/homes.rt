@@ -2,10 +2,12 @@
 
 ghost use Rattle.std.specs.Prelude.{◌≡◌, ◌+◌, ◌<◌, length, option_and_then, true, false, IsSome, None, slice_set};
 ghost use Rattle.std.specs.Prelude.{if◌then◌else◌};
-ghost use Rattle.member_lists.specs.Owners.{owner_of};
-ghost use Rattle.pids_charge.specs.Charges.{Home, home_at, live_at, zombies_at, all_tasks, kept, ChangesHome};
-ghost use Rattle.task_tree.specs.Tree.{lives};
-ghost use Rattle.task_table.specs.Store.{home_without};
+ghost use Rattle.{
+  member_lists.specs.Owners.{owner_of},
+  pids_charge.specs.Charges.{Home, home_at, live_at, zombies_at, all_tasks, kept, ChangesHome},
+  task_tree.specs.Tree.{lives},
+  task_table.specs.Store.{home_without},
+};
 
 use member_lists::MemberLists;
 use pid_types::keys::TaskKey;

@@ -6,31 +6,23 @@
 #![tactic(auto)]
 
 ghost use Rattle.std.specs.Prelude.{◌≡◌, ◌≢◌, ℕ, ◌+◌, ◌-◌, ◌<◌, ◌≤◌, ◌^◌, length, option_map, option_and_then, Some};
-ghost use Rattle.std.specs.Prelude.{None, true, false, IsSome, IfOk, OnOk, OnErr, [], ◌∷◌, slice_set};
-ghost use Rattle.std.specs.Prelude.{◌==◌, ◌↔◌, ◌++◌, not, map, filter, find, is_none, unwrap_or, drop, Err};
-ghost use Rattle.std.specs.List.{AllByRecursion};
-ghost use Rattle.std.specs.Result.{result_err};
-ghost use Rattle.std.specs.Option.{option_map_or};
-ghost use Rattle.id_slab.specs.Ids.{AreBelow};
-ghost use Rattle.pid_types.specs.Bounds.{deepest_space};
-ghost use Rattle.pid_types.specs.Settings.{HasGoodPidMax};
-ghost use Rattle.pid_types.specs.Bounds.{deepest_control};
-ghost use Rattle.pid_types.specs.Chains.{contains};
-ghost use Rattle.pid_types.specs.Controls.{control_path, parent_control};
-ghost use Rattle.pid_types.specs.Changes.{limited};
-ghost use Rattle.pids_charge.specs.declared.ControlFault.{ControlFault};
-ghost use Rattle.pid_types.specs.declared.plain.Life.{Life};
-ghost use Rattle.pid_numbers.specs.Numbering.{namespace_at, identifier_at, number_of, path_at, has_fallen_at};
-ghost use Rattle.pid_numbers.specs.Numbering.{HasOwnTask, fallen_within, draw_in, moved as cursor_moved, new_namespace};
-ghost use Rattle.pid_numbers.specs.Numbering.{new_identifier, Identifier, cursor_put};
-ghost use Rattle.pid_numbers.specs.Restore.{MayFall, is_flagged, fallen_if};
-ghost use Rattle.pids_charge.specs.Charges.{Charges, Home, home_at, id_at, stands, kept, moved, handed_on};
-ghost use Rattle.pids_charge.specs.Charges.{remove_refusal, limit_refusal, ChangesHome};
-ghost use Rattle.task_tree.specs.Tree.{task_at, parent_of, rank_of, lives, handed};
-ghost use Rattle.groups_sessions.specs.Membership.{Membership, membership_at, group_of, session_of, AreInSession};
-ghost use Rattle.groups_sessions.specs.Membership.{AreOthersInSession};
-ghost use Rattle.task_table.specs.Store.{IsStore, IsLess, IsSame, Begins, home_without};
-ghost use Rattle.task_table.specs.Residents.{AreResidents};
+ghost use Rattle.std.specs.Prelude.{None, true, false, IsSome, IfOk, OnOk, OnErr, [], ◌∷◌, slice_set, ◌==◌, ◌↔◌, ◌++◌};
+ghost use Rattle.std.specs.{Prelude.{not, map, filter, find, is_none, unwrap_or, drop, Err}, List.{AllByRecursion}};
+ghost use Rattle.std.specs.{Result.{result_err}, Option.{option_map_or}};
+ghost use Rattle.{
+  id_slab.specs.Ids.{AreBelow},
+  pid_types.specs.{Bounds.{deepest_space, deepest_control}, Settings.{HasGoodPidMax}, Chains.{contains}},
+  pid_types.specs.{Controls.{control_path, parent_control}, Changes.{limited}, declared.plain.Life.{Life}},
+  pids_charge.specs.{declared.ControlFault.{ControlFault}, Charges.{Home, home_at, home_id, stands, kept, after_move}},
+  pids_charge.specs.Charges.{handed_on, remove_refusal, limit_refusal, ChangesHome},
+  pid_numbers.specs.Numbering.{namespace_at, identifier_at, number_of, path_at, has_fallen_at, HasOwnTask},
+  pid_numbers.specs.Numbering.{fallen_within, draw_in, moved as cursor_moved, new_namespace, new_identifier},
+  pid_numbers.specs.{Numbering.{Identifier, cursor_put}, Restore.{MayFall, is_flagged, fallen_if}},
+  task_tree.specs.Tree.{task_at, parent_of, lives, handed},
+  groups_sessions.specs.Membership.{Membership, membership_at, group_of, session_of, AreInSession, AreOthersInSession},
+  task_table.specs.Store.{IsStore, IsLess, IsSame, Begins, home_without, ChangesNumbering, ChangesCharges, ChangesTree},
+  task_table.specs.Residents.{AreResidents},
+};
 
 mod homes;
 mod residents;
@@ -69,14 +61,13 @@ pub struct Tasks {
 }
 
 impl Model for Tasks {
-    ghost use Rattle.task_table.specs.Store.{Store};
-    ghost use Rattle.task_table.specs.Residents.{IsKept};
+    ghost use Rattle.task_table.specs.{Store.{Store}, Residents.{IsHousedStore}};
 
     ghost Value = { Store };
 
     ghost view = { λ a. record { numbering = a.numbers; tree = a.tree; members = a.members; charges = a.controls } };
 
-    ghost invariant = { λ a. IsKept (record {
+    ghost invariant = { λ a. IsHousedStore (record {
       numbering = a.numbers;
       tree = a.tree;
       members = a.members;
@@ -168,7 +159,7 @@ impl Tasks {
         ensures tasks { self.new.tree.tasks ≡ slice_set self.old.tree.tasks key (Some (record task { home = to })) }
         ensures controls { self.new.charges.controls ≡ self.old.charges.controls }
         ensures homes { (k : ℕ) → home_at self.new.charges k
-            ≡ option_map (moved task.home to k) (home_at self.old.charges k) }
+            ≡ option_map (after_move task.home to k) (home_at self.old.charges k) }
         ensures rest { self.new
             ≡ record self.old {
               tree = record self.old.tree { tasks = self.new.tree.tasks };
@@ -232,7 +223,7 @@ impl Tasks {
         ensures parent { parent_of self.new.tree key ≡ Some parent }
         ensures others { (k : ℕ) → k ≢ key → parent_of self.new.tree k ≡ parent_of self.old.tree k }
         ensures ranks { self.new.tree.ended ≡ self.old.tree.ended }
-        ensures rest { self.new ≡ record self.old { tree = self.new.tree } }
+        ensures rest { ChangesTree self.old self.new }
     {
         self.tree.laws();
         self.tree.adopt(key, parent);
@@ -248,7 +239,7 @@ impl Tasks {
         ensures tasks { self.new.tree.tasks ≡ self.old.tree.tasks }
         ensures parents { (k : ℕ) → parent_of self.new.tree k
             ≡ option_map (handed from to) (parent_of self.old.tree k) }
-        ensures rest { self.new ≡ record self.old { tree = self.new.tree } }
+        ensures rest { ChangesTree self.old self.new }
     {
         self.numbers.laws();
         self.tree.hand_on(from, to);
@@ -346,7 +337,7 @@ impl Tasks {
             ≡ self.old.charges.controls ++ record {
               id = stamp;
               parent = Some
-                  (id_at self.old.charges parent);
+                  (home_id self.old.charges parent);
               limit = None;
             } ∷ []) }
         ensures fresh { IfOk result (λ key. home_at self.old.charges key ≡ None) }
@@ -355,9 +346,9 @@ impl Tasks {
         ensures others { IfOk result (λ key. (k : ℕ) → k ≢ key
             → home_at self.new.charges k ≡ home_at self.old.charges k) }
         ensures deep { (result ≡ Err ControlFault.ControlDepth)
-            ↔ (deepest_control < length (control_path self.old.charges.controls (id_at self.old.charges parent))) }
+            ↔ (deepest_control < length (control_path self.old.charges.controls (home_id self.old.charges parent))) }
         ensures err { OnErr result (self.new ≡ self.old) }
-        ensures rest { self.new ≡ record self.old { charges = self.new.charges } }
+        ensures rest { ChangesCharges self.old self.new }
     {
         self.controls.make(parent, stamp, &mut self.residents)
     }
@@ -367,13 +358,13 @@ impl Tasks {
         requires { stands self.old.charges c ≡ true }
         ensures refusal { result_err result ≡ remove_refusal self.old.charges c }
         ensures controls { OnOk result (self.new.charges.controls
-            ≡ filter (λ g. not (g.id == id_at self.old.charges c)) self.old.charges.controls) }
+            ≡ filter (λ g. not (g.id == home_id self.old.charges c)) self.old.charges.controls) }
         ensures homes { OnOk result ((parent : ℕ)
-            → parent_control self.old.charges.controls (id_at self.old.charges c) ≡ Some parent
+            → parent_control self.old.charges.controls (home_id self.old.charges c) ≡ Some parent
             → (k : ℕ) → home_at self.new.charges k
-            ≡ option_and_then (handed_on (id_at self.old.charges c) parent) (home_at self.old.charges k)) }
+            ≡ option_and_then (handed_on (home_id self.old.charges c) parent) (home_at self.old.charges k)) }
         ensures err { OnErr result (self.new ≡ self.old) }
-        ensures rest { self.new ≡ record self.old { charges = self.new.charges } }
+        ensures rest { ChangesCharges self.old self.new }
     {
         self.controls.remove(c)
     }
@@ -383,10 +374,10 @@ impl Tasks {
         requires { stands self.old.charges c ≡ true }
         ensures refusal { result_err result ≡ limit_refusal self.old.charges c limit }
         ensures controls { OnOk result (self.new.charges.controls
-            ≡ map (limited (id_at self.old.charges c) limit) self.old.charges.controls) }
+            ≡ map (limited (home_id self.old.charges c) limit) self.old.charges.controls) }
         ensures homes { (k : ℕ) → home_at self.new.charges k ≡ home_at self.old.charges k }
         ensures err { OnErr result (self.new ≡ self.old) }
-        ensures rest { self.new ≡ record self.old { charges = self.new.charges } }
+        ensures rest { ChangesCharges self.old self.new }
     {
         self.controls.set_limit(c, limit)
     }
@@ -402,7 +393,7 @@ impl Tasks {
         ensures namespaces { (s : ℕ) → namespace_at self.new.numbering s
             ≡ option_map (fallen_within space) (namespace_at self.old.numbering s) }
         ensures bound { self.new.numbering.pid_max ≡ self.old.numbering.pid_max }
-        ensures rest { self.new ≡ record self.old { numbering = self.new.numbering } }
+        ensures rest { ChangesNumbering self.old self.new }
     {
         self.numbers.fell(space);
     }
@@ -420,7 +411,7 @@ impl Tasks {
         ensures order { IfOk result (λ key. self.new.numbering.order ≡ self.old.numbering.order ++ (id, key) ∷ []) }
         ensures names { self.new.numbering.names ≡ self.old.numbering.names }
         ensures bound { self.new.numbering.pid_max ≡ self.old.numbering.pid_max }
-        ensures rest { self.new ≡ record self.old { numbering = self.new.numbering } }
+        ensures rest { ChangesNumbering self.old self.new }
         ensures err { OnErr result (self.new ≡ self.old) }
     {
         self.numbers.laws();
@@ -436,7 +427,7 @@ impl Tasks {
         ensures namespaces { (s : ℕ) → namespace_at self.new.numbering s
             ≡ option_map (fallen_if (is_flagged flags.now s)) (namespace_at self.old.numbering s) }
         ensures bound { self.new.numbering.pid_max ≡ self.old.numbering.pid_max }
-        ensures rest { self.new ≡ record self.old { numbering = self.new.numbering } }
+        ensures rest { ChangesNumbering self.old self.new }
     {
         self.numbers.set_fallen(flags);
     }
@@ -449,7 +440,7 @@ impl Tasks {
         ensures namespaces { (s : ℕ) → namespace_at self.new.numbering s
             ≡ option_map (cursor_put space cursor s) (namespace_at self.old.numbering s) }
         ensures bound { self.new.numbering.pid_max ≡ self.old.numbering.pid_max }
-        ensures rest { self.new ≡ record self.old { numbering = self.new.numbering } }
+        ensures rest { ChangesNumbering self.old self.new }
     {
         self.numbers.put_cursor(space, cursor);
     }

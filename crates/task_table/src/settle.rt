@@ -2,13 +2,15 @@
 
 ghost use Rattle.std.specs.Prelude.{◌≡◌, ◌≢◌, ℕ, ◌+◌, ◌<◌, ◌≤◌, ◌^◌, ◌==◌, ◌&&◌, length, option_map, Some, None, true};
 ghost use Rattle.std.specs.Prelude.{IsSome, slice_set};
-ghost use Rattle.pid_types.specs.declared.call.Kind.{Kind};
-ghost use Rattle.member_lists.specs.Owners.{owner_of};
-ghost use Rattle.pid_numbers.specs.Numbering.{identifier_at};
-ghost use Rattle.pids_charge.specs.Charges.{Home, home_at, stands, all_tasks, ChangesHome};
-ghost use Rattle.task_tree.specs.Tree.{task_at, parent_of, lives};
-ghost use Rattle.groups_sessions.specs.Membership.{Membership, membership_at, group_of};
-ghost use Rattle.task_table.specs.Store.{uses_at, one_if, is_kind, bare_at, joins, use_of};
+ghost use Rattle.{
+  pid_types.specs.declared.call.Kind.{Kind},
+  member_lists.specs.Owners.{owner_of},
+  pid_numbers.specs.Numbering.{identifier_at},
+  pids_charge.specs.Charges.{Home, home_at, stands, all_tasks, ChangesHome},
+  task_tree.specs.Tree.{task_at, parent_of, lives},
+  groups_sessions.specs.Membership.{Membership, membership_at, group_of},
+  task_table.specs.Store.{uses_at, one_if, is_kind, bare_at, joins, use_of},
+};
 
 use crate::uses::add_uses;
 use groups_sessions::Members;

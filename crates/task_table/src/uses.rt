@@ -1,9 +1,11 @@
 //! Uses of identifiers, as tasks, groups and sessions.
 
 ghost use Rattle.std.specs.Prelude.{◌≡◌, ℕ, ◌+◌, ◌<◌, ◌≤◌, ◌^◌, ◌==◌, ◌&&◌, IsSome};
-ghost use Rattle.pid_types.specs.declared.call.Kind.{Kind};
-ghost use Rattle.pid_numbers.specs.Numbering.{identifier_at};
-ghost use Rattle.task_table.specs.Store.{uses_at, one_if, is_kind, bare_at, IsLess};
+ghost use Rattle.{
+  pid_types.specs.declared.call.Kind.{Kind},
+  pid_numbers.specs.Numbering.{identifier_at},
+  task_table.specs.Store.{uses_at, one_if, is_kind, bare_at, IsLess},
+};
 
 use pid_numbers::Numbers;
 use pid_types::call::Kind;

@@ -4,14 +4,14 @@
 //! goes by names, numbers and ids. Here is what the one says of the other, for the calls that are written
 //! over the store and told in the model's words.
 
-ghost use Rattle.std.specs.Prelude.{◌≡◌, ◌≢◌, ℕ, Some, None, true, IsSome, IfSome, MatchOption, option_map};
-ghost use Rattle.pid_types.specs.Names.{live_row, task_at as task_in};
-ghost use Rattle.pid_numbers.specs.Numbering.{Identifier, id_at, identifier_at, number_of};
-ghost use Rattle.task_tree.specs.Tree.{task_at, lives};
-ghost use Rattle.task_tree.specs.declared.Task.{Task};
-ghost use Rattle.task_table.specs.declared.view.Found.{Found};
-ghost use Rattle.task_table.specs.View.{name_at, row_of, state_of};
-ghost use Rattle.task_table.specs.Lawful.{HasLaws, IsLawful};
+ghost use Rattle.std.specs.Prelude.{◌≡◌, ◌≢◌, ℕ, Some, None, true, IsSome, IfSome, option_map};
+ghost use Rattle.{
+  pid_types.specs.Names.{live_row, task_numbered},
+  pid_numbers.specs.Numbering.{Identifier, id_at, identifier_at, number_of},
+  task_tree.specs.{Tree.{task_at, lives}, declared.Task.{Task}},
+  task_table.specs.{declared.view.Found.{Found}, View.{name_at, row_of, state_of}, Lawful.{HasLaws, IsLawful}},
+  task_table.specs.Found.{HasOwnSpace},
+};
 
 use crate::Tasks;
 use pid_numbers::Numbers;
@@ -76,14 +76,14 @@ fn own_space(store: &Tasks, key: TaskKey) -> SpaceKey
 pub fn find_task(store: &Tasks, space: SpaceKey, number: Pid) -> Option<Found>
     ensures there { IfSome result (λ f. (task_at store.now.tree f.key ≡ Some f.task)
         × (number_of store.now.numbering f.key space ≡ Some number)) }
-    ensures own { IfSome result (λ f. (u : Identifier) → identifier_at store.now.numbering f.key ≡ Some u
-        → f.space ≡ u.space) }
+    ensures own { IfSome result (λ f. HasOwnSpace store.now f) }
     ensures id { IfSome result (λ f. id_at store.now.numbering f.space
         ≡ Some (name_at store.now.numbering f.key).space) }
     ensures nobody { result ≡ None → (k : ℕ) → (t : Task) → task_at store.now.tree k ≡ Some t
         → number_of store.now.numbering k space ≢ Some number }
     ensures row { (i : ℕ) → id_at store.now.numbering space ≡ Some i
-        → task_in (state_of store.now) i number ≡ option_map (λ (f : Found). row_of store.now f.key f.task) result }
+        → task_numbered (state_of store.now) i number
+        ≡ option_map (λ (f : Found). row_of store.now f.key f.task) result }
 {
     laws(store);
     let Some(key) = store.numbers().find(space, number) else {
@@ -102,8 +102,7 @@ pub fn find_task(store: &Tasks, space: SpaceKey, number: Pid) -> Option<Found>
 /// The live task with the number in the root namespace. It costs one search in the root's tree of numbers.
 pub fn find_live(store: &Tasks, number: Pid) -> Option<Found>
     ensures there { IfSome result (λ f. (task_at store.now.tree f.key ≡ Some f.task) × (lives f.task ≡ true)) }
-    ensures own { IfSome result (λ f. (u : Identifier) → identifier_at store.now.numbering f.key ≡ Some u
-        → f.space ≡ u.space) }
+    ensures own { IfSome result (λ f. HasOwnSpace store.now f) }
     ensures id { IfSome result (λ f. id_at store.now.numbering f.space
         ≡ Some (name_at store.now.numbering f.key).space) }
     ensures row { live_row (state_of store.now).rows number

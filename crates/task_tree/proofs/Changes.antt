@@ -7,7 +7,7 @@ use Rattle.std.proofs.lemmas.Bool.{cases_eq}
 use Rattle.member_lists.specs.Owners.{owner_of}
 use Rattle.member_queues.specs.Ranks.{ranked}
 use Rattle.task_tree.specs.declared.Task.{Task}
-use Rattle.task_tree.specs.Tree.{IsTree, lives, is_zombie, waits_for}
+use Rattle.task_tree.specs.Tree.{IsTaskTree, lives, is_zombie, waits_for}
 use Rattle.task_tree.specs.Waiting.{IsWaiting}
 
 -- the parent of a rank
@@ -22,19 +22,19 @@ waits_zombie o p q same n is = go (is_zombie o) (sym is ∙ same)
     go false e = absurd (cc)
 
 -- who waits for a parent is its child, and is in range
-pub IsTree-waiting : (tasks : List (Option Task)) (parents : List (Option ℕ)) (ended : List (Option (ℕ × ℕ))) → IsTree tasks parents ended → IsWaiting parents ended
+pub IsTree-waiting : (tasks : List (Option Task)) (parents : List (Option ℕ)) (ended : List (Option (ℕ × ℕ))) → IsTaskTree tasks parents ended → IsWaiting parents ended
 IsTree-waiting tasks parents ended t = record {
   child = λ k p r e. waits_zombie (slice_index_or tasks k None) (option_map of_parent (ranked ended k)) (owner_of parents k) (t.waiting k) p (ap (option_map of_parent) e);
   apart = t.apart;
   rooms = λ k p e. let h = (t.known k p e).0 in let l = t.heaps in omega (arith, h, l);
 }
 
-module _ (tasks : List (Option Task)) (parents : List (Option ℕ)) (ended : List (Option (ℕ × ℕ))) (t : IsTree tasks parents ended)
+module _ (tasks : List (Option Task)) (parents : List (Option ℕ)) (ended : List (Option (ℕ × ℕ))) (t : IsTaskTree tasks parents ended)
     (tasks' : List (Option Task)) (parents' : List (Option ℕ)) (ended' : List (Option (ℕ × ℕ))) where
   -- more room changes nothing
   pub IsTree-roomier : length tasks ≤ length tasks' → length tasks' ≤ length parents' → length tasks' ≤ length ended' → length tasks' ≤ 1073741824
       → ((k : ℕ) → slice_index_or tasks' k None ≡ slice_index_or tasks k None) → ((k : ℕ) → owner_of parents' k ≡ owner_of parents k)
-      → ((k : ℕ) → ranked ended' k ≡ ranked ended k) → IsTree tasks' parents' ended'
+      → ((k : ℕ) → ranked ended' k ≡ ranked ended k) → IsTaskTree tasks' parents' ended'
   IsTree-roomier more links heaps few same_tasks same_parents same_ranks = record {
     links = links;
     heaps = heaps;
@@ -53,7 +53,7 @@ module _ (tasks : List (Option Task)) (parents : List (Option ℕ)) (ended : Lis
       → (slice_index_or tasks' key None ≡ None → owner_of parents' key ≡ None)
       → option_map of_parent (ranked ended' key) ≡ waits_for (slice_index_or tasks' key None) (owner_of parents' key)
       → ((k p r : ℕ) → ranked ended' key ≡ Some (p, r) → k ≢ key → ranked ended k ≢ Some (p, r))
-      → IsTree tasks' parents' ended'
+      → IsTaskTree tasks' parents' ended'
   IsTree-changed key keys links heaps other_tasks other_parents other_ranks known absent waiting apart = record {
     links = let l = t.links in omega (arith, keys, links, l);
     heaps = let l = t.heaps in omega (arith, keys, heaps, l);

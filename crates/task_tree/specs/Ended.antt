@@ -9,7 +9,7 @@ abbrev pub waiting_at : List (Option (ℕ × ℕ)) → ℕ → Option ℕ
 waiting_at ended k = option_map (λ (m : ℕ × ℕ). m.0) (ranked ended k)
 
 -- the lists have those that have a rank, each for its parent
-pub record AreListed (ended : List (Option (ℕ × ℕ))) (lists : List (Option ℕ)) : Type 0 where
+pub record AreQueued (ended : List (Option (ℕ × ℕ))) (lists : List (Option ℕ)) : Type 0 where
   pub rooms : length ended ≤ length lists
   pub same : (k : ℕ) → owner_of lists k ≡ waiting_at ended k
 

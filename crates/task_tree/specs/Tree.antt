@@ -2,11 +2,12 @@
 use Rattle.std.specs.Prelude.{◌≡◌, ℕ, ◌<◌, ◌≤◌, ◌==◌, Bool, true, false, not, List, length, Option, Some, None, option_map, if◌then◌else◌, slice_index_or}
 use Rattle.std.specs.Option.{option_map_or}
 use Rattle.member_lists.specs.Owners.{owner_of}
+pub use Rattle.member_lists.specs.Owners.{handed}
 use Rattle.member_queues.specs.Ranks.{ranked}
 use Rattle.pid_types.specs.declared.plain.Life.TheVariants.{Live, Zombie}
 use Rattle.task_tree.specs.declared.Task.{Task}
 
-pub record Tree : Type 0 where
+pub record TreeOfTasks : Type 0 where
   pub tasks : List (Option Task)
   -- the key of each task's parent
   pub parents : List (Option ℕ)
@@ -14,15 +15,15 @@ pub record Tree : Type 0 where
   pub ended : List (Option (ℕ × ℕ))
 
 -- the task with the key
-abbrev pub task_at : Tree → ℕ → Option Task
+abbrev pub task_at : TreeOfTasks → ℕ → Option Task
 task_at t k = slice_index_or t.tasks k None
 
 -- the parent of the task with the key
-abbrev pub parent_of : Tree → ℕ → Option ℕ
+abbrev pub parent_of : TreeOfTasks → ℕ → Option ℕ
 parent_of t k = slice_index_or t.parents k None
 
 -- the parent and the rank of the ended task with the key
-abbrev pub rank_of : Tree → ℕ → Option (ℕ × ℕ)
+abbrev pub rank_of : TreeOfTasks → ℕ → Option (ℕ × ℕ)
 rank_of t k = slice_index_or t.ended k None
 
 -- whether the task has not ended
@@ -41,12 +42,8 @@ is_subreaper task = option_map_or (λ t. t.subreaper) task false
 abbrev pub waits_for : Option Task → Option ℕ → Option ℕ
 waits_for task parent = if is_zombie task then parent else None
 
--- the parent after all children of one went to another
-abbrev pub handed : ℕ → ℕ → ℕ → ℕ
-handed from to p = if p == from then to else p
-
 -- tasks, parents and ranks agree
-pub record IsTree (tasks : List (Option Task)) (parents : List (Option ℕ)) (ended : List (Option (ℕ × ℕ))) : Type 0 where
+pub record IsTaskTree (tasks : List (Option Task)) (parents : List (Option ℕ)) (ended : List (Option (ℕ × ℕ))) : Type 0 where
   pub links : length tasks ≤ length parents
   pub heaps : length tasks ≤ length ended
   pub few : length tasks ≤ 1073741824

@@ -18,8 +18,7 @@ pub(crate) struct Cells {
 
 impl Model for Cells {
     ghost use Rattle.std.specs.Prelude.{◌≡◌, List, Option, count_by};
-    ghost use Rattle.task_tree.specs.declared.Task.{Task};
-    ghost use Rattle.task_tree.specs.Tree.{is_subreaper};
+    ghost use Rattle.task_tree.specs.{declared.Task.{Task}, Tree.{is_subreaper}};
 
     ghost Value = { List (Option Task) };
 

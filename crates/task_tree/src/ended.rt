@@ -2,8 +2,7 @@
 ghost use Rattle.std.specs.Prelude.{◌≡◌, ◌≢◌, ℕ, ◌<◌, ◌^◌, length, option_map, Some, None, IsSome, MatchOption, OnOk};
 ghost use Rattle.std.specs.Prelude.{OnErr, [], ◌+◌, ◌≤◌, ◌++◌, replicate, slice_set};
 ghost use Rattle.member_queues.specs.Ranks.{ranked, IsLeast};
-ghost use Rattle.task_tree.specs.Ended.{AreEnded};
-ghost use Rattle.task_tree.specs.Tree.{handed};
+ghost use Rattle.task_tree.specs.{Ended.{AreEnded}, Tree.{handed}};
 
 use crate::links::room_for_parents;
 use member_lists::{MemberLists, Members};
@@ -21,13 +20,13 @@ pub(crate) struct EndedChildren {
 
 impl Model for EndedChildren {
     ghost use Rattle.std.specs.Prelude.{List, Option, ℕ};
-    ghost use Rattle.task_tree.specs.Ended.{AreListed};
+    ghost use Rattle.task_tree.specs.Ended.{AreQueued};
 
     ghost Value = { List (Option (ℕ × ℕ)) };
 
     ghost view = { λ a. a.queues };
 
-    ghost invariant = { λ a. AreListed a.queues a.lists };
+    ghost invariant = { λ a. AreQueued a.queues a.lists };
 }
 
 impl EndedChildren {

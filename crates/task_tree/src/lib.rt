@@ -9,11 +9,13 @@
 
 ghost use Rattle.std.specs.Prelude.{◌≡◌, ◌≢◌, ℕ, ◌+◌, ◌<◌, ◌≤◌, ◌^◌, length, option_map, Some, None, true, false};
 ghost use Rattle.std.specs.Prelude.{IsSome, MatchOption, OnOk, OnErr, ◌++◌, replicate, slice_set};
-ghost use Rattle.pid_types.specs.declared.plain.Life.{Life};
-ghost use Rattle.member_lists.specs.Owners.{AreMembers};
-ghost use Rattle.member_queues.specs.Ranks.{IsLeast};
-ghost use Rattle.task_tree.specs.Ended.{AreEnded};
-ghost use Rattle.task_tree.specs.Tree.{task_at, parent_of, rank_of, lives, is_zombie, is_subreaper, waits_for, handed};
+ghost use Rattle.{
+  pid_types.specs.declared.plain.Life.{Life},
+  member_lists.specs.Owners.{AreMembers},
+  member_queues.specs.Ranks.{IsLeast},
+  task_tree.specs.Ended.{AreEnded},
+  task_tree.specs.Tree.{task_at, parent_of, rank_of, lives, is_zombie, is_subreaper, waits_for, handed},
+};
 
 mod cells;
 mod ended;
@@ -64,13 +66,13 @@ impl Drop for TaskTree {
 }
 
 impl Model for TaskTree {
-    ghost use Rattle.task_tree.specs.Tree.{Tree, IsTree};
+    ghost use Rattle.task_tree.specs.Tree.{TreeOfTasks, IsTaskTree};
 
-    ghost Value = { Tree };
+    ghost Value = { TreeOfTasks };
 
     ghost view = { λ a. record { tasks = a.tasks; parents = a.children; ended = a.ended } };
 
-    ghost invariant = { λ a. IsTree a.tasks a.children a.ended };
+    ghost invariant = { λ a. IsTaskTree a.tasks a.children a.ended };
 }
 
 impl TaskTree {

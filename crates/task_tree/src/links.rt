@@ -1,10 +1,11 @@
 //! Children and ended children, as links by key.
 
 ghost use Rattle.std.specs.Prelude.{◌≡◌, ◌≢◌, ℕ, ◌<◌, ◌≤◌, ◌^◌, length, option_map, Some, None, OnOk};
-ghost use Rattle.member_lists.specs.Owners.{owner_of};
-ghost use Rattle.member_queues.specs.Ranks.{ranked};
-ghost use Rattle.task_tree.specs.Tree.{handed};
-ghost use Rattle.task_tree.specs.Waiting.{IsWaiting};
+ghost use Rattle.{
+  member_lists.specs.Owners.{owner_of},
+  member_queues.specs.Ranks.{ranked},
+  task_tree.specs.{Tree.{handed}, Waiting.{IsWaiting}},
+};
 
 use crate::ended::EndedChildren;
 use member_lists::MemberLists;

@@ -1,6 +1,6 @@
 //! Tasks by key, as they lie in memory.
-ghost use Rattle.std.specs.Prelude.{◌≡◌, ◌+◌, ◌<◌, ◌≤◌, ◌^◌, length, None, Some, OnOk, OnErr, [], ◌++◌};
-ghost use Rattle.std.specs.Prelude.{replicate, slice_set, slice_index_or};
+ghost use Rattle.std.specs.Prelude.{◌≡◌, ◌+◌, ◌<◌, ◌≤◌, ◌^◌, length, None, Some, OnOk, OnErr, [], ◌++◌, replicate};
+ghost use Rattle.std.specs.Prelude.{slice_set, slice_index_or};
 ghost use Rattle.task_tree.specs.Places.{task_in, life_in};
 
 use crate::Task;
@@ -36,8 +36,7 @@ pub(crate) struct Places {
 
 impl Model for Places {
     ghost use Rattle.std.specs.Prelude.{List, Option, map};
-    ghost use Rattle.task_tree.specs.declared.Task.{Task};
-    ghost use Rattle.task_tree.specs.Places.{task_in};
+    ghost use Rattle.task_tree.specs.{declared.Task.{Task}, Places.{task_in}};
 
     ghost Value = { List (Option Task) };
 

@@ -10,10 +10,10 @@ use Rattle.pid_types.specs.declared.reply.Reply.{Reply}
 use Rattle.pid_types.specs.Step.{step}
 use Rattle.model_laws.specs.StepLaws.{StepKeepsSoundness}
 use Rattle.pid_types.specs.Shown.{Shows, with_count}
-use Rattle.test_public.specs.Two.{IsSame}
+use Rattle.test_public.specs.Two.{ShowSame}
 
 -- a snapshot that shows the same as one of the state shows the state
-pub shown_by_both : (s : State) (a b : Plain) → IsSame a b → Shows s a → Shows s b
+pub shown_by_both : (s : State) (a b : Plain) → ShowSame a b → Shows s a → Shows s b
 shown_by_both s a b same shows = record {
   pid_max = sym same.pid_max ∙ shows.pid_max;
   rows = sym same.rows ∙ shows.rows;
@@ -22,7 +22,7 @@ shown_by_both s a b same shows = record {
 }
 
 -- snapshots of one state show the same
-pub alike_of_one : (s t : State) (a b : Plain) → s ≡ t → Shows s a → Shows t b → IsSame a b
+pub alike_of_one : (s t : State) (a b : Plain) → s ≡ t → Shows s a → Shows t b → ShowSame a b
 alike_of_one s t a b e one other = record {
   pid_max = one.pid_max ∙ ap (λ u. u.pid_max) e ∙ sym other.pid_max;
   rows = one.rows ∙ ap (λ u. u.rows) e ∙ sym other.rows;

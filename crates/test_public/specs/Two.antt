@@ -10,7 +10,7 @@ pub record Two : Type 0 where
   pub stamp : ℕ
 
 -- the snapshots show the same
-pub record IsSame (a b : Plain) : Type 0 where
+pub record ShowSame (a b : Plain) : Type 0 where
   pub pid_max : a.pid_max ≡ b.pid_max
   pub rows : a.rows.items ≡ b.rows.items
   pub spaces : a.spaces.items ≡ b.spaces.items

@@ -1,11 +1,8 @@
 //! The fast table and the plain one, which are told the same calls: each reply and each snapshot is compared.
 
 ghost use Rattle.std.specs.Prelude.{◌≡◌, ◌+◌, ◌↔◌, OnOk, IfOk, IsTrue, Err};
-ghost use Rattle.test_public.specs.Two.{IsSame};
-ghost use Rattle.pid_types.specs.declared.reply.Reply.{Reply};
-ghost use Rattle.pid_types.specs.Shown.{Shows};
-ghost use Rattle.pid_types.specs.State.{root_state};
-ghost use Rattle.pid_types.specs.Step.{step};
+ghost use Rattle.test_public.specs.Two.{ShowSame};
+ghost use Rattle.pid_types.specs.{declared.reply.Reply.{Reply}, Shown.{Shows}, State.{root_state}, Step.{step}};
 
 use model_laws::soundness::{root_state_is_sound, soundness_is_kept};
 use pid_table::PidTable;
@@ -149,7 +146,7 @@ fn have_same_controls(a: &Plain, b: &Plain) -> bool
 
 /// Whether two snapshots show the same.
 fn is_same(a: &Plain, b: &Plain) -> bool
-    ensures { IsTrue result ↔ IsSame a.now b.now }
+    ensures { IsTrue result ↔ ShowSame a.now b.now }
 {
     a.pid_max == b.pid_max
         && have_same_rows(a, b)

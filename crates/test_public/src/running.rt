@@ -21,8 +21,7 @@ pub struct Running {
 }
 
 impl Model for Running {
-    ghost use Rattle.pid_types.specs.State.{State};
-    ghost use Rattle.pid_types.specs.Sound.{IsBelow};
+    ghost use Rattle.pid_types.specs.{State.{State}, Sound.{IsBelow}};
 
     ghost Value = { State };
 

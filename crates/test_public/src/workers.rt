@@ -88,6 +88,10 @@ impl Gate for Turns {
             self.followed.fetch_add(1, Ordering::SeqCst);
         }
     }
+
+    fn is_open(&self) -> bool {
+        false
+    }
 }
 
 /// What a run leaves.

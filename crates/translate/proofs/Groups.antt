@@ -12,21 +12,21 @@ use Rattle.groups_sessions.specs.Membership.{Membership, membership_at, group_of
 use Rattle.task_table.specs.Store.{Store}
 use Rattle.task_table.specs.Lawful.{IsLawful}
 use Rattle.task_table.proofs.Places.{each-in}
-use Rattle.translate.specs.Gathered.{numbers_from, group_times, AreGathered}
+use Rattle.translate.specs.Gathered.{numbers_of_keys, group_times, AreGathered}
 use Rattle.translate.proofs.Rising.{zero-of, times-cons, IsIn-times, times-IsIn}
 use Rattle.translate.proofs.Pages.{group-told, gathered}
 
 -- the numbers of more keys
-numbers_from-append : (b : Numbering) (space from : ℕ) (js ks : List ℕ) → numbers_from b space from (js ++ ks) ≡ numbers_from b space from js ++ numbers_from b space from ks
+numbers_from-append : (b : Numbering) (space from : ℕ) (js ks : List ℕ) → numbers_of_keys b space from (js ++ ks) ≡ numbers_of_keys b space from js ++ numbers_of_keys b space from ks
 numbers_from-append b space from [] ks = refl
 numbers_from-append b space from (j ∷ js) ks = go (numbers_from-append b space from js ks) (number_of b j space) refl
   where
-    go : numbers_from b space from (js ++ ks) ≡ numbers_from b space from js ++ numbers_from b space from ks → (o : Option ℕ) → number_of b j space ≡ o
-        → numbers_from b space from (j ∷ (js ++ ks)) ≡ numbers_from b space from (j ∷ js) ++ numbers_from b space from ks
+    go : numbers_of_keys b space from (js ++ ks) ≡ numbers_of_keys b space from js ++ numbers_of_keys b space from ks → (o : Option ℕ) → number_of b j space ≡ o
+        → numbers_of_keys b space from (j ∷ (js ++ ks)) ≡ numbers_of_keys b space from (j ∷ js) ++ numbers_of_keys b space from ks
     go rest None is = rw is rest
     go rest (Some n) is = test (nat_le from n) refl
       where
-        test : (t : Bool) → nat_le from n ≡ t → numbers_from b space from (j ∷ (js ++ ks)) ≡ numbers_from b space from (j ∷ js) ++ numbers_from b space from ks
+        test : (t : Bool) → nat_le from n ≡ t → numbers_of_keys b space from (j ∷ (js ++ ks)) ≡ numbers_of_keys b space from (j ∷ js) ++ numbers_of_keys b space from ks
         test false out = rw (is, out) rest
         test true out = rw (is, out) (ap (λ ns. n ∷ ns) rest)
 
@@ -58,11 +58,11 @@ module _ (s : Store) where
 
   -- one group more
   pub group_added : (space from g : ℕ) (all rest ms keys first before now : List ℕ) → AreMembers (groups_of s.members) g ms
-      → before ≡ first ++ numbers_from s.numbering space from keys → ((k : ℕ) → times k keys + group_times s (g ∷ rest) k ≡ group_times s all k)
-      → now ≡ before ++ numbers_from s.numbering space from ms
-      → (now ≡ first ++ numbers_from s.numbering space from (keys ++ ms)) × ((k : ℕ) → times k (keys ++ ms) + group_times s rest k ≡ group_times s all k)
+      → before ≡ first ++ numbers_of_keys s.numbering space from keys → ((k : ℕ) → times k keys + group_times s (g ∷ rest) k ≡ group_times s all k)
+      → now ≡ before ++ numbers_of_keys s.numbering space from ms
+      → (now ≡ first ++ numbers_of_keys s.numbering space from (keys ++ ms)) × ((k : ℕ) → times k (keys ++ ms) + group_times s rest k ≡ group_times s all k)
   group_added space from g all rest ms keys first before now m was counts is = (
-    is ∙ ap (λ ns. ns ++ numbers_from s.numbering space from ms) was ∙ append_assoc first (numbers_from s.numbering space from keys) (numbers_from s.numbering space from ms)
+    is ∙ ap (λ ns. ns ++ numbers_of_keys s.numbering space from ms) was ∙ append_assoc first (numbers_of_keys s.numbering space from keys) (numbers_of_keys s.numbering space from ms)
         ∙ ap (λ ns. first ++ ns) (sym (numbers_from-append s.numbering space from keys ms)),
     λ k.
         let sum : times k (keys ++ ms) ≡ times k keys + times k ms = sum_by-append (λ j. cond {A = ℕ} (j == k) 1 0) keys ms in
@@ -74,7 +74,7 @@ module _ (s : Store) where
   module _ (l : IsLawful s) (space from o : ℕ) where
     -- a session's groups have all its members
     pub gathered_session : (groups keys : List ℕ) → AreGroupsOf s.members o groups → ((k : ℕ) → times k keys ≡ group_times s groups k)
-        → AreGathered s space Session o from (numbers_from s.numbering space from keys)
+        → AreGathered s space Session o from (numbers_of_keys s.numbering space from keys)
     gathered_session groups keys a counts = gathered s l space from Session o keys once owned
       where
         once : (k : ℕ) → session_of s.members k ≡ Some o → times k keys ≡ 1

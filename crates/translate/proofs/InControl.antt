@@ -10,7 +10,7 @@ use Rattle.pid_types.specs.Membership.{IsIn}
 use Rattle.pid_types.specs.Names.{number}
 use Rattle.model_laws.proofs.Lists.{IsIn-filter, IsIn-from_filter, IsIn-filter_map, IsIn-from_filter_map}
 use Rattle.pid_numbers.specs.Numbering.{Identifier, id_at, number_of}
-use Rattle.pids_charge.specs.Charges.{stands, live_at, id_at as home_id}
+use Rattle.pids_charge.specs.Charges.{stands, live_at, home_id}
 use Rattle.task_tree.specs.declared.Task.{Task}
 use Rattle.task_tree.specs.Tree.{task_at, lives}
 use Rattle.task_table.specs.Store.{Store}
@@ -21,9 +21,9 @@ use Rattle.task_table.proofs.Changes.{live_some}
 use Rattle.task_table.proofs.Keys.{number-is_key}
 use Rattle.task_table.proofs.Places.{each-in}
 use Rattle.task_table.proofs.LookUps.{named, in-rows, rows-in}
-use Rattle.translate.specs.Gathered.{numbers_from}
-use Rattle.translate.specs.Pages.{AreListed}
-use Rattle.translate.specs.Residents.{resides, tasks_in}
+use Rattle.translate.specs.Gathered.{numbers_of_keys}
+use Rattle.translate.specs.Pages.{AreListedFrom}
+use Rattle.translate.specs.Residents.{resides, residents_seen}
 use Rattle.translate.proofs.Pages.{numbers-in, numbers-of, numbers-once}
 use Rattle.translate.proofs.Rising.{times-IsIn, times-permuted, IsIn-permuted, IsIn-unpermuted, rising-once}
 
@@ -62,7 +62,7 @@ module _ (s : Store) (l : IsLawful s) (home : ℕ) (up : stands s.charges home �
 
   module _ (sp : ℕ) (caller : Row) (at : id_at s.numbering sp ≡ Some caller.name.space) (keys : List ℕ) (mine : AreResidents s.tree home keys) where
     -- the numbers of the model are those of the keys
-    tasks-to : (m k : ℕ) → IsIn k keys → number_of s.numbering k sp ≡ Some m → IsIn m (tasks_in (state_of s) (home_id s.charges home) caller)
+    tasks-to : (m k : ℕ) → IsIn k keys → number_of s.numbering k sp ≡ Some m → IsIn m (residents_seen (state_of s) (home_id s.charges home) caller)
     tasks-to m k on has =
         let t = told-home k (each-in (λ k. live_home (task_at s.tree k) ≡ Some home) keys mine.each k on) in
         let u = named s l k t.0 t.1 in
@@ -70,7 +70,7 @@ module _ (s : Store) (l : IsLawful s) (home : ℕ) (up : stands s.charges home �
         (IsIn-filter (resides (home_id s.charges home)) (row_of s k t.0) (state_of s).rows (rows-in s l k t.0 t.1) t.2)
         (number-is_key s.numbering l.numbering sp caller.name.space k u.0 at u.1 ∙ has)
 
-    tasks-back : (m : ℕ) → IsIn m (tasks_in (state_of s) (home_id s.charges home) caller) → (k : ℕ) × IsIn k keys × (number_of s.numbering k sp ≡ Some m)
+    tasks-back : (m : ℕ) → IsIn m (residents_seen (state_of s) (home_id s.charges home) caller) → (k : ℕ) × IsIn k keys × (number_of s.numbering k sp ≡ Some m)
     tasks-back m on =
         let f = IsIn-from_filter_map (λ row. number (state_of s).spaces row.name caller.name.space) m (filter (resides (home_id s.charges home)) (state_of s).rows) on in
         let g = IsIn-from_filter (resides (home_id s.charges home)) f.0 (state_of s).rows f.1 in
@@ -91,10 +91,10 @@ module _ (s : Store) (l : IsLawful s) (home : ℕ) (up : stands s.charges home �
         go (suc c) e = let one = mine.once k (each-in (λ k. live_home (task_at s.tree k) ≡ Some home) keys mine.each k (times-IsIn k keys (omega (arith, e)))) in omega (arith, one)
 
     -- what was gathered, in order
-    pub residents-listed : (from : ℕ) (ys : List ℕ) → IsPermutation (numbers_from s.numbering sp from keys) ys → IsSorted nat_cmp ys
-        → AreListed (tasks_in (state_of s) (home_id s.charges home) caller) from ys
+    pub residents-listed : (from : ℕ) (ys : List ℕ) → IsPermutation (numbers_of_keys s.numbering sp from keys) ys → IsSorted nat_cmp ys
+        → AreListedFrom (residents_seen (state_of s) (home_id s.charges home) caller) from ys
     residents-listed from ys p sorted =
-        let xs = numbers_from s.numbering sp from keys in record {
+        let xs = numbers_of_keys s.numbering sp from keys in record {
           rising = rising-once ys (IsNonDecreasingBy-from_sort (λ x. x) ys sorted) (λ m. let e = times-permuted m xs ys p in let one = numbers-once s l sp from keys few m in omega (arith, e, one));
           each = λ m. (
             (λ on. let h = numbers-in s l sp from keys m (IsIn-unpermuted m xs ys p on) in (h.0, tasks-to m h.1.0 h.1.1 h.1.2)),

@@ -16,14 +16,14 @@ use Rattle.model_laws.proofs.Lists.{IsIn-map, IsIn-from_map, IsIn-filter, IsIn-f
 use Rattle.model_laws.proofs.Rising.{find-key, find-key_at}
 use Rattle.ns_tree.specs.Tree.{AreInside, outer_of}
 use Rattle.pid_numbers.specs.Numbering.{Namespace, Numbering, id_at, namespace_at, path_at}
-use Rattle.pids_charge.specs.Charges.{Charges, AreControlsIn, stands, id_at as control_id}
+use Rattle.pids_charge.specs.Charges.{Charges, AreControlsIn, stands, home_id}
 use Rattle.task_table.specs.Lawful.{HasLaws}
 use Rattle.task_table.specs.View.{parent_id, space_of, spaces_of}
 use Rattle.task_table.proofs.Around.{space-from, space-in}
 use Rattle.task_table.proofs.Places.{each-in}
 use Rattle.translate.specs.Inside.{AreFrom}
 use Rattle.translate.specs.Listed.{TellsList}
-use Rattle.translate.specs.Pages.{with_front, AreListed}
+use Rattle.translate.specs.Pages.{with_front, AreListedFrom}
 use Rattle.translate.proofs.Rising.{once-each, once-found, times-filter, times-IsIn, times-permuted, IsIn-permuted, IsIn-unpermuted, rising-once}
 
 le-from : (a b : ℕ) → nat_le a b ≡ true → a ≤ b
@@ -89,19 +89,19 @@ module _ (b : Numbering) (l : HasLaws b) (key id : ℕ) (at : id_at b key ≡ So
 
 -- ---- control groups
 
-module _ (v : Charges) (rising : IsRising (map (λ (g : Control). g.id) v.controls)) (key id : ℕ) (at : control_id v key ≡ id) (keys : List ℕ) (inner : AreControlsIn v key keys) where
+module _ (v : Charges) (rising : IsRising (map (λ (g : Control). g.id) v.controls)) (key id : ℕ) (at : home_id v key ≡ id) (keys : List ℕ) (inner : AreControlsIn v key keys) where
   abbrev is_below : Control → Bool
   is_below g = option_eq ◌==◌ g.parent (Some id)
 
   abbrev IsChild : ℕ → Type 0
-  IsChild n = parent_control v.controls n ≡ Some (control_id v key)
+  IsChild n = parent_control v.controls n ≡ Some (home_id v key)
 
-  each-child : (ks : List ℕ) → AllByRecursion (λ k. (stands v k ≡ true) × IsChild (control_id v k)) ks → AllByRecursion IsChild (map (control_id v) ks)
+  each-child : (ks : List ℕ) → AllByRecursion (λ k. (stands v k ≡ true) × IsChild (home_id v k)) ks → AllByRecursion IsChild (map (home_id v) ks)
   each-child [] all = tt
   each-child (k ∷ ks) all = (all.0.1, each-child ks all.1)
 
-  control-to : (m : ℕ) → IsIn m (map (control_id v) keys) → IsIn m (map (λ (g : Control). g.id) (filter is_below v.controls))
-  control-to m on = go (control_at v.controls m) refl (each-in IsChild (map (control_id v) keys) (each-child keys inner.each) m on ∙ ap Some at)
+  control-to : (m : ℕ) → IsIn m (map (home_id v) keys) → IsIn m (map (λ (g : Control). g.id) (filter is_below v.controls))
+  control-to m on = go (control_at v.controls m) refl (each-in IsChild (map (home_id v) keys) (each-child keys inner.each) m on ∙ ap Some at)
     where
       go : (o : Option Control) → control_at v.controls m ≡ o → option_and_then (λ (g : Control). g.parent) o ≡ Some id → IsIn m (map (λ (g : Control). g.id) (filter is_below v.controls))
       go None is parent = absurd (cc)
@@ -110,21 +110,21 @@ module _ (v : Charges) (rising : IsRising (map (λ (g : Control). g.id) v.contro
           subst (λ n. IsIn n (map (λ (h : Control). h.id) (filter is_below v.controls))) f.1
           (IsIn-map (λ (h : Control). h.id) g (filter is_below v.controls) (IsIn-filter is_below g v.controls f.0 (number_tested g.parent id parent)))
 
-  control-back : (m : ℕ) → IsIn m (map (λ (g : Control). g.id) (filter is_below v.controls)) → IsIn m (map (control_id v) keys)
+  control-back : (m : ℕ) → IsIn m (map (λ (g : Control). g.id) (filter is_below v.controls)) → IsIn m (map (home_id v) keys)
   control-back m on =
       let f = IsIn-from_map (λ (g : Control). g.id) m (filter is_below v.controls) on in
       let g = IsIn-from_filter is_below f.0 v.controls f.1 in
       let found : control_at v.controls m ≡ Some f.0 = ap (control_at v.controls) f.2 ∙ find-key (λ (h : Control). h.id) v.controls rising f.0 g.0 in
       let child : IsChild m = ap (option_and_then (λ (h : Control). h.parent)) found ∙ some_number f.0.parent id g.1 ∙ ap Some (sym at) in
       let once = inner.once m child in
-      times-IsIn m (map (control_id v) keys) (omega (arith, once))
+      times-IsIn m (map (home_id v) keys) (omega (arith, once))
 
-  pub controls-from : (from : ℕ) → AreFrom (map (λ (g : Control). g.id) (filter is_below v.controls)) from (filter (nat_le from) (map (control_id v) keys))
+  pub controls-from : (from : ℕ) → AreFrom (map (λ (g : Control). g.id) (filter is_below v.controls)) from (filter (nat_le from) (map (home_id v) keys))
   controls-from from =
-      from-same (map (λ (g : Control). g.id) (filter is_below v.controls)) (map (control_id v) keys) from
-      (once-each IsChild (map (control_id v) keys) inner.once (each-child keys inner.each)) control-to control-back
+      from-same (map (λ (g : Control). g.id) (filter is_below v.controls)) (map (home_id v) keys) from
+      (once-each IsChild (map (home_id v) keys) inner.once (each-child keys inner.each)) control-to control-back
 
-pub all-stand : (v : Charges) (key : ℕ) (keys : List ℕ) → AllByRecursion (λ k. (stands v k ≡ true) × (parent_control v.controls (control_id v k) ≡ Some (control_id v key))) keys
+pub all-stand : (v : Charges) (key : ℕ) (keys : List ℕ) → AllByRecursion (λ k. (stands v k ≡ true) × (parent_control v.controls (home_id v k) ≡ Some (home_id v key))) keys
     → AllByRecursion (λ k. stands v k ≡ true) keys
 all-stand v key [] all = tt
 all-stand v key (k ∷ keys) all = (all.0.0, all-stand v key keys all.1)
@@ -132,7 +132,7 @@ all-stand v key (k ∷ keys) all = (all.0.0, all-stand v key keys all.1)
 -- ---- in order
 
 -- what was gathered, once it is sorted
-in-order : (numbers : List ℕ) (from : ℕ) (xs ys : List ℕ) → AreFrom numbers from xs → IsPermutation xs ys → IsSorted nat_cmp ys → AreListed numbers from ys
+in-order : (numbers : List ℕ) (from : ℕ) (xs ys : List ℕ) → AreFrom numbers from xs → IsPermutation xs ys → IsSorted nat_cmp ys → AreListedFrom numbers from ys
 in-order numbers from xs ys g p sorted = record {
   rising = rising-once ys (IsNonDecreasingBy-from_sort (λ x. x) ys sorted) (λ m. let e = times-permuted m xs ys p in let one = g.once m in omega (arith, e, one));
   each = λ m. (
@@ -148,7 +148,7 @@ told-some numbers from xs ys old new count found p sorted put many = record {
   listed = λ all e. (
       let z : Some found.0 ≡ Some all = sym found.1 ∙ e in
       let same : found.0 ≡ all = cc in
-      (ys, subst (λ ns. AreListed ns from ys) same (in-order found.0 from xs ys found.2 p sorted), many, put)
+      (ys, subst (λ ns. AreListedFrom ns from ys) same (in-order found.0 from xs ys found.2 p sorted), many, put)
       );
 }
 

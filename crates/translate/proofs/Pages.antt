@@ -26,8 +26,8 @@ use Rattle.task_table.proofs.Keys.{number-is_key}
 use Rattle.task_table.proofs.Places.{each-in}
 use Rattle.std.proofs.Math.ListN.{get_or-map}
 use Rattle.task_table.proofs.LookUps.{named, group-named, session-named, in-rows, rows-in}
-use Rattle.translate.specs.Pages.{belongs_to, is_meant, belongs, numbers_belonging, AreListed}
-use Rattle.translate.specs.Gathered.{owner_in, numbers_from, IsOwned, AreGathered, IsMeantAlone}
+use Rattle.translate.specs.Pages.{belongs_to, is_meant, belongs, numbers_belonging, AreListedFrom}
+use Rattle.translate.specs.Gathered.{owner_as, numbers_of_keys, IsOwned, AreGathered, IsMeantAlone}
 use Rattle.translate.proofs.Rising.{once-found, times-filter, times-IsIn, times-permuted, IsIn-permuted, IsIn-unpermuted, rising-once}
 
 -- the group of a task, as the lists of groups have it
@@ -40,7 +40,7 @@ module _ (s : Store) (l : IsLawful s) where
   member k t e = held (membership_at s.members k) (l.agree.members k ∙ ap is_some e)
 
   -- who belongs to something is a task
-  tasked : (kind : Kind) (k o : ℕ) → owner_in s kind k ≡ Some o → (t : Task) × (task_at s.tree k ≡ Some t)
+  tasked : (kind : Kind) (k o : ℕ) → owner_as s kind k ≡ Some o → (t : Task) × (task_at s.tree k ≡ Some t)
   tasked AsTask k o e = go (task_at s.tree k) refl
     where
       go : (v : Option Task) → task_at s.tree k ≡ v → (t : Task) × (task_at s.tree k ≡ Some t)
@@ -58,7 +58,7 @@ module _ (s : Store) (l : IsLawful s) where
       go (Some m) is e = held (task_at s.tree k) (sym (l.agree.members k) ∙ ap is_some is)
 
   -- what it belongs to, by name
-  belongs_to-is : (kind : Kind) (k : ℕ) (t : Task) → task_at s.tree k ≡ Some t → belongs_to kind (row_of s k t) ≡ option_map (name_at s.numbering) (owner_in s kind k)
+  belongs_to-is : (kind : Kind) (k : ℕ) (t : Task) → task_at s.tree k ≡ Some t → belongs_to kind (row_of s k t) ≡ option_map (name_at s.numbering) (owner_as s kind k)
   belongs_to-is AsTask k t e = refl
   belongs_to-is Group k t e =
       let m = member k t e in
@@ -71,7 +71,7 @@ module _ (s : Store) (l : IsLawful s) where
 
   module _ (h : HasParents s) where
     -- and that has an identifier
-    owner-named : (kind : Kind) (k o : ℕ) → owner_in s kind k ≡ Some o → (u : Identifier) × (identifier_at s.numbering o ≡ Some u)
+    owner-named : (kind : Kind) (k o : ℕ) → owner_as s kind k ≡ Some o → (u : Identifier) × (identifier_at s.numbering o ≡ Some u)
     owner-named AsTask k o e = let t = held (task_at s.tree o) (h k o e) in named s l o t.0 t.1
     owner-named Group k o e = go (membership_at s.members k) refl e
       where
@@ -87,10 +87,10 @@ module _ (s : Store) (l : IsLawful s) where
     module _ (sp : ℕ) (caller : Row) (at : id_at s.numbering sp ≡ Some caller.name.space) (kind : Kind) (n : ℕ) (o : Option ℕ) (alone : IsMeantAlone s caller kind n o) where
       -- who belongs to what is meant has its key as the owner
       belongs-is : (k : ℕ) (t : Task) → task_at s.tree k ≡ Some t
-          → belongs (state_of s) caller kind n (row_of s k t) ≡ option_map_or (λ p. option_eq ◌==◌ o (Some p)) (owner_in s kind k) false
-      belongs-is k t e = ap (λ x. option_map_or (is_meant (state_of s) caller kind n) x false) (belongs_to-is kind k t e) ∙ go (owner_in s kind k) refl
+          → belongs (state_of s) caller kind n (row_of s k t) ≡ option_map_or (λ p. option_eq ◌==◌ o (Some p)) (owner_as s kind k) false
+      belongs-is k t e = ap (λ x. option_map_or (is_meant (state_of s) caller kind n) x false) (belongs_to-is kind k t e) ∙ go (owner_as s kind k) refl
         where
-          go : (x : Option ℕ) → owner_in s kind k ≡ x
+          go : (x : Option ℕ) → owner_as s kind k ≡ x
               → option_map_or (is_meant (state_of s) caller kind n) (option_map (name_at s.numbering) x) false ≡ option_map_or (λ p. option_eq ◌==◌ o (Some p)) x false
           go None is = refl
           go (Some p) is = let u = owner-named kind k p is in alone p (ap is_some u.1)
@@ -105,7 +105,7 @@ module _ (s : Store) (l : IsLawful s) where
           let u = named s l r.0 r.1 r.2 in
           record {
             key = r.0;
-            belongs = owned (owner_in s kind r.0) b;
+            belongs = owned (owner_as s kind r.0) b;
             has = sym (number-is_key s.numbering l.numbering sp caller.name.space r.0 u.0 at u.1) ∙ ap (λ row. number (state_of s).spaces row.name caller.name.space) (sym r.3) ∙ f.2;
           }
         where
@@ -124,7 +124,7 @@ module _ (s : Store) (l : IsLawful s) where
 
       -- what was gathered, in order
       pub listed : (q from : ℕ) (xs ys : List ℕ) → o ≡ Some q → AreGathered s sp kind q from xs → IsPermutation xs ys → IsSorted nat_cmp ys
-          → AreListed (numbers_belonging (state_of s) caller kind n) from ys
+          → AreListedFrom (numbers_belonging (state_of s) caller kind n) from ys
       listed q from xs ys is g p sorted = record {
         rising = rising-once ys (IsNonDecreasingBy-from_sort (λ x. x) ys sorted) (λ m. let e = times-permuted m xs ys p in let one = g.once m in omega (arith, e, one));
         each = λ m. (
@@ -134,7 +134,7 @@ module _ (s : Store) (l : IsLawful s) where
       }
 
       -- where nothing is meant, nobody is listed
-      pub listed_none : (from : ℕ) → o ≡ None → AreListed (numbers_belonging (state_of s) caller kind n) from []
+      pub listed_none : (from : ℕ) → o ≡ None → AreListedFrom (numbers_belonging (state_of s) caller kind n) from []
       listed_none from is = record { rising = tt; each = λ m. ((λ on. absurd on), (λ h. absurd (nobody_in m h.1))) }
         where
           refused : (x : Option ℕ) → option_map_or (λ p. option_eq ◌==◌ o (Some p)) x false ≡ false
@@ -146,30 +146,30 @@ module _ (s : Store) (l : IsLawful s) where
               let f = IsIn-from_filter_map (λ row. number (state_of s).spaces row.name caller.name.space) m (filter (belongs (state_of s) caller kind n) (state_of s).rows) on in
               let g = IsIn-from_filter (belongs (state_of s) caller kind n) f.0 (state_of s).rows f.1 in
               let r = in-rows s l f.0 g.0 in
-              let b : false ≡ true = sym (refused (owner_in s kind r.0)) ∙ sym (belongs-is r.0 r.1 r.2) ∙ sym (ap (belongs (state_of s) caller kind n) r.3) ∙ g.1 in
+              let b : false ≡ true = sym (refused (owner_as s kind r.0)) ∙ sym (belongs-is r.0 r.1 r.2) ∙ sym (ap (belongs (state_of s) caller kind n) r.3) ∙ g.1 in
               absurd (cc)
 
   -- numbers of keys, none of which comes twice
   module _ (sp from : ℕ) where
-    pub numbers-in : (keys : List ℕ) (m : ℕ) → IsIn m (numbers_from s.numbering sp from keys) → (from ≤ m) × ((k : ℕ) × IsIn k keys × (number_of s.numbering k sp ≡ Some m))
+    pub numbers-in : (keys : List ℕ) (m : ℕ) → IsIn m (numbers_of_keys s.numbering sp from keys) → (from ≤ m) × ((k : ℕ) × IsIn k keys × (number_of s.numbering k sp ≡ Some m))
     numbers-in keys m on =
         let f = IsIn-from_filter (nat_le from) m (filter_map (λ k. number_of s.numbering k sp) keys) on in
         let g = IsIn-from_filter_map (λ k. number_of s.numbering k sp) m keys f.0 in
         (grind (arith, f.1), g)
 
-    pub numbers-of : (keys : List ℕ) (m k : ℕ) → from ≤ m → IsIn k keys → number_of s.numbering k sp ≡ Some m → IsIn m (numbers_from s.numbering sp from keys)
+    pub numbers-of : (keys : List ℕ) (m k : ℕ) → from ≤ m → IsIn k keys → number_of s.numbering k sp ≡ Some m → IsIn m (numbers_of_keys s.numbering sp from keys)
     numbers-of keys m k le on has =
         IsIn-filter (nat_le from) m (filter_map (λ k. number_of s.numbering k sp) keys) (IsIn-filter_map (λ k. number_of s.numbering k sp) k m keys on has) (grind (arith, le))
 
-    pub numbers-once : (keys : List ℕ) → ((k : ℕ) → times k keys ≤ 1) → (m : ℕ) → times m (numbers_from s.numbering sp from keys) ≤ 1
+    pub numbers-once : (keys : List ℕ) → ((k : ℕ) → times k keys ≤ 1) → (m : ℕ) → times m (numbers_of_keys s.numbering sp from keys) ≤ 1
     numbers-once keys once m =
         let found = once-found (λ k. number_of s.numbering k sp) (λ j k n. l.numbering.distinct j k sp n) keys once m in
         let le = times-filter (nat_le from) m (filter_map (λ k. number_of s.numbering k sp) keys) in
         omega (arith, found, le)
 
     -- the keys of those who belong to one owner, each once
-    pub gathered : (kind : Kind) (o : ℕ) (keys : List ℕ) → ((k : ℕ) → owner_in s kind k ≡ Some o → times k keys ≡ 1)
-        → ((k : ℕ) → IsIn k keys → owner_in s kind k ≡ Some o) → AreGathered s sp kind o from (numbers_from s.numbering sp from keys)
+    pub gathered : (kind : Kind) (o : ℕ) (keys : List ℕ) → ((k : ℕ) → owner_as s kind k ≡ Some o → times k keys ≡ 1)
+        → ((k : ℕ) → IsIn k keys → owner_as s kind k ≡ Some o) → AreGathered s sp kind o from (numbers_of_keys s.numbering sp from keys)
     gathered kind o keys once owned = record {
       once = numbers-once keys few;
       each = λ m. (
@@ -189,15 +189,15 @@ module _ (s : Store) (l : IsLawful s) where
             go (suc c) e = let one = once k (owned k (times-IsIn k keys (omega (arith, e)))) in omega (arith, one)
 
     -- nobody belongs to it
-    pub nobody : (kind : Kind) (o : ℕ) → ((k : ℕ) → owner_in s kind k ≢ Some o) → AreGathered s sp kind o from []
+    pub nobody : (kind : Kind) (o : ℕ) → ((k : ℕ) → owner_as s kind k ≢ Some o) → AreGathered s sp kind o from []
     nobody kind o none = record { once = λ m. omega arith; each = λ m. ((λ on. absurd on), (λ h. absurd (none (h.1).key (h.1).belongs))) }
 
     -- the children of a task, as its list has them
-    pub gathered_children : (o : ℕ) (keys : List ℕ) → AreMembers s.tree.parents o keys → AreGathered s sp AsTask o from (numbers_from s.numbering sp from keys)
+    pub gathered_children : (o : ℕ) (keys : List ℕ) → AreMembers s.tree.parents o keys → AreGathered s sp AsTask o from (numbers_of_keys s.numbering sp from keys)
     gathered_children o keys m = gathered AsTask o keys m.once (λ k i. each-in (λ k. owner_of s.tree.parents k ≡ Some o) keys m.owned k i)
 
     -- the members of a group, as its list has them
-    pub gathered_group : (o : ℕ) (keys : List ℕ) → AreMembers (groups_of s.members) o keys → AreGathered s sp Group o from (numbers_from s.numbering sp from keys)
+    pub gathered_group : (o : ℕ) (keys : List ℕ) → AreMembers (groups_of s.members) o keys → AreGathered s sp Group o from (numbers_of_keys s.numbering sp from keys)
     gathered_group o keys m =
         gathered Group o keys (λ k mine. m.once k (group-told s k ∙ mine))
         (λ k i. sym (group-told s k) ∙ each-in (λ k. owner_of (groups_of s.members) k ≡ Some o) keys m.owned k i)

@@ -25,20 +25,20 @@ use Rattle.task_table.proofs.LookUps.{named, in-rows, rows-in}
 use Rattle.translate.specs.declared.members.Asked.{Asked}
 use Rattle.translate.specs.declared.members.Reach.{Reach}
 use Rattle.translate.specs.declared.members.Reach.TheVariants.{Own, Subtree}
-use Rattle.translate.specs.Gathered.{numbers_from}
-use Rattle.translate.specs.Members.{is_among, numbers_in}
-use Rattle.translate.specs.Pages.{AreListed}
-use Rattle.translate.specs.Passed.{reaches, numbers_passed, IsPassed, ArePassed}
+use Rattle.translate.specs.Gathered.{numbers_of_keys}
+use Rattle.translate.specs.Members.{is_among, visible_numbers}
+use Rattle.translate.specs.Pages.{AreListedFrom}
+use Rattle.translate.specs.Passed.{is_reached, numbers_passed, IsBehindCursor, ArePassed}
 use Rattle.translate.proofs.Parts.{task-used, used-task}
 use Rattle.translate.proofs.Rising.{zero-of, times-cons, IsIn-times, times-IsIn, times-permuted, IsIn-permuted, IsIn-unpermuted, rising-once}
 
 module _ (s : Store) (l : IsLawful s) (asked : Asked) where
   -- the number that one task adds
-  added-in : (k m : ℕ) → IsIn m (numbers_passed s.numbering asked k) → (reaches s.numbering asked.reach asked.space k ≡ true) × (asked.from ≤ m) × (number_of s.numbering k asked.viewer ≡ Some m)
-  added-in k m on = go (reaches s.numbering asked.reach asked.space k) refl on
+  added-in : (k m : ℕ) → IsIn m (numbers_passed s.numbering asked k) → (is_reached s.numbering asked.reach asked.space k ≡ true) × (asked.from ≤ m) × (number_of s.numbering k asked.viewer ≡ Some m)
+  added-in k m on = go (is_reached s.numbering asked.reach asked.space k) refl on
     where
-      go : (b : Bool) → reaches s.numbering asked.reach asked.space k ≡ b → IsIn m (if b then numbers_from s.numbering asked.viewer asked.from (k ∷ []) else [])
-          → (reaches s.numbering asked.reach asked.space k ≡ true) × (asked.from ≤ m) × (number_of s.numbering k asked.viewer ≡ Some m)
+      go : (b : Bool) → is_reached s.numbering asked.reach asked.space k ≡ b → IsIn m (if b then numbers_of_keys s.numbering asked.viewer asked.from (k ∷ []) else [])
+          → (is_reached s.numbering asked.reach asked.space k ≡ true) × (asked.from ≤ m) × (number_of s.numbering k asked.viewer ≡ Some m)
       go false is on = absurd on
       go true is on =
           let f = IsIn-from_filter (nat_le asked.from) m (filter_map (λ j. number_of s.numbering j asked.viewer) (k ∷ [])) on in
@@ -49,14 +49,14 @@ module _ (s : Store) (l : IsLawful s) (asked : Asked) where
           mine j (inl same) has = ap (λ i. number_of s.numbering i asked.viewer) (sym same) ∙ has
           mine j (inr none) has = absurd none
 
-  added-of : (k m : ℕ) → reaches s.numbering asked.reach asked.space k ≡ true → asked.from ≤ m → number_of s.numbering k asked.viewer ≡ Some m → IsIn m (numbers_passed s.numbering asked k)
+  added-of : (k m : ℕ) → is_reached s.numbering asked.reach asked.space k ≡ true → asked.from ≤ m → number_of s.numbering k asked.viewer ≡ Some m → IsIn m (numbers_passed s.numbering asked k)
   added-of k m meant le has =
-      subst (λ b. IsIn m (if b then numbers_from s.numbering asked.viewer asked.from (k ∷ []) else [])) (sym meant)
+      subst (λ b. IsIn m (if b then numbers_of_keys s.numbering asked.viewer asked.from (k ∷ []) else [])) (sym meant)
       (IsIn-filter (nat_le asked.from) m (filter_map (λ j. number_of s.numbering j asked.viewer) (k ∷ []))
       (IsIn-filter_map (λ j. number_of s.numbering j asked.viewer) k m (k ∷ []) (inl refl) has) (grind (arith, le)))
 
   added-once : (k m : ℕ) → times m (numbers_passed s.numbering asked k) ≤ 1
-  added-once k m = go (reaches s.numbering asked.reach asked.space k)
+  added-once k m = go (is_reached s.numbering asked.reach asked.space k)
     where
       one : (x : ℕ) → times m (x ∷ []) ≤ 1
       one x = test (x == m) (times-cons m x [])
@@ -65,15 +65,15 @@ module _ (s : Store) (l : IsLawful s) (asked : Asked) where
           test true e = omega (arith, e)
           test false e = omega (arith, e)
 
-      go : (b : Bool) → times m (if b then numbers_from s.numbering asked.viewer asked.from (k ∷ []) else []) ≤ 1
+      go : (b : Bool) → times m (if b then numbers_of_keys s.numbering asked.viewer asked.from (k ∷ []) else []) ≤ 1
       go false = omega arith
       go true = has (number_of s.numbering k asked.viewer) refl
         where
-          has : (o : Option ℕ) → number_of s.numbering k asked.viewer ≡ o → times m (numbers_from s.numbering asked.viewer asked.from (k ∷ [])) ≤ 1
+          has : (o : Option ℕ) → number_of s.numbering k asked.viewer ≡ o → times m (numbers_of_keys s.numbering asked.viewer asked.from (k ∷ [])) ≤ 1
           has None is = rw is (omega arith)
           has (Some x) is = test (nat_le asked.from x) refl
             where
-              test : (b : Bool) → nat_le asked.from x ≡ b → times m (numbers_from s.numbering asked.viewer asked.from (k ∷ [])) ≤ 1
+              test : (b : Bool) → nat_le asked.from x ≡ b → times m (numbers_of_keys s.numbering asked.viewer asked.from (k ∷ [])) ≤ 1
               test false out = rw (is, out) (omega arith)
               test true out = rw (is, out) (one x)
 
@@ -114,10 +114,10 @@ module _ (s : Store) (l : IsLawful s) (asked : Asked) where
               let few = was.once m in
               omega (arith, sum, none, few)
 
-      to : (m : ℕ) → IsIn m (xs ++ numbers_passed s.numbering asked k) → (asked.from ≤ m) × IsPassed s asked (n + 1) m
+      to : (m : ℕ) → IsIn m (xs ++ numbers_passed s.numbering asked k) → (asked.from ≤ m) × IsBehindCursor s asked (n + 1) m
       to m on = go (IsIn-append m xs (numbers_passed s.numbering asked k) on)
         where
-          go : IsIn m xs ⊎ IsIn m (numbers_passed s.numbering asked k) → (asked.from ≤ m) × IsPassed s asked (n + 1) m
+          go : IsIn m xs ⊎ IsIn m (numbers_passed s.numbering asked k) → (asked.from ≤ m) × IsBehindCursor s asked (n + 1) m
           go (inl old) =
               let h = (was.each m).0 old in
               let p = h.1 in
@@ -127,16 +127,16 @@ module _ (s : Store) (l : IsLawful s) (asked : Asked) where
               let h = added-in k m new in
               (h.1, record { key = k; task = is_task; meant = h.0; own = n; inside = here; passed = omega arith; has = h.2 })
 
-      of : (m : ℕ) → (asked.from ≤ m) × IsPassed s asked (n + 1) m → IsIn m (xs ++ numbers_passed s.numbering asked k)
+      of : (m : ℕ) → (asked.from ≤ m) × IsBehindCursor s asked (n + 1) m → IsIn m (xs ++ numbers_passed s.numbering asked k)
       of m h = elim (cases_eq h.1.own n) [
         | inl same ↦
             let j = l.numbering.distinct h.1.key k asked.space n (h.1.inside ∙ ap Some same) here in
             IsIn-append_right m xs (numbers_passed s.numbering asked k)
-            (added-of k m (ap (reaches s.numbering asked.reach asked.space) (sym j) ∙ h.1.meant) h.0 (ap (λ i. number_of s.numbering i asked.viewer) (sym j) ∙ h.1.has))
+            (added-of k m (ap (is_reached s.numbering asked.reach asked.space) (sym j) ∙ h.1.meant) h.0 (ap (λ i. number_of s.numbering i asked.viewer) (sym j) ∙ h.1.has))
         | inr differs ↦ IsIn-append_left m xs (numbers_passed s.numbering asked k) ((was.each m).1 (h.0, before h.1 differs))
       ]
         where
-          before : (p : IsPassed s asked (n + 1) m) → p.own ≢ n → IsPassed s asked at m
+          before : (p : IsBehindCursor s asked (n + 1) m) → p.own ≢ n → IsBehindCursor s asked at m
           before p differs = record { key = p.key; task = p.task; meant = p.meant; own = p.own; inside = p.inside; passed = below (nat_le at p.own) refl; has = p.has }
             where
               below : (b : Bool) → nat_le at p.own ≡ b → p.own < at
@@ -159,7 +159,7 @@ module _ (s : Store) (l : IsLawful s) (asked : Asked) where
     );
   }
     where
-      before : (m : ℕ) → IsPassed s asked s.numbering.pid_max m → IsPassed s asked at m
+      before : (m : ℕ) → IsBehindCursor s asked s.numbering.pid_max m → IsBehindCursor s asked at m
       before m p = record { key = p.key; task = p.task; meant = p.meant; own = p.own; inside = p.inside; passed = below (nat_le at p.own) refl; has = p.has }
         where
           below : (b : Bool) → nat_le at p.own ≡ b → p.own < at
@@ -171,7 +171,7 @@ module _ (s : Store) (l : IsLawful s) (asked : Asked) where
 
   module _ (i v : ℕ) (at : id_at s.numbering asked.space ≡ Some i) (at_viewer : id_at s.numbering asked.viewer ≡ Some v) where
     -- the model and the keys mean the same tasks
-    among-is : (reach : Reach) (k : ℕ) (t : Task) → task_at s.tree k ≡ Some t → is_among (state_of s).spaces reach i (row_of s k t) ≡ reaches s.numbering reach asked.space k
+    among-is : (reach : Reach) (k : ℕ) (t : Task) → task_at s.tree k ≡ Some t → is_among (state_of s).spaces reach i (row_of s k t) ≡ is_reached s.numbering reach asked.space k
     among-is Subtree k t e = let u = named s l k t e in ap is_some (number-is_key s.numbering l.numbering asked.space i k u.0 at u.1)
     among-is Own k t e = go (cases_eq u.0.space asked.space)
       where
@@ -181,7 +181,7 @@ module _ (s : Store) (l : IsLawful s) (asked : Asked) where
         own : id_at s.numbering u.0.space ≡ Some (name_at s.numbering k).space
         own = home-id s.numbering l.numbering k u.0 u.1
 
-        go : (u.0.space ≡ asked.space) ⊎ (u.0.space ≢ asked.space) → ((name_at s.numbering k).space == i) ≡ reaches s.numbering Own asked.space k
+        go : (u.0.space ≡ asked.space) ⊎ (u.0.space ≢ asked.space) → ((name_at s.numbering k).space == i) ≡ is_reached s.numbering Own asked.space k
         go (inl same) =
             let z : Some (name_at s.numbering k).space ≡ Some i = sym own ∙ ap (id_at s.numbering) same ∙ at in
             eq-eqb (name_at s.numbering k).space i (cc)
@@ -191,7 +191,7 @@ module _ (s : Store) (l : IsLawful s) (asked : Asked) where
             ∙ sym (ap (λ o. option_eq ◌==◌ (option_map (λ (w : Identifier). w.space) o) (Some asked.space)) u.1 ∙ apart u.0.space asked.space differs)
 
     -- who is meant has a number in the namespace
-    inside-of : (reach : Reach) (k : ℕ) → reaches s.numbering reach asked.space k ≡ true → (n : ℕ) × (number_of s.numbering k asked.space ≡ Some n)
+    inside-of : (reach : Reach) (k : ℕ) → is_reached s.numbering reach asked.space k ≡ true → (n : ℕ) × (number_of s.numbering k asked.space ≡ Some n)
     inside-of Subtree k meant = held (number_of s.numbering k asked.space) meant
     inside-of Own k meant = go (identifier_at s.numbering k) refl (some_number (option_map (λ (w : Identifier). w.space) (identifier_at s.numbering k)) asked.space meant)
       where
@@ -203,7 +203,7 @@ module _ (s : Store) (l : IsLawful s) (asked : Asked) where
             (n.0, ap (number_of s.numbering k) (sym same) ∙ n.1)
 
     -- the numbers of the model are those of the keys
-    to-passed : (m : ℕ) → IsIn m (numbers_in (state_of s) asked.reach i v) → IsPassed s asked s.numbering.pid_max m
+    to-passed : (m : ℕ) → IsIn m (visible_numbers (state_of s) asked.reach i v) → IsBehindCursor s asked s.numbering.pid_max m
     to-passed m on =
         let f = IsIn-from_filter_map (λ row. number (state_of s).spaces row.name v) m (filter (is_among (state_of s).spaces asked.reach i) (state_of s).rows) on in
         let g = IsIn-from_filter (is_among (state_of s).spaces asked.reach i) f.0 (state_of s).rows f.1 in
@@ -221,7 +221,7 @@ module _ (s : Store) (l : IsLawful s) (asked : Asked) where
           has = sym (number-is_key s.numbering l.numbering asked.viewer v r.0 u.0 at_viewer u.1) ∙ ap (λ row. number (state_of s).spaces row.name v) (sym r.3) ∙ f.2;
         }
 
-    of-passed : (m : ℕ) → IsPassed s asked s.numbering.pid_max m → IsIn m (numbers_in (state_of s) asked.reach i v)
+    of-passed : (m : ℕ) → IsBehindCursor s asked s.numbering.pid_max m → IsIn m (visible_numbers (state_of s) asked.reach i v)
     of-passed m p =
         let t = held (task_at s.tree p.key) p.task in
         let u = named s l p.key t.0 t.1 in
@@ -230,7 +230,7 @@ module _ (s : Store) (l : IsLawful s) (asked : Asked) where
         (number-is_key s.numbering l.numbering asked.viewer v p.key u.0 at_viewer u.1 ∙ p.has)
 
     -- what was gathered, in order
-    pub listed : (xs ys : List ℕ) → ArePassed s asked s.numbering.pid_max xs → IsPermutation xs ys → IsSorted nat_cmp ys → AreListed (numbers_in (state_of s) asked.reach i v) asked.from ys
+    pub listed : (xs ys : List ℕ) → ArePassed s asked s.numbering.pid_max xs → IsPermutation xs ys → IsSorted nat_cmp ys → AreListedFrom (visible_numbers (state_of s) asked.reach i v) asked.from ys
     listed xs ys g p sorted = record {
       rising = rising-once ys (IsNonDecreasingBy-from_sort (λ x. x) ys sorted) (λ m. let e = times-permuted m xs ys p in let one = g.once m in omega (arith, e, one));
       each = λ m. (

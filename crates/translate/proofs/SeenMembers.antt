@@ -16,8 +16,8 @@ use Rattle.model_laws.proofs.Levels.{numbers_are_from_level}
 use Rattle.model_laws.proofs.Lists.{IsIn-filter_map, IsIn-from_filter_map}
 use Rattle.translate.specs.declared.members.Reach.{Reach}
 use Rattle.translate.specs.declared.members.Reach.TheVariants.{Own, Subtree}
-use Rattle.translate.specs.Members.{is_among, numbers_in, glimpses_in, members_seen}
-use Rattle.translate.specs.Pages.{AreListed}
+use Rattle.translate.specs.Members.{is_among, visible_numbers, glimpses_in, members_seen}
+use Rattle.translate.specs.Pages.{AreListedFrom}
 
 -- what has the number above 0 is seen with it
 pub seen_with : (o : Option ℕ) (m : ℕ) → o ≡ Some m → unwrap_or o 0 ≡ m
@@ -99,7 +99,7 @@ module _ (state : State) (sound : IsCoherent state) (s : ℕ) where
         let i = (IsIn-from_filter (is_seen state s) r.0 state.rows r.1).0 in
         (r.0, i, r.2, λ m has. sym (alone r.0 i (number-within state.spaces r.0.name s m has).0) ∙ ap (λ (k : Glimpse). length k.numbers == 1) (sym r.2) ∙ q.1)
 
-    to_seen : (m : ℕ) → IsIn m (numbers_in state reach s s) → IsIn m (members_seen reach (sight state s))
+    to_seen : (m : ℕ) → IsIn m (visible_numbers state reach s s) → IsIn m (members_seen reach (sight state s))
     to_seen m on =
         let f = IsIn-from_filter_map (λ row. number state.spaces row.name s) m (filter (is_among state.spaces reach s) state.rows) on in
         let g = IsIn-from_filter (is_among state.spaces reach s) f.0 state.rows f.1 in
@@ -110,7 +110,7 @@ module _ (state : State) (sound : IsCoherent state) (s : ℕ) where
         (IsIn-map (number_by Task) (glimpse_of state s f.0) (glimpses_in reach (sight state s)) (glimpse-in reach f.0 m g.0 g.1 f.2)))
         (grind (arith, above))
 
-    of_seen : (m : ℕ) → IsIn m (members_seen reach (sight state s)) → IsIn m (numbers_in state reach s s)
+    of_seen : (m : ℕ) → IsIn m (members_seen reach (sight state s)) → IsIn m (visible_numbers state reach s s)
     of_seen m on =
         let f = IsIn-from_filter (nat_lt 0) m (map (number_by Task) (glimpses_in reach (sight state s))) on in
         let g = IsIn-from_map (number_by Task) m (glimpses_in reach (sight state s)) f.0 in
@@ -120,7 +120,7 @@ module _ (state : State) (sound : IsCoherent state) (s : ℕ) where
         IsIn-filter_map (λ x. number state.spaces x.name s) r.0 m (filter (is_among state.spaces reach s) state.rows)
         (IsIn-filter (is_among state.spaces reach s) r.0 state.rows r.1 (r.3 m has)) has
 
-    pub members_listed : (from : ℕ) (listed : List ℕ) → AreListed (numbers_in state reach s s) from listed → AreListed (members_seen reach (sight state s)) from listed
+    pub members_listed : (from : ℕ) (listed : List ℕ) → AreListedFrom (visible_numbers state reach s s) from listed → AreListedFrom (members_seen reach (sight state s)) from listed
     members_listed from listed l = record {
       rising = l.rising;
       each = λ m. ((λ i. let h = (l.each m).0 i in (h.0, to_seen m h.1)), (λ h. (l.each m).1 (h.0, of_seen m h.1)));

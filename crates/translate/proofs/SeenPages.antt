@@ -9,7 +9,7 @@ use Rattle.pid_types.specs.declared.plain.Name.{Name}
 use Rattle.pid_types.specs.declared.plain.Row.{Row}
 use Rattle.pid_types.specs.declared.reply.Reply.{Reply}
 use Rattle.pid_types.specs.Membership.{IsIn}
-use Rattle.pid_types.specs.Names.{number, number_or_zero, numbers_from, is_numbered, same_name, names_in_use, live_row, task_at}
+use Rattle.pid_types.specs.Names.{number, number_or_zero, numbers_from, is_numbered, same_name, names_in_use, live_row, task_numbered}
 use Rattle.pid_types.specs.Queries.{name_by, self_or_task}
 use Rattle.pid_types.specs.Sight.{Glimpse, sight, is_seen, glimpse_of, glimpse_at, number_by, self_or_glimpse}
 use Rattle.pid_types.specs.Sound.{IsCoherent}
@@ -21,8 +21,8 @@ use Rattle.translate.specs.declared.members.Reach.{Reach}
 use Rattle.translate.specs.declared.page.Page.{Page}
 use Rattle.translate.specs.declared.page.Whom.{Whom}
 use Rattle.translate.specs.declared.page.Whom.TheVariants.{Belonging, Namespace}
-use Rattle.translate.specs.Members.{numbers_in, members_seen}
-use Rattle.translate.specs.Pages.{belongs_to, is_meant, belongs, numbers_belonging, numbers_asked, AreListed, TellsPage, owner_seen, numbers_seen, numbers_seen_by, IsInSight, TellsSeenPage}
+use Rattle.translate.specs.Members.{visible_numbers, members_seen}
+use Rattle.translate.specs.Pages.{belongs_to, is_meant, belongs, numbers_belonging, numbers_asked, AreListedFrom, TellsPage, owner_seen, numbers_seen, numbers_seen_by, IsInSight, TellsSeenPage}
 use Rattle.translate.proofs.SeenMembers.{alone, members_listed, seen_with, has_seen}
 
 -- what has the number above 0 is seen with it
@@ -132,7 +132,7 @@ module _ (state : State) (sound : IsCoherent state) (root : ℕ) (caller : Row) 
           (IsIn-filter (belongs state caller kind n) row state.rows among (belongs-is row among ∙ ap (λ k. owner_seen kind k == page_number) (sym r.2) ∙ q.1))
           has
 
-      pub listed_seen : (from : ℕ) (listed : List ℕ) → AreListed (numbers_belonging state caller kind n) from listed → AreListed (numbers_seen (sight state s) kind page_number) from listed
+      pub listed_seen : (from : ℕ) (listed : List ℕ) → AreListedFrom (numbers_belonging state caller kind n) from listed → AreListedFrom (numbers_seen (sight state s) kind page_number) from listed
       listed_seen from listed l = record {
         rising = l.rising;
         each = λ m. ((λ i. let h = (l.each m).0 i in (h.0, to_seen m h.1)), (λ h. (l.each m).1 (h.0, of_seen m h.1)));
@@ -142,7 +142,7 @@ module _ (state : State) (sound : IsCoherent state) (root : ℕ) (caller : Row) 
   self_seen : (n : ℕ) → self_or_glimpse (sight state s) own n ≡ option_map (glimpse_of state s) (self_or_task state caller n)
   self_seen n = go (n == 0) refl
     where
-      go : (b : Bool) → (n == 0) ≡ b → glimpse_at (sight state s) (if b then own else n) ≡ option_map (glimpse_of state s) (if b then Some caller else task_at state s n)
+      go : (b : Bool) → (n == 0) ≡ b → glimpse_at (sight state s) (if b then own else n) ≡ option_map (glimpse_of state s) (if b then Some caller else task_numbered state s n)
       go true e =
           glimpse_at-sight state s own (own_above_zero state sound root caller own live is_own)
           ∙ ap (option_map (glimpse_of state s)) (own_task state sound root caller own live is_own)
@@ -150,21 +150,21 @@ module _ (state : State) (sound : IsCoherent state) (root : ℕ) (caller : Row) 
 
   -- and it is a task that has a number in the caller's namespace
   self-there : (n : ℕ) (task : Row) → self_or_task state caller n ≡ Some task → IsIn task state.rows × ((m : ℕ) × (number state.spaces task.name s ≡ Some m))
-  unfolding task_at
+  unfolding task_numbered
   self-there n task e = go (n == 0) e
     where
-      go : (b : Bool) → (if b then Some caller else task_at state s n) ≡ Some task → IsIn task state.rows × ((m : ℕ) × (number state.spaces task.name s ≡ Some m))
+      go : (b : Bool) → (if b then Some caller else task_numbered state s n) ≡ Some task → IsIn task state.rows × ((m : ℕ) × (number state.spaces task.name s ≡ Some m))
       go true e =
           let same : caller ≡ task = ap (λ o. unwrap_or o caller) e in
           subst (λ (row : Row). IsIn row state.rows × ((m : ℕ) × (number state.spaces row.name s ≡ Some m))) same (there state sound root caller own live is_own, (own, is_own))
       go false e = let f = find-Some (λ row. is_numbered state.spaces row.name s n) state.rows task e in (f.0, (n, some_number (number state.spaces task.name s) n f.1))
 
   -- the tasks of the caller's own namespace are those that are seen
-  listed_namespace : (reach : Reach) (n from : ℕ) (listed : List ℕ) → IsInSight (sight state s) own (Namespace reach) n → AreListed (numbers_asked state caller (Namespace reach) n) from listed
-      → AreListed (members_seen reach (sight state s)) from listed
+  listed_namespace : (reach : Reach) (n from : ℕ) (listed : List ℕ) → IsInSight (sight state s) own (Namespace reach) n → AreListedFrom (numbers_asked state caller (Namespace reach) n) from listed
+      → AreListedFrom (members_seen reach (sight state s)) from listed
   listed_namespace reach n from listed alone_there l = go (self_or_task state caller n) refl
     where
-      go : (o : Option Row) → self_or_task state caller n ≡ o → AreListed (members_seen reach (sight state s)) from listed
+      go : (o : Option Row) → self_or_task state caller n ≡ o → AreListedFrom (members_seen reach (sight state s)) from listed
       go None is =
           absurd (let z : None ≡ Some 1 = sym (ap (option_map (λ (g : Glimpse). length g.numbers)) (self_seen n ∙ ap (option_map (glimpse_of state s)) is)) ∙ alone_there in cc)
       go (Some task) is =
@@ -175,12 +175,12 @@ module _ (state : State) (sound : IsCoherent state) (root : ℕ) (caller : Row) 
           let own_space = eqb-true task.name.space s
           (sym (alone state sound s task h.0 (number-within state.spaces task.name s h.1.0 h.1.1).0) ∙ eq-eqb (length (numbers_from state.spaces task.name s)) 1 count) in
           members_listed state sound s reach from listed
-          (subst (λ t. AreListed (numbers_in state reach t s) from listed) own_space
-          (subst (λ ns. AreListed ns from listed) (ap (λ o. option_map_or (λ (row : Row). numbers_in state reach row.name.space s) o []) is) l))
+          (subst (λ t. AreListedFrom (visible_numbers state reach t s) from listed) own_space
+          (subst (λ ns. AreListedFrom ns from listed) (ap (λ o. option_map_or (λ (row : Row). visible_numbers state reach row.name.space s) o []) is) l))
 
   -- whatever is in sight is told as it is seen
-  listed_by : (whom : Whom) (n from : ℕ) (listed : List ℕ) → IsInSight (sight state s) own whom n → AreListed (numbers_asked state caller whom n) from listed
-      → AreListed (numbers_seen_by (sight state s) own whom n) from listed
+  listed_by : (whom : Whom) (n from : ℕ) (listed : List ℕ) → IsInSight (sight state s) own whom n → AreListedFrom (numbers_asked state caller whom n) from listed
+      → AreListedFrom (numbers_seen_by (sight state s) own whom n) from listed
   listed_by (Belonging kind) n from listed above l = listed_seen kind n above from listed l
   listed_by (Namespace reach) n from listed one l = listed_namespace reach n from listed one l
 

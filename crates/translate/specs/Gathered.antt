@@ -14,14 +14,14 @@ use Rattle.pid_types.specs.declared.plain.Row.{Row}
 use Rattle.translate.specs.Pages.{is_meant}
 
 -- the key of what the task with the key belongs to
-abbrev pub owner_in : Store → Kind → ℕ → Option ℕ
-owner_in s Task k = parent_of s.tree k
-owner_in s Group k = group_of s.members k
-owner_in s Session k = session_of s.members k
+abbrev pub owner_as : Store → Kind → ℕ → Option ℕ
+owner_as s Task k = parent_of s.tree k
+owner_as s Group k = group_of s.members k
+owner_as s Session k = session_of s.members k
 
 -- the numbers in the namespace, from one on, of the identifiers with the keys
-abbrev pub numbers_from : Numbering → ℕ → ℕ → List ℕ → List ℕ
-numbers_from b space from keys = filter (nat_le from) (filter_map (λ k. number_of b k space) keys)
+abbrev pub numbers_of_keys : Numbering → ℕ → ℕ → List ℕ → List ℕ
+numbers_of_keys b space from keys = filter (nat_le from) (filter_map (λ k. number_of b k space) keys)
 
 -- how often the task's group stands among the groups
 abbrev pub group_times : Store → List ℕ → ℕ → ℕ
@@ -30,13 +30,13 @@ group_times s groups k = option_map_or (λ g. times g groups) (group_of s.member
 -- the numbers of those who are in the groups came behind others, of each task as often as its group stands there
 pub record AddsGroups (s : Store) (space from : ℕ) (groups old new : List ℕ) : Type 0 where
   pub keys : List ℕ
-  pub added : new ≡ old ++ numbers_from s.numbering space from keys
+  pub added : new ≡ old ++ numbers_of_keys s.numbering space from keys
   pub each : (k : ℕ) → times k keys ≡ group_times s groups k
 
 -- a task with the number m in the namespace belongs to the owner
 pub record IsOwned (s : Store) (space : ℕ) (kind : Kind) (owner m : ℕ) : Type 0 where
   pub key : ℕ
-  pub belongs : owner_in s kind key ≡ Some owner
+  pub belongs : owner_as s kind key ≡ Some owner
   pub has : number_of s.numbering key space ≡ Some m
 
 -- the list has the numbers of such tasks from one on, each once

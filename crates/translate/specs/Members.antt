@@ -15,8 +15,8 @@ is_among spaces Own s row = row.name.space == s
 is_among spaces Subtree s row = is_member spaces s row
 
 -- the numbers that the viewer has for the tasks of the namespace, those that are visible to it
-abbrev pub numbers_in : State → Reach → ℕ → ℕ → List ℕ
-numbers_in state reach s viewer =
+abbrev pub visible_numbers : State → Reach → ℕ → ℕ → List ℕ
+visible_numbers state reach s viewer =
     filter_map (λ row. number state.spaces row.name viewer) (filter (is_among state.spaces reach s) state.rows)
 
 -- of what a namespace sees, the tasks that are in it: those that have no number further inside; or all

@@ -14,11 +14,11 @@ use Rattle.pid_types.specs.Queries.{name_by, self_or_task}
 use Rattle.pid_types.specs.Sight.{Glimpse, sight, glimpse_at, number_by, self_or_glimpse}
 use Rattle.pid_types.specs.Sound.{IsRising}
 use Rattle.pid_types.specs.State.{State}
-use Rattle.model_laws.specs.SightLaws.{IsCaller}
+use Rattle.model_laws.specs.SightLaws.{IsLiveCaller}
 use Rattle.translate.specs.declared.page.Page.{Page}
 use Rattle.translate.specs.declared.page.Whom.{Whom}
 use Rattle.translate.specs.declared.page.Whom.TheVariants.{Belonging, Namespace}
-use Rattle.translate.specs.Members.{numbers_in, members_seen}
+use Rattle.translate.specs.Members.{visible_numbers, members_seen}
 
 -- what the task belongs to, as the kind says: its parent, its process group or its session
 abbrev pub belongs_to : Kind → Row → Option Name
@@ -44,10 +44,10 @@ numbers_belonging state caller kind n =
 abbrev pub numbers_asked : State → Row → Whom → ℕ → List ℕ
 numbers_asked state caller (Belonging kind) n = numbers_belonging state caller kind n
 numbers_asked state caller (Namespace reach) n =
-    option_map_or (λ task. numbers_in state reach task.name.space caller.name.space) (self_or_task state caller n) []
+    option_map_or (λ task. visible_numbers state reach task.name.space caller.name.space) (self_or_task state caller n) []
 
 -- the list has the numbers from the given one on, each once, in rising order
-pub record AreListed (numbers : List ℕ) (from : ℕ) (listed : List ℕ) : Type 0 where
+pub record AreListedFrom (numbers : List ℕ) (from : ℕ) (listed : List ℕ) : Type 0 where
   pub rising : IsRising listed
   pub each : (m : ℕ) → IsIn m listed ↔ ((from ≤ m) × IsIn m numbers)
 
@@ -55,7 +55,7 @@ pub record AreListed (numbers : List ℕ) (from : ℕ) (listed : List ℕ) : Typ
 pub record ListsPage (state : State) (page : Page) (told : Option (List ℕ)) : Type 0 where
   pub nobody : live_row state.rows page.caller ≡ None → told ≡ None
   pub listed : (caller : Row) → live_row state.rows page.caller ≡ Some caller → (listed : List ℕ)
-      × AreListed (numbers_asked state caller page.whom page.number) page.from listed × (told ≡ Some listed)
+      × AreListedFrom (numbers_asked state caller page.whom page.number) page.from listed × (told ≡ Some listed)
 
 -- the room, with as much of the list at its front as it takes
 abbrev pub with_front : {X : Type 0} → List X → List X → List X
@@ -65,7 +65,7 @@ with_front listed room = take (length room) listed ++ drop (length listed) room
 pub record TellsPage (state : State) (page : Page) (old new : List ℕ) (reply : Reply) : Type 0 where
   pub nobody : live_row state.rows page.caller ≡ None → (reply ≡ Refused NoCaller) × (new ≡ old)
   pub listed : (caller : Row) → live_row state.rows page.caller ≡ Some caller → (listed : List ℕ)
-      × AreListed (numbers_asked state caller page.whom page.number) page.from listed
+      × AreListedFrom (numbers_asked state caller page.whom page.number) page.from listed
       × (reply ≡ Counted (length listed)) × (new ≡ with_front listed old)
 
 -- the number that is seen of what the task belongs to
@@ -95,6 +95,7 @@ IsInSight sight own (Namespace reach) n = option_map (λ g. length g.numbers) (s
 -- a live caller has the list that is read off what its namespace sees and its own number there, and nothing else, if it sees what is meant
 abbrev pub TellsSeenPage : State → Page → List ℕ → List ℕ → Reply → Type 0
 TellsSeenPage state page old new reply =
-    (caller : Row) (own : ℕ) → IsCaller state page.caller caller own → IsInSight (sight state caller.name.space) own page.whom page.number
-    → (listed : List ℕ) × AreListed (numbers_seen_by (sight state caller.name.space) own page.whom page.number) page.from listed
+    (caller : Row) (own : ℕ) → IsLiveCaller state page.caller caller own
+    → IsInSight (sight state caller.name.space) own page.whom page.number
+    → (listed : List ℕ) × AreListedFrom (numbers_seen_by (sight state caller.name.space) own page.whom page.number) page.from listed
     × (reply ≡ Counted (length listed)) × (new ≡ with_front listed old)

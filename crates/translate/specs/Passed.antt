@@ -9,22 +9,22 @@ use Rattle.task_table.specs.Store.{Store}
 use Rattle.translate.specs.declared.members.Asked.{Asked}
 use Rattle.translate.specs.declared.members.Reach.{Reach}
 use Rattle.translate.specs.declared.members.Reach.TheVariants.{Own, Subtree}
-use Rattle.translate.specs.Gathered.{numbers_from}
+use Rattle.translate.specs.Gathered.{numbers_of_keys}
 
 -- whether the identifier is in the namespace
-abbrev pub reaches : Numbering → Reach → ℕ → ℕ → Bool
-reaches b Own space k = option_eq ◌==◌ (option_map (λ u. u.space) (identifier_at b k)) (Some space)
-reaches b Subtree space k = is_some (number_of b k space)
+abbrev pub is_reached : Numbering → Reach → ℕ → ℕ → Bool
+is_reached b Own space k = option_eq ◌==◌ (option_map (λ u. u.space) (identifier_at b k)) (Some space)
+is_reached b Subtree space k = is_some (number_of b k space)
 
 -- the viewer's number of the identifier, if it is meant and has one from the given one on
 abbrev pub numbers_passed : Numbering → Asked → ℕ → List ℕ
-numbers_passed b asked k = if reaches b asked.reach asked.space k then numbers_from b asked.viewer asked.from (k ∷ []) else []
+numbers_passed b asked k = if is_reached b asked.reach asked.space k then numbers_of_keys b asked.viewer asked.from (k ∷ []) else []
 
 -- a task that is meant has a number below the cursor in the namespace, and the number m in the viewer
-pub record IsPassed (s : Store) (asked : Asked) (cursor m : ℕ) : Type 0 where
+pub record IsBehindCursor (s : Store) (asked : Asked) (cursor m : ℕ) : Type 0 where
   pub key : ℕ
   pub task : IsSome (task_at s.tree key)
-  pub meant : reaches s.numbering asked.reach asked.space key ≡ true
+  pub meant : is_reached s.numbering asked.reach asked.space key ≡ true
   pub own : ℕ
   pub inside : number_of s.numbering key asked.space ≡ Some own
   pub passed : own < cursor
@@ -33,4 +33,4 @@ pub record IsPassed (s : Store) (asked : Asked) (cursor m : ℕ) : Type 0 where
 -- the list has the numbers of such tasks from one on, each once
 pub record ArePassed (s : Store) (asked : Asked) (cursor : ℕ) (numbers : List ℕ) : Type 0 where
   pub once : (m : ℕ) → times m numbers ≤ 1
-  pub each : (m : ℕ) → IsIn m numbers ↔ ((asked.from ≤ m) × IsPassed s asked cursor m)
+  pub each : (m : ℕ) → IsIn m numbers ↔ ((asked.from ≤ m) × IsBehindCursor s asked cursor m)

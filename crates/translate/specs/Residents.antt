@@ -9,15 +9,15 @@ use Rattle.pid_types.specs.Controls.{control_at}
 use Rattle.pid_types.specs.Names.{number, is_live, live_row}
 use Rattle.pid_types.specs.State.{State}
 use Rattle.translate.specs.declared.residents.ControlPage.{ControlPage}
-use Rattle.translate.specs.Pages.{with_front, AreListed}
+use Rattle.translate.specs.Pages.{with_front, AreListedFrom}
 
 -- whether a live task is directly in the control group with the id
 abbrev pub resides : ℕ → Row → Bool
 resides control row = (row.home == control) && is_live row
 
 -- the numbers that such tasks have in the caller's namespace, those that are visible there: cgroup.procs of the cgroup-v2 document
-abbrev pub tasks_in : State → ℕ → Row → List ℕ
-tasks_in state control caller =
+abbrev pub residents_seen : State → ℕ → Row → List ℕ
+residents_seen state control caller =
     filter_map (λ row. number state.spaces row.name caller.name.space) (filter (resides control) state.rows)
 
 -- the list for the caller is in the room, and its length is told; or else that nobody calls, or that there is no such control group
@@ -27,5 +27,5 @@ pub record TellsControlTasks (state : State) (asked : ControlPage) (old new : Li
       → (reply ≡ Refused NoControl) × (new ≡ old)
   pub listed : (caller : Row) → live_row state.rows asked.caller ≡ Some caller
       → (control : Control) → control_at state.controls asked.control ≡ Some control → (listed : List ℕ)
-      × AreListed (tasks_in state asked.control caller) asked.from listed
+      × AreListedFrom (residents_seen state asked.control caller) asked.from listed
       × (reply ≡ Counted (length listed)) × (new ≡ with_front listed old)

@@ -1,7 +1,7 @@
 -- One read of a namespace.
 use Rattle.std.specs.Prelude.{ℕ, Option, option_map}
 use Rattle.pid_types.specs.declared.plain.Space.{Space}
-use Rattle.pid_types.specs.Names.{level, root_number, space_at, task_at}
+use Rattle.pid_types.specs.Names.{level, root_number, space_at, task_numbered}
 use Rattle.pid_types.specs.State.{State}
 use Rattle.translate.specs.declared.space.SpaceStat.{SpaceStat}
 
@@ -11,7 +11,7 @@ space_stat_of state space = record {
   id = space.id;
   parent = space.parent;
   level = level state.spaces space.id;
-  init = option_map (λ row. root_number row.name) (task_at state space.id 1);
+  init = option_map (λ row. root_number row.name) (task_numbered state space.id 1);
   fallen = space.fallen;
 }
 

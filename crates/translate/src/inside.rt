@@ -4,12 +4,12 @@
 
 ghost use Rattle.std.specs.Prelude.{◌≡◌, ◌++◌, nat_le, filter, filter_map, map, option_map, true, IfOk, OnOk, OnErr};
 ghost use Rattle.std.specs.List.{AllByRecursion};
-ghost use Rattle.pid_numbers.specs.Numbering.{id_at};
-ghost use Rattle.pids_charge.specs.Charges.{stands, id_at as control_id};
-ghost use Rattle.task_table.specs.View.{state_of};
-ghost use Rattle.task_table.specs.Whole.{IsWhole};
-ghost use Rattle.translate.specs.Inside.{ids_in, ids_inside, AreGatheredFrom};
-ghost use Rattle.translate.specs.Listed.{TellsList};
+ghost use Rattle.{
+  pid_numbers.specs.Numbering.{id_at},
+  pids_charge.specs.Charges.{stands, home_id},
+  task_table.specs.{View.{state_of}, Whole.{IsWhole}},
+  translate.specs.{Inside.{ids_in, ids_inside, AreGatheredFrom}, Listed.{TellsList}},
+};
 ghost use Rattle.translate.specs.declared.inside.Tree.TheVariants as trees;
 
 use crate::page::put_front;
@@ -67,7 +67,7 @@ fn gather_controls(
 ) -> Result<(), AllocError>
     requires { AllByRecursion (λ k. stands store.now.charges k ≡ true) keys }
     ensures { OnOk result (ids.new.items
-        ≡ ids.old.items ++ filter (nat_le from) (map (control_id store.now.charges) keys.entry)) }
+        ≡ ids.old.items ++ filter (nat_le from) (map (home_id store.now.charges) keys.entry)) }
 {
     for key in keys {
         let id = store.controls().id(key);

@@ -6,13 +6,13 @@
 #![tactic(auto)]
 
 ghost use Rattle.std.specs.Prelude.{◌≡◌};
-ghost use Rattle.pid_types.specs.Queries.{get_pid as get_pid_of, get_ppid as get_ppid_of, get_pgid as get_pgid_of};
-ghost use Rattle.pid_types.specs.Queries.{get_sid as get_sid_of, ns_pid as ns_pid_of, next as next_of};
-ghost use Rattle.pid_types.specs.Short.{reply_of};
+ghost use Rattle.{
+  pid_types.specs.Queries.{get_pid as get_pid_of, get_ppid as get_ppid_of, get_pgid as get_pgid_of},
+  pid_types.specs.{Queries.{get_sid as get_sid_of, ns_pid as ns_pid_of, next as next_of}, Short.{reply_of}},
+  task_table.specs.{View.{state_of}, Whole.{IsWhole}},
+  translate.specs.Seen.{IsSeenReply},
+};
 ghost use Rattle.pid_types.specs.declared.call.Call.TheVariants as calls;
-ghost use Rattle.task_table.specs.View.{state_of};
-ghost use Rattle.task_table.specs.Whole.{IsWhole};
-ghost use Rattle.translate.specs.Seen.{IsSeenReply};
 
 pub mod inside;
 pub mod members;

@@ -2,11 +2,11 @@
 //! (`pid_namespaces(7)`, "/proc and PID namespaces").
 
 ghost use Rattle.std.specs.Prelude.{◌≡◌, ◌++◌, ℕ, Some, IfOk, OnOk};
-ghost use Rattle.pid_numbers.specs.Numbering.{id_at};
-ghost use Rattle.task_table.specs.View.{state_of};
-ghost use Rattle.translate.specs.Members.{numbers_in};
-ghost use Rattle.translate.specs.Pages.{AreListed};
-ghost use Rattle.translate.specs.Passed.{reaches, numbers_passed, ArePassed};
+ghost use Rattle.{
+  pid_numbers.specs.Numbering.{id_at},
+  task_table.specs.View.{state_of},
+  translate.specs.{Members.{visible_numbers}, Pages.{AreListedFrom}, Passed.{is_reached, numbers_passed, ArePassed}},
+};
 
 use pid_types::call::Kind;
 use pid_types::keys::{Pid, SpaceKey, TaskKey};
@@ -36,7 +36,7 @@ pub(crate) struct Asked {
 
 /// Whether the task with the key is one of those meant.
 fn is_meant(store: &Tasks, asked: &Asked, key: TaskKey) -> bool
-    ensures { result ≡ reaches store.now.numbering asked.now.reach asked.now.space key }
+    ensures { result ≡ is_reached store.now.numbering asked.now.reach asked.now.space key }
 {
     match asked.reach {
         Reach::Own => store.numbers().space_of(key) == Some(asked.space),
@@ -85,7 +85,7 @@ fn gather(store: &Tasks, asked: &Asked) -> Result<Vec<Pid>, AllocError>
 pub(crate) fn list_members(store: &Tasks, asked: &Asked) -> Result<Vec<Pid>, AllocError>
     ensures { IfOk result (λ r. (s v : ℕ) → id_at store.now.numbering asked.now.space ≡ Some s
         → id_at store.now.numbering asked.now.viewer ≡ Some v
-        → AreListed (numbers_in (state_of store.now) asked.now.reach s v) asked.now.from r.items) }
+        → AreListedFrom (visible_numbers (state_of store.now) asked.now.reach s v) asked.now.from r.items) }
 {
     laws(store);
     let mut numbers = gather(store, asked)?;

@@ -4,16 +4,14 @@
 
 ghost use Rattle.std.specs.Prelude.{◌≡◌, ◌<◌, ◌++◌, ℕ, length, Some, IfOk, OnOk, OnErr, option_map};
 ghost use Rattle.std.specs.List.{AllByRecursion};
-ghost use Rattle.pid_types.specs.declared.call.Kind.{Kind};
+ghost use Rattle.{
+  pid_types.specs.{declared.call.Kind.{Kind}, Short.{reply_of}},
+  pid_numbers.specs.Numbering.{id_at},
+  task_table.specs.{Found.{IsFound}, View.{name_at, row_of, state_of}, Whole.{HasParents, IsWhole}},
+  translate.specs.{Gathered.{numbers_of_keys, AddsGroups, AreGathered, IsMeantAlone}, Pages.{numbers_asked}},
+  translate.specs.Pages.{numbers_belonging, with_front, AreListedFrom, ListsPage, TellsPage, TellsSeenPage},
+};
 ghost use Rattle.pid_types.specs.declared.call.Kind.TheVariants as kinds;
-ghost use Rattle.pid_types.specs.Short.{reply_of};
-ghost use Rattle.pid_numbers.specs.Numbering.{id_at};
-ghost use Rattle.task_table.specs.Found.{IsFound};
-ghost use Rattle.task_table.specs.View.{name_at, row_of, state_of};
-ghost use Rattle.task_table.specs.Whole.{HasParents, IsWhole};
-ghost use Rattle.translate.specs.Gathered.{numbers_from, AddsGroups, AreGathered, IsMeantAlone};
-ghost use Rattle.translate.specs.Pages.{numbers_asked, numbers_belonging, with_front, AreListed};
-ghost use Rattle.translate.specs.Pages.{ListsPage, TellsPage, TellsSeenPage};
 ghost use Rattle.translate.specs.declared.page.Whom.TheVariants as whoms;
 
 use crate::members::{Asked, Reach, list_members};
@@ -57,7 +55,7 @@ pub(crate) fn gather(
     numbers: &mut Vec<Pid>,
 ) -> Result<(), AllocError>
     ensures { OnOk result (numbers.new.items
-        ≡ numbers.old.items ++ numbers_from store.now.numbering space from keys.entry) }
+        ≡ numbers.old.items ++ numbers_of_keys store.now.numbering space from keys.entry) }
 {
     for key in keys {
         match store.numbers().number_in(key, space) {
@@ -191,7 +189,7 @@ fn list_belonging(
 ) -> Result<Vec<Pid>, AllocError>
     requires parents { HasParents store.now }
     requires caller { IsFound store.now caller.now }
-    ensures { IfOk result (λ r. AreListed (numbers_belonging (state_of store.now)
+    ensures { IfOk result (λ r. AreListedFrom (numbers_belonging (state_of store.now)
         (row_of store.now caller.now.key caller.now.task) kind page.now.number) page.now.from r.items) }
 {
     laws(store);
@@ -211,7 +209,7 @@ fn list_namespace(
     page: &Page,
 ) -> Result<Vec<Pid>, AllocError>
     requires { IsFound store.now caller.now }
-    ensures { IfOk result (λ r. AreListed (numbers_asked (state_of store.now)
+    ensures { IfOk result (λ r. AreListedFrom (numbers_asked (state_of store.now)
         (row_of store.now caller.now.key caller.now.task) (whoms.Namespace reach) page.now.number)
         page.now.from r.items) }
 {
@@ -231,7 +229,7 @@ fn list_namespace(
 fn list_numbers(store: &Tasks, caller: &Found, page: &Page) -> Result<Vec<Pid>, AllocError>
     requires parents { HasParents store.now }
     requires caller { IsFound store.now caller.now }
-    ensures { IfOk result (λ r. AreListed (numbers_asked (state_of store.now)
+    ensures { IfOk result (λ r. AreListedFrom (numbers_asked (state_of store.now)
         (row_of store.now caller.now.key caller.now.task) page.now.whom page.now.number) page.now.from r.items) }
 {
     match page.whom {

@@ -1,17 +1,14 @@
 //! The queries, each as the model answers it.
-ghost use Rattle.std.specs.Prelude.{◌≡◌, ℕ, Some, IsSome, IfSome, option_map};
-ghost use Rattle.pid_types.specs.Names.{number_or_zero};
-ghost use Rattle.pid_types.specs.Queries.{get_pid as get_pid_of, get_ppid as get_ppid_of, get_pgid as get_pgid_of};
-ghost use Rattle.pid_types.specs.Queries.{get_sid as get_sid_of, ns_pid as ns_pid_of, next as next_of, self_or_task};
-ghost use Rattle.pid_types.specs.Short.{reply_of};
-ghost use Rattle.pid_numbers.specs.Numbering.{id_at, identifier_at};
-ghost use Rattle.task_tree.specs.declared.Task.{Task};
-ghost use Rattle.std.specs.Option.{option_map_or};
-ghost use Rattle.task_tree.specs.Tree.{task_at, parent_of};
-ghost use Rattle.task_table.specs.declared.view.Found.{Found};
-ghost use Rattle.task_table.specs.Found.{IsFound};
-ghost use Rattle.task_table.specs.View.{name_at, row_of, state_of};
-ghost use Rattle.task_table.specs.Whole.{HasParents, IsWhole};
+ghost use Rattle.std.specs.{Prelude.{◌≡◌, ℕ, Some, IsSome, IfSome, option_map}, Option.{option_map_or}};
+ghost use Rattle.{
+  pid_types.specs.{Names.{number_or_zero}, Queries.{get_pid as get_pid_of, get_ppid as get_ppid_of}},
+  pid_types.specs.Queries.{get_pgid as get_pgid_of, get_sid as get_sid_of, ns_pid as ns_pid_of, next as next_of},
+  pid_types.specs.{Queries.{self_or_task}, Short.{reply_of}},
+  pid_numbers.specs.Numbering.{id_at, identifier_at},
+  task_tree.specs.{declared.Task.{Task}, Tree.{task_at, parent_of}},
+  task_table.specs.{declared.view.Found.{Found}, Found.{IsFound}, View.{name_at, row_of, state_of}},
+  task_table.specs.Whole.{HasParents, IsWhole},
+};
 
 use pid_types::call::Kind;
 use pid_types::keys::{IdentKey, Pid, SpaceKey, TaskKey};

@@ -1,14 +1,13 @@
 //! One read of whose child a task is, of which process group and session, and in which namespaces these names are.
 
-ghost use Rattle.std.specs.Prelude.{◌≡◌, Some, IsSome, option_map};
-ghost use Rattle.std.specs.Option.{option_map_or};
-ghost use Rattle.pid_types.specs.Names.{root_number, row_at};
-ghost use Rattle.pid_numbers.specs.Numbering.{identifier_at};
-ghost use Rattle.task_tree.specs.Tree.{task_at, parent_of};
-ghost use Rattle.task_table.specs.Found.{IsFound};
-ghost use Rattle.task_table.specs.View.{name_at, row_of, state_of};
-ghost use Rattle.task_table.specs.Whole.{HasParents, IsWhole};
-ghost use Rattle.translate.specs.Relations.{relations_of, relations_at};
+ghost use Rattle.std.specs.{Prelude.{◌≡◌, Some, IsSome, option_map}, Option.{option_map_or}};
+ghost use Rattle.{
+  pid_types.specs.Names.{root_number, row_at},
+  pid_numbers.specs.Numbering.{identifier_at},
+  task_tree.specs.Tree.{task_at, parent_of},
+  task_table.specs.{Found.{IsFound}, View.{name_at, row_of, state_of}, Whole.{HasParents, IsWhole}},
+  translate.specs.Relations.{relations_of, relations_at},
+};
 
 use crate::stat::{root_of, root_of_name};
 use pid_types::keys::{IdentKey, Pid, TaskKey};

@@ -2,13 +2,12 @@
 //! file `cgroup.procs` lists (the cgroup-v2 document, "Processes").
 
 ghost use Rattle.std.specs.Prelude.{◌≡◌, true, IfOk, OnErr};
-ghost use Rattle.pid_types.specs.Short.{reply_of};
-ghost use Rattle.pids_charge.specs.Charges.{stands, id_at as control_id};
-ghost use Rattle.task_table.specs.Found.{IsFound};
-ghost use Rattle.task_table.specs.View.{row_of, state_of};
-ghost use Rattle.task_table.specs.Whole.{IsWhole};
-ghost use Rattle.translate.specs.Pages.{AreListed};
-ghost use Rattle.translate.specs.Residents.{tasks_in, TellsControlTasks};
+ghost use Rattle.{
+  pid_types.specs.Short.{reply_of},
+  pids_charge.specs.Charges.{stands, home_id},
+  task_table.specs.{Found.{IsFound}, View.{row_of, state_of}, Whole.{IsWhole}},
+  translate.specs.{Pages.{AreListedFrom}, Residents.{residents_seen, TellsControlTasks}},
+};
 
 use crate::page::{gather, put_front};
 use pid_types::keys::{ControlKey, Pid};
@@ -38,7 +37,7 @@ fn list_residents(
 ) -> Result<Vec<Pid>, AllocError>
     requires found { IsFound store.now caller.now }
     requires stands { stands store.now.charges home ≡ true }
-    ensures { IfOk result (λ r. AreListed (tasks_in (state_of store.now) (control_id store.now.charges home)
+    ensures { IfOk result (λ r. AreListedFrom (residents_seen (state_of store.now) (home_id store.now.charges home)
         (row_of store.now caller.now.key caller.now.task)) from r.items) }
 {
     laws(store);

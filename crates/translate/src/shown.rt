@@ -2,16 +2,14 @@
 
 ghost use Rattle.std.specs.Prelude.{◌≡◌, ◌+◌, ◌<◌, ◌≤◌, Some, None, true, IsSome, IfSome, IfOk, OnOk, map, option_map};
 ghost use Rattle.std.specs.Prelude.{◌++◌, ◌∷◌, []};
-ghost use Rattle.pid_types.specs.Controls.{parent_control};
-ghost use Rattle.pid_types.specs.Settings.{HasGoodPidMax};
-ghost use Rattle.pid_types.specs.Shown.{Shows, with_count};
-ghost use Rattle.pid_numbers.specs.Numbering.{id_at, identifier_at};
-ghost use Rattle.task_tree.specs.Tree.{task_at, parent_of};
-ghost use Rattle.pids_charge.specs.Charges.{stands, id_at as home_id};
-ghost use Rattle.task_table.specs.View.{name_at, row_of, parent_id, space_of, state_of};
-ghost use Rattle.task_table.specs.Whole.{IsWhole, HasParents};
-ghost use Rattle.translate.specs.ById.{control_row_of};
-ghost use Rattle.translate.specs.From.{rows_from};
+ghost use Rattle.{
+  pid_types.specs.{Controls.{parent_control}, Settings.{HasGoodPidMax}, Shown.{Shows, with_count}},
+  pid_numbers.specs.Numbering.{id_at, identifier_at},
+  task_tree.specs.Tree.{task_at, parent_of},
+  pids_charge.specs.Charges.{stands, home_id},
+  task_table.specs.{View.{name_at, row_of, parent_id, space_of, state_of}, Whole.{IsWhole, HasParents}},
+  translate.specs.{ById.{control_row_of}, From.{rows_from}},
+};
 
 use arrayvec::ArrayVec;
 use pid_types::call::Kind;

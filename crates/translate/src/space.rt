@@ -1,10 +1,12 @@
 //! One read of a namespace: where it is in the tree, its init, and whether it has fallen.
 
 ghost use Rattle.std.specs.Prelude.{◌≡◌, ◌+◌, ℕ, Some, IsSome, option_map};
-ghost use Rattle.pid_types.specs.Names.{level, root_number, task_at as task_in};
-ghost use Rattle.pid_numbers.specs.Numbering.{id_at};
-ghost use Rattle.task_table.specs.View.{state_of};
-ghost use Rattle.translate.specs.Spaces.{space_stat_at};
+ghost use Rattle.{
+  pid_types.specs.Names.{level, root_number, task_numbered},
+  pid_numbers.specs.Numbering.{id_at},
+  task_table.specs.View.{state_of},
+  translate.specs.Spaces.{space_stat_at},
+};
 
 use crate::shown::space_row;
 use crate::stat::root_of;
@@ -31,7 +33,7 @@ pub struct SpaceStat {
 /// The root number of the namespace's init.
 fn init_of(store: &Tasks, key: SpaceKey) -> Option<Pid>
     ensures { (i : ℕ) → id_at store.now.numbering key ≡ Some i
-        → result ≡ option_map (λ row. root_number row.name) (task_in (state_of store.now) i 1) }
+        → result ≡ option_map (λ row. root_number row.name) (task_numbered (state_of store.now) i 1) }
 {
     let found = find_task(store, key, 1)?;
     Some(root_of(store, found.key))

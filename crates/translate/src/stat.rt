@@ -1,13 +1,13 @@
 //! One read of a task as the caller's namespace sees it: what `status` and `stat` of `proc(5)` tell of a process.
 
 ghost use Rattle.std.specs.Prelude.{◌≡◌, ℕ, Some, IfOk, IsSome};
-ghost use Rattle.pid_types.specs.Names.{root_number};
-ghost use Rattle.pid_numbers.specs.Numbering.{id_at, identifier_at};
-ghost use Rattle.task_tree.specs.Tree.{task_at};
-ghost use Rattle.task_table.specs.Found.{IsFound};
-ghost use Rattle.task_table.specs.View.{name_at, row_of, state_of};
-ghost use Rattle.task_table.specs.Whole.{HasParents, IsWhole};
-ghost use Rattle.translate.specs.Stat.{stat_of, stat_at, glimpse_in, IsSeen};
+ghost use Rattle.{
+  pid_types.specs.Names.{root_number},
+  pid_numbers.specs.Numbering.{id_at, identifier_at},
+  task_tree.specs.Tree.{task_at},
+  task_table.specs.{Found.{IsFound}, View.{name_at, row_of, state_of}, Whole.{HasParents, IsWhole}},
+  translate.specs.Stat.{stat_of, stat_at, glimpse_in, IsSeen},
+};
 
 use crate::queries::{seen_group, seen_parent, seen_session, self_or_task};
 use arrayvec::ArrayVec;

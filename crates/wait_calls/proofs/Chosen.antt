@@ -15,7 +15,7 @@ use Rattle.wait_calls.specs.declared.selection.Selected.TheVariants.{Group}
 use Rattle.wait_calls.specs.declared.selection.Choice.{Choice}
 use Rattle.wait_calls.specs.declared.selection.Choice.TheVariants.{NoChild, NoneEnded, Ended}
 use Rattle.wait_calls.specs.Choice.{IsMatch, IsChoice, IsEndedChoice}
-use Rattle.wait_calls.specs.Walk.{is_group_match, rank_alone, counted, looked_at, walked}
+use Rattle.wait_calls.specs.Walk.{is_group_match, rank_alone, choice_with, looked_at, walked}
 
 -- what is 1 is not 0
 pub differ : (n : ℕ) → n ≡ 1 → n ≡ 0 → ⊥
@@ -46,7 +46,7 @@ module _ (s : Store) (caller group : ℕ) where
   Covers k NoneEnded = rank_alone s k ≡ None
   Covers k (Ended child rank) = (q : ℕ) → rank_alone s k ≡ Some q → rank ≤ q
 
-  names_counted : (choice : Choice) (k : ℕ) (o : Option ℕ) → rank_alone s k ≡ o → is_group_match s caller group k ≡ true → Names choice → Names (counted choice k o)
+  names_counted : (choice : Choice) (k : ℕ) (o : Option ℕ) → rank_alone s k ≡ o → is_group_match s caller group k ≡ true → Names choice → Names (choice_with choice k o)
   names_counted NoChild k None e m h = (k, m)
   names_counted NoChild k (Some r) e m h = (m, e)
   names_counted NoneEnded k None e m h = h
@@ -61,7 +61,7 @@ module _ (s : Store) (caller group : ℕ) where
   names_looked : (choice : Choice) (k : ℕ) → Names choice → Names (looked_at s caller group choice k)
   names_looked choice k h = go (is_group_match s caller group k) refl
     where
-      go : (b : Bool) → is_group_match s caller group k ≡ b → Names (if b then counted choice k (rank_alone s k) else choice)
+      go : (b : Bool) → is_group_match s caller group k ≡ b → Names (if b then choice_with choice k (rank_alone s k) else choice)
       go true e = names_counted choice k (rank_alone s k) refl e h
       go false e = h
 
@@ -69,7 +69,7 @@ module _ (s : Store) (caller group : ℕ) where
   names_walked [] choice h = h
   names_walked (k ∷ keys) choice h = names_walked keys (looked_at s caller group choice k) (names_looked choice k h)
 
-  covers_new : (choice : Choice) (k : ℕ) (o : Option ℕ) → rank_alone s k ≡ o → Covers k (counted choice k o)
+  covers_new : (choice : Choice) (k : ℕ) (o : Option ℕ) → rank_alone s k ≡ o → Covers k (choice_with choice k o)
   covers_new NoChild k None e = e
   covers_new NoChild k (Some r) e = λ q f. let same : Some r ≡ Some q = sym e ∙ f in let at : r ≡ q = cc in omega (arith, at)
   covers_new NoneEnded k None e = e
@@ -81,7 +81,7 @@ module _ (s : Store) (caller group : ℕ) where
       go true t = λ q f. let same : Some r ≡ Some q = sym e ∙ f in let at : r ≡ q = cc in omega (arith, at)
       go false t = λ q f. let same : Some r ≡ Some q = sym e ∙ f in let at : r ≡ q = cc in let below : p ≤ r = grind (arith, t) in omega (arith, at, below)
 
-  covers_counted : (choice : Choice) (i k : ℕ) (o : Option ℕ) → Covers i choice → Covers i (counted choice k o)
+  covers_counted : (choice : Choice) (i k : ℕ) (o : Option ℕ) → Covers i choice → Covers i (choice_with choice k o)
   covers_counted NoChild i k o h = absurd h
   covers_counted NoneEnded i k None h = h
   covers_counted NoneEnded i k (Some r) h = λ q f. absurd (let same : None ≡ Some q = sym h ∙ f in cc)
@@ -95,7 +95,7 @@ module _ (s : Store) (caller group : ℕ) where
   covers_looked : (choice : Choice) (i k : ℕ) → Covers i choice → Covers i (looked_at s caller group choice k)
   covers_looked choice i k h = go (is_group_match s caller group k)
     where
-      go : (b : Bool) → Covers i (if b then counted choice k (rank_alone s k) else choice)
+      go : (b : Bool) → Covers i (if b then choice_with choice k (rank_alone s k) else choice)
       go true = covers_counted choice i k (rank_alone s k) h
       go false = h
 
@@ -116,7 +116,7 @@ module _ (s : Store) (caller group : ℕ) where
       go later false e some = later (omega (arith, some))
 
   -- a list of tasks with ranks leads to no choice that says that none has ended
-  never_counted : (choice : Choice) (k r : ℕ) → choice ≢ NoneEnded → counted choice k (Some r) ≢ NoneEnded
+  never_counted : (choice : Choice) (k r : ℕ) → choice ≢ NoneEnded → choice_with choice k (Some r) ≢ NoneEnded
   never_counted NoChild k r off = λ e. (cc)
   never_counted NoneEnded k r off = absurd (off refl)
   never_counted (Ended j q) k r off = go (nat_lt r q)
@@ -129,10 +129,10 @@ module _ (s : Store) (caller group : ℕ) where
   never_looked choice k waits off = go (is_group_match s caller group k) (rank_of s.tree k) refl waits
     where
       go : (b : Bool) (o : Option (ℕ × ℕ)) → rank_of s.tree k ≡ o → option_map (λ (m : ℕ × ℕ). m.0) o ≡ Some caller
-          → (if b then counted choice k (rank_alone s k) else choice) ≢ NoneEnded
+          → (if b then choice_with choice k (rank_alone s k) else choice) ≢ NoneEnded
       go false o at w = off
       go true None at w = absurd (cc)
-      go true (Some m) at w = λ e. never_counted choice k m.1 off (sym (ap (counted choice k) (ap (option_map (λ (m : ℕ × ℕ). m.1)) at)) ∙ e)
+      go true (Some m) at w = λ e. never_counted choice k m.1 off (sym (ap (choice_with choice k) (ap (option_map (λ (m : ℕ × ℕ). m.1)) at)) ∙ e)
 
   never : (keys : List ℕ) (choice : Choice) → AllByRecursion (λ k. waiting_at s.tree.ended k ≡ Some caller) keys → choice ≢ NoneEnded → walked s caller group choice keys ≢ NoneEnded
   never [] choice all off = off

@@ -25,7 +25,7 @@ use Rattle.wait_calls.specs.declared.selection.Selected.{Selected}
 use Rattle.wait_calls.specs.declared.selection.Selected.TheVariants.{Any, Task as OneTask, Group}
 use Rattle.wait_calls.specs.declared.selection.Choice.{Choice}
 use Rattle.wait_calls.specs.declared.selection.Choice.TheVariants.{NoChild, NoneEnded, Ended}
-use Rattle.wait_calls.specs.Choice.{IsSelected, IsMatch, IsChoice}
+use Rattle.wait_calls.specs.Choice.{IsSelectedKey, IsMatch, IsChoice}
 use Rattle.wait_calls.specs.Told.{Means, IsUnknown, IsTold}
 use Rattle.wait_calls.proofs.Least.{filter-none, some-there, least-is}
 
@@ -126,12 +126,12 @@ module _ (s : Store) (l : IsLawful s) (parents : (k p : ℕ) → parent_of s.tre
   selected-is (InGroup n) Any m k t e = absurd m
   selected-is (InGroup n) (OneTask j) m k t e = absurd m
 
-  is_chosen-true : (sel : Selected) (k : ℕ) → is_chosen sel k ≡ true → IsSelected s sel k
+  is_chosen-true : (sel : Selected) (k : ℕ) → is_chosen sel k ≡ true → IsSelectedKey s sel k
   is_chosen-true Any k e = tt
   is_chosen-true (OneTask j) k e = eqb-true k j e
   is_chosen-true (Group g) k e = some_number (group_of s.members k) g e
 
-  is_chosen-of : (sel : Selected) (k : ℕ) → IsSelected s sel k → is_chosen sel k ≡ true
+  is_chosen-of : (sel : Selected) (k : ℕ) → IsSelectedKey s sel k → is_chosen sel k ≡ true
   is_chosen-of Any k e = refl
   is_chosen-of (OneTask j) k e = eq-eqb k j e
   is_chosen-of (Group g) k e = number_tested (group_of s.members k) g e

@@ -9,14 +9,14 @@ use Rattle.wait_calls.specs.declared.selection.Choice.{Choice}
 use Rattle.wait_calls.specs.declared.selection.Choice.TheVariants.{NoChild, NoneEnded, Ended}
 
 -- the wait selects the task, if it is a child
-abbrev pub IsSelected : Store → Selected → ℕ → Type 0
-IsSelected s Any k = Unit {0}
-IsSelected s (Task j) k = k ≡ j
-IsSelected s (Group g) k = group_of s.members k ≡ Some g
+abbrev pub IsSelectedKey : Store → Selected → ℕ → Type 0
+IsSelectedKey s Any k = Unit {0}
+IsSelectedKey s (Task j) k = k ≡ j
+IsSelectedKey s (Group g) k = group_of s.members k ≡ Some g
 
 -- a child of the caller that the wait selects
 abbrev pub IsMatch : Store → ℕ → Selected → ℕ → Type 0
-IsMatch s caller which k = (parent_of s.tree k ≡ Some caller) × IsSelected s which k
+IsMatch s caller which k = (parent_of s.tree k ≡ Some caller) × IsSelectedKey s which k
 
 -- there is no such child; or there are some and none has ended; or else of those that have, the one with the least rank
 abbrev pub IsChoice : Store → ℕ → Selected → Choice → Type 0

@@ -16,17 +16,17 @@ abbrev pub rank_alone : Store → ℕ → Option ℕ
 rank_alone s k = option_map (λ (m : ℕ × ℕ). m.1) (rank_of s.tree k)
 
 -- the choice among one child more
-abbrev pub counted : Choice → ℕ → Option ℕ → Choice
-counted NoChild k None = NoneEnded
-counted NoChild k (Some r) = Ended k r
-counted NoneEnded k None = NoneEnded
-counted NoneEnded k (Some r) = Ended k r
-counted (Ended j q) k None = Ended j q
-counted (Ended j q) k (Some r) = if nat_lt r q then Ended k r else Ended j q
+abbrev pub choice_with : Choice → ℕ → Option ℕ → Choice
+choice_with NoChild k None = NoneEnded
+choice_with NoChild k (Some r) = Ended k r
+choice_with NoneEnded k None = NoneEnded
+choice_with NoneEnded k (Some r) = Ended k r
+choice_with (Ended j q) k None = Ended j q
+choice_with (Ended j q) k (Some r) = if nat_lt r q then Ended k r else Ended j q
 
 -- the choice when one task more was looked at
 abbrev pub looked_at : Store → ℕ → ℕ → Choice → ℕ → Choice
-looked_at s caller group choice k = if is_group_match s caller group k then counted choice k (rank_alone s k) else choice
+looked_at s caller group choice k = if is_group_match s caller group k then choice_with choice k (rank_alone s k) else choice
 
 -- the choice when all the tasks were looked at
 abbrev pub walked : Store → ℕ → ℕ → Choice → List ℕ → Choice

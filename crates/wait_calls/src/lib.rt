@@ -2,17 +2,14 @@
 #![tactic(auto)]
 
 ghost use Rattle.std.specs.Prelude.{◌≡◌, Some, IsSome, MatchOption, false};
-ghost use Rattle.pid_types.specs.Outcome.{sweep};
-ghost use Rattle.pid_types.specs.Wait.{end_of, without_row, wait as wait_of};
-ghost use Rattle.pid_types.specs.Short.{reply_of};
-ghost use Rattle.pid_types.specs.declared.plain.Life.TheVariants.{Live, Zombie};
-ghost use Rattle.pid_types.specs.declared.plain.Ended.TheVariants.{Killed};
-ghost use Rattle.pid_numbers.specs.Numbering.{Identifier, identifier_at};
-ghost use Rattle.task_tree.specs.declared.Task.{Task};
-ghost use Rattle.task_tree.specs.Tree.{task_at, lives};
-ghost use Rattle.task_table.specs.View.{row_of, state_of};
-ghost use Rattle.task_table.specs.Whole.{HasParents, IsWhole};
-ghost use Rattle.wait_calls.specs.Told.{Means, IsUnknown, IsTold};
+ghost use Rattle.{
+  pid_types.specs.{Outcome.{sweep}, Wait.{end_of, without_row, wait as wait_of}, Short.{reply_of}},
+  pid_types.specs.{declared.plain.Life.TheVariants.{Live, Zombie}, declared.plain.Ended.TheVariants.{Killed}},
+  pid_numbers.specs.Numbering.{Identifier, identifier_at},
+  task_tree.specs.{declared.Task.{Task}, Tree.{task_at, lives}},
+  task_table.specs.{View.{row_of, state_of}, Whole.{HasParents, IsWhole}},
+  wait_calls.specs.Told.{Means, IsUnknown, IsTold},
+};
 
 mod selection;
 mod walk;

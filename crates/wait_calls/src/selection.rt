@@ -7,8 +7,7 @@
 
 ghost use Rattle.std.specs.Prelude.{◌≡◌, IsSome};
 ghost use Rattle.task_tree.specs.Tree.{task_at, parent_of};
-ghost use Rattle.wait_calls.specs.Choice.{IsChoice};
-ghost use Rattle.wait_calls.specs.Walk.{counted as counted_of};
+ghost use Rattle.wait_calls.specs.{Choice.{IsChoice}, Walk.{choice_with}};
 
 use crate::walk::choose_in_group;
 use pid_types::keys::{IdentKey, Pid, TaskKey};
@@ -51,7 +50,7 @@ pub(crate) fn parent_in(store: &Tasks, key: TaskKey) -> Option<TaskKey>
 
 /// The choice among one child more, with the rank that it ended with.
 pub(crate) fn counted(choice: Choice, child: TaskKey, rank: Option<Pid>) -> Choice
-    ensures { result ≡ counted_of choice child rank }
+    ensures { result ≡ choice_with choice child rank }
 {
     let Some(rank) = rank else {
         return match choice {

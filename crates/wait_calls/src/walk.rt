@@ -3,13 +3,14 @@
 
 ghost use Rattle.std.specs.Prelude.{◌≡◌, ◌≢◌, ◌<◌, ◌↔◌, ℕ, Some, IsSome, IsTrue, [], length, true, false};
 ghost use Rattle.std.specs.List.{AllByRecursion};
-ghost use Rattle.member_lists.specs.Owners.{times};
-ghost use Rattle.wait_calls.specs.declared.walk.Looked.{Looked};
-ghost use Rattle.task_tree.specs.Tree.{task_at, parent_of};
-ghost use Rattle.groups_sessions.specs.Membership.{group_of};
-ghost use Rattle.wait_calls.specs.Choice.{IsMatch, IsChoice, IsEndedChoice};
-ghost use Rattle.wait_calls.specs.declared.selection.Selected.TheVariants.{Group};
-ghost use Rattle.wait_calls.specs.Walk.{is_group_match as is_group_match_of, looked_at, walked};
+ghost use Rattle.{
+  member_lists.specs.Owners.{times},
+  wait_calls.specs.{declared.walk.Looked.{Looked}, Choice.{IsMatch, IsChoice, IsEndedChoice}},
+  wait_calls.specs.declared.selection.Selected.TheVariants.{Group},
+  wait_calls.specs.Walk.{is_group_match as is_group_match_of, looked_at, walked},
+  task_tree.specs.Tree.{task_at, parent_of},
+  groups_sessions.specs.Membership.{group_of},
+};
 
 use crate::selection::{Choice, Selected, counted, parent_in};
 use member_lists::Members;

@@ -1,9 +1,7 @@
 //! The reply that a wait would get.
 ghost use Rattle.std.specs.Prelude.{◌≡◌};
-ghost use Rattle.pid_types.specs.Short.{reply_of};
-ghost use Rattle.pid_types.specs.Wait.{wait as wait_of};
-ghost use Rattle.task_table.specs.View.{state_of};
-ghost use Rattle.task_table.specs.Whole.{IsWhole};
+ghost use Rattle.pid_types.specs.{Short.{reply_of}, Wait.{wait as wait_of}};
+ghost use Rattle.task_table.specs.{View.{state_of}, Whole.{IsWhole}};
 
 use crate::selection::Choice;
 use crate::{choose_child, end_of_life};

@@ -1,12 +1,12 @@
 -- A job that is one call longer, and a list that is one element longer.
-use Rattle.std.proofs.Common.{◌≡◌, ℕ, ◌+◌, Bool, List, [], ◌∷◌, ◌++◌, length, take, get_or, ◌<◌, refl, sym, ap, ◌∙◌, subst, arith, inl, inr, length-append}
+use Rattle.std.proofs.Common.{◌≡◌, ℕ, ◌+◌, List, [], ◌∷◌, ◌++◌, length, take, get_or, ◌<◌, refl, sym, ap, ◌∙◌, subst, arith, inl, inr, length-append}
 use Rattle.std.specs.Prelude.{Result}
 use Rattle.std.proofs.lemmas.List.{take_more, map-append, get_or_append_left, flat_map_more}
 use Rattle.std.proofs.lemmas.Bool.{cases_lt}
 use Rattle.pid_types.specs.declared.call.Call.{Call}
 use Rattle.pid_types.specs.declared.entry.Receipt.{Receipt}
 use Rattle.pid_types.specs.declared.reply.CallFault.{CallFault}
-use Rattle.worker_jobs.specs.Job.{IsPartOf, calls_in, Fulfils, Answered, receipt_in, IsAnswered}
+use Rattle.worker_jobs.specs.Job.{IsPartOf, calls_received, Fulfils, Answered, receipt_in, IsServed}
 
 -- one more that is left out
 pub left_out : (xs ys : List Call) (y : Call) → IsPartOf xs ys → IsPartOf xs (ys ++ y ∷ [])
@@ -29,21 +29,21 @@ one_refused calls i d receipts refused below h =
     let more : take (i + 1) calls ≡ take i calls ++ get_or calls i d ∷ [] = take_more calls i d below in
     subst (λ cs. Fulfils cs receipts (refused + 1)) (sym more) (record {
       counted = omega (arith, h.counted, length-append (take i calls) (get_or calls i d ∷ []));
-      in_order = left_out (calls_in receipts) (take i calls) (get_or calls i d) h.in_order;
+      in_order = left_out (calls_received receipts) (take i calls) (get_or calls i d) h.in_order;
     })
 
 -- one more call has a receipt
 pub one_answered : (calls : List Call) (i : ℕ) (d : Call) (receipts : List Receipt) (refused : ℕ) (r : Receipt) → i < length calls → r.call ≡ get_or calls i d → Fulfils (take i calls) receipts refused → Fulfils (take (i + 1) calls) (receipts ++ r ∷ []) refused
 one_answered calls i d receipts refused r below is h =
     let more : take (i + 1) calls ≡ take i calls ++ get_or calls i d ∷ [] = take_more calls i d below in
-    let last : calls_in (receipts ++ r ∷ []) ≡ calls_in receipts ++ get_or calls i d ∷ [] = map-append (λ (x : Receipt). x.call) receipts (r ∷ []) ∙ ap (λ (c : Call). calls_in receipts ++ c ∷ []) is in
+    let last : calls_received (receipts ++ r ∷ []) ≡ calls_received receipts ++ get_or calls i d ∷ [] = map-append (λ (x : Receipt). x.call) receipts (r ∷ []) ∙ ap (λ (c : Call). calls_received receipts ++ c ∷ []) is in
     subst (λ cs. Fulfils cs (receipts ++ r ∷ []) refused) (sym more) (record {
       counted = omega (arith, h.counted, length-append (take i calls) (get_or calls i d ∷ []), length-append receipts (r ∷ []));
-      in_order = subst (λ xs. IsPartOf xs (take i calls ++ get_or calls i d ∷ [])) (sym last) (taken_in (calls_in receipts) (take i calls) (get_or calls i d) h.in_order);
+      in_order = subst (λ xs. IsPartOf xs (take i calls ++ get_or calls i d ∷ [])) (sym last) (taken_in (calls_received receipts) (take i calls) (get_or calls i d) h.in_order);
     })
 
 -- one more call is made
-pub one_made : (calls : List Call) (i : ℕ) (d : Call) (answers : List Answered) (receipts receipts' : List Receipt) (answer : Result Receipt CallFault) → i < length calls → receipts' ≡ receipts ++ receipt_in answer → IsAnswered (take i calls) answers receipts → IsAnswered (take (i + 1) calls) (answers ++ (get_or calls i d, answer) ∷ []) receipts'
+pub one_made : (calls : List Call) (i : ℕ) (d : Call) (answers : List Answered) (receipts receipts' : List Receipt) (answer : Result Receipt CallFault) → i < length calls → receipts' ≡ receipts ++ receipt_in answer → IsServed (take i calls) answers receipts → IsServed (take (i + 1) calls) (answers ++ (get_or calls i d, answer) ∷ []) receipts'
 one_made calls i d answers receipts receipts' answer below more h = record {
   each = map-append (λ (a : Answered). a.0) answers ((get_or calls i d, answer) ∷ []) ∙ (ap (λ (cs : List Call). cs ++ get_or calls i d ∷ []) h.each ∙ sym (take_more calls i d below));
   given = more ∙ (ap (λ (rs : List Receipt). rs ++ receipt_in answer) h.given ∙ flat_map_more (λ (a : Answered). receipt_in a.1) [] answers (get_or calls i d, answer));

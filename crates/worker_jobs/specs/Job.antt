@@ -11,13 +11,13 @@ IsPartOf [] ys = Unit {0}
 IsPartOf (x ∷ xs) [] = ⊥
 IsPartOf (x ∷ xs) (y ∷ ys) = ((x ≡ y) × IsPartOf xs ys) ⊎ IsPartOf (x ∷ xs) ys
 
-abbrev pub calls_in : List Receipt → List Call
-calls_in receipts = map (λ (r : Receipt). r.call) receipts
+abbrev pub calls_received : List Receipt → List Call
+calls_received receipts = map (λ (r : Receipt). r.call) receipts
 
 -- each call has a receipt or was refused, and the receipts are in order
 pub record Fulfils (calls : List Call) (receipts : List Receipt) (refused : ℕ) : Type 0 where
   pub counted : length receipts + refused ≡ length calls
-  pub in_order : IsPartOf (calls_in receipts) calls
+  pub in_order : IsPartOf (calls_received receipts) calls
 
 -- a call, and what the desk answered
 abbrev pub Answered : Type 0
@@ -33,6 +33,6 @@ abbrev pub receipts_given : List Answered → List Receipt
 receipts_given answers = flat_map (λ (a : Answered). receipt_in a.1) answers
 
 -- the desk was called for each call of the job, once and in order, and the receipts are those that it gave
-pub record IsAnswered (calls : List Call) (answers : List Answered) (receipts : List Receipt) : Type 0 where
+pub record IsServed (calls : List Call) (answers : List Answered) (receipts : List Receipt) : Type 0 where
   pub each : map (λ (a : Answered). a.0) answers ≡ calls
   pub given : receipts ≡ receipts_given answers

@@ -50,6 +50,9 @@ pub trait Gate {
     /// Comes when the k-th call of the worker was answered.
     fn after<R: Wait + Clock>(&self, rt: &R, worker: usize, k: u64)
         ensures { was_after self.now worker k };
+
+    /// Whether it never holds a worker. Then a thread makes its worker's calls in turns, and tells it of none.
+    fn is_open(&self) -> bool;
 }
 
 /// A gate that holds nobody.
@@ -60,6 +63,10 @@ impl Gate for OpenGate {
     fn before<R: Wait + Clock>(&self, _rt: &R, _worker: usize, _k: u64) {}
 
     fn after<R: Wait + Clock>(&self, _rt: &R, _worker: usize, _k: u64) {}
+
+    fn is_open(&self) -> bool {
+        true
+    }
 }
 
 /// A desk at a shared table, by a seat of its own.

@@ -1,7 +1,7 @@
 //! One worker's job: calls made in order, at any desk. [`crate::run_workers`] has each worker's
 //! thread call [`work`]; a test may call it at a desk of its own.
 ghost use Rattle.std.specs.Prelude.{◌≡◌, ◌+◌, ◌<◌, ℕ, List, length, IfOk, OnOk, OnErr};
-ghost use Rattle.worker_jobs.specs.Job.{Answered, Fulfils, IsAnswered};
+ghost use Rattle.worker_jobs.specs.Job.{Answered, Fulfils, IsServed};
 
 use crate::desk::{Desk, Gate};
 use crate::result::Work;
@@ -22,7 +22,7 @@ pub fn work<D: Desk, G: Gate, R: Wait + Clock>(
 ) -> Result<Work, AllocError>
     ensures done { IfOk result (λ w. Fulfils calls.now w.receipts.items w.refused) }
     ensures made { IfOk result (λ w. (answers : List Answered) × D.made desk.old desk.new answers
-        × IsAnswered calls.now answers w.receipts.items) }
+        × IsServed calls.now answers w.receipts.items) }
     ensures told { OnOk result ((i : ℕ) → i < length calls.now
         → G.was_before gate.now worker (i + 1) × G.was_after gate.now worker (i + 1)) }
     ensures worker { D.worker desk.new ≡ D.worker desk.old }

@@ -2,8 +2,9 @@
 //! recorded.
 //!
 //! [`serve_jobs`] starts a thread for each job and joins them. A worker makes its calls by [`work`], at a [`Desk`], and
-//! a [`Gate`] is told before and after each call and may hold it. [`audit`] compares receipts with a record. No other
-//! library crate starts threads, and all workers wait for one lock.
+//! a [`Gate`] is told before and after each call and may hold it. Where the gate is open, a worker keeps the lock for
+//! 64 calls. [`audit`] compares receipts with a record. No other library crate starts threads, and all workers wait for
+//! one lock.
 #![tactic(auto)]
 
 mod audits;
@@ -14,6 +15,7 @@ mod jobs;
 mod replies;
 mod result;
 mod serve;
+mod turns;
 
 pub use audits::audit;
 pub use desk::{Desk, Gate, OpenGate, SeatDesk};

@@ -7,6 +7,7 @@ use crate::desk::{Gate, SeatDesk};
 use crate::fault::RunFault;
 use crate::jobs::work;
 use crate::result::Work;
+use crate::turns::work_in_turns;
 use locked_table::{Seat, Shared};
 use pid_types::call::Call;
 use std::alloc::{AllocError, Global};
@@ -47,6 +48,11 @@ fn serve<L: Ledger, G: Gate, R: Wait + Clock, const N: usize>(
     ensures worker { result.seat.worker ≡ seat.worker }
     ensures work { IfOk result.work (λ w. Fulfils calls.now w.receipts.items w.refused) }
 {
+    if gate.is_open() {
+        let mut seat = seat;
+        let work = work_in_turns(rt, alloc, shared, &mut seat, calls);
+        return Done { seat, work };
+    }
     let worker = seat.worker();
     let mut desk = SeatDesk { shared, seat };
     let work = work(rt, alloc, &mut desk, gate, worker, calls);

@@ -1,6 +1,6 @@
 use Rattle.std.proofs.Common.{◌∙◌, sym, ap}
 use Rattle.std.specs.Result.{result_err}
-use Rattle.pids_charge.specs.Charges.{charge_refusal, stands, id_at as home_id}
+use Rattle.pids_charge.specs.Charges.{charge_refusal, stands, home_id}
 use Rattle.task_table.proofs.InUse.{live-home}
 use Rattle.fork_calls.proofs.Limits.{limit-is}
 use Rattle.fork_calls.proofs.passed_limit.Goals as goal

@@ -2,14 +2,14 @@
 use Rattle.std.proofs.Common.{◌≡◌, ◌≢◌, ℕ, ◌<◌, List, length, map, arith}
 use Rattle.member_queues.specs.declared.Node.{Node}
 use Rattle.member_queues.specs.Ranks.{AreRankedMembers}
-use Rattle.member_queues.specs.Heap.{nil, root_at, member_in, told, IsHeap}
+use Rattle.member_queues.specs.Heap.{nil, root_at, member_in, retold, IsHeap}
 use Rattle.member_queues.proofs.Trees as trees
 use Rattle.member_queues.proofs.Telling as telling
 use Rattle.member_queues.proofs.detach.Goals as goal
 
 -- what the call wrote
 all_told : (rs : List ℕ) (ns ns' : List Node) (from to : ℕ) (keys : List ℕ) → IsHeap rs ns nil → from < length rs → AreRankedMembers (map member_in ns) from keys
-    → ns' ≡ told to ns keys → telling.Told ns ns' from to
+    → ns' ≡ retold to ns keys → telling.Told ns ns' from to
 all_told rs ns ns' from to keys w room all is =
     let some : from ≢ nil = omega (arith, room, w.ranked.few, w.ranked.rooms) in
     rw is (telling.Told-all ns from to keys some all)

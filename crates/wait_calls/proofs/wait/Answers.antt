@@ -4,7 +4,7 @@ use Rattle.pid_types.specs.declared.reply.Reply.TheVariants.{Reaped}
 use Rattle.pid_types.specs.Outcome.{Outcome}
 use Rattle.pid_types.specs.Wait.{end_of, wait}
 use Rattle.task_tree.specs.declared.Task.{Task}
-use Rattle.task_tree.specs.Tree.{Tree, task_at}
+use Rattle.task_tree.specs.Tree.{TreeOfTasks, task_at}
 use Rattle.task_table.specs.View.{row_of, state_of}
 use Rattle.wait_calls.proofs.Reaped.{wait-reaps}
 use Rattle.wait_calls.proofs.wait.Goals as goal
@@ -15,7 +15,7 @@ returns-in-Some-task-clause-reply c =
     let child = c.in-Ended.child in
     let h = c.in-Ended.ensures in
     let row = row_of s child (h.1).0 in
-    let task : Some c.in-Some-task.task ≡ Some (h.1).0 = c.in-Some-task.ensures ∙ ap (λ (t : Tree). task_at t child) c.tree.ensures ∙ (h.1).1 in
+    let task : Some c.in-Some-task.task ≡ Some (h.1).0 = c.in-Some-task.ensures ∙ ap (λ (t : TreeOfTasks). task_at t child) c.tree.ensures ∙ (h.1).1 in
     let same : c.in-Some-task.task ≡ (h.1).0 = cc in
     let end_is : c.reap-ended.result ≡ end_of row = c.reap-ended.ensures.ended ∙ ap (λ (t : Task). end_of (row_of s child t)) same in
     let is = wait-reaps (state_of s) c.args.caller c.args.which (row_of s c.in-Some.found.key c.in-Some.found.task) row c.in-Some.ensures.row h.0 (h.1).3 in

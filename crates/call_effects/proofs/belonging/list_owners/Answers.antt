@@ -1,6 +1,6 @@
 use Rattle.std.proofs.Common.{◌∙◌, map, ap, subst}
 use Rattle.std.proofs.lemmas.List.{take_all}
-use Rattle.translate.specs.Pages.{AreListed}
+use Rattle.translate.specs.Pages.{AreListedFrom}
 use Rattle.call_effects.specs.Belonging.{owner_by}
 use Rattle.call_effects.proofs.Lists.{distinct}
 use Rattle.call_effects.proofs.belonging.list_owners.Goals as goal
@@ -8,4 +8,4 @@ use Rattle.call_effects.proofs.belonging.list_owners.Goals as goal
 pub returns-clause-listed : goal.returns-clause-listed
 returns-clause-listed c =
     let all = c.loop-watched.invariant.owners ∙ ap (map (owner_by c.args.kind)) (take_all c.loop-watched.watched-index c.args.tasks.now c.loop-watched-test.false) in
-    subst (λ ns. AreListed ns 0 c.sort_distinct.new.numbers.items) all (distinct c.loop-watched.owners.items c.sort_distinct.new.numbers.items c.sort_distinct.ensures.sorts)
+    subst (λ ns. AreListedFrom ns 0 c.sort_distinct.new.numbers.items) all (distinct c.loop-watched.owners.items c.sort_distinct.new.numbers.items c.sort_distinct.ensures.sorts)

@@ -2,7 +2,7 @@ use Rattle.std.proofs.Common.{◌∙◌, ap, flat_map, subst}
 use Rattle.std.specs.Prelude.{slice_index_or}
 use Rattle.std.proofs.lemmas.List.{take_all}
 use Rattle.pid_types.specs.Membership.{IsIn}
-use Rattle.translate.specs.Pages.{AreListed}
+use Rattle.translate.specs.Pages.{AreListedFrom}
 use Rattle.call_effects.specs.Spaces.{inner_path}
 use Rattle.call_effects.proofs.Lists.{distinct, index-in}
 use Rattle.call_effects.proofs.spaces.list_spaces.Goals as goal
@@ -19,5 +19,5 @@ returns c =
     ∙ ap (flat_map (inner_path c.args.table.now)) (take_all c.loop-id.id-index c.deref-id-items.result.now c.loop-id-test.false ∙ c.deref-id-items.ensures.value) in (
       own,
       c.in_ok-own.ensures,
-      subst (λ ns. AreListed ns 0 c.sort_distinct.new.numbers.items) all (distinct c.loop-id.ids.items c.sort_distinct.new.numbers.items c.sort_distinct.ensures.sorts),
+      subst (λ ns. AreListedFrom ns 0 c.sort_distinct.new.numbers.items) all (distinct c.loop-id.ids.items c.sort_distinct.new.numbers.items c.sort_distinct.ensures.sorts),
     )

@@ -4,7 +4,7 @@ use Rattle.std.proofs.lemmas.List.{map-append, take_more}
 use Rattle.pid_types.specs.Membership.{IsIn}
 use Rattle.model_laws.proofs.Lists.{each_pushed}
 use Rattle.call_effects.specs.declared.spaces.WatchedSpace.{WatchedSpace}
-use Rattle.call_effects.specs.Effects.{stands}
+use Rattle.call_effects.specs.Effects.{takes_tasks}
 use Rattle.call_effects.proofs.spaces.watch_spaces.Goals as goal
 
 pub loop-id-preserved : goal.loop-id-preserved
@@ -17,7 +17,7 @@ loop-id-preserved c =
       watched = record {
         numbered = ap (map (λ (w : WatchedSpace). w.id)) items ∙ map-append (λ (w : WatchedSpace). w.id) c.loop-id.spaces.items (more ∷ []) ∙ ap (λ ns. ns ++ id ∷ []) was.numbered
             ∙ sym (take_more c.args.ids.now c.loop-id.id-index 0 c.loop-id-test.true);
-        before = λ w on. each_pushed (λ (w : WatchedSpace). stands c.args.table.now w.id ≡ w.stood) c.loop-id.spaces.items more was.before
+        before = λ w on. each_pushed (λ (w : WatchedSpace). takes_tasks c.args.table.now w.id ≡ w.stood) c.loop-id.spaces.items more was.before
             (sym c.is_standing.ensures) w (subst (IsIn w) items on);
       };
     }

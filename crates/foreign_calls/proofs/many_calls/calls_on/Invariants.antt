@@ -1,13 +1,13 @@
 use Rattle.std.proofs.Common.{◌≡◌, ◌+◌, ◌<◌, ◌≤◌, length, take, drop}
 use Rattle.kept_table.specs.Chronicle.{total}
 use Rattle.foreign_calls.specs.Records.{roomless}
-use Rattle.foreign_calls.specs.Replays.{Replays}
+use Rattle.foreign_calls.specs.Replays.{ReplaysSaved}
 use Rattle.foreign_calls.specs.Turns.{turns}
 use Rattle.foreign_calls.proofs.many_calls.calls_on.Given as goal
 
 abbrev pub invariant-loop-i : goal.invariant-loop-i
 invariant-loop-i l = record {
-  left : Replays (roomless l.fn.held) (take l.i (turns l.worker l.calls l.replies)) (roomless l.held);
+  left : ReplaysSaved (roomless l.fn.held) (take l.i (turns l.worker l.calls l.replies)) (roomless l.held);
   behind : drop l.i l.replies ≡ drop l.i l.initial.replies;
   known : l.worker < length l.held.cut;
   room : l.fn.held.room ≤ l.held.room + l.i;

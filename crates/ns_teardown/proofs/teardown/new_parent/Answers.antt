@@ -5,7 +5,7 @@ use Rattle.pid_numbers.specs.Numbering.{Identifier, identifier_at, number_of}
 use Rattle.task_tree.specs.Tree.{task_at, lives}
 use Rattle.task_table.specs.Lawful.{IsLawful}
 use Rattle.task_table.specs.Store.{Store}
-use Rattle.ns_teardown.specs.Heirs.{nearest_subreaper}
+use Rattle.ns_teardown.specs.Heirs.{nearest_subreaper_key}
 use Rattle.ns_teardown.proofs.NewParents as parents
 use Rattle.ns_teardown.proofs.Visible as visible
 use Rattle.ns_teardown.proofs.teardown.new_parent.Goals as goal
@@ -35,7 +35,7 @@ pub returns-in-Some : goal.returns-in-Some
 returns-in-Some c =
     let s = c.args.store.now in
     let u = identifier c.args.store.now c.laws.ensures c.args.key c.args.space c.requires.live c.requires.own in
-    let nearest : nearest_subreaper s u.0.space c.args.key ≡ Some c.in-Some.ancestor = ap (λ sp. nearest_subreaper s sp c.args.key) (sym u.2) ∙ sym c.nearest_subreaper.ensures ∙ c.in-Some.is in
+    let nearest : nearest_subreaper_key s u.0.space c.args.key ≡ Some c.in-Some.ancestor = ap (λ sp. nearest_subreaper_key s sp c.args.key) (sym u.2) ∙ sym c.nearest_subreaper.ensures ∙ c.in-Some.is in
     record {
       identifier = u.0;
       named = u.1;
@@ -47,7 +47,7 @@ returns c =
     let s = c.args.store.now in
     let init = c.in-Some-find.init in
     let u = identifier c.args.store.now c.laws.ensures c.args.key c.args.space c.requires.live c.requires.own in
-    let nearest : nearest_subreaper s u.0.space c.args.key ≡ None = ap (λ sp. nearest_subreaper s sp c.args.key) (sym u.2) ∙ sym c.nearest_subreaper.ensures ∙ c.in_default.is in
+    let nearest : nearest_subreaper_key s u.0.space c.args.key ≡ None = ap (λ sp. nearest_subreaper_key s sp c.args.key) (sym u.2) ∙ sym c.nearest_subreaper.ensures ∙ c.in_default.is in
     let first = ap (number_of s.numbering init) (sym u.2) ∙ ap (λ b. number_of b init c.args.space) (sym c.numbers.ensures) ∙ c.in-Some-find.ensures in
     record {
       identifier = u.0;

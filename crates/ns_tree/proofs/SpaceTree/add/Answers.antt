@@ -6,8 +6,8 @@ use Rattle.std.proofs.lemmas.List.{length-set}
 use Rattle.id_slab.specs.Ids.{AreBelow}
 use Rattle.member_lists.specs.Owners.{owner_of}
 use Rattle.ns_tree.specs.declared.places.Place.{Place}
-use Rattle.ns_tree.specs.Tree.{Tree, AreListed, node_in, way, id_in, new_node, grown, outer_of}
-use Rattle.ns_tree.specs.Places.{nodes_of, IsKept}
+use Rattle.ns_tree.specs.Tree.{TreeOfSpaces, AreListed, node_in, way, id_in, new_node, grown, outer_of}
+use Rattle.ns_tree.specs.Places.{nodes_of, IsSpaceTree}
 use Rattle.ns_tree.specs.Vacancy.{next_place}
 use Rattle.ns_tree.proofs.Growth as growth
 use Rattle.ns_tree.proofs.Inner as inner
@@ -17,7 +17,7 @@ use Rattle.ns_tree.proofs.Vacancy as vacancy
 use Rattle.ns_tree.proofs.SpaceTree.add.Goals as goal
 
 -- no namespace has the key that comes next
-unused : (places : List Place) (vacant : List ℕ) (room : ℕ) (order : List (ℕ × ℕ)) (children : List (Option ℕ)) → IsKept places vacant room order children → (key : ℕ) → key ≡ next_place places vacant → node_in (nodes_of places) key ≡ None
+unused : (places : List Place) (vacant : List ℕ) (room : ℕ) (order : List (ℕ × ℕ)) (children : List (Option ℕ)) → IsSpaceTree places vacant room order children → (key : ℕ) → key ≡ next_place places vacant → node_in (nodes_of places) key ≡ None
 unused places vacant room order children k key is = ap (node_in (nodes_of places)) is ∙ vacancy.next-vacant places (nodes_of places) vacant room (sym (nodes.count places)) k.vacancies
 
 pub add-requires-clause-free : goal.add-requires-clause-free
@@ -29,7 +29,7 @@ add-requires-clause-free c =
 pub add-requires-clause-owner : goal.add-requires-clause-owner
 add-requires-clause-owner c =
     let places = c.self.inside.places.items in
-    let some = nodes.some-way places c.args.parent (subst (λ (t : Tree). IsSome (node_in t.nodes c.args.parent)) (sym c.self.view_is) c.requires.there) in
+    let some = nodes.some-way places c.args.parent (subst (λ (t : TreeOfSpaces). IsSome (node_in t.nodes c.args.parent)) (sym c.self.view_is) c.requires.there) in
     let lt = nodes.way-in places c.args.parent some in
     let lists = c.self.invariant.lists in
     let longer = c.in_ok-key.ensures.longer in
@@ -50,7 +50,7 @@ invariant_of-self-2 c =
     let made : node_in new key ≡ Some (new_node c.args.id (key ∷ way old parent)) =
     ap (node_in new) (sym at) ∙ c.fill_place.ensures.here ∙ ap (λ p. Some (new_node c.args.id p)) (c.path_below-path.ensures ∙ ap (λ p. key ∷ way (nodes_of p) parent) room.places) in
     let others : (s : ℕ) → s ≢ key → node_in new s ≡ node_in old s = λ s m. c.fill_place.ensures.others s (λ e. m (e ∙ at)) ∙ ap (λ p. node_in (nodes_of p) s) room.places in
-    let some = nodes.some-way places parent (subst (λ (t : Tree). IsSome (node_in t.nodes parent)) (sym c.self.view_is) c.requires.there) in
+    let some = nodes.some-way places parent (subst (λ (t : TreeOfSpaces). IsSome (node_in t.nodes parent)) (sym c.self.view_is) c.requires.there) in
     let outer : outer_of (way new) key ≡ Some parent = ap (λ o. slice_get (option_map_or (λ t. t.path) o []) 1) made ∙ inner.outer-new (way old) c.self.invariant.tree key parent some in
     let lists = c.self.invariant.lists in
     let longer = room.longer in
@@ -58,8 +58,8 @@ invariant_of-self-2 c =
     record {
       tree = growth.tree-added (way old) (way new) c.self.invariant.tree key parent (ap (λ o. option_map_or (λ t. t.path) o []) none) (ap (λ o. option_map_or (λ t. t.path) o []) made) (λ s m. ap (λ o. option_map_or (λ t. t.path) o []) (others s m))
           some
-          (let few = subst (λ (t : Tree). length (way t.nodes parent) ≤ 32) (sym c.self.view_is) c.requires.shallow in omega (arith, few));
-      listed = subst (AreListed (id_in new)) (sym c.in_ok-push.ensures.ok) (orders.listed-made (id_in old) (id_in new) order c.self.invariant.listed c.args.id key (subst (λ (t : Tree). AreBelow t.order c.args.id) (sym c.self.view_is) c.requires.above)
+          (let few = subst (λ (t : TreeOfSpaces). length (way t.nodes parent) ≤ 32) (sym c.self.view_is) c.requires.shallow in omega (arith, few));
+      listed = subst (AreListed (id_in new)) (sym c.in_ok-push.ensures.ok) (orders.listed-made (id_in old) (id_in new) order c.self.invariant.listed c.args.id key (subst (λ (t : TreeOfSpaces). AreBelow t.order c.args.id) (sym c.self.view_is) c.requires.above)
           (ap (option_map (λ t. t.id)) none) (ap (option_map (λ t. t.id)) made) (λ s m. ap (option_map (λ t. t.id)) (others s m)));
       vacancies = c.fill_place.ensures.vacant;
       owners = subst (λ l. (s : ℕ) → owner_of l s ≡ outer_of (way new) s) (sym c.add.ensures)
@@ -69,13 +69,13 @@ invariant_of-self-2 c =
 
 pub returns-clause-vacant : goal.returns-clause-vacant
 returns-clause-vacant c =
-    ap (λ (t : Tree). node_in t.nodes c.in_ok-key.key) (sym c.self.view_is) ∙ unused c.self.inside.places.items c.self.inside.vacant.items (vec_capacity c.self.inside.vacant) c.self.inside.order c.self.inside.children c.self.invariant c.in_ok-key.key c.in_ok-key.ensures.key
+    ap (λ (t : TreeOfSpaces). node_in t.nodes c.in_ok-key.key) (sym c.self.view_is) ∙ unused c.self.inside.places.items c.self.inside.vacant.items (vec_capacity c.self.inside.vacant) c.self.inside.order c.self.inside.children c.self.invariant c.in_ok-key.key c.in_ok-key.ensures.key
 
 pub returns-clause-near : goal.returns-clause-near
 returns-clause-near c =
     let places = c.self.inside.places.items in
     let n = nodes.count places in
-    let l = ap (λ (t : Tree). length t.nodes) c.self.view_is in
+    let l = ap (λ (t : TreeOfSpaces). length t.nodes) c.self.view_is in
     let near = vacancy.next-near places (nodes_of places) c.self.inside.vacant.items (vec_capacity c.self.inside.vacant) (sym n) c.self.invariant.vacancies in
     let key = c.in_ok-key.ensures.key in
     omega (arith, n, l, near, key)
@@ -86,4 +86,4 @@ returns-clause-count c =
     let room = c.in_ok-key.ensures in
     let at : next_place c.reserve_place.new.places.items c.reserve_place.new.vacant.items ≡ c.in_ok-key.key = ap (λ p. next_place p c.reserve_place.new.vacant.items) room.places ∙ ap (next_place places) room.keys ∙ sym room.key in
     nodes.count c.fill_place.new.places.items ∙ c.fill_place.ensures.count ∙ ap (grown (length c.reserve_place.new.places.items)) at
-    ∙ ap (λ n. grown n c.in_ok-key.key) (ap length room.places ∙ sym (nodes.count places) ∙ ap (λ (t : Tree). length t.nodes) c.self.view_is)
+    ∙ ap (λ n. grown n c.in_ok-key.key) (ap length room.places ∙ sym (nodes.count places) ∙ ap (λ (t : TreeOfSpaces). length t.nodes) c.self.view_is)

@@ -9,7 +9,7 @@ use Rattle.std.proofs.lemmas.List.{length-set}
 use Rattle.id_slab.specs.Ids.{without}
 use Rattle.member_lists.specs.Owners.{owner_of}
 use Rattle.pid_types.specs.Chains.{contains}
-use Rattle.ns_tree.specs.Tree.{Tree, AreListed, node_in, way, id_in, outer_of}
+use Rattle.ns_tree.specs.Tree.{TreeOfSpaces, AreListed, node_in, way, id_in, outer_of}
 use Rattle.ns_tree.specs.Places.{node_of, nodes_of}
 use Rattle.ns_tree.specs.Vacancy.{AreVacant}
 use Rattle.ns_tree.proofs.Filled as filled
@@ -29,7 +29,7 @@ record IsBared (places : List Place) (key : ℕ) (y z : Place) : Type 0 where
 
 bared : (c : After-clear) → IsBared c.self.inside.places.items c.args.key c.index_mut-space.result.now (record c.index_mut-space.result.now { path = c.clear.new.self })
 bared c = record {
-  some = nodes.some-way c.self.inside.places.items c.args.key (subst (λ (t : Tree). IsSome (node_in t.nodes c.args.key)) (sym c.self.view_is) c.requires.there);
+  some = nodes.some-way c.self.inside.places.items c.args.key (subst (λ (t : TreeOfSpaces). IsSome (node_in t.nodes c.args.key)) (sym c.self.view_is) c.requires.there);
   at = c.index_mut-space.ensures.value;
   bare = c.clear.ensures;
 }
@@ -94,7 +94,7 @@ invariant_of-self c =
     let w = subst (λ l. AreVacant l (vacant ++ key ∷ []) room) (sym (filled.slots-set nodes.path_len node_of places key z None (filled.show-none nodes.path_len node_of z (ap length c.clear.ensures)))) v in
     record {
       tree = growth.tree-dropped (way (nodes_of places)) (way (nodes_of (set places key z))) c.self.invariant.tree key c.requires.inner
-          (subst (λ (t : Tree). (s : ℕ) → s ≢ key → contains (way t.nodes s) key ≡ false) (sym c.self.view_is) c.requires.bare)
+          (subst (λ (t : TreeOfSpaces). (s : ℕ) → s ≢ key → contains (way t.nodes s) key ≡ false) (sym c.self.view_is) c.requires.bare)
           (ap (λ o. option_map_or (λ t. t.path) o []) (gone b)) (λ s m. ap (λ o. option_map_or (λ t. t.path) o []) (others b s m));
       listed = subst (AreListed (id_in (nodes_of (set places key z)))) (sym (c.remove.ensures.rest ∙ left b c.self.inside.order c.self.invariant.listed)) (listed b c.self.inside.order c.self.invariant.listed);
       vacancies = rw (← c.push_reserved.ensures.items, ← c.push_reserved.ensures.capacity) at w;
@@ -108,10 +108,10 @@ pub returns-clause-here : goal.returns-clause-here
 returns-clause-here c = gone (bared (goal.at.returns-clause-here c).After-clear)
 
 pub returns-clause-others : goal.returns-clause-others
-returns-clause-others c s differs = others (bared (goal.at.returns-clause-others c).After-clear) s differs ∙ ap (λ (t : Tree). node_in t.nodes s) c.self.view_is
+returns-clause-others c s differs = others (bared (goal.at.returns-clause-others c).After-clear) s differs ∙ ap (λ (t : TreeOfSpaces). node_in t.nodes s) c.self.view_is
 
 pub returns-clause-order : goal.returns-clause-order
 returns-clause-order c =
     let z : Place = record c.index_mut-space.result.now { path = c.clear.new.self } in
     c.remove.ensures.rest ∙ left (bared (goal.at.returns-clause-order c).After-clear) c.self.inside.order c.self.invariant.listed
-    ∙ ap (λ (t : Tree). filter (λ p. is_some (node_in (nodes_of (set c.self.inside.places.items c.args.key z)) p.1)) t.order) c.self.view_is
+    ∙ ap (λ (t : TreeOfSpaces). filter (λ p. is_some (node_in (nodes_of (set c.self.inside.places.items c.args.key z)) p.1)) t.order) c.self.view_is

@@ -1,12 +1,12 @@
 use Rattle.std.proofs.Common.{◌≡◌, ◌≢◌, ◌∙◌, sym, subst, ℕ, List, Option, Some, None, MatchOption}
 use Rattle.id_slab.specs.Ids.{key_of}
 use Rattle.id_slab.proofs.Keys.{entry_of}
-use Rattle.ns_tree.specs.Tree.{Tree, Node, id_in}
+use Rattle.ns_tree.specs.Tree.{TreeOfSpaces, Node, id_in}
 use Rattle.ns_tree.specs.Places.{nodes_of}
 use Rattle.ns_tree.proofs.SpaceTree.find.Goals as goal
 
 pub returns : goal.returns
-returns c = subst (λ (t : Tree). MatchOption c.find.result ((s : ℕ) → id_in t.nodes s ≢ Some c.args.id) (λ s. id_in t.nodes s ≡ Some c.args.id)) c.self.view_is (go c.find.result c.find.ensures)
+returns c = subst (λ (t : TreeOfSpaces). MatchOption c.find.result ((s : ℕ) → id_in t.nodes s ≢ Some c.args.id) (λ s. id_in t.nodes s ≡ Some c.args.id)) c.self.view_is (go c.find.result c.find.ensures)
   where
     nodes : List (Option Node)
     nodes = nodes_of c.self.inside.places.items

@@ -1,6 +1,6 @@
 use Rattle.std.proofs.Common.{◌≡◌, ◌∙◌, ◌++◌, ◌∷◌, [], sym, ap, subst, append_assoc, append-nil}
 use Rattle.std.specs.Option.{option_map_or}
-use Rattle.ns_tree.specs.Tree.{IsTree, node_in}
+use Rattle.ns_tree.specs.Tree.{IsPathTree, node_in}
 use Rattle.ns_tree.specs.Places.{nodes_of}
 use Rattle.ns_tree.proofs.Fallen as fallen
 use Rattle.ns_tree.proofs.fall.fall_among.Goals as goal
@@ -8,7 +8,7 @@ use Rattle.ns_tree.proofs.fall.fall_among.Goals as goal
 pub fall_at-requires : goal.fall_at-requires
 fall_at-requires c =
     let first = node_in (nodes_of c.args.places.now.items) in
-    subst IsTree (λ i s. sym (ap (λ o. option_map_or (λ t. t.path) o []) (c.loop-key.invariant.so_far s) ∙ fallen.among-path c.args.outer c.loop-key.yielded s (first s)) i) c.requires.tree
+    subst IsPathTree (λ i s. sym (ap (λ o. option_map_or (λ t. t.path) o []) (c.loop-key.invariant.so_far s) ∙ fallen.among-path c.args.outer c.loop-key.yielded s (first s)) i) c.requires.tree
 
 pub loop-key-preserved : goal.loop-key-preserved
 loop-key-preserved c =

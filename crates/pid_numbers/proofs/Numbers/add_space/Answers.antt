@@ -1,6 +1,6 @@
 -- The namespace takes a key that none had, and no number in it is in use
 use Rattle.pid_numbers.proofs.Words.{◌≡◌, ◌≢◌, ◌∙◌, ◌∷◌, ℕ, sym, ap, arith, length, Some, IsSome, Option, true, false, option_map, option_and_then, refl, []}
-use Rattle.pid_numbers.proofs.Words.{cases_eq, slice_get, option_map_or, grown, new_node, node_in, way, fell, Entry, entry_at, Namespace, namespace_at, namespace_of, cursor_on, entry_on, bound_on, name_at}
+use Rattle.pid_numbers.proofs.Words.{cases_eq, slice_get, option_map_or, grown, new_node, node_in, way, fell, Entry, entry_at, Namespace, namespace_at, namespace_of, cursor_on, entry_on, bound_on, ident_at}
 use Rattle.std.proofs.Common.{inl, inr}
 use Rattle.pid_numbers.proofs.Views as views
 use Rattle.pid_numbers.proofs.Ties as ties
@@ -31,7 +31,7 @@ invariant_of-self-2 c =
     let new = c.add.new.self.nodes in
     let ids = c.self.inside.ids.items in
     let ids' = c.put_ids.new.all.items in
-    let names = name_at c.self.inside.idents in
+    let names = ident_at c.self.inside.idents in
     let was : way old key ≡ [] = ap (λ o. option_map_or (λ t. t.path) o []) add.vacant in
     let now : way new key ≡ key ∷ way old parent = ap (λ o. option_map_or (λ t. t.path) o []) add.made in
     let others : (s : ℕ) → s ≢ key → way new s ≡ way old s = (λ s m. ap (λ o. option_map_or (λ t. t.path) o []) (add.others s m)) in

@@ -1,5 +1,5 @@
 -- The marks along the path are those of the uses: they change with the first use of a kind alone
-use Rattle.pid_numbers.proofs.Words.{◌≡◌, ◌∙◌, ◌+◌, sym, ap, subst, Some, true, IsSome, way, Identifier, uses, is_used_as, name_at}
+use Rattle.pid_numbers.proofs.Words.{◌≡◌, ◌∙◌, ◌+◌, sym, ap, subst, Some, true, IsSome, way, Identifier, uses, is_used_as, ident_at}
 use Rattle.ns_tree.proofs.Paths as paths
 use Rattle.pid_numbers.proofs.Views as views
 use Rattle.pid_numbers.proofs.Uses.{IsRecounted}
@@ -8,14 +8,14 @@ use Rattle.pid_numbers.proofs.Numbers.add_use.Goals as goal
 use Rattle.pid_numbers.proofs.Numbers.add_use.Goals.{After-more_use}
 
 -- one use more
-found : (c : After-more_use) → (v : Identifier) × (name_at c.self.inside.idents c.args.ident ≡ Some v)
-found c = views.held (name_at c.self.inside.idents c.args.ident) (subst IsSome (views.identifier_is c.self.inside c.self.view_is c.args.ident) c.requires.there)
+found : (c : After-more_use) → (v : Identifier) × (ident_at c.self.inside.idents c.args.ident ≡ Some v)
+found c = views.held (ident_at c.self.inside.idents c.args.ident) (subst IsSome (views.identifier_is c.self.inside c.self.view_is c.args.ident) c.requires.there)
 
 recounted : (c : After-more_use) → IsRecounted c.self.inside.idents c.more_use.new.self c.args.ident c.args.kind
 recounted c = let v = found c in record { identifier = v.0; count = uses c.args.kind v.0 + 1; was = v.1; now = c.more_use.ensures.here v.0 v.1; others = c.more_use.ensures.others }
 
 -- so there is one
-used : (c : After-more_use) → is_used_as c.args.kind (name_at c.more_use.new.self c.args.ident) ≡ true
+used : (c : After-more_use) → is_used_as c.args.kind (ident_at c.more_use.new.self c.args.ident) ≡ true
 used c = let v = found c in ap (is_used_as c.args.kind) (c.more_use.ensures.here v.0 v.1) ∙ views.more_used c.args.kind v.0
 
 pub has_use_at-had-requires : goal.has_use_at-had-requires

@@ -1,6 +1,6 @@
 -- All memory is taken first, and taking it moves no plan: so the numbers planned are free still when the path is written
 use Rattle.pid_numbers.proofs.Words.{rules, ◌≡◌, ◌∙◌, sym, ap, subst, refl, arith, ℕ, ◌<◌, length, get_or, None, option_map, node_in, way, IsDistinct, path_at}
-use Rattle.pid_numbers.proofs.Words.{moved, new_identifier, namespace_of, cursor_on, entry_on, bound_on, touched, stepped, given_to, ArePlanned, name_at}
+use Rattle.pid_numbers.proofs.Words.{moved, new_identifier, namespace_of, cursor_on, entry_on, bound_on, touched, stepped, given_to, ArePlanned, ident_at}
 use Rattle.pid_numbers.proofs.Views.{IsPlan}
 use Rattle.pid_numbers.proofs.Views as views
 use Rattle.pid_numbers.proofs.Seats as seats
@@ -60,7 +60,7 @@ invariant_of-self-2 c =
     ∙ ap (λ p. touched p numbers (λ _. given_to key) (entry_on c.prepare_path.new.ids.items) s n) c.path_up-path.ensures
     ∙ ap (λ f. touched path numbers (λ _. given_to key) f s n) (λ i s n. prep.entries s n i) in
     sweeps.kept-with c.self.inside.pid_max c.self.inside.tree ids new c.self.inside.idents c.insert_reserved.new.self c.self.invariant (c.give_path.ensures.count ∙ prep.count)
-    (ties.numbering-given c.self.inside.pid_max (way c.self.inside.tree.nodes) (entry_on ids) (entry_on new) (bound_on ids) (bound_on new) (name_at c.self.inside.idents) (name_at c.insert_reserved.new.self) c.self.invariant.whole.numbering (λ s. c.give_path.ensures.bound s ∙ prep.bound s)
+    (ties.numbering-given c.self.inside.pid_max (way c.self.inside.tree.nodes) (entry_on ids) (entry_on new) (bound_on ids) (bound_on new) (ident_at c.self.inside.idents) (ident_at c.insert_reserved.new.self) c.self.invariant.whole.numbering (λ s. c.give_path.ensures.bound s ∙ prep.bound s)
     key (new_identifier c.args.space numbers) x.others x.was x.now p.len
     (omega (arith, p.len, c.self.invariant.some c.args.space (views.there c.self.inside c.self.view_is c.args.space c.requires.there))) refl
     (λ s n hit.

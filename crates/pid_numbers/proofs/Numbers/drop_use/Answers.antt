@@ -1,8 +1,8 @@
 -- Only the last use of all frees numbers; a namespace loses its last one then, if at all, and so only those on the path can be dropped
 use Rattle.pid_numbers.proofs.Words.{Bool, IsSome, List, None, Option, Some, ap, arith, false, if◌then◌else◌, length, map, option_map, refl, rules, subst, sym}
-use Rattle.pid_numbers.proofs.Words.{true, ℕ, ◌-◌, ◌∙◌, ◌≡◌, filter, Ids, distinct-path, AreListed, Tree, id_in, node_in, way, IsDistinct, Identifier}
+use Rattle.pid_numbers.proofs.Words.{true, ℕ, ◌-◌, ◌∙◌, ◌≡◌, filter, Ids, distinct-path, AreListed, TreeOfSpaces, id_in, node_in, way, IsDistinct, Identifier}
 use Rattle.pid_numbers.proofs.Words.{Numbering, is_there, is_used, is_used_as, less, left_of, swept_at, uses, AreIn, cursor_on, entry_on, numbering_of, touched}
-use Rattle.pid_numbers.proofs.Words.{with_cursors, Table, identifier_of, name_at}
+use Rattle.pid_numbers.proofs.Words.{namespaces_with, Table, identifier_of, ident_at}
 use Rattle.ns_tree.proofs.Orders as orders
 use Rattle.ns_tree.proofs.Paths as paths
 use Rattle.pid_numbers.proofs.Views as views
@@ -15,7 +15,7 @@ use Rattle.pid_numbers.proofs.Numbers.drop_use.Goals.{After-less_use, After-rele
 -- one use less
 recounted : (c : After-less_use) → IsRecounted c.self.inside.idents c.less_use.new.self c.args.ident c.args.kind
 recounted c =
-    let v = views.used c.args.kind (name_at c.self.inside.idents c.args.ident)
+    let v = views.used c.args.kind (ident_at c.self.inside.idents c.args.ident)
     (ap (is_used_as c.args.kind) (sym (views.identifier_is c.self.inside c.self.view_is c.args.ident)) ∙ c.requires) in
     record { identifier = v.0; count = uses c.args.kind v.0 - 1; was = v.1; now = c.less_use.ensures.here v.0 v.1; others = c.less_use.ensures.others }
 
@@ -64,11 +64,11 @@ release_path-requires c =
     }
 
 -- what the release leaves
-released : (c : After-release_path) → IsRecounted c.self.inside.idents c.less_use.new.self c.args.ident c.args.kind → drops.IsReleased c.self.inside.pid_max c.self.inside.tree.nodes c.self.inside.ids.items c.release_path.new.ids.items (name_at c.self.inside.idents) (name_at c.remove-gone.new.self) c.remove-gone.result.space
+released : (c : After-release_path) → IsRecounted c.self.inside.idents c.less_use.new.self c.args.ident c.args.kind → drops.IsReleased c.self.inside.pid_max c.self.inside.tree.nodes c.self.inside.ids.items c.release_path.new.ids.items (ident_at c.self.inside.idents) (ident_at c.remove-gone.new.self) c.remove-gone.result.space
 released c r =
     let ids = c.self.inside.ids.items in
     let gone = identifier_of c.remove-gone.result in
-    drops.released c.self.inside.pid_max c.self.inside.tree.nodes ids c.release_path.new.ids.items (name_at c.self.inside.idents) (name_at c.remove-gone.new.self) c.self.invariant.whole c.args.ident gone r.identifier r.was (uses.same_path c.self.invariant r (identifier_of c.remove-gone.result) (ap (option_map identifier_of) c.remove-gone.ensures.value)) c.release_path.ensures.bound
+    drops.released c.self.inside.pid_max c.self.inside.tree.nodes ids c.release_path.new.ids.items (ident_at c.self.inside.idents) (ident_at c.remove-gone.new.self) c.self.invariant.whole c.args.ident gone r.identifier r.was (uses.same_path c.self.invariant r (identifier_of c.remove-gone.result) (ap (option_map identifier_of) c.remove-gone.ensures.value)) c.release_path.ensures.bound
     (λ s n. c.release_path.ensures.entries s n ∙ ap (λ p. touched p c.as_slice.result.now (λ _. None) (entry_on ids) s n) c.path_up-path.ensures ∙ ap (λ l. touched (way c.self.inside.tree.nodes gone.space) l (λ _. None) (entry_on ids) s n) c.as_slice.ensures)
     (ap (option_map identifier_of) c.remove-gone.ensures.updates.changed) (λ j m. ap (option_map identifier_of) (c.remove-gone.ensures.updates.others j m) ∙ c.less_use.ensures.others j m)
 
@@ -84,15 +84,15 @@ invariant_of-self-2 c = record {
 }
 
 -- what is said of the namespaces before the call, with the identifiers that are left
-swept_from : (pid_max : ℕ) (tree : Tree) (ids ids1 : List (Ids ℕ)) (idents idents1 : Table) (b : Numbering) → numbering_of pid_max tree ids idents ≡ b → ((s : ℕ) → cursor_on ids1 s ≡ cursor_on ids s)
+swept_from : (pid_max : ℕ) (tree : TreeOfSpaces) (ids ids1 : List (Ids ℕ)) (idents idents1 : Table) (b : Numbering) → numbering_of pid_max tree ids idents ≡ b → ((s : ℕ) → cursor_on ids1 s ≡ cursor_on ids s)
     → (s : ℕ) → swept_at (numbering_of pid_max tree ids1 idents1) s ≡ swept_at (record b { names = map (option_map identifier_of) idents1.slots }) s
 swept_from pid_max tree ids ids1 idents idents1 b view cursors s =
     drops.swept-next (numbering_of pid_max tree ids1 idents1) idents.vacant_key s
-    ∙ ap (λ k. swept_at (record { pid_max = pid_max; next = idents.vacant_key; namespaces = with_cursors k tree.nodes; names = map (option_map identifier_of) idents1.slots; order = tree.order }) s) (λ i s. cursors s i)
+    ∙ ap (λ k. swept_at (record { pid_max = pid_max; next = idents.vacant_key; namespaces = namespaces_with k tree.nodes; names = map (option_map identifier_of) idents1.slots; order = tree.order }) s) (λ i s. cursors s i)
     ∙ ap (λ b. swept_at (record b { names = map (option_map identifier_of) idents1.slots }) s) view
 
 -- the order where no namespace goes
-same_order : (pid_max : ℕ) (tree : Tree) (ids : List (Ids ℕ)) (idents : Table) → AreListed (id_in tree.nodes) tree.order → (b : Numbering)
+same_order : (pid_max : ℕ) (tree : TreeOfSpaces) (ids : List (Ids ℕ)) (idents : Table) → AreListed (id_in tree.nodes) tree.order → (b : Numbering)
     → tree.order ≡ b.order → tree.order ≡ filter (λ p. is_there (numbering_of pid_max tree ids idents) p.1) b.order
 same_order pid_max tree ids idents l b is =
     sym (orders.all-there (id_in tree.nodes) (id_in tree.nodes) tree.order l (λ s. is_there (numbering_of pid_max tree ids idents) s)

@@ -1,8 +1,8 @@
 -- What falls has a number in use: that of the task whose own namespace it is, or that by which it had fallen before
 use Rattle.pid_numbers.proofs.Words.{Bool, List, Option, Some, [], ap, arith, false, option_map, refl, subst, sym, true, ℕ, ◌||◌, ◌∙◌, ◌≡◌, option_map_or}
-use Rattle.pid_numbers.proofs.Words.{Entry, IsTree, Node, fell, felled_within, node_in, way, contains, HasOwnTask, Identifier, Numbering, fallen_within}
+use Rattle.pid_numbers.proofs.Words.{Entry, IsPathTree, Node, fell, felled_within, node_in, way, contains, HasOwnTask, Identifier, Numbering, fallen_within}
 use Rattle.pid_numbers.proofs.Words.{has_fallen_at, identifier_at, path_at, AreFallen, IsTied, bound_on, cursor_on, entry_on, leads, namespace_of, numbering_of}
-use Rattle.pid_numbers.proofs.Words.{name_at}
+use Rattle.pid_numbers.proofs.Words.{ident_at}
 use Rattle.pid_numbers.specs.declared.Numbers.TheInside.{Inside}
 use Rattle.ns_tree.proofs.Paths as paths
 use Rattle.pid_numbers.proofs.Views as views
@@ -21,13 +21,13 @@ seen outer cursor o = grind arith
 -- some task's own namespace is seen as such in the numbering
 homes : (x : Inside) {b : Numbering} → numbering_of x.pid_max x.tree x.ids.items x.idents ≡ b → (space : ℕ)
     → ((s : ℕ) → contains (path_at b s) space ≡ true → has_fallen_at b s ≡ false → HasOwnTask (identifier_at b) s)
-    → (s : ℕ) → contains (way x.tree.nodes s) space ≡ true → fell x.tree.nodes s ≡ false → HasOwnTask (name_at x.idents) s
+    → (s : ℕ) → contains (way x.tree.nodes s) space ≡ true → fell x.tree.nodes s ≡ false → HasOwnTask (ident_at x.idents) s
 homes x view space all s inside stands =
     let t = all s (ap (λ p. contains p space) (views.path-of x view s) ∙ inside) (views.fell_is x view s ∙ stands) in
     record { key = t.key; identifier = t.identifier; named = sym (views.identifier_is x view t.key) ∙ t.named; own = t.own; used = t.used }
 
 -- each namespace inside has a number in use
-still-used : (ways : ℕ → List ℕ) (names : ℕ → Option Identifier) (at : ℕ → ℕ → Option (Entry ℕ)) → IsTree ways → IsTied ways names (leads at) → (fell : ℕ → Bool) → AreFallen ways at fell → (space : ℕ)
+still-used : (ways : ℕ → List ℕ) (names : ℕ → Option Identifier) (at : ℕ → ℕ → Option (Entry ℕ)) → IsPathTree ways → IsTied ways names (leads at) → (fell : ℕ → Bool) → AreFallen ways at fell → (space : ℕ)
     → ((s : ℕ) → contains (ways s) space ≡ true → fell s ≡ false → HasOwnTask names s)
     → (s : ℕ) → contains (ways s) space ≡ true → (b : Bool) → fell s ≡ b → (n : ℕ) × (i : ℕ) × (leads at s n ≡ Some i)
 still-used ways names at tree tied fell fallen space all s inside true is = fallen.held s is
@@ -49,7 +49,7 @@ invariant_of-self c =
     let new = c.fall_all.new.tree.nodes in
     let at = entry_on c.self.inside.ids.items in
     let bound = bound_on c.self.inside.ids.items in
-    let names = name_at c.self.inside.idents in
+    let names = ident_at c.self.inside.idents in
     let b = c.self.invariant.whole.numbering in
     let f = c.self.invariant.whole.fallen in
     let ways : (s : ℕ) → way new s ≡ way old s = λ s. ap (λ o. option_map_or (λ t. t.path) o []) (c.fall_all.ensures.nodes s) ∙ views.map_or-map (λ t. t.path) (felled_within c.args.space) (node_in old s) [] in
@@ -59,7 +59,7 @@ invariant_of-self c =
     (λ s within. used s within (fell old s) refl) in
     record {
       whole = record {
-        numbering = ties.numbering-moved c.self.inside.pid_max (way old) (way new) at bound bound names b (subst IsTree (λ i s. sym (ways s) i) b.tree) b.bounds (λ i u is. ways u.space);
+        numbering = ties.numbering-moved c.self.inside.pid_max (way old) (way new) at bound bound names b (subst IsPathTree (λ i s. sym (ways s) i) b.tree) b.bounds (λ i u is. ways u.space);
         fallen = sweeps.fallen-kept (way old) (way new) at at (fell new) (fell new) fallen ways (λ s. refl) (λ s n i led. (i, led));
       };
       some = c.laws.ensures.some;

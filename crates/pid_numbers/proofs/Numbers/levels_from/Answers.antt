@@ -1,6 +1,6 @@
 -- An identifier has one number for each namespace of its path: so the levels to leave out are a difference of two paths' lengths
 use Rattle.pid_numbers.proofs.Words.{◌<◌, ◌≡◌, ◌∙◌, sym, ap, subst, arith, ◌+◌, ◌≤◌, ◌-◌, suc, length, get_or, take, [], IfSome, reverse, option_map_or, way}
-use Rattle.pid_numbers.proofs.Words.{name_at}
+use Rattle.pid_numbers.proofs.Words.{ident_at}
 use Rattle.ns_tree.proofs.Paths as paths
 use Rattle.pid_numbers.proofs.Views as views
 use Rattle.pid_numbers.proofs.Inwards as inwards
@@ -9,7 +9,7 @@ use Rattle.pid_numbers.proofs.Numbers.levels_from.Goals.{After-levels-2}
 
 pub returns-then-not-is_within : goal.returns-then-not-is_within
 returns-then-not-is_within c =
-    let h = views.home (name_at c.self.inside.idents c.args.ident) c.in-Some.own c.in-Some.ensures in
+    let h = views.home (ident_at c.self.inside.idents c.args.ident) c.in-Some.own c.in-Some.ensures in
     c.new-then-not-is_within.ensures
     ∙ sym (views.levels-of c.self.inside c.self.view_is c.args.ident c.args.space c.in-Some.own h.0 h.1 h.2
     ∙ inwards.from-none c.args.space (way c.self.inside.tree.nodes c.in-Some.own) h.0.numbers (sym c.if-not-is_within.ensures))
@@ -30,7 +30,7 @@ placed c =
 
 pub write_numbers_inwards-requires : goal.write_numbers_inwards-requires
 write_numbers_inwards-requires c =
-    let h = views.home (name_at c.self.inside.idents c.args.ident) c.in-Some.own c.in-Some.ensures in
+    let h = views.home (ident_at c.self.inside.idents c.args.ident) c.in-Some.own c.in-Some.ensures in
     let len = c.self.invariant.whole.numbering.tied.full c.args.ident h.0 h.1 ∙ ap (λ s. length (way c.self.inside.tree.nodes s)) h.2 in
     let lt = (placed (goal.at.write_numbers_inwards-requires c).After-levels-2).0 in
     record {
@@ -44,7 +44,7 @@ returns c =
     let b = c.self.invariant.whole.numbering in
     let own = c.in-Some.own in
     let k = c.levels.result - c.levels-2.result in
-    let h = views.home (name_at c.self.inside.idents c.args.ident) own c.in-Some.ensures in
+    let h = views.home (ident_at c.self.inside.idents c.args.ident) own c.in-Some.ensures in
     let place = placed (goal.at.returns c).After-levels-2 in
     let one : k + 1 ≡ suc k = omega arith in
     c.write_numbers_inwards.ensures

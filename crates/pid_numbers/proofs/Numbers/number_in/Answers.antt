@@ -1,5 +1,5 @@
 -- The path of an outer namespace is the end of the inner one's: so the difference of their lengths is the place of the number
-use Rattle.pid_numbers.proofs.Words.{◌≡◌, ◌∙◌, sym, ap, subst, arith, ◌<◌, ◌-◌, length, get_or, IfSome, Some, option_map, beside, Identifier, way, name_at, ℕ, List, IsTree}
+use Rattle.pid_numbers.proofs.Words.{◌≡◌, ◌∙◌, sym, ap, subst, arith, ◌<◌, ◌-◌, length, get_or, IfSome, Some, option_map, beside, Identifier, way, ident_at, ℕ, List, IsPathTree}
 use Rattle.ns_tree.proofs.Paths as paths
 use Rattle.pid_numbers.proofs.Views as views
 use Rattle.pid_numbers.proofs.Sweeps as sweeps
@@ -9,10 +9,10 @@ use Rattle.pid_numbers.proofs.Numbers.number_in.Goals.{After-levels-2}
 -- in its own namespace it is the first one
 pub number_at-requires : goal.number_at-requires
 number_at-requires c =
-    let h = views.home (name_at c.self.inside.idents c.args.ident) c.in_ok-own.own c.in_ok-own.ensures in
+    let h = views.home (ident_at c.self.inside.idents c.args.ident) c.in_ok-own.own c.in_ok-own.ensures in
     subst (λ o. IfSome o (λ u. 0 < length u.numbers)) (sym h.1) (c.self.invariant.whole.numbering.tied.some c.args.ident h.0 h.1)
 
-own-number : (ways : ℕ → List ℕ) → IsTree ways → (own s : ℕ) → own ≡ s → (numbers : List ℕ) → length numbers ≡ length (ways own) → 0 < length numbers
+own-number : (ways : ℕ → List ℕ) → IsPathTree ways → (own s : ℕ) → own ≡ s → (numbers : List ℕ) → length numbers ≡ length (ways own) → 0 < length numbers
     → beside s (ways own) numbers ≡ Some (get_or numbers 0 0)
 own-number ways tree own s same numbers len some =
     subst (λ (t : ℕ). beside t (ways own) numbers ≡ Some (get_or numbers 0 0)) same
@@ -20,7 +20,7 @@ own-number ways tree own s same numbers len some =
 
 pub returns-then-own-space : goal.returns-then-own-space
 returns-then-own-space c =
-    let h = views.home (name_at c.self.inside.idents c.args.ident) c.in_ok-own.own c.in_ok-own.ensures in
+    let h = views.home (ident_at c.self.inside.idents c.args.ident) c.in_ok-own.own c.in_ok-own.ensures in
     let b = c.self.invariant.whole.numbering in
     let ways = way c.self.inside.tree.nodes in
     c.number_at.ensures ∙ ap (option_map (λ u. get_or u.numbers 0 0)) h.1
@@ -29,7 +29,7 @@ returns-then-own-space c =
 
 pub returns-then-not-is_within : goal.returns-then-not-is_within
 returns-then-not-is_within c =
-    let h = views.home (name_at c.self.inside.idents c.args.ident) c.in_ok-own.own c.in_ok-own.ensures in
+    let h = views.home (ident_at c.self.inside.idents c.args.ident) c.in_ok-own.own c.in_ok-own.ensures in
     sym (views.number-of c.self.inside c.self.view_is c.args.ident c.args.space c.in_ok-own.own h.0 h.1 h.2
     ∙ sweeps.off-path c.args.space (way c.self.inside.tree.nodes c.in_ok-own.own) h.0.numbers (sym c.if-not-is_within.ensures))
 
@@ -41,7 +41,7 @@ overflow_sub-place c =
     omega (arith, few, a, b)
 
 -- the place of its number
-placed : (c : After-levels-2) (u : Identifier) → name_at c.self.inside.idents c.args.ident ≡ Some u → u.space ≡ c.in_ok-own.own
+placed : (c : After-levels-2) (u : Identifier) → ident_at c.self.inside.idents c.args.ident ≡ Some u → u.space ≡ c.in_ok-own.own
     → (c.levels.result - c.levels-2.result < length u.numbers) × (beside c.args.space (way c.self.inside.tree.nodes c.in_ok-own.own) u.numbers ≡ Some (get_or u.numbers (c.levels.result - c.levels-2.result) 0))
 placed c u is at =
     let ways = way c.self.inside.tree.nodes in
@@ -51,12 +51,12 @@ placed c u is at =
 
 pub number_at-requires-2 : goal.number_at-requires-2
 number_at-requires-2 c =
-    let h = views.home (name_at c.self.inside.idents c.args.ident) c.in_ok-own.own c.in_ok-own.ensures in
+    let h = views.home (ident_at c.self.inside.idents c.args.ident) c.in_ok-own.own c.in_ok-own.ensures in
     subst (λ o. IfSome o (λ u. c.levels.result - c.levels-2.result < length u.numbers)) (sym h.1) (placed (goal.at.number_at-requires-2 c).After-levels-2 h.0 h.1 h.2).0
 
 pub returns : goal.returns
 returns c =
-    let h = views.home (name_at c.self.inside.idents c.args.ident) c.in_ok-own.own c.in_ok-own.ensures in
+    let h = views.home (ident_at c.self.inside.idents c.args.ident) c.in_ok-own.own c.in_ok-own.ensures in
     c.number_at-2.ensures ∙ ap (option_map (λ u. get_or u.numbers (c.levels.result - c.levels-2.result) 0)) h.1
     ∙ sym (views.number-of c.self.inside c.self.view_is c.args.ident c.args.space c.in_ok-own.own h.0 h.1 h.2
     ∙ (placed (goal.at.returns c).After-levels-2 h.0 h.1 h.2).1)

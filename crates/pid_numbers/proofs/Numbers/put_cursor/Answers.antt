@@ -1,6 +1,6 @@
 -- No entry and no bound changes, so all that is known stays; of the namespaces one has another cursor
 use Rattle.pid_numbers.proofs.Words.{Option, ap, arith, if◌then◌else◌, option_map, refl, sym, ℕ, ◌==◌, ◌∙◌, ◌≡◌, ◌≢◌, cases_eq, eq-eqb, ne_eqb, Node, node_in}
-use Rattle.pid_numbers.proofs.Words.{way, cursor_put, bound_on, cursor_on, entry_on, namespace_of, name_at}
+use Rattle.pid_numbers.proofs.Words.{way, cursor_put, bound_on, cursor_on, entry_on, namespace_of, ident_at}
 use Rattle.pid_numbers.proofs.Views as views
 use Rattle.pid_numbers.proofs.Ties as ties
 use Rattle.pid_numbers.proofs.Sweeps as sweeps
@@ -16,7 +16,7 @@ invariant_of-self c =
     let ways = way c.self.inside.tree.nodes in
     let old = c.self.inside.ids.items in
     let new = c.put_cursor.new.ids.items in
-    let names = name_at c.self.inside.idents in
+    let names = ident_at c.self.inside.idents in
     sweeps.kept-with c.self.inside.pid_max c.self.inside.tree old new c.self.inside.idents c.self.inside.idents c.self.invariant c.put_cursor.ensures.count
     (ties.numbering-same c.self.inside.pid_max ways (entry_on old) (entry_on new) (bound_on old) (bound_on new) names names c.self.invariant.whole.numbering c.put_cursor.ensures.bound c.put_cursor.ensures.entries (λ i. refl))
     (λ s n i led. (i, ap (option_map (λ e. e.value)) (c.put_cursor.ensures.entries s n) ∙ led))

@@ -1,6 +1,6 @@
 -- What falls has a number in use, and all in it has a flag too
 use Rattle.pid_numbers.proofs.Words.{Some, [], ap, false, option_map, refl, subst, sym, true, ℕ, ◌<◌, ◌||◌, ◌∙◌, ◌≡◌, length, option_map_or, slice_get}
-use Rattle.pid_numbers.proofs.Words.{IsTree, fell, node_in, way, number_of, number_in, bound_on, cursor_on, entry_on, leads, namespace_of, name_at, is_some}
+use Rattle.pid_numbers.proofs.Words.{IsPathTree, fell, node_in, way, number_of, number_in, bound_on, cursor_on, entry_on, leads, namespace_of, ident_at, is_some}
 use Rattle.pid_numbers.specs.Restore.{is_flagged, fallen_if}
 use Rattle.pid_numbers.proofs.Views as views
 use Rattle.pid_numbers.proofs.Ties as ties
@@ -29,11 +29,11 @@ invariant_of-self c =
     (λ s there on.
     let z = views.there-of old s there in
     let u = c.requires.may.held s (ap is_some (views.namespace_is x c.self.view_is s ∙ ap (option_map (namespace_of (cursor_on ids s))) z.1)) on in
-    let n : number_in (way old) s (name_at x.idents u.0) ≡ Some u.1 = sym (views.number_is x.pid_max x.tree ids x.idents u.0 s) ∙ ap (λ b. number_of b u.0 s) c.self.view_is ∙ u.2 in
+    let n : number_in (way old) s (ident_at x.idents u.0) ≡ Some u.1 = sym (views.number_is x.pid_max x.tree ids x.idents u.0 s) ∙ ap (λ b. number_of b u.0 s) c.self.view_is ∙ u.2 in
     (u.1, u.0, b.tied.kept s u.1 u.0 n)) in
     record {
       whole = record {
-        numbering = ties.numbering-moved x.pid_max (way old) (way new) (entry_on ids) (bound_on ids) (bound_on ids) (name_at x.idents) b (subst IsTree (λ i s. sym (ways s) i) b.tree) b.bounds (λ i u is. ways u.space);
+        numbering = ties.numbering-moved x.pid_max (way old) (way new) (entry_on ids) (bound_on ids) (bound_on ids) (ident_at x.idents) b (subst IsPathTree (λ i s. sym (ways s) i) b.tree) b.bounds (λ i u is. ways u.space);
         fallen = sweeps.fallen-kept (way old) (way new) (entry_on ids) (entry_on ids) (fell new) (fell new)
             (marks.fallen-marked (way old) b.tree flags inner (entry_on ids) (fell old) (fell new) k.whole.fallen c.requires.may.root fell_is some held)
             ways (λ s. refl) (λ s n i led. (i, led));

@@ -1,6 +1,6 @@
 -- An identifier that is there has a namespace that is there, and as many numbers as that has levels
 use Rattle.pid_numbers.proofs.Words.{◌≡◌, ◌∙◌, sym, ap, subst, arith, refl, ◌≤◌, length, [], Option, Some, None, IfSome, option_map, option_map_or, Node}
-use Rattle.pid_numbers.proofs.Words.{node_in, way, id_at, name_at}
+use Rattle.pid_numbers.proofs.Words.{node_in, way, id_at, ident_at}
 use Rattle.pid_numbers.proofs.Views as views
 use Rattle.pid_numbers.proofs.Numbers.write_name.Goals as goal
 
@@ -15,7 +15,7 @@ unreachable-requires-in_default-id c =
     let idents = c.self.inside.idents in
     let b = c.self.invariant.whole.numbering in
     let own = c.in-Some.own in
-    let h = views.home (name_at idents c.args.ident) own c.in-Some.ensures in
+    let h = views.home (ident_at idents c.args.ident) own c.in-Some.ensures in
     let len : length h.0.numbers ≡ length (ways own) = b.tied.full c.args.ident h.0 h.1 ∙ ap (λ s. length (ways s)) h.2 in
     let some = b.tied.some c.args.ident h.0 h.1 in
     let none = ap length (no_path (node_in c.self.inside.tree.nodes own) (sym c.id.ensures ∙ c.in_default-id.is)) in
@@ -27,14 +27,14 @@ write_numbers_inwards-requires-clause-there c =
     let idents = c.self.inside.idents in
     let b = c.self.invariant.whole.numbering in
     let own = c.in-Some.own in
-    let h = views.home (name_at idents c.args.ident) own c.in-Some.ensures in
+    let h = views.home (ident_at idents c.args.ident) own c.in-Some.ensures in
     let len : length h.0.numbers ≡ length (ways own) = b.tied.full c.args.ident h.0 h.1 ∙ ap (λ s. length (ways s)) h.2 in
     let all = c.levels-levels.ensures.value in
     subst (λ o. IfSome o (λ u. c.levels-levels.result ≤ length u.numbers)) (sym h.1) (omega (arith, len, all))
 
 pub returns-clause-space : goal.returns-clause-space
 returns-clause-space c =
-    let h = views.home (name_at c.self.inside.idents c.args.ident) c.in-Some.own c.in-Some.ensures in
+    let h = views.home (ident_at c.self.inside.idents c.args.ident) c.in-Some.own c.in-Some.ensures in
     subst (λ o. IfSome o (λ u. id_at c.args.self.now u.space ≡ Some c.in-Some-id.space))
     (sym (views.identifier_is c.self.inside c.self.view_is c.args.ident ∙ h.1))
     (ap (id_at c.args.self.now) h.2 ∙ views.id_is c.self.inside c.self.view_is c.in-Some.own ∙ sym c.in-Some-id.ensures)

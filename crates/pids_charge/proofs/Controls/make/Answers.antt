@@ -1,6 +1,6 @@
 -- A new leaf changes no path and no subtree of the others, and its own key was nobody's
 use Rattle.pids_charge.proofs.Words.{None, Option, Some, [], ap, arith, length, map, refl, subst, suc, sym, ℕ, ◌++◌, ◌+◌, ◌<◌, ◌∙◌, ◌∷◌, ◌≡◌, rules, length-set}
-use Rattle.pids_charge.proofs.Words.{AllByRecursion, control_path, Control, Slab, Charges, home_at, id_at, charges_of, control_in, limit_in, tree_of}
+use Rattle.pids_charge.proofs.Words.{AllByRecursion, control_path, Control, Slab, Charges, home_at, home_id, charges_of, control_in, limit_in, tree_of}
 use Rattle.pids_charge.proofs.Words.{Counter, Node}
 use Rattle.std.proofs.lemmas.Result.{err_from_is_err_and}
 use Rattle.pids_charge.proofs.Views as views
@@ -11,7 +11,7 @@ use Rattle.pids_charge.proofs.Controls.make.Goals as goal
 use Rattle.pids_charge.proofs.Controls.make.Goals.{After-node_at-level, After-insert_reserved}
 
 -- the path of the control group above is as long as its level says
-long : (c : After-node_at-level) → length (control_path c.args.self.now.controls (id_at c.args.self.now c.args.parent)) ≡ suc ((tree_of c.self.inside.nodes).level c.args.parent)
+long : (c : After-node_at-level) → length (control_path c.args.self.now.controls (home_id c.args.self.now c.args.parent)) ≡ suc ((tree_of c.self.inside.nodes).level c.args.parent)
 long c = made.long-path c.self.inside c.self.view_is c.self.invariant.tree c.self.invariant.listed c.args.parent c.requires.stands
 
 -- and its level is read
@@ -87,7 +87,7 @@ returns c =
           ap (map (control_in (tree_of new) (limit_in new))) c.in_ok-push.ensures.ok ∙ made.controls-made m c.self.inside.children ids c.self.invariant.listed
           ∙ ap (λ i. map (control_in (tree_of nodes) (limit_in nodes)) ids ++ group i ∷ [])
           (sym (views.id_in c.self.inside c.self.view_is c.args.parent c.requires.stands))
-          ∙ ap (λ (v : Charges). v.controls ++ group (id_at c.args.self.now c.args.parent) ∷ []) c.self.view_is;
+          ∙ ap (λ (v : Charges). v.controls ++ group (home_id c.args.self.now c.args.parent) ∷ []) c.self.view_is;
       fresh = sym (ap (λ (v : Charges). home_at v c.in_ok-key.key) c.self.view_is) ∙ views.home_at-is nodes ids c.in_ok-key.key
           ∙ made.home-none nodes c.in_ok-key.key m.old;
       here = views.home_at-is new c.push.new.self c.in_ok-key.key ∙ made.home-made m;

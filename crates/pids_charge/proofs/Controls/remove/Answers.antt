@@ -1,6 +1,6 @@
 -- The group goes from the list; its node goes too where it is empty, and stays for its zombies, whose home is then the nearest group above that stands
 use Rattle.pids_charge.proofs.Words.{None, Option, Some, ap, arith, false, map, not, option_and_then, refl, set, sym, true, ℕ, ◌==◌, ◌∙◌, ◌≡◌, rules}
-use Rattle.pids_charge.proofs.Words.{length-set, filter, without, Control, Charges, handed_on, home_at, id_at, control_in, limit_in, total_at, tree_of, Node}
+use Rattle.pids_charge.proofs.Words.{length-set, filter, without, Control, Charges, handed_on, home_at, home_id, control_in, limit_in, total_at, tree_of, Node}
 use Rattle.pids_charge.proofs.Climbs as climbs
 use Rattle.pids_charge.proofs.Views as views
 use Rattle.pids_charge.proofs.Dropped as dropped
@@ -93,17 +93,17 @@ returns c =
           (removed.IsTree-unstood r) (removed.IsListed-unstood r children ids l (c.self.invariant.room c.args.c (views.there c.self.inside.nodes c.args.c up)))
           ∙ removed.controls-unstood r children ids l
           ∙ ap (λ i. filter (λ (g : Control). not (g.id == i)) (map (control_in t (limit_in c.self.inside.nodes)) ids)) id_c
-          ∙ ap (λ (v : Charges). filter (λ (g : Control). not (g.id == id_at c.args.self.now c.args.c)) v.controls) c.self.view_is;
+          ∙ ap (λ (v : Charges). filter (λ (g : Control). not (g.id == home_id c.args.self.now c.args.c)) v.controls) c.self.view_is;
       homes = λ parent above k.
           let q = removed.some_of c.node_at-node.result.parent (c.is_none.ensures ∙ ap not c.if-is_none.false) in
           let sees = views.parent_seen c.self.inside c.self.view_is l c.self.invariant.tree c.args.c c.requires (Some q.0)
           (climbs.up-is c.self.inside.nodes c.args.c c.node_at-node.result c.node_at-node.ensures ∙ q.1) in
-          let one : Some (id_at c.args.self.now q.0) ≡ Some parent = sees.0 ∙ above in
-          let id_p : t.id q.0 ≡ parent = sym (views.id_in c.self.inside c.self.view_is q.0 sees.1) ∙ (let e : id_at c.args.self.now q.0 ≡ parent = cc in e) in
+          let one : Some (home_id c.args.self.now q.0) ≡ Some parent = sees.0 ∙ above in
+          let id_p : t.id q.0 ≡ parent = sym (views.id_in c.self.inside c.self.view_is q.0 sees.1) ∙ (let e : home_id c.args.self.now q.0 ≡ parent = cc in e) in
           views.home_at-is c.drop_empty.new.nodes c.remove.new.self k ∙ c.drop_empty.ensures.drops.shown k ∙ removed.home-unstood r children ids l k
           ∙ ap (λ i. option_and_then (handed_on i (t.id q.0)) (views.home_in c.self.inside.nodes k)) id_c
-          ∙ ap (λ i. option_and_then (handed_on (id_at c.args.self.now c.args.c) i) (views.home_in c.self.inside.nodes k)) id_p
-          ∙ ap (option_and_then (handed_on (id_at c.args.self.now c.args.c) parent))
+          ∙ ap (λ i. option_and_then (handed_on (home_id c.args.self.now c.args.c) i) (views.home_in c.self.inside.nodes k)) id_p
+          ∙ ap (option_and_then (handed_on (home_id c.args.self.now c.args.c) parent))
           (sym (views.home_at-is c.self.inside.nodes ids k) ∙ ap (λ (v : Charges). home_at v k) c.self.view_is);
       tasks = omega (arith, views.all-of c.self.inside c.self.view_is, views.all-is c.drop_empty.new.nodes c.remove.new.self, removed.all-same r);
       err = search rules;

@@ -1,5 +1,5 @@
 -- A limit is no part of the tree, and of the list of groups it changes the one with this id
-use Rattle.pids_charge.proofs.Words.{None, ap, arith, map, sym, ◌∙◌, rules, get_or_read, limited as limited_to, Charges, home_at, id_at}
+use Rattle.pids_charge.proofs.Words.{None, ap, arith, map, sym, ◌∙◌, rules, get_or_read, limited as limited_to, Charges, home_at, home_id}
 use Rattle.pids_charge.proofs.Words.{control_in, limit_in, tree_of}
 use Rattle.pids_charge.proofs.Views as views
 use Rattle.pids_charge.proofs.Limited as limited
@@ -32,7 +32,7 @@ returns c =
           c.self.inside.counters.items c.self.inside.children ids c.self.invariant up
           ∙ ap (λ i. map (limited_to i c.args.limit) (map (control_in (tree_of nodes) (limit_in nodes)) ids))
           (sym (views.id_in c.self.inside c.self.view_is c.args.c c.requires))
-          ∙ ap (λ (x : Charges). map (limited_to (id_at c.args.self.now c.args.c) c.args.limit) x.controls) c.self.view_is;
+          ∙ ap (λ (x : Charges). map (limited_to (home_id c.args.self.now c.args.c) c.args.limit) x.controls) c.self.view_is;
       homes = λ k.
           limited.homes-limited nodes c.set_node.new.nodes c.args.c c.node_at-node.result c.args.limit c.node_at-node.ensures c.set_node.ensures
           c.self.inside.counters.items c.self.inside.children ids c.self.invariant up k ∙ ap (λ (x : Charges). home_at x k) c.self.view_is;

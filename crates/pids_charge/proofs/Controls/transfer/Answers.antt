@@ -1,5 +1,5 @@
 -- Two changes of one home each: where both homes are one, the second gives back what the first took
-use Rattle.pids_charge.proofs.Words.{ap, arith, refl, ◌+◌, ◌-◌, ◌∙◌, charges_of, Tree}
+use Rattle.pids_charge.proofs.Words.{ap, arith, refl, ◌+◌, ◌-◌, ◌∙◌, charges_of, TreeOfNodes}
 use Rattle.pids_charge.proofs.Views as views
 use Rattle.pids_charge.proofs.Written as written
 use Rattle.pids_charge.proofs.Dropped as dropped
@@ -10,7 +10,7 @@ take_live-requires-clause-some c = omega (arith, views.live-of c.self.inside c.s
 
 pub put_live-requires-clause-stands : goal.put_live-requires-clause-stands
 put_live-requires-clause-stands c =
-    ap (λ (t : Tree). t.stand c.args.to) c.take_live.ensures.changes.tree ∙ views.stand_in c.self.inside c.self.view_is c.args.to c.requires.stands
+    ap (λ (t : TreeOfNodes). t.stand c.args.to) c.take_live.ensures.changes.tree ∙ views.stand_in c.self.inside c.self.view_is c.args.to c.requires.stands
 
 pub returns : goal.returns
 returns c =
@@ -22,7 +22,7 @@ returns c =
     let taken = written.standing-changed nodes mid c.args.from (λ l. l - 1) (λ z. z) c.take_live.ensures.changes ids v c.self.view_is
     (written.live_stands c.args.from c.self.invariant.counted (omega (arith, live, c.requires.some))) in
     let put = written.standing-changed mid c.put_live.new.nodes c.args.to (λ l. l + 1) (λ z. z) c.put_live.ensures.changes ids (charges_of mid ids) refl
-    (ap (λ (t : Tree). t.stand c.args.to) c.take_live.ensures.changes.tree ∙ views.stand_in c.self.inside c.self.view_is c.args.to c.requires.stands) in
+    (ap (λ (t : TreeOfNodes). t.stand c.args.to) c.take_live.ensures.changes.tree ∙ views.stand_in c.self.inside c.self.view_is c.args.to c.requires.stands) in
     record {
       controls = put.controls ∙ taken.controls;
       homes = dropped.moves v (charges_of mid ids) _ c.args.from c.args.to taken put;

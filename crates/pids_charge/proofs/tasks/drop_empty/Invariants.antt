@@ -1,4 +1,4 @@
-use Rattle.pids_charge.proofs.Words.{Some, suc, ℕ, ◌≡◌, option_map_or, ContainsKey, AreLinked, DropsEmpty, IsCounted, total_at, IsTree, all_in, tree_of}
+use Rattle.pids_charge.proofs.Words.{Some, suc, ℕ, ◌≡◌, option_map_or, ContainsKey, AreLinked, DropsEmpty, AreTotals, total_at, IsNodeTree, all_in, tree_of}
 use Rattle.pids_charge.proofs.tasks.drop_empty.Given as goal
 
 abbrev pub invariant-loop-at : goal.invariant-loop-at
@@ -6,8 +6,8 @@ invariant-loop-at l = record {
   here : (a : ℕ) → l.at ≡ Some a → ContainsKey l.nodes a;
   all : all_in l.nodes ≡ all_in l.initial.nodes;
   drops : DropsEmpty l.initial.nodes l.nodes;
-  tree : IsTree (tree_of l.nodes);
-  counted : IsCounted l.nodes (total_at l.counters.items) l.at;
+  tree : IsNodeTree (tree_of l.nodes);
+  counted : AreTotals l.nodes (total_at l.counters.items) l.at;
   linked : AreLinked l.nodes l.counters.items;
 }
 

@@ -1,11 +1,11 @@
 use Rattle.std.proofs.Common.{◌≡◌, true, ap, ◌∙◌, ◌++◌}
-use Rattle.replica.specs.Snapshots.{Begins, has_settings}
+use Rattle.replica.specs.Snapshots.{BeginsWithHead, has_settings}
 use Rattle.replica.proofs.snapshot_laws.what_is_written_is_read.Goals as goal
 
 pub returns-clause-ok : goal.returns-clause-ok
 returns-clause-ok c =
     let log = c.args.replica.now in
-    let begins : Begins c.as_slice.result.now log c.args.behind.now = record {
+    let begins : BeginsWithHead c.as_slice.result.now log c.args.behind.now = record {
       good = c.in-Ok.ensures.good c.requires.begun;
       head = c.as_slice.ensures.value ∙ c.in-Ok-extend_from_slice.ensures.items ∙ ap (λ t. t ++ c.args.behind.now) c.in-Ok.ensures.text;
     } in
@@ -15,7 +15,7 @@ returns-clause-ok c =
 pub returns-clause-err : goal.returns-clause-err
 returns-clause-err c =
     let log = c.args.replica.now in
-    let begins : Begins c.as_slice.result.now log c.args.behind.now = record {
+    let begins : BeginsWithHead c.as_slice.result.now log c.args.behind.now = record {
       good = c.in-Ok.ensures.good c.requires.begun;
       head = c.as_slice.ensures.value ∙ c.in-Ok-extend_from_slice.ensures.items ∙ ap (λ t. t ++ c.args.behind.now) c.in-Ok.ensures.text;
     } in

@@ -3,9 +3,9 @@ use Rattle.std.specs.Int.{w32, cast_signed}
 use Rattle.std.proofs.lemmas.Bool.{eq-eqb}
 use Rattle.std.proofs.lemmas.Bool.Decides.{eqb_tells}
 use Rattle.saved_form.specs.declared.numbers.ReplyNumbers.{ReplyNumbers}
-use Rattle.saved_form.specs.Form.{further, asked, told}
+use Rattle.saved_form.specs.Form.{further, asked, reply_bytes}
 use Rattle.saved_form.specs.Places.{HasCallPlaces, HasReplyPlaces}
-use Rattle.saved_form.specs.Reading.{four_in, eight_in, call_in, plain_reply_in, levels_reply_in, HasLevels, IsReplyIn}
+use Rattle.saved_form.specs.Reading.{four_in, eight_in, call_in, plain_reply_in, levels_reply_in, ReadsLevels, IsReplyIn}
 use Rattle.saved_form.specs.Taking.{blocks_said}
 use Rattle.saved_form.proofs.Fronts.{begins_headed, call_back, plain_back, leveled_back}
 use Rattle.saved_form.proofs.LevelsBack.{level_back, levels_back}
@@ -26,7 +26,7 @@ call_places bytes small =
     }
 
 leveled_places : (bytes levels : List ℕ) → ((i : ℕ) → get_or bytes i 0 < 256) → get_or bytes 6 0 ≤ 33
-    → HasLevels (get_or bytes 6 0) bytes levels → HasReplyPlaces (levels_reply_in levels bytes)
+    → ReadsLevels (get_or bytes 6 0) bytes levels → HasReplyPlaces (levels_reply_in levels bytes)
 leveled_places bytes levels small few has = record {
   kind = omega arith;
   errno = small 4;
@@ -86,13 +86,13 @@ returns-clause-one c sum e places fits begins =
     let worker : get_or bytes 2 0 ≡ e.worker = ap (λ front. get_or front 2 0) found.1 in
     let kind : get_or bytes 3 0 ≡ e.reply.kind = ap (λ front. get_or front 3 0) found.1 in
     let count : get_or bytes 6 0 ≡ e.reply.count = ap (λ front. get_or front 6 0) found.1 in
-    let call : c.read_call.result ≡ e.call = c.read_call.ensures ∙ ap call_in found.1 ∙ call_back e (told e.reply ++ found.0) places fits in
+    let call : c.read_call.result ≡ e.call = c.read_call.ensures ∙ ap call_in found.1 ∙ call_back e (reply_bytes e.reply ++ found.0) places fits in
     let reply : c.read_reply.result ≡ e.reply = elim (eqb_tells e.reply.kind 3) [
       | inl at ↦ let read = c.read_reply.ensures.leveled (kind ∙ at.1) in
           let levels : read.0 ≡ e.reply.levels =
-          levels_back e.reply.count bytes read.0 e.reply.levels (subst (λ n. HasLevels n bytes read.0) count read.1) fits.length
+          levels_back e.reply.count bytes read.0 e.reply.levels (subst (λ n. ReadsLevels n bytes read.0) count read.1) fits.length
           (λ k lt. level_back sum e bytes k begins places fits at.1 lt) places.reply.behind in
-          read.2 ∙ ap (levels_reply_in read.0) found.1 ∙ leveled_back e read.0 (asked e.call ++ (told e.reply ++ found.0)) places at.1 levels
+          read.2 ∙ ap (levels_reply_in read.0) found.1 ∙ leveled_back e read.0 (asked e.call ++ (reply_bytes e.reply ++ found.0)) places at.1 levels
       | inr away ↦ c.read_reply.ensures.plain (λ is. away.1 (sym kind ∙ is)) ∙ ap plain_reply_in found.1
           ∙ plain_back e found.0 places fits away.0 away.1
     ] in

@@ -1,10 +1,10 @@
 use Rattle.std.proofs.Common.{◌≡◌, ℕ, ◌+◌, ◌-◌, ◌<◌, List, drop, get_or, set, replicate, ap, sym, inl, inr, ◌∙◌, arith, get_or-set_same, get_or-set_other}
 use Rattle.std.proofs.lemmas.Bool.{cases_eq}
 use Rattle.std.proofs.lemmas.List.{length-set, drop-set-lt, drop-drop, drop-replicate}
-use Rattle.saved_form.specs.Reading.{HasLevels, four_in, level_place}
+use Rattle.saved_form.specs.Reading.{ReadsLevels, four_in, level_place}
 use Rattle.saved_form.proofs.read.read_levels.Goals as goal
 
-one_level_more : (bytes levels : List ℕ) (k x : ℕ) → k < 33 → x ≡ four_in bytes (level_place k) → HasLevels k bytes levels → HasLevels (k + 1) bytes (set levels k x)
+one_level_more : (bytes levels : List ℕ) (k x : ℕ) → k < 33 → x ≡ four_in bytes (level_place k) → ReadsLevels k bytes levels → ReadsLevels (k + 1) bytes (set levels k x)
 one_level_more bytes levels k x lt is has = record {
   long = length-set levels k x ∙ has.long;
   each = λ j below. elim (cases_eq j k) [

@@ -1,5 +1,5 @@
 use Rattle.std.proofs.Common.{◌≡◌, ◌*◌, ◌≤◌, false, List, [], Some, length}
-use Rattle.script_session.proofs.Names.{Event, heard, readings, begun, said_within, kept_after, progress_of, IsTallied}
+use Rattle.script_session.proofs.Names.{Event, heard, readings, at_start, said_within, kept_after, progress_of, IsTallied}
 use Rattle.script_session.proofs.Turns.{GoesOn}
 use Rattle.script_session.proofs.session.run_dialogue.Given as goal
 
@@ -7,7 +7,7 @@ abbrev pub invariant-loop-turn : goal.invariant-loop-turn
 invariant-loop-turn g l = record {
   events : List Event;
   done : g.D.Source.did l.initial.devices l.devices events;
-  on : GoesOn g.T.Table.may_starve (begun (g.T.Table.state l.initial.table) (g.T.Table.stamp l.initial.table))
+  on : GoesOn g.T.Table.may_starve (at_start (g.T.Table.state l.initial.table) (g.T.Table.stamp l.initial.table))
       (progress_of (g.T.Table.state l.table) (g.T.Table.stamp l.table) l.session.tally l.session.outbox) (g.T.Table.did l.initial.table l.table)
       (said_within (Some []) (heard events)) events false;
   part : l.session.part ≡ kept_after (Some []) (heard events);

@@ -2,7 +2,7 @@ use Rattle.std.proofs.Common.{◌∙◌, is_some, sym, ap}
 use Rattle.pid_types.specs.declared.reply.Reply.TheVariants.{Counted}
 use Rattle.pid_types.specs.Controls.{control_at}
 use Rattle.pid_types.specs.Outcome.{Outcome}
-use Rattle.pids_charge.specs.Charges.{Charges, count, id_at as home_id}
+use Rattle.pids_charge.specs.Charges.{Charges, charged_count, home_id}
 use Rattle.task_table.proofs.Counts.{count-is}
 use Rattle.set_calls.proofs.Answered.{is-counted}
 use Rattle.set_calls.proofs.controls.count.Goals as goal
@@ -15,5 +15,5 @@ returns c =
     let own = ap (λ (v : Charges). home_id v c.in-Some.key) (sym c.controls.ensures) ∙ c.in-Some.ensures.id in
     record {
       state = ap (λ (o : Outcome). o.state) is;
-      reply = sym (ap (λ (o : Outcome). o.reply) is ∙ ap Counted (sym (c.count.ensures ∙ ap (λ (v : Charges). count v (home_id v c.in-Some.key)) c.controls-2.ensures ∙ ap (count s.charges) own ∙ count-is s c.laws.ensures c.args.id)));
+      reply = sym (ap (λ (o : Outcome). o.reply) is ∙ ap Counted (sym (c.count.ensures ∙ ap (λ (v : Charges). charged_count v (home_id v c.in-Some.key)) c.controls-2.ensures ∙ ap (charged_count s.charges) own ∙ count-is s c.laws.ensures c.args.id)));
     }

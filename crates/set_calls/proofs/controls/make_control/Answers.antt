@@ -2,7 +2,7 @@ use Rattle.std.proofs.Common.{◌∙◌, is_some, sym, ap, ◌<◌, rules}
 use Rattle.pid_types.specs.Controls.{control_at}
 use Rattle.pid_types.specs.Outcome.{Outcome}
 use Rattle.pid_types.specs.Changes.{make_control}
-use Rattle.pids_charge.specs.Charges.{Charges, stands, id_at as home_id}
+use Rattle.pids_charge.specs.Charges.{Charges, stands, home_id}
 use Rattle.set_calls.proofs.Answered.{all-of, is-made, after-making}
 use Rattle.set_calls.proofs.controls.make_control.Goals as goal
 

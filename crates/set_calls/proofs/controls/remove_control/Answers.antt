@@ -2,7 +2,7 @@
 use Rattle.std.proofs.Common.{◌≡◌, ◌∙◌, is_some, sym, ap}
 use Rattle.pid_types.specs.Controls.{control_at, parent_control}
 use Rattle.pid_types.specs.Outcome.{Outcome}
-use Rattle.pids_charge.specs.Charges.{Charges, stands, id_at as home_id}
+use Rattle.pids_charge.specs.Charges.{Charges, stands, home_id}
 use Rattle.pid_types.specs.Outcome.{refused}
 use Rattle.pid_types.specs.Changes.{remove_control}
 use Rattle.task_table.specs.View.{state_of}

@@ -1,7 +1,7 @@
 use Rattle.std.proofs.Common.{◌∙◌, is_some, sym, ap}
 use Rattle.pid_types.specs.Controls.{control_at}
 use Rattle.pid_types.specs.Outcome.{Outcome}
-use Rattle.pids_charge.specs.Charges.{Charges, stands, id_at as home_id}
+use Rattle.pids_charge.specs.Charges.{Charges, stands, home_id}
 use Rattle.set_calls.proofs.Answered.{is-limited, after-limit}
 use Rattle.set_calls.proofs.controls.set_limit.Goals as goal
 

@@ -2,7 +2,7 @@
 use Rattle.std.proofs.Common.{nat_lt, length, true, false, ◌∙◌, is_some, sym, ap}
 use Rattle.pid_types.specs.Controls.{control_at, control_path}
 use Rattle.pid_types.specs.Outcome.{Outcome}
-use Rattle.pids_charge.specs.Charges.{Charges, stands, id_at as home_id}
+use Rattle.pids_charge.specs.Charges.{Charges, stands, home_id}
 use Rattle.pid_types.specs.Bounds.{deepest_control}
 use Rattle.set_calls.proofs.Answered.{made-by}
 use Rattle.set_calls.proofs.controls.would_make_control.Goals as goal

@@ -2,7 +2,7 @@
 use Rattle.std.proofs.Common.{◌∙◌, is_some, sym, ap}
 use Rattle.pid_types.specs.Controls.{control_at}
 use Rattle.pid_types.specs.Outcome.{Outcome}
-use Rattle.pids_charge.specs.Charges.{Charges, stands, limit_refusal, id_at as home_id}
+use Rattle.pids_charge.specs.Charges.{Charges, stands, limit_refusal, home_id}
 use Rattle.set_calls.proofs.Answered.{not-limited, is-limited}
 use Rattle.set_calls.proofs.controls.would_set_limit.Goals as goal
 

@@ -6,7 +6,7 @@ use Rattle.pid_types.specs.Names.{with_row}
 use Rattle.pid_types.specs.Controls.{control_at}
 use Rattle.pid_types.specs.Outcome.{changed, for_found}
 use Rattle.pid_types.specs.Changes.{move_task, set_home}
-use Rattle.pids_charge.specs.Charges.{id_at as home_id}
+use Rattle.pids_charge.specs.Charges.{home_id}
 use Rattle.task_table.specs.View.{name_at, row_of, state_of}
 use Rattle.task_table.proofs.Changed.{retasked, rehomed}
 use Rattle.set_calls.proofs.tasks.move_task.Goals as goal

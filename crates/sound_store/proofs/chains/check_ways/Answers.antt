@@ -3,7 +3,7 @@ use Rattle.std.proofs.lemmas.Bool.{cases_eq}
 use Rattle.task_table.proofs.Changes.{in_range}
 use Rattle.task_table.proofs.Results.{if_err}
 use Rattle.sound_store.specs.Flaws.{IsWayFlaw}
-use Rattle.task_tree.specs.Tree.{Tree}
+use Rattle.task_tree.specs.Tree.{TreeOfTasks}
 use Rattle.sound_store.specs.Ways.{HasWayAt}
 use Rattle.sound_store.proofs.chains.check_ways.Goals as goal
 
@@ -22,6 +22,6 @@ returns-in_err-check_way-clause-told c = if_err c.from_residual.result (IsWayFla
 pub returns-clause-ok : goal.returns-clause-ok
 returns-clause-ok c k t e =
     let s = c.args.store.now in
-    let all : length s.tree.tasks ≤ c.loop-place.place = (let past = c.loop-place-test.false in let end = c.keys-place-end.ensures in let same = ap (λ (t : Tree). length t.tasks) c.tree-tree.ensures in omega (arith, past, end, same)) in
+    let all : length s.tree.tasks ≤ c.loop-place.place = (let past = c.loop-place-test.false in let end = c.keys-place-end.ensures in let same = ap (λ (t : TreeOfTasks). length t.tasks) c.tree-tree.ensures in omega (arith, past, end, same)) in
     let room = in_range s.tree.tasks k (ap is_some e) in
     c.loop-place.invariant.done k (omega (arith, room, all)) t e

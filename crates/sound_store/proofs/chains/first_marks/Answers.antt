@@ -2,7 +2,7 @@ use Rattle.std.proofs.Common.{◌≡◌, ◌<◌, ◌∙◌, List, Bool, true, l
 use Rattle.std.specs.Prelude.{slice_set}
 use Rattle.task_table.proofs.Changes.{in_range}
 use Rattle.sound_store.proofs.Marks.{marked-one}
-use Rattle.sound_store.specs.Ways.{AreMarked}
+use Rattle.sound_store.specs.Ways.{AreReached}
 use Rattle.sound_store.proofs.chains.first_marks.Goals as goal
 
 pub returns : goal.returns
@@ -12,5 +12,5 @@ returns c =
     let items = c.in_ok-known.ensures.items_if_clones_equal (search rules) in
     let room : c.keys.result ≡ length s.tree.tasks = c.keys.ensures ∙ ap (λ t. length t.tasks) c.tree.ensures in
     let inside = in_range s.tree.tasks init.key (ap is_some c.in-Some.ensures.there.0) in
-    subst (λ (l : List Bool). AreMarked s (slice_set l init.key true)) (sym items)
+    subst (λ (l : List Bool). AreReached s (slice_set l init.key true)) (sym items)
     (marked-one s c.laws.ensures c.keys.result init.key room (let h : init.key < c.keys.result = omega (arith, inside, room) in h) c.in-Some.ensures.there.1)

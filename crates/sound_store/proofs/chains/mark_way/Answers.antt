@@ -1,6 +1,6 @@
 use Rattle.std.proofs.Common.{◌≡◌, ◌∙◌, length, true, Some, sym, ap, arith}
 use Rattle.std.proofs.lemmas.List.{length-set}
-use Rattle.task_tree.specs.Tree.{Tree, parent_of}
+use Rattle.task_tree.specs.Tree.{TreeOfTasks, parent_of}
 use Rattle.sound_store.proofs.Marks.{marked-set, reaches-parent, unmarked}
 use Rattle.sound_store.proofs.chains.mark_way.Goals as goal
 
@@ -12,9 +12,9 @@ loop-preserved c =
     let s = c.args.store.now in
     let at = c.loop.at in
     let parent = c.in-Some.parent in
-    let up : parent_of s.tree at ≡ Some parent = ap (λ (t : Tree). parent_of t at) (sym c.tree-in-loop.ensures) ∙ sym c.parent.ensures ∙ c.in-Some.is in
-    let inside = c.laws.ensures.known at parent (ap (λ (t : Tree). parent_of t at) c.tree.ensures ∙ up) in
-    let same = ap (λ (t : Tree). length t.tasks) c.tree.ensures in
+    let up : parent_of s.tree at ≡ Some parent = ap (λ (t : TreeOfTasks). parent_of t at) (sym c.tree-in-loop.ensures) ∙ sym c.parent.ensures ∙ c.in-Some.is in
+    let inside = c.laws.ensures.known at parent (ap (λ (t : TreeOfTasks). parent_of t at) c.tree.ensures ∙ up) in
+    let same = ap (λ (t : TreeOfTasks). length t.tasks) c.tree.ensures in
     let room = c.loop.invariant.marked.room in
     let long = length-set c.loop.known at true in
     record {

@@ -3,7 +3,7 @@ use Rattle.std.proofs.lemmas.Bool.{cases_eq}
 use Rattle.task_table.proofs.Results.{if_err}
 use Rattle.sound_store.proofs.Walks.{all-good}
 use Rattle.sound_store.specs.Flaws.{IsFlaw}
-use Rattle.task_tree.specs.Tree.{Tree}
+use Rattle.task_tree.specs.Tree.{TreeOfTasks}
 use Rattle.sound_store.specs.Tasks.{IsGoodAt}
 use Rattle.sound_store.proofs.tasks.check_tasks.Goals as goal
 
@@ -19,4 +19,4 @@ returns-in_err-check_key-clause-told c = if_err c.from_residual.result (IsFlaw c
 pub returns-clause-ok : goal.returns-clause-ok
 returns-clause-ok c =
     let s = c.args.store.now in
-    all-good s c.loop-place.place (let past = c.loop-place-test.false in let end = c.keys-place-end.ensures in let same = ap (λ (t : Tree). length t.tasks) c.tree-tree.ensures in omega (arith, past, end, same)) c.loop-place.invariant
+    all-good s c.loop-place.place (let past = c.loop-place-test.false in let end = c.keys-place-end.ensures in let same = ap (λ (t : TreeOfTasks). length t.tasks) c.tree-tree.ensures in omega (arith, past, end, same)) c.loop-place.invariant

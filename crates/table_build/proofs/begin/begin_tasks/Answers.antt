@@ -4,7 +4,7 @@ use Rattle.std.specs.declared.alloc.Global.{Global}
 use Rattle.pid_numbers.specs.Restore.{is_flagged}
 use Rattle.std.proofs.lemmas.Bool.{cases_eq}
 use Rattle.table_build.specs.Sorted.{IsNotBelow}
-use Rattle.table_build.specs.Stages.{begun}
+use Rattle.table_build.specs.Stages.{as_begun}
 use Rattle.table_build.proofs.Steps.{ungrouped-both}
 use Rattle.table_build.proofs.LineSteps.{lines-push}
 use Rattle.model_laws.proofs.Names.{own_name_in_use}
@@ -25,8 +25,8 @@ loop-index-preserved c =
     record {
       rowed = λ _. subst (λ n. slice_get c.args.saved.now.rows n ≡ Some c.write_next.new.row) (let e : c.loop-index.index ≡ c.loop-index.index + 1 - 1 = omega arith in e) c.write_next.ensures;
       keeps = ungrouped-both c.args.store.now c.loop-index.store c.begin_task.new.store i.keeps b.keeps;
-      lines = lines-push c.loop-index.store c.begin_task.new.store c.loop-index.placed c.add_key.new.self (λ j. option_map begun (slice_get c.args.saved.now.rows j)) c.in_ok-key.key _ i.lines b.adds
-          (ap (λ n. option_map begun (slice_get c.args.saved.now.rows n)) i.keys ∙ ap (option_map begun) c.write_next.ensures) p.keys p.placeholders (ap (λ (l : List Bool). is_flagged l c.in_ok-key.key) i.placeholders);
+      lines = lines-push c.loop-index.store c.begin_task.new.store c.loop-index.placed c.add_key.new.self (λ j. option_map as_begun (slice_get c.args.saved.now.rows j)) c.in_ok-key.key _ i.lines b.adds
+          (ap (λ n. option_map as_begun (slice_get c.args.saved.now.rows n)) i.keys ∙ ap (option_map as_begun) c.write_next.ensures) p.keys p.placeholders (ap (λ (l : List Bool). is_flagged l c.in_ok-key.key) i.placeholders);
       keys = ap length p.keys ∙ length-append c.loop-index.placed.keys.items (c.in_ok-key.key ∷ []) ∙ ap (λ n. n + 1) i.keys;
       groups = ap (λ (v : Vec ℕ Global). v.items) p.groups ∙ i.groups;
       placeholders = ap (λ (v : Vec Bool Global). v.items) p.placeholders ∙ i.placeholders;

@@ -4,7 +4,7 @@ use Rattle.std.specs.Result.{result_err}
 use Rattle.pid_types.specs.Bounds.{greatest_limit}
 use Rattle.pid_types.specs.Controls.{parent_control}
 use Rattle.pid_types.specs.declared.reply.Refusal.TheVariants.{BadLimit, RootControl}
-use Rattle.pids_charge.specs.Charges.{id_at, limit_refusal}
+use Rattle.pids_charge.specs.Charges.{home_id, limit_refusal}
 use Rattle.std.specs.List.{AllByRecursion}
 use Rattle.pid_types.specs.Changes.{limited}
 use Rattle.table_build.proofs.ControlLists.{below-last, limit-good, limited-last, parent-last}
@@ -27,7 +27,7 @@ returns-in-Ok-clause-put c = put c
 
 pub returns-in-Err-clause-refused : goal.returns-in-Err-clause-refused
 returns-in-Err-clause-refused c = λ _ may.
-    let up : parent_control c.make_control.new.store.charges.controls (id_at c.make_control.new.store.charges c.in_ok-key.key) ≡ c.args.control.now.parent =
+    let up : parent_control c.make_control.new.store.charges.controls (home_id c.make_control.new.store.charges c.in_ok-key.key) ≡ c.args.control.now.parent =
     ap (parent_control c.make_control.new.store.charges.controls) c.in_ok-key.ensures.id ∙ ap (λ l. parent_control l c.args.control.now.id) c.in_ok-key.ensures.made
     ∙ parent-last c.args.store.now.charges.controls c.args.control.now c.args.last c.in_ok-key.ensures.above c.requires.below in
     let none : limit_refusal c.make_control.new.store.charges c.in_ok-key.key c.args.control.now.limit ≡ None =

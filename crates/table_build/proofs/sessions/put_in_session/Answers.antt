@@ -1,7 +1,7 @@
 use Rattle.std.proofs.Common.{refl, ap, sym, subst, ◌∙◌, ◌++◌, ◌∷◌, []}
 use Rattle.pid_types.specs.declared.plain.Name.{Name}
 use Rattle.table_build.specs.Lines.{HasFew, SetsLine}
-use Rattle.table_build.specs.Stages.{SetsRow, begun, seated}
+use Rattle.table_build.specs.Stages.{SetsRow, as_begun, seated}
 use Rattle.table_build.proofs.Steps.{bearers-both, bears-kept, places-both, recent-kept}
 use Rattle.table_build.proofs.LineSteps.{line-set, same-both, same-held, same-set, set-same}
 use Rattle.pid_types.specs.Membership.{IsIn}
@@ -16,13 +16,13 @@ use Rattle.table_build.proofs.sessions.put_in_session.Goals as goal
 
 entered : (c : goal.In_ok-add_group) → SetsRow c.bearer.new.store c.enter_session.new.store c.args.key (seated c.args.row.now)
 entered c =
-    let line = c.in_ok-session.ensures.put.lines.forth c.args.key (begun c.args.row.now) c.requires.begun in
+    let line = c.in_ok-session.ensures.put.lines.forth c.args.key (as_begun c.args.row.now) c.requires.begun in
     subst (λ (n : Name). SetsRow c.bearer.new.store c.enter_session.new.store c.args.key (record (seated c.args.row.now) { session = n })) c.in_ok-session.ensures.put.bears.named
-    (c.in_ok-enter_session.ensures.entered (begun c.args.row.now) line.shown)
+    (c.in_ok-enter_session.ensures.entered (as_begun c.args.row.now) line.shown)
 
 went : (c : goal.In_ok-add_group) → SetsLine c.args.store.now c.seat_placeholder.new.store c.args.placed.now c.add_group.new.self c.args.key (seated c.args.row.now)
 went c =
-    let line = c.in_ok-session.ensures.put.lines.forth c.args.key (begun c.args.row.now) c.requires.begun in
+    let line = c.in_ok-session.ensures.put.lines.forth c.args.key (as_begun c.args.row.now) c.requires.begun in
     same-set c.args.store.now c.bearer.new.store c.seat_placeholder.new.store c.args.placed.now c.bearer.new.placed c.add_group.new.self c.args.key (seated c.args.row.now) c.in_ok-session.ensures.put.lines
     (set-same c.bearer.new.store c.enter_session.new.store c.seat_placeholder.new.store c.bearer.new.placed c.bearer.new.placed c.add_group.new.self c.args.key (seated c.args.row.now)
     (line-set c.bearer.new.store c.enter_session.new.store c.bearer.new.placed c.args.key (seated c.args.row.now) (entered c) line.real)
@@ -36,8 +36,8 @@ part-in c text part inside =
     let b = c.in_ok-enter_session.ensures in
     let d = c.in_ok-group.ensures in
     let e = c.in_ok-seat_placeholder.ensures in
-    let line = a.put.lines.forth c.args.key (begun c.args.row.now) c.requires.begun in
-    let entered = part-entered c.args.store.now c.bearer.new.store c.enter_session.new.store text c.args.placed.now c.bearer.new.placed c.args.key c.args.row.now _ part inside a.put.rows a.put.keeps.places (b.entered (begun c.args.row.now) line.shown) refl b.keeps.places in
+    let line = a.put.lines.forth c.args.key (as_begun c.args.row.now) c.requires.begun in
+    let entered = part-entered c.args.store.now c.bearer.new.store c.enter_session.new.store text c.args.placed.now c.bearer.new.placed c.args.key c.args.row.now _ part inside a.put.rows a.put.keeps.places (b.entered (as_begun c.args.row.now) line.shown) refl b.keeps.places in
     let second = part-placeholder c.enter_session.new.store c.bearer-2.new.store text d.put.keeps.places entered c.bearer.new.placed c.bearer-2.new.placed c.args.row.now.group d.put.rows (group_in_use text.rows c.args.row.now inside) in
     part-seats c.bearer-2.new.store c.seat_placeholder.new.store text e.keeps.places second c.bearer-2.new.placed c.in_ok-group.group _ e.seat
 
@@ -92,8 +92,8 @@ returns-in_err-group-clause-refused c =
     if_err c.from_residual-in_err-group.result _ c.in_err-group.field-0.0 c.from_residual-in_err-group.ensures.1 (λ not text sound part inside.
     let a = c.in_ok-session.ensures in
     let b = c.in_ok-enter_session.ensures in
-    let line = a.put.lines.forth c.args.key (begun c.args.row.now) c.requires.begun in
-    let entered = part-entered c.args.store.now c.bearer.new.store c.enter_session.new.store text c.args.placed.now c.bearer.new.placed c.args.key c.args.row.now _ part inside a.put.rows a.put.keeps.places (b.entered (begun c.args.row.now) line.shown) refl b.keeps.places in
+    let line = a.put.lines.forth c.args.key (as_begun c.args.row.now) c.requires.begun in
+    let entered = part-entered c.args.store.now c.bearer.new.store c.enter_session.new.store text c.args.placed.now c.bearer.new.placed c.args.key c.args.row.now _ part inside a.put.rows a.put.keeps.places (b.entered (as_begun c.args.row.now) line.shown) refl b.keeps.places in
     c.in_err-group.ensures.refused not text sound entered (group_in_use text.rows c.args.row.now inside))
 
 pub returns-in_err-add_group-clause-refused : goal.returns-in_err-add_group-clause-refused

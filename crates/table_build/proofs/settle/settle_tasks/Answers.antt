@@ -1,7 +1,7 @@
 use Rattle.std.proofs.Common.{◌≡◌, ◌≢◌, ◌+◌, ◌≤◌, None, length, Some, ap, sym, ◌∙◌, arith, refl, Option, option_map, slice_get, ◌-◌, subst}
 use Rattle.pid_types.specs.declared.plain.Name.{Name}
 use Rattle.pid_types.specs.declared.plain.Row.{Row}
-use Rattle.table_build.specs.Lines.{IsLine, stage}
+use Rattle.table_build.specs.Lines.{IsRowAt, stage}
 use Rattle.table_build.specs.Stages.{seated}
 use Rattle.task_tree.specs.Tree.{parent_of}
 use Rattle.table_build.proofs.Steps.{bearers-both, bears-kept, grouping-both, places-both, recent-kept}
@@ -21,7 +21,7 @@ settle_task-requires c =
     let row_here : slice_get rows c.loop-index.index ≡ Some c.write_next.new.row = c.write_next.ensures in
     let key_here : slice_get c.args.placed.now.keys.items c.loop-index.index ≡ Some c.in-Some-Some.key.now =
     get-found c.args.placed.now.keys.items c.deref.result.now c.loop-index.index c.in-Some-Some.key.now c.deref.ensures.value c.in-Some-Some.ensures.lookup.3.0 c.in-Some-Some.ensures.lookup.1 in
-    let line : IsLine c.loop-index.store c.args.placed.now c.in-Some-Some.key.now (seated c.write_next.new.row) =
+    let line : IsRowAt c.loop-index.store c.args.placed.now c.in-Some-Some.key.now (seated c.write_next.new.row) =
     line-at c.loop-index.store c.args.placed.now (stage (λ r. r) seated rows c.loop-index.index) c.loop-index.index c.in-Some-Some.key.now (seated c.write_next.new.row) i.lines key_here
     (stage-todo (λ r. r) seated rows c.loop-index.index c.write_next.new.row row_here) in
     let group_here : slice_get c.args.placed.now.groups.items c.loop-index.index ≡ Some c.in-Some-Some.group.now =
@@ -44,7 +44,7 @@ loop-index-preserved c =
     let row_here : slice_get rows c.loop-index.index ≡ Some c.write_next.new.row = c.write_next.ensures in
     let key_here : slice_get c.args.placed.now.keys.items c.loop-index.index ≡ Some c.in-Some-Some.key.now =
     get-found c.args.placed.now.keys.items c.deref.result.now c.loop-index.index c.in-Some-Some.key.now c.deref.ensures.value c.in-Some-Some.ensures.lookup.3.0 c.in-Some-Some.ensures.lookup.1 in
-    let line : IsLine c.loop-index.store c.args.placed.now c.in-Some-Some.key.now (seated c.write_next.new.row) =
+    let line : IsRowAt c.loop-index.store c.args.placed.now c.in-Some-Some.key.now (seated c.write_next.new.row) =
     line-at c.loop-index.store c.args.placed.now (stage (λ r. r) seated rows c.loop-index.index) c.loop-index.index c.in-Some-Some.key.now (seated c.write_next.new.row) i.lines key_here
     (stage-todo (λ r. r) seated rows c.loop-index.index c.write_next.new.row row_here) in
     let j = c.in_ok-join_group.ensures in
@@ -91,7 +91,7 @@ returns-in_err-join_group-clause-refused c =
     let row_here : slice_get rows c.loop-index.index ≡ Some row = c.write_next.ensures in
     let key_here : slice_get p.keys.items c.loop-index.index ≡ Some key =
     get-found p.keys.items c.deref.result.now c.loop-index.index key c.deref.ensures.value c.in-Some-Some.ensures.lookup.3.0 c.in-Some-Some.ensures.lookup.1 in
-    let line : IsLine s p key (seated row) = line-at s p (stage (λ r. r) seated rows c.loop-index.index) c.loop-index.index key (seated row) i.lines key_here (stage-todo (λ r. r) seated rows c.loop-index.index row row_here) in
+    let line : IsRowAt s p key (seated row) = line-at s p (stage (λ r. r) seated rows c.loop-index.index) c.loop-index.index key (seated row) i.lines key_here (stage-todo (λ r. r) seated rows c.loop-index.index row row_here) in
     let group_here : slice_get p.groups.items c.loop-index.index ≡ Some c.in-Some-Some.group.now =
     get-found p.groups.items c.deref-in-loop-index.result.now c.loop-index.index c.in-Some-Some.group.now c.deref-in-loop-index.ensures.value c.in-Some-Some.ensures'.lookup.3.0 c.in-Some-Some.ensures'.lookup.1 in
     on_err c.from_residual.result _ (λ sound part seats.
@@ -109,7 +109,7 @@ returns-in_err-settle_task-clause-refused c =
     let row_here : slice_get rows c.loop-index.index ≡ Some row = c.write_next.ensures in
     let key_here : slice_get p.keys.items c.loop-index.index ≡ Some key =
     get-found p.keys.items c.deref.result.now c.loop-index.index key c.deref.ensures.value c.in-Some-Some.ensures.lookup.3.0 c.in-Some-Some.ensures.lookup.1 in
-    let line : IsLine s p key (seated row) = line-at s p (stage (λ r. r) seated rows c.loop-index.index) c.loop-index.index key (seated row) i.lines key_here (stage-todo (λ r. r) seated rows c.loop-index.index row row_here) in
+    let line : IsRowAt s p key (seated row) = line-at s p (stage (λ r. r) seated rows c.loop-index.index) c.loop-index.index key (seated row) i.lines key_here (stage-todo (λ r. r) seated rows c.loop-index.index row row_here) in
     let t = c.join_group.new.store in
     let j = c.in_ok-join_group.ensures in
     let inside = at_place rows c.loop-index.index row row_here in

@@ -1,7 +1,7 @@
 use Rattle.std.proofs.Common.{◌∙◌, ◌++◌, ap, arith, map, subst}
 use Rattle.table_text.specs.Ranges.{Each}
 use Rattle.table_text.specs.Reading.{IsHeldControl, IsHeldSpace}
-use Rattle.table_text.specs.Texts.{head_line, without_count}
+use Rattle.table_text.specs.Texts.{head_line, control_shown}
 use Rattle.table_lines.proofs.Held.{controls-held}
 use Rattle.table_lines.proofs.Parts.{told}
 use Rattle.table_lines.proofs.dump.push_said.Goals as goal
@@ -17,6 +17,6 @@ pub returns-clause-held : goal.returns-clause-held
 returns-clause-held c = record {
   rows = c.in_ok-push_tasks.ensures.held;
   spaces = subst (Each IsHeldSpace) (c.deref.ensures.value ∙ c.in_ok-spaces.ensures) c.spaces_fit.ensures;
-  controls = controls-held c.args.table.now (subst (λ rows. Each IsHeldControl (map without_count rows)) (c.deref-3.ensures.value ∙ c.in_ok-controls.ensures) c.controls_fit.ensures);
+  controls = controls-held c.args.table.now (subst (λ rows. Each IsHeldControl (map control_shown rows)) (c.deref-3.ensures.value ∙ c.in_ok-controls.ensures) c.controls_fit.ensures);
   pid_max = (let v = c.pid_max.ensures.value in let g = c.pid_max.ensures.good.1 in omega (arith, v, g));
 }

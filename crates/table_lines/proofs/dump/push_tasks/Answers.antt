@@ -1,7 +1,7 @@
 use Rattle.std.proofs.Common.{◌+◌, ◌++◌, ap, arith, subst}
 use Rattle.std.proofs.lemmas.Grind.{common_steps}
 use Rattle.std.specs.List.{flat_map}
-use Rattle.table_text.specs.Texts.{task_line}
+use Rattle.table_text.specs.Texts.{task_text_line}
 use Rattle.translate.proofs.Walks.{all-from}
 use Rattle.pid_types.specs.Membership.{IsIn}
 use Rattle.table_text.specs.Ranges.{Each}
@@ -11,7 +11,7 @@ use Rattle.table_lines.proofs.dump.push_tasks.Goals as goal
 
 pub loop-number-init : goal.loop-number-init
 loop-number-init c = record {
-  walk = ap (λ rows. c.args.text.now.items ++ flat_map task_line rows) (all-from c.args.table.now.rows);
+  walk = ap (λ rows. c.args.text.now.items ++ flat_map task_text_line rows) (all-from c.args.table.now.rows);
   held = λ each. subst (Each IsHeldRow) (all-from c.args.table.now.rows) each;
   below = omega arith;
 }

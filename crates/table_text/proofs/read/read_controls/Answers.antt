@@ -1,6 +1,6 @@
 use Rattle.std.proofs.Common.{◌≡◌, ◌<◌, List, [], ◌∷◌, ◌++◌, sym, subst, arith}
 use Rattle.pid_types.specs.declared.plain.Control.{Control}
-use Rattle.table_text.specs.Texts.{control_line}
+use Rattle.table_text.specs.Texts.{control_text_line}
 use Rattle.table_text.specs.Ranges.{Each, IsControlOfWords}
 use Rattle.table_text.specs.Reading.{IsHeldControl}
 use Rattle.table_text.proofs.Each.{Each-more}
@@ -22,7 +22,7 @@ loop-at-preserved c =
     pushed c.push.result _ c.loop-at.controls.items _ c.push.ensures.items (sym c.if-is_err.ensures.value) in
     record {
       within = c.in-Some.ensures.read.within;
-      read = lines_more control_line c.args.text.now c.args.at.now c.loop-at.at c.read_control.new.at c.loop-at.controls.items _ c.in-Some.control items before.read c.in-Some.ensures.read.read;
+      read = lines_more control_text_line c.args.text.now c.args.at.now c.loop-at.at c.read_control.new.at c.loop-at.controls.items _ c.in-Some.control items before.read c.in-Some.ensures.read.read;
       words = subst (λ (xs : List Control). Each IsControlOfWords xs) (sym items) (Each-more IsControlOfWords c.loop-at.controls.items c.in-Some.control before.words c.in-Some.ensures.read.words);
     }
 
@@ -30,5 +30,5 @@ pub returns-in_default-clause-missing : goal.returns-in_default-clause-missing
 returns-in_default-clause-missing c =
     let before = c.loop-at.invariant in
     (λ other xs rest held ends is.
-    no_lines control_line 99 control_begins IsControlOfWords IsHeldControl control_told words_of_control c.args.text.now c.args.at.now c.loop-at.at c.loop-at.controls.items
+    no_lines control_text_line 99 control_begins IsControlOfWords IsHeldControl control_told words_of_control c.args.text.now c.args.at.now c.loop-at.at c.loop-at.controls.items
     c.requires before.within before.read before.words xs rest held ends is _ (c.begins_with.ensures.there c.loop-at-test.true) c.in_default.ensures.missing)

@@ -2,7 +2,7 @@
 use Rattle.std.proofs.Common.{◌<◌, ℕ, List, length, codes, sym, subst, arith, ◌∙◌}
 use Rattle.pid_script.specs.Answers.{joined}
 use Rattle.table_text.specs.Ranges.{IsWord, Each}
-use Rattle.table_text.specs.Reading.{IsRead, Stops}
+use Rattle.table_text.specs.Reading.{IsRead, StopsDigits}
 use Rattle.table_text.proofs.Each.{Each-more}
 use Rattle.table_text.proofs.Scanned.{numbers_more, if_none, nothing_read}
 use Rattle.table_text.proofs.Named.{no_first, no_further}
@@ -34,7 +34,7 @@ returns-then-not-read_mark-clause-whole c =
 
 pub returns-then-not-read_mark-clause-stops : goal.returns-then-not-read_mark-clause-stops
 returns-then-not-read_mark-clause-stops c =
-    subst Stops
+    subst StopsDigits
     (nothing_read c.args.text.now c.loop-further.at c.read_mark.new.at c.read_mark.result (codes ",") c.loop-further.invariant.within c.read_mark.ensures.within
     c.if-not-read_mark.true c.read_mark.ensures.read) c.loop-further.invariant.stops
 

@@ -1,7 +1,7 @@
 use Rattle.std.proofs.Common.{Some, None, slice_set, refl, sym, subst, ◌∙◌}
 use Rattle.std.proofs.lemmas.List.{length-set, get_or-set_same, get_or-set_other}
 use Rattle.pid_types.specs.declared.plain.Life.TheVariants.{Zombie}
-use Rattle.task_tree.specs.Tree.{IsTree}
+use Rattle.task_tree.specs.Tree.{IsTaskTree}
 use Rattle.task_tree.proofs.Changes as changes
 use Rattle.task_tree.proofs.TaskTree.finish.Goals as goal
 
@@ -9,7 +9,7 @@ pub enter_ended-requires-clause-apart : goal.enter_ended-requires-clause-apart
 enter_ended-requires-clause-apart c = λ k p e. let h = rw (← c.self.view_is) at c.requires.apart in h k p e
 
 pub invariant_of-self : goal.invariant_of-self
-invariant_of-self c = subst (λ tasks. IsTree tasks c.self.inside.children c.enter_ended.new.ended) (sym c.set.ensures) (
+invariant_of-self c = subst (λ tasks. IsTaskTree tasks c.self.inside.children c.enter_ended.new.ended) (sym c.set.ensures) (
     let there = rw (← c.self.view_is) at c.requires.there in
     let keys = changes.task_in_range c.self.inside.tasks c.args.key c.args.task there in
     let task = record c.args.task { life = Zombie c.args.end } in

@@ -1,7 +1,7 @@
 use Rattle.std.proofs.Common.{◌∙◌, ◌++◌, sym, ap, subst, filter, map, nat_le, option_map}
 use Rattle.pid_types.proofs.General.{held}
 use Rattle.pid_types.specs.Controls.{control_at}
-use Rattle.pids_charge.specs.Charges.{id_at}
+use Rattle.pids_charge.specs.Charges.{home_id}
 use Rattle.task_table.specs.View.{state_of}
 use Rattle.translate.specs.Inside.{controls_inside, AreFrom}
 use Rattle.translate.proofs.Inner.{controls-from, all-stand}
@@ -29,6 +29,6 @@ returns c =
       controls_inside (state_of s) c.args.id,
       ap (option_map (λ x. controls_inside (state_of s) c.args.id)) g.1,
       subst (AreFrom (controls_inside (state_of s) c.args.id) c.args.from)
-          (sym (c.in_ok-gather_controls.ensures ∙ ap (λ ns. ns ++ filter (nat_le c.args.from) (map (id_at s.charges) c.children-keys.result)) c.new-ids.ensures.items))
+          (sym (c.in_ok-gather_controls.ensures ∙ ap (λ ns. ns ++ filter (nat_le c.args.from) (map (home_id s.charges) c.children-keys.result)) c.new-ids.ensures.items))
           (controls-from s.charges c.requires.sound.coherent.controls.rising key c.args.id found.id c.children-keys.result inner c.args.from),
     )

@@ -1,6 +1,6 @@
 use Rattle.std.proofs.Common.{◌∙◌, sym, ap, subst, ◌++◌}
 use Rattle.pid_types.specs.declared.call.Kind.TheVariants as kinds
-use Rattle.translate.specs.Gathered.{numbers_from, AreGathered}
+use Rattle.translate.specs.Gathered.{numbers_of_keys, AreGathered}
 use Rattle.translate.proofs.Pages.{gathered_group, nobody, in_room}
 use Rattle.translate.proofs.page.group_members.Goals as goal
 
@@ -11,7 +11,7 @@ pub returns : goal.returns
 returns c =
     let s = c.args.store.now in
     subst (AreGathered s c.args.space kinds.Group c.args.group c.args.from)
-    (sym (c.in_ok-gather.ensures ∙ ap (λ ns. ns ++ numbers_from s.numbering c.args.space c.args.from c.group_members-found.result) c.new-numbers.ensures.items))
+    (sym (c.in_ok-gather.ensures ∙ ap (λ ns. ns ++ numbers_of_keys s.numbering c.args.space c.args.from c.group_members-found.result) c.new-numbers.ensures.items))
     (gathered_group s c.laws.ensures c.args.space c.args.from c.args.group c.group_members-found.result (rw c.members-members.ensures at c.group_members-found.ensures))
 
 pub returns-then-not-any_in_group : goal.returns-then-not-any_in_group

@@ -1,6 +1,6 @@
 use Rattle.std.proofs.Common.{sym, subst}
 use Rattle.task_table.specs.View.{row_of, state_of}
-use Rattle.translate.specs.Pages.{numbers_belonging, AreListed}
+use Rattle.translate.specs.Pages.{numbers_belonging, AreListedFrom}
 use Rattle.translate.proofs.Pages.{listed, listed_none}
 use Rattle.translate.proofs.page.list_belonging.Goals as goal
 
@@ -14,6 +14,6 @@ pub returns-in_default : goal.returns-in_default
 returns-in_default c =
     let s = c.args.store.now in
     let caller = row_of s c.args.caller.now.key c.args.caller.now.task in
-    subst (AreListed (numbers_belonging (state_of s) caller c.args.kind c.args.page.now.number) c.args.page.now.from) (sym c.new.ensures.items)
+    subst (AreListedFrom (numbers_belonging (state_of s) caller c.args.kind c.args.page.now.number) c.args.page.now.from) (sym c.new.ensures.items)
     (listed_none s c.laws.ensures c.requires.parents c.args.caller.now.space caller c.requires.caller.own c.args.kind c.args.page.now.number
     c.find_owner.result c.find_owner.ensures c.args.page.now.from c.in_default.is)

@@ -3,8 +3,8 @@ use Rattle.std.proofs.lemmas.Result.{IfOk-weaker}
 use Rattle.std.specs.Option.{option_map_or}
 use Rattle.pid_types.specs.declared.plain.Row.{Row}
 use Rattle.task_table.specs.View.{name_at, state_of}
-use Rattle.translate.specs.Members.{numbers_in}
-use Rattle.translate.specs.Pages.{AreListed}
+use Rattle.translate.specs.Members.{visible_numbers}
+use Rattle.translate.specs.Pages.{AreListedFrom}
 use Rattle.translate.proofs.page.list_namespace.Goals as goal
 
 pub returns : goal.returns
@@ -13,6 +13,6 @@ returns c =
     let caller = c.args.caller.now in
     let task = c.in-Some.task in
     IfOk-weaker c.list_members.result _ _ (λ r all.
-    subst (λ ns. AreListed ns c.args.page.now.from r.items)
-    (ap (λ o. option_map_or (λ (row : Row). numbers_in (state_of s) c.args.reach row.name.space (name_at s.numbering caller.key).space) o []) c.in-Some.ensures.row)
+    subst (λ ns. AreListedFrom ns c.args.page.now.from r.items)
+    (ap (λ o. option_map_or (λ (row : Row). visible_numbers (state_of s) c.args.reach row.name.space (name_at s.numbering caller.key).space) o []) c.in-Some.ensures.row)
     (all (name_at s.numbering task.key).space (name_at s.numbering caller.key).space c.in-Some.ensures.own c.requires.own)) c.list_members.ensures

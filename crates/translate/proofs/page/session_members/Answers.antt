@@ -1,6 +1,6 @@
 use Rattle.std.proofs.Common.{◌∙◌, sym, ap, subst, ◌++◌, arith}
 use Rattle.pid_types.specs.declared.call.Kind.TheVariants as kinds
-use Rattle.translate.specs.Gathered.{numbers_from, AreGathered}
+use Rattle.translate.specs.Gathered.{numbers_of_keys, AreGathered}
 use Rattle.translate.proofs.Pages.{nobody, all_in_room}
 use Rattle.translate.proofs.Groups.{gathered_session, roomy}
 use Rattle.translate.proofs.page.session_members.Goals as goal
@@ -14,7 +14,7 @@ returns c =
     let s = c.args.store.now in
     let some = c.in_ok-gather_groups.ensures in
     subst (AreGathered s c.args.space kinds.Session c.args.session c.args.from)
-    (sym (some.added ∙ ap (λ ns. ns ++ numbers_from s.numbering c.args.space c.args.from some.keys) c.new-numbers.ensures.items))
+    (sym (some.added ∙ ap (λ ns. ns ++ numbers_of_keys s.numbering c.args.space c.args.from some.keys) c.new-numbers.ensures.items))
     (gathered_session s c.laws.ensures c.args.space c.args.from c.args.session c.session_groups-groups.result some.keys
     (rw c.members-members.ensures at c.session_groups-groups.ensures) some.each)
 

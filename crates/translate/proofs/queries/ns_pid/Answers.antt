@@ -4,7 +4,7 @@ use Rattle.pid_types.specs.declared.plain.Row.{Row}
 use Rattle.pid_types.specs.declared.reply.Reply.{Reply}
 use Rattle.pid_types.specs.declared.reply.Reply.TheVariants.{Levels, Refused}
 use Rattle.pid_types.specs.declared.reply.Refusal.TheVariants.{NoCaller, NoTask}
-use Rattle.pid_types.specs.Names.{numbers_from, task_at as task_in}
+use Rattle.pid_types.specs.Names.{numbers_from, task_numbered}
 use Rattle.pid_types.specs.Queries.{ns_pid}
 use Rattle.pid_numbers.specs.Numbering.{levels_of}
 use Rattle.task_table.specs.View.{name_at, state_of}
@@ -21,7 +21,7 @@ returns c =
     let u = named s c.laws.ensures task.key task.task c.in-Some-find_task.ensures.there.0 in
     let levels : Row → Reply = λ row. Levels (record { items = numbers_from (state_of s).spaces row.name space }) in
     let told : List ℕ → Reply = λ ns. Levels (record { items = ns }) in
-    sym (ap (λ o. option_map_or (λ (caller : Row). option_map_or (λ (row : Row). Levels (record { items = numbers_from (state_of s).spaces row.name caller.name.space })) (task_in (state_of s) caller.name.space c.args.target) (Refused NoTask)) o (Refused NoCaller))
+    sym (ap (λ o. option_map_or (λ (caller : Row). option_map_or (λ (row : Row). Levels (record { items = numbers_from (state_of s).spaces row.name caller.name.space })) (task_numbered (state_of s) caller.name.space c.args.target) (Refused NoTask)) o (Refused NoCaller))
     c.in-Some.ensures.row
     ∙ ap (λ o. option_map_or levels o (Refused NoTask)) (c.in-Some-find_task.ensures.row space c.in-Some.ensures.id)
     ∙ ap told (levels-are s.numbering c.laws.ensures.numbering c.in-Some.found.space space task.key u.0 c.in-Some.ensures.id u.1

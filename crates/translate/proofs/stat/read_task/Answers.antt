@@ -1,7 +1,7 @@
 use Rattle.std.proofs.Common.{◌≡◌, ◌∙◌, sym, ap}
 use Rattle.pid_types.specs.Names.{numbers_from}
 use Rattle.pid_numbers.specs.Numbering.{levels_of}
-use Rattle.pids_charge.specs.Charges.{Charges, id_at as home_id}
+use Rattle.pids_charge.specs.Charges.{Charges, home_id}
 use Rattle.task_table.specs.View.{name_at, state_of}
 use Rattle.task_table.proofs.Keys.{levels-are}
 use Rattle.task_table.proofs.LookUps.{named}

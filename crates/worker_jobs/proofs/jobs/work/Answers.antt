@@ -3,7 +3,7 @@ use Rattle.std.proofs.Common.{rules, ◌+◌, ◌<◌, ◌++◌, ◌∷◌, [], 
 use Rattle.std.proofs.lemmas.List.{take_all, append-nil}
 use Rattle.pid_types.specs.declared.call.Call.{Call}
 use Rattle.pid_types.specs.declared.call.Call.TheVariants.{Fork}
-use Rattle.worker_jobs.specs.Job.{IsAnswered}
+use Rattle.worker_jobs.specs.Job.{IsServed}
 use Rattle.worker_jobs.proofs.Parts.{one_refused, one_answered, one_made, below_more}
 use Rattle.worker_jobs.proofs.jobs.work.Goals as goal
 use Rattle.worker_jobs.proofs.jobs.work.Goals.{in-Ok, in-Err}
@@ -42,7 +42,7 @@ loop-i-preserved g c =
 pub returns-clause-made : goal.returns-clause-made
 returns-clause-made g c =
     let was = c.loop-i.invariant in
-    (was.3.0, was.3.1, subst (λ cs. IsAnswered cs was.3.0 c.loop-i.receipts.items) (take_all c.loop-i.i c.args.calls.now (search rules)) was.3.2)
+    (was.3.0, was.3.1, subst (λ cs. IsServed cs was.3.0 c.loop-i.receipts.items) (take_all c.loop-i.i c.args.calls.now (search rules)) was.3.2)
 
 pub returns-in_err-receipts-clause-untouched : goal.returns-in_err-receipts-clause-untouched
 returns-in_err-receipts-clause-untouched g c = search rules

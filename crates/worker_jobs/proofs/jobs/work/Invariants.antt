@@ -1,6 +1,6 @@
 use Rattle.std.proofs.Common.{◌≡◌, ◌≤◌, ◌<◌, ◌+◌, ℕ, List, take, length}
 use Rattle.std.specs.Prelude.{vec_capacity}
-use Rattle.worker_jobs.specs.Job.{Answered, Fulfils, IsAnswered}
+use Rattle.worker_jobs.specs.Job.{Answered, Fulfils, IsServed}
 use Rattle.worker_jobs.proofs.jobs.work.Given as goal
 
 abbrev pub invariant-loop-i : goal.invariant-loop-i
@@ -8,5 +8,5 @@ invariant-loop-i g l =
     Fulfils (take l.i l.calls) l.receipts.items l.refused
     × (length l.calls ≤ vec_capacity l.receipts)
     × (g.D.Desk.worker l.desk ≡ g.D.Desk.worker l.fn.desk)
-    × ((answers : List Answered) × g.D.Desk.made l.fn.desk l.desk answers × IsAnswered (take l.i l.calls) answers l.receipts.items)
+    × ((answers : List Answered) × g.D.Desk.made l.fn.desk l.desk answers × IsServed (take l.i l.calls) answers l.receipts.items)
     × ((k : ℕ) → k < l.i → g.G.Gate.was_before l.gate l.worker (k + 1) × g.G.Gate.was_after l.gate l.worker (k + 1))

@@ -1,5 +1,5 @@
 use Rattle.pid_numbers.proofs.Words.{◌≡◌, ◌∙◌, ◌<◌, length, map, get_or, None, Some, IsSome, sym, ap, subst, option_map, vec_capacity, more, identifier_of}
-use Rattle.pid_numbers.proofs.Words.{name_at, shown}
+use Rattle.pid_numbers.proofs.Words.{ident_at, shown}
 use Rattle.ns_tree.proofs.Filled as filled
 use Rattle.pid_numbers.proofs.Seats as seats
 use Rattle.pid_numbers.proofs.idents.Idents.more_use.Goals as goal
@@ -8,7 +8,7 @@ use Rattle.pid_numbers.proofs.idents.Idents.more_use.Goals as goal
 found : (c : goal.After-self-1) → (c.args.key < length c.self.inside.places.items) × ((0 < length c.index_mut.result.now.numbers) × (get_or (map shown c.self.inside.places.items) c.args.key None ≡ Some c.index_mut.result.now))
 found c =
     let places = c.self.inside.places.items in
-    let x = seats.some-named (get_or (map shown places) c.args.key None) (subst (λ t. IsSome (name_at t c.args.key)) (sym c.self.view_is) c.requires.there) in
+    let x = seats.some-named (get_or (map shown places) c.args.key None) (subst (λ t. IsSome (ident_at t c.args.key)) (sym c.self.view_is) c.requires.there) in
     filled.there seats.numbers_of (λ x. x) places c.args.key x.0 c.index_mut.result.now x.1 c.index_mut.ensures.value
 
 pub invariant_of-self : goal.invariant_of-self
@@ -19,7 +19,7 @@ invariant_of-self c =
 pub returns-clause-here : goal.returns-clause-here
 returns-clause-here c u is =
     let f = found c in
-    let was : Some (identifier_of c.index_mut.result.now) ≡ Some u = sym (ap (option_map identifier_of) f.1.1) ∙ ap (λ t. name_at t c.args.key) c.self.view_is ∙ is in
+    let was : Some (identifier_of c.index_mut.result.now) ≡ Some u = sym (ap (option_map identifier_of) f.1.1) ∙ ap (λ t. ident_at t c.args.key) c.self.view_is ∙ is in
     let same : identifier_of c.index_mut.result.now ≡ u = cc in
     ap (option_map identifier_of) (seats.rewritten c.self.inside.places.items c.args.key c.index_mut.result.now c.raise.new.x f.0 f.1.0 f.1.1 c.raise.ensures.numbers)
     ∙ ap Some c.raise.ensures.uses ∙ ap (λ w. Some (more c.args.kind w)) same
@@ -28,4 +28,4 @@ pub returns-clause-others : goal.returns-clause-others
 returns-clause-others c j differs =
     let f = found c in
     ap (option_map identifier_of) (seats.others c.self.inside.places.items c.args.key c.index_mut.result.now c.raise.new.x f.0 f.1.0 f.1.1 c.raise.ensures.numbers j differs)
-    ∙ ap (λ t. name_at t j) c.self.view_is
+    ∙ ap (λ t. ident_at t j) c.self.view_is

@@ -1,6 +1,6 @@
 use Rattle.std.proofs.Common.{ℕ, ◌-◌, List, length, refl, sym, ◌∙◌, subst}
 use Rattle.replica.specs.Log.{Log}
-use Rattle.replica.specs.Snapshots.{Fails, Restores}
+use Rattle.replica.specs.Snapshots.{FailsAtHead, Restores}
 use Rattle.replica.specs.HeadReading.{log_of, words_of_settings, words_of_state}
 use Rattle.replica.proofs.Heads.{Settings, State, failed, found_head, no_head, no_settings, no_state, other_head, rest_within, restores, unread}
 use Rattle.replica.proofs.replica.Replica.read_head.Goals as goal
@@ -18,7 +18,7 @@ returns-in_err-rest-clause-err c =
     let s : Settings × List ℕ = (words_of_settings c.in-Some.settings, c.in-Some.rest.now) in
     let t : State × List ℕ = (words_of_state c.in-Some-read_state.state, c.in-Some-read_state.lines.now) in
     let fails = unread c.args.text.now c.args.pid_max c.args.model s t c.in_err-rest.field-0.0 c.in-Some.ensures c.in-Some-read_state.ensures c.in_err-rest.ensures.err in
-    failed (Fails c.args.text.now c.args.pid_max c.args.model) c.from_residual.result c.in_err-rest.field-0.0 c.from_residual.ensures.1 fails
+    failed (FailsAtHead c.args.text.now c.args.pid_max c.args.model) c.from_residual.result c.in_err-rest.field-0.0 c.from_residual.ensures.1 fails
 
 pub returns-then-not-has_settings-clause-err : goal.returns-then-not-has_settings-clause-err
 returns-then-not-has_settings-clause-err c =
