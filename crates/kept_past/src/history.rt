@@ -110,6 +110,18 @@ impl History {
         self.ring.get(self.lag + place as usize)
     }
 
+    /// Whose call the kept entry at a place has. It reads nothing else of it.
+    #[inline(always)]
+    pub fn worker_at(&self, place: u64) -> Option<usize>
+        ensures { result ≡ option_map (λ (e : Entry). e.worker) (slice_get self.now.entries place) }
+    {
+        let all = self.ring.len();
+        if place >= (all - self.lag) as u64 {
+            return None;
+        }
+        Some(self.ring.worker_at(self.lag + place as usize))
+    }
+
     /// The reply of the last kept entry.
     pub fn last_reply(&self) -> Option<Reply>
         ensures { result

@@ -1,5 +1,5 @@
-//! The entries of a history, at 64 bytes each. Where a reply is a list of numbers, these stand beside the entry, in
-//! memory that is there before the call is made.
+//! The entries of a history, at 64 bytes each. Where a reply is a list of more than five numbers, these stand beside
+//! the entry, in memory that is there before the call is made.
 ghost use Rattle.std.specs.Prelude.{◌≡◌, ◌+◌, ◌-◌, ◌<◌, ◌≤◌, [], ◌∷◌, ◌++◌, length, drop, slice_get, vec_len, OnOk};
 ghost use Rattle.std.specs.{Prelude.{OnErr, IfSome, Some}, Option.{option_map}};
 ghost use Rattle.pid_types.specs.{declared.entry.Entry.{Entry}, Short.{reply_of}};
@@ -42,11 +42,11 @@ enum SlotReply {
     Short(ShortReply),
     /// It is a list, and these are its numbers.
     Few(Few),
-    /// It is a list, and its numbers stand here.
+    /// It is a list of more, and its numbers stand here.
     Many(Box<ArrayVec<Pid, LEVELS>>),
 }
 
-/// An entry, but for the numbers of a list.
+/// An entry, but for the numbers of a list of many.
 #[derive(Drop)]
 struct Slot {
     worker: usize,
@@ -209,7 +209,7 @@ impl Ring {
 impl Few {
     /// A list of the numbers.
     fn of(numbers: &[Pid]) -> Few
-        requires { length numbers.now ≤ 5 }
+        requires { length numbers.now ≤ FEW }
         ensures { result ≡ numbers.now }
     {
         let mut few = Few {
@@ -223,7 +223,7 @@ impl Few {
     /// Writes the numbers over those that it has.
     #[inline(always)]
     fn fill(&mut self, numbers: &[Pid])
-        requires { length numbers.now ≤ 5 }
+        requires { length numbers.now ≤ FEW }
         ensures { self.new ≡ numbers.now }
     {
         self.numbers[..numbers.len()].copy_from_slice(numbers);
@@ -233,7 +233,7 @@ impl Few {
     /// The numbers.
     fn as_slice(&self) -> &[Pid]
         ensures numbers { result.now ≡ self.now }
-        ensures few { length result.now ≤ 5 }
+        ensures few { length result.now ≤ FEW }
     {
         &self.numbers[..self.count as usize]
     }

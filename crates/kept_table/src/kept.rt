@@ -3,7 +3,7 @@
 //! [`Kept::make_call_keeping`] bounds it.
 ghost use Rattle.std.specs.Prelude.{◌≡◌, ℕ, ◌+◌, ◌-◌, ◌^◌, ◌<◌, ◌≤◌, ◌==◌, [], ◌∷◌, ◌++◌, ◌↔◌, length, IsTrue, sum};
 ghost use Rattle.std.specs.Prelude.{slice_index, IfOk, OnOk, OnErr, IsOk, IfSome, Some, None, Err, ◌≢◌, ◌⊎◌, true};
-ghost use Rattle.std.specs.Prelude.{false};
+ghost use Rattle.std.specs.{Prelude.{false}, Option.{option_map}};
 ghost use Rattle.{
   pid_types.specs.{declared.plain.Control.{Control}, Membership.{IsIn}, declared.entry.Entry.{Entry}, Shown.{Shows}},
   pid_types.specs.{Sound.{IsBelow}, Step.{step, may_grow}, Short.{reply_of}},
@@ -224,6 +224,17 @@ impl Kept {
             return None;
         }
         self.history.entry(ordinal - self.first_kept)
+    }
+
+    /// Whose call the entry with the ordinal has; none where [`Kept::entry`] has none. It costs less than that.
+    #[inline(always)]
+    pub fn worker_of(&self, ordinal: u64) -> Option<usize>
+        ensures { result ≡ option_map (λ (e : Entry). e.worker) (kept_entry self.now ordinal) }
+    {
+        if ordinal < self.first_kept {
+            return None;
+        }
+        self.history.worker_at(ordinal - self.first_kept)
     }
 
     /// The reply of the last kept entry; none where the history is empty. It costs a copy.

@@ -5,10 +5,10 @@
 //! call, and by the numbers of a list, until a [`Record::checkpoint`] empties it. [`Record::make_call_keeping`] bounds
 //! it.
 ghost use Rattle.std.specs.Prelude.{◌≡◌, ℕ, ◌+◌, ◌^◌, ◌<◌, ◌≤◌, [], ◌∷◌, ◌++◌, ◌↔◌, IsTrue, IfOk, OnOk, OnErr, IsOk};
-ghost use Rattle.std.specs.Prelude.{IfSome, Some, None, Err, ◌≢◌, ◌⊎◌, true, length, sum};
+ghost use Rattle.std.specs.{Prelude.{IfSome, Some, None, Err, ◌≢◌, ◌⊎◌, true, length, sum}, Option.{option_map}};
 ghost use Rattle.{
   pid_types.specs.{declared.plain.Control.{Control}, Membership.{IsIn}, Shown.{Shows}, Sound.{IsBelow}},
-  pid_types.specs.Step.{may_grow},
+  pid_types.specs.{Step.{may_grow}, declared.entry.Entry.{Entry}},
   kept_table.specs.Calls.{begun, resumed, outcome, entry_of, after_recorded, counted, cut_at, IsWithoutFirst, to_cut},
   kept_table.specs.Chronicle.{Chronicle, total, next_stamp, recorded, recorded_by_all, kept_entry, last_reply},
   kept_table.specs.{Promise.{IsSubtreeCount, KeepsPromise}, Whole.{one_of}},
@@ -151,6 +151,14 @@ impl<L: Ledger, const N: usize> Record<L, N> {
         ensures { result ≡ kept_entry self.now ordinal }
     {
         self.kept.entry(ordinal)
+    }
+
+    /// Whose call the entry with the ordinal has: [`Kept::worker_of`].
+    #[inline(always)]
+    pub fn worker_of(&self, ordinal: u64) -> Option<usize>
+        ensures { result ≡ option_map (λ (e : Entry). e.worker) (kept_entry self.now ordinal) }
+    {
+        self.kept.worker_of(ordinal)
     }
 
     /// The reply of the last kept entry; none where the history is empty. It costs a copy.

@@ -1,5 +1,5 @@
 -- A worker's receipts and its entries, one more at a time.
-use Rattle.std.proofs.Common.{◌≡◌, ◌≢◌, ℕ, zero, suc, ◌+◌, ◌-◌, ◌<◌, ◌≤◌, List, [], ◌∷◌, ◌++◌, length, take, drop, get_or, Bool, true, false, cond, leb, ltb, eqb, refl, sym, ap, ◌∙◌, arith, Some, None}
+use Rattle.std.proofs.Common.{◌≡◌, ◌≢◌, ℕ, zero, suc, ◌+◌, ◌-◌, ◌<◌, ◌≤◌, List, [], ◌∷◌, ◌++◌, length, take, drop, get_or, Bool, true, false, cond, leb, ltb, eqb, refl, sym, ap, ◌∙◌, arith, Some, None, Option, option_map}
 use Rattle.std.proofs.lemmas.List.{take_more, take_all, append-nil}
 use Rattle.std.proofs.lemmas.List.Elements.{filter_more, filter-append}
 use Rattle.std.proofs.lemmas.Bool.Decides.{nat_tests}
@@ -125,6 +125,19 @@ past_other t w ordinal next rs e from found other m =
     let there = entry_there t ordinal e from found in
     m ∙ (sym (owed_more_no t.first_kept w (ordinal - t.first_kept) t.entries e there.0 (λ h. other (sym (ap (λ (x : Entry). x.worker) there.1) ∙ h)))
     ∙ ap (λ k. owed_from t.first_kept w (take k t.entries)) (sym (one_more t.first_kept ordinal from)))
+
+-- past an entry of which the worker alone is known
+pub past_worker : (t : Chronicle) (w ordinal next by : ℕ) (rs : List Receipt) → t.first_kept ≤ ordinal → Some by ≡ option_map (λ (e : Entry). e.worker) (kept_entry t ordinal) → by ≢ w
+    → Matches t w rs next (ordinal - t.first_kept) → Matches t w rs next (ordinal + 1 - t.first_kept)
+past_worker t w ordinal next by rs from found other m = entry_is (kept_entry t ordinal) refl found
+  where
+    entry_is : (o : Option Entry) → o ≡ kept_entry t ordinal → Some by ≡ option_map (λ (e : Entry). e.worker) o → Matches t w rs next (ordinal + 1 - t.first_kept)
+    entry_is None is found = absurd (cc)
+    entry_is (Some e) is found = past_other t w ordinal next rs e from is (λ same. let here : by ≡ e.worker = cc in other (here ∙ same)) m
+
+-- the worker of an entry that was found
+pub own_worker : (t : Chronicle) (ordinal by : ℕ) (e : Entry) → Some by ≡ option_map (λ (e : Entry). e.worker) (kept_entry t ordinal) → Some e ≡ kept_entry t ordinal → e.worker ≡ by
+own_worker t ordinal by e found is = let same : Some by ≡ Some e.worker = found ∙ ap (option_map (λ (e : Entry). e.worker)) (sym is) in cc
 
 -- past an entry with its receipt
 pub past_both : (t : Chronicle) (w ordinal next : ℕ) (rs : List Receipt) (e : Entry) (d : Receipt) → t.first_kept ≤ ordinal → Some e ≡ kept_entry t ordinal → e.worker ≡ w → next < length rs → t.first_kept ≤ (get_or rs next d).ordinal → get_or rs next d ≡ receipt ordinal e

@@ -52,12 +52,15 @@ fn first_difference<L: Ledger, const N: usize>(
     let mut place = 0usize;
     let mut next = 0usize;
     for ordinal in first..kept.total() {
+        let Some(by) = kept.worker_of(ordinal) else {
+            unreachable!()
+        };
+        if by != worker {
+            continue;
+        }
         let Some(entry) = kept.entry(ordinal) else {
             unreachable!()
         };
-        if entry.worker != worker {
-            continue;
-        }
         next = skip_cut(receipts, next, first);
         if next == receipts.len() {
             return Some(place);
