@@ -1,5 +1,5 @@
 -- The entries of a history, as they are kept.
-use Rattle.std.specs.Prelude.{ℕ, List, map, ◌≡◌, Option, Result, IfOk, IfSome}
+use Rattle.std.specs.Prelude.{ℕ, List, map, ◌≡◌, Option, Result, IfOk, MatchOption}
 use Rattle.pid_types.specs.declared.entry.Entry.{Entry}
 use Rattle.pid_types.specs.declared.reply.Reply.{Reply}
 use Rattle.pid_types.specs.Short.{reply_of}
@@ -21,7 +21,7 @@ list_reply numbers = Reply.Levels (record { items = numbers })
 abbrev pub kept_reply : SlotReply → Reply
 kept_reply (Short short) = reply_of short
 kept_reply (Few numbers) = list_reply numbers
-kept_reply (Many numbers) = Reply.Levels numbers.value
+kept_reply (Many numbers) = list_reply numbers.value.items
 
 -- the replies of the entries
 abbrev pub replies_of : List Entry → List Reply
@@ -34,6 +34,14 @@ entry_in slot = record { worker = slot.worker; call = slot.call; reply = kept_re
 abbrev pub entries_in : List Slot → List Entry
 entries_in slots = map entry_in slots
 
+-- the reply is a list of numbers
+abbrev pub IsList : Reply → Type 0
+IsList reply = (numbers : List ℕ) × (reply ≡ list_reply numbers)
+
+-- what is told of a reply: all of it, and nothing of a list
+abbrev pub IsToldOf : Reply → Option ShortReply → Type 0
+IsToldOf reply told = MatchOption told (IsList reply) (λ short. reply_of short ≡ reply)
+
 -- a call that was made tells its reply, unless that is a list
 abbrev pub TellsIfShort : {E : Type 0} → Result (Option ShortReply) E → Reply → Type 0
-TellsIfShort result reply = IfOk result (λ told. IfSome told (λ short. reply_of short ≡ reply))
+TellsIfShort result reply = IfOk result (IsToldOf reply)

@@ -3,7 +3,7 @@
 ghost use Rattle.std.specs.Prelude.{◌≡◌, ◌+◌, ◌-◌, ◌<◌, ◌≤◌, [], ◌∷◌, ◌++◌, length, drop, slice_get, vec_len, OnOk};
 ghost use Rattle.std.specs.{Prelude.{OnErr, IfSome, Some}, Option.{option_map}};
 ghost use Rattle.pid_types.specs.{declared.entry.Entry.{Entry}, Short.{reply_of}};
-ghost use Rattle.kept_past.specs.Stored.{kept_reply, list_reply, replies_of};
+ghost use Rattle.kept_past.specs.Stored.{kept_reply, list_reply, replies_of, IsToldOf};
 
 use arrayvec::ArrayVec;
 use pid_types::call::Call;
@@ -159,7 +159,7 @@ impl Ring {
     /// Puts an entry behind the others, whose reply may be a list. It answers the reply where that is none.
     pub(crate) fn push(&mut self, worker: usize, call: Call, reply: &Reply) -> Option<ShortReply>
         requires { 0 < self.old.room }
-        ensures short { IfSome result (λ short. reply_of short ≡ reply.now) }
+        ensures short { IsToldOf reply.now result }
         ensures entries { self.new.entries
             ≡ self.old.entries ++ record { worker = worker; call = call; reply = reply.now } ∷ [] }
         ensures room { self.old.room ≤ self.new.room + 1 }
@@ -257,11 +257,12 @@ impl SlotReply {
 
     /// The reply, where it is no list.
     fn short(&self) -> Option<ShortReply>
-        ensures { IfSome result (λ short. reply_of short ≡ kept_reply self.now) }
+        ensures { IsToldOf (kept_reply self.now) result }
     {
         match self {
             SlotReply::Short(short) => Some(*short),
-            SlotReply::Few(_) | SlotReply::Many(_) => None,
+            SlotReply::Few(_) => None,
+            SlotReply::Many(_) => None,
         }
     }
 
