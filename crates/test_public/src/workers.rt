@@ -147,6 +147,25 @@ fn run_sixteen<L: Ledger + Send + Sync, R: Threads + Wait + Clock + Abort + Sync
     let _works = look_at(rt, alloc, finished.expect(rt, "no run"), turns, left);
 }
 
+/// Runs a job for each of sixteen workers, whom no gate holds.
+fn run_unheld<L: Ledger + Send + Sync, R: Threads + Wait + Clock + Abort + Sync>(
+    rt: &R,
+    alloc: Global,
+    blank: Blank,
+    config: &Config,
+    jobs: &[Vec<Call>],
+    left: &Left,
+)
+    requires name { blank.name ≡ L.name }
+    requires parts { blank.parts ≡ L.parts }
+    requires sixteen { blank.parts ≡ 16 }
+{
+    assert!(rt; jobs.len() == 16);
+    let finished = run_workers::<L, OpenGate, R, 16>(rt, alloc, blank, config, jobs, &OpenGate);
+    let Finished { kept, works } = finished.expect(rt, "no run");
+    expect_left(rt, alloc, &kept, works.as_slice(), left);
+}
+
 /// The finished run leaves what is said, and no wait gave up.
 fn look_at<L: Ledger, const N: usize>(
     rt: &impl Abort,
@@ -313,6 +332,32 @@ fn sixteen_share_the_numbers(rt: HostRuntime) -> Result<(), Fail> {
     let turns = Turns::new(16, 0, 0, 0);
     run_sixteen::<Brand, _>(&rt, rt.alloc(), blank, &config, &jobs, &turns, &NUMBERS);
     Ok(())
+}
+
+/// Each worker made its 100 forks.
+static TURNS_OF_64: Left = Left {
+    recorded: &[100; 16],
+    total: 1600,
+    forks: 1600,
+    refusal: Refusal::NoNumber(0),
+    refused: 0,
+    tasks: 1601,
+    counts: &[1601],
+};
+
+/// A hundred forks of each of sixteen workers, who keep the lock for a turn.
+#[test]
+fn sixteen_make_turns(rt: HostRuntime) {
+    let config = Config::default_values();
+    let jobs = jobs_of(&rt, &[FORK; 100], 15, &[FORK; 100]);
+    run_unheld::<Brand, _>(
+        &rt,
+        rt.alloc(),
+        Blank::new(16),
+        &config,
+        &jobs,
+        &TURNS_OF_64,
+    );
 }
 
 /// A control group with a limit of nine, the root init in it, and a fork.
