@@ -1,6 +1,6 @@
 //! One worker's job in turns: it keeps the lock for some calls, and then gives it back. So workers meet at the lock
 //! less often, and the table stays with one processor for a while.
-ghost use Rattle.std.specs.Prelude.{◌≡◌, ◌⊎◌, ◌+◌, ◌≤◌, length, take, IfOk, vec_capacity};
+ghost use Rattle.std.specs.Prelude.{OnErr, ◌≡◌, ◌⊎◌, ◌+◌, ◌≤◌, length, take, IfOk, vec_capacity};
 ghost use Rattle.worker_jobs.specs.Job.{Fulfils};
 
 use crate::result::Work;
@@ -43,6 +43,7 @@ fn make_turn<L: Ledger, const N: usize>(
     ensures behind { Fulfils (take to calls.now) receipts.new.items result }
     ensures room { length calls.now ≤ vec_capacity receipts.new }
     ensures worker { seat.new.worker ≡ seat.old.worker }
+    ensures counted { seat.new.calls + length receipts.old.items ≡ seat.old.calls + length receipts.new.items }
 {
     let mut refused = refused_before;
     for i in from..to {
@@ -65,6 +66,8 @@ pub(crate) fn work_in_turns<L: Ledger, R: Wait, const N: usize>(
 ) -> Result<Work, AllocError>
     ensures done { IfOk result (λ w. Fulfils calls.now w.receipts.items w.refused) }
     ensures worker { seat.new.worker ≡ seat.old.worker }
+    ensures counted { IfOk result (λ w. seat.new.calls ≡ seat.old.calls + length w.receipts.items) }
+    ensures untouched { OnErr result (seat.new ≡ seat.old) }
 {
     let mut receipts = Vec::with_capacity(alloc, calls.len())?;
     let mut refused = 0u64;

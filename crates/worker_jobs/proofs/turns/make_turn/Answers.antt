@@ -16,4 +16,5 @@ loop-i-preserved g c =
       ],
       elim c.match-act.branch [ in-Ok w ↦ search rules | in-Err w ↦ search rules ],
       elim c.match-act.branch [ in-Ok w ↦ search rules | in-Err w ↦ search rules ],
+      elim c.match-act.branch [ in-Ok w ↦ search rules | in-Err w ↦ search rules ],
     )

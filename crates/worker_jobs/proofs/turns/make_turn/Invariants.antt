@@ -1,4 +1,4 @@
-use Rattle.std.proofs.Common.{◌≡◌, ◌≤◌, length, take}
+use Rattle.std.proofs.Common.{◌≡◌, ◌+◌, ◌≤◌, length, take}
 use Rattle.std.specs.Prelude.{vec_capacity}
 use Rattle.worker_jobs.specs.Job.{Fulfils}
 use Rattle.worker_jobs.proofs.turns.make_turn.Given as goal
@@ -8,3 +8,4 @@ invariant-loop-i g l =
     Fulfils (take l.i l.calls) l.receipts.items l.refused
     × (length l.calls ≤ vec_capacity l.receipts)
     × (l.seat.worker ≡ l.fn.seat.worker)
+    × (l.seat.calls + length l.fn.receipts.items ≡ l.fn.seat.calls + length l.receipts.items)
