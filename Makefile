@@ -63,7 +63,7 @@ check: ## * runs all tests and worked scripts on builds that are not proved (up 
 	@tools/check $(CHECK)
 
 # What it says at its end is in out/gate.txt, with the commit and the sum of the program.
-test: ## * the gate: proves every crate from nothing, tries the edits that must be refused, runs the tests (50 minutes on four idle cores)
+test: ## * the gate: proves every crate from nothing, tries the edits that must be refused, runs the tests (30 to 50 minutes on four idle cores)
 	$(need_rt)
 	@tools/report out/gate.txt crates/pidtab/out/pidtab -- $(MAKE) --no-print-directory gate
 
