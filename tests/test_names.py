@@ -1,13 +1,8 @@
 """What tools/names counts: names that two crates have, clauses that are pasted, and files that begin with imports."""
 
-import shutil
-import subprocess
-import sys
-import tempfile
 import unittest
-from pathlib import Path
 
-from tests.pages import REPOSITORY
+from small_repository import SmallRepository
 
 LOW = "crates/low/specs/Low.antt"
 HIGH = "crates/high/specs/High.antt"
@@ -17,64 +12,52 @@ CONTRACT = "fn {name}(&mut self)\n    ensures {{ {clause} }}\n{{\n}}\n\n"
 QUIET = "names: 0, and at most 0 are allowed\nrepeats: 0, and at most 300 are allowed\nwalls: 0, and at most 6 are allowed\n"
 
 
-class Names(unittest.TestCase):
+class Names(SmallRepository):
     """A repository of two crates."""
 
-    def setUp(self):
-        self.top = Path(tempfile.mkdtemp())
-        self.addCleanup(shutil.rmtree, self.top)
-        self.write(LOW, "-- one\nabbrev pub one : ℕ\none = 1\n\npub record IsLow (n : ℕ) : Type 0 where\n  pub few : n < 5\n")
-        self.write(HIGH, "pub mod Low\npub use Rattle.low.specs.Low.{one}\n\nunfoldable pub two : ℕ\ntwo = one + 1\n")
-        self.write(CODE, CONTRACT.format(name="a", clause=LONG))
-        (self.top / "tools").mkdir()
-        shutil.copy(REPOSITORY / "tools" / "names", self.top / "tools" / "names")
-
-    def write(self, path, text):
-        """Writes a file of the repository."""
-        (self.top / path).parent.mkdir(parents=True, exist_ok=True)
-        (self.top / path).write_text(text, encoding="utf-8")
-
-    def say(self, *words):
-        """The status of the tool, and what it says."""
-        done = subprocess.run([sys.executable, self.top / "tools" / "names", *words], capture_output=True, text=True, check=False)
-        return done.returncode, done.stdout + done.stderr
+    TOOL = "names"
+    FILES = {
+        LOW: "-- one\nabbrev pub one : ℕ\none = 1\n\npub record IsLow (n : ℕ) : Type 0 where\n  pub few : n < 5\n",
+        HIGH: "pub mod Low\npub use Rattle.low.specs.Low.{one}\n\nunfoldable pub two : ℕ\ntwo = one + 1\n",
+        CODE: CONTRACT.format(name="a", clause=LONG),
+    }
 
     def test_a_repository_where_nothing_is_pasted(self):
-        self.assertEqual(self.say("--check"), (0, ""))
-        self.assertEqual(self.say(), (0, QUIET))
+        self.assertEqual(self.run_tool("--check"), (0, ""))
+        self.assertEqual(self.run_tool(), (0, QUIET))
 
     def test_a_name_that_two_crates_have(self):
         for text in ("abbrev pub one : ℕ\none = 1\n", "pub data IsLow : Type 0 where\n  Few : IsLow\n", "unfoldable pub one\n    : ℕ\none = 1\n"):
             with self.subTest(text=text):
                 self.write(HIGH, text)
-                self.assertEqual(self.say("--check"), (1, "tools/names: names: 1, and at most 0 are allowed: see tools/names\n"))
+                self.assertEqual(self.run_tool("--check"), (1, "tools/names: names: 1, and at most 0 are allowed: see tools/names\n"))
                 name = "IsLow" if "IsLow" in text else "one"
-                self.assertIn(f"    {name}: {HIGH}, {LOW}\n", self.say()[1])
+                self.assertIn(f"    {name}: {HIGH}, {LOW}\n", self.run_tool()[1])
 
     def test_a_clause_that_is_pasted(self):
         wrapped = LONG.replace(" ++", "\n        ++")
         self.write(CODE, "".join(CONTRACT.format(name=it, clause=clause) for it, clause in (("a", LONG), ("b", wrapped), ("c", LONG))))
-        self.assertEqual(self.say()[1], QUIET.replace("repeats: 0", "repeats: 2").replace("walls", f"    high: {LONG}\n    high: {LONG}\nwalls"))
+        self.assertEqual(self.run_tool()[1], QUIET.replace("repeats: 0", "repeats: 2").replace("walls", f"    high: {LONG}\n    high: {LONG}\nwalls"))
 
     def test_too_many_clauses_are_pasted(self):
         self.write(CODE, CONTRACT.format(name="a", clause=LONG) * 302)
-        self.assertEqual(self.say("--check"), (1, "tools/names: repeats: 301, and at most 300 are allowed: see tools/names\n"))
+        self.assertEqual(self.run_tool("--check"), (1, "tools/names: repeats: 301, and at most 300 are allowed: see tools/names\n"))
 
     def test_what_is_not_pasted(self):
         self.write("crates/low/src/lib.rt", CONTRACT.format(name="a", clause=LONG))
         for clause in ("self.new ≡ self.old", "OnOk result (KeepsNumbers self.old.numbers.items self.new.numbers.items)"):
             self.write(CODE, CONTRACT.format(name="a", clause=clause) * 2 + f"// ensures {{ {LONG} }}\n" * 2)
-            self.assertEqual(self.say(), (0, QUIET))
+            self.assertEqual(self.run_tool(), (0, QUIET))
 
     def test_a_file_that_begins_with_imports(self):
         block = "ghost use Rattle.{\n" + "  low.specs.Low.{one},\n" * 11 + "};\n"
         self.write(CODE, "//! High.\n\n" + block)
-        self.assertIn(f"walls: 1, and at most 6 are allowed\n    {CODE}: 12 of the first 25 lines\n", self.say()[1])
+        self.assertIn(f"walls: 1, and at most 6 are allowed\n    {CODE}: 12 of the first 25 lines\n", self.run_tool()[1])
         self.write(CODE, "//! High.\n" * 14 + block)
-        self.assertEqual(self.say(), (0, QUIET))
+        self.assertEqual(self.run_tool(), (0, QUIET))
 
     def test_wrong_words(self):
-        status, said = self.say("--count")
+        status, said = self.run_tool("--count")
         self.assertEqual(status, 1)
         self.assertIn("tools/names --check", said)
 

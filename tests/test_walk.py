@@ -1,13 +1,8 @@
 """What tools/walk says of a walk: each function is in its file, and called by one that stands before it."""
 
-import shutil
-import subprocess
-import sys
-import tempfile
 import unittest
-from pathlib import Path
 
-from tests.pages import REPOSITORY
+from small_repository import SmallRepository
 
 LOW = """\
 /// Adds one.
@@ -39,23 +34,16 @@ RUNS = "| It runs. | `top/src/main.rt` | {} |"
 ADDS = "| It adds. | `low/src/lib.rt` | {} |"
 
 
-class Walk(unittest.TestCase):
+class Walk(SmallRepository):
     """A repository of two crates."""
 
-    def setUp(self):
-        self.top = Path(tempfile.mkdtemp())
-        self.addCleanup(shutil.rmtree, self.top)
-        for name, text in (("crates/low/src/lib.rt", LOW), ("crates/top/src/main.rt", TOP), ("docs/gate.tsv", "crate\tproofs\nlow\t5\n")):
-            (self.top / name).parent.mkdir(parents=True, exist_ok=True)
-            (self.top / name).write_text(text, encoding="utf-8")
-        (self.top / "tools").mkdir()
-        shutil.copy(REPOSITORY / "tools" / "walk", self.top / "tools" / "walk")
+    TOOL = "walk"
+    FILES = {"crates/low/src/lib.rt": LOW, "crates/top/src/main.rt": TOP, "docs/gate.tsv": "crate\tproofs\nlow\t5\n"}
 
     def say(self, *rows, words=("--check",)):
         """The status of the tool on a page with these rows, and what it says."""
-        (self.top / "docs" / "ARCHITECTURE.md").write_text(PAGE.format("\n".join(rows)), encoding="utf-8")
-        done = subprocess.run([sys.executable, self.top / "tools" / "walk", *words], capture_output=True, text=True, check=False)
-        return done.returncode, done.stdout + done.stderr
+        self.write("docs/ARCHITECTURE.md", PAGE.format("\n".join(rows)))
+        return self.run_tool(*words)
 
     def test_a_walk_is_one(self):
         self.assertEqual(self.say(RUNS.format("`main` `run`"), ADDS.format("`add` `one`")), (0, ""))
@@ -70,9 +58,8 @@ class Walk(unittest.TestCase):
 
     def test_places_that_decide_a_refusal_are_counted(self):
         code = "fn a() -> Refusal\n    ensures { result ≡ Refusal.NoTask }\n{\n    Refusal::NoTask\n}\n\nfn b() { c(Refusal::NoTask, Refusal::NoCaller) }\n"
-        (self.top / "crates" / "low" / "src" / "more.rt").write_text(code, encoding="utf-8")
-        (self.top / "crates" / "plain_low" / "src").mkdir(parents=True)
-        (self.top / "crates" / "plain_low" / "src" / "lib.rt").write_text(code, encoding="utf-8")
+        self.write("crates/low/src/more.rt", code)
+        self.write("crates/plain_low/src/lib.rt", code)
         status, said = self.say(RUNS.format("`main` `run`"), ADDS.format("`add`"), words=())
         self.assertEqual((status, said.splitlines()[4:6]), (0, ["refusals that one place of the code decides: 1 of 2", "  NoTask: 2 places"]))
 
