@@ -1,3 +1,4 @@
 pub mod AtSeat
 pub mod Job
 pub mod Receipts
+pub mod Turns

@@ -1,7 +1,7 @@
 //! One worker's job in turns: it keeps the lock for some calls, and then gives it back. So workers meet at the lock
 //! less often, and the table stays with one processor for a while.
 ghost use Rattle.std.specs.Prelude.{OnErr, ◌≡◌, ◌⊎◌, ◌+◌, ◌≤◌, length, take, IfOk, vec_capacity};
-ghost use Rattle.worker_jobs.specs.Job.{Fulfils};
+ghost use Rattle.worker_jobs.specs.{Job.{Fulfils}, Turns.{HasAllFor}};
 
 use crate::result::Work;
 use locked_table::{Record, Seat, Shared};
@@ -43,6 +43,7 @@ fn make_turn<L: Ledger, const N: usize>(
     ensures behind { Fulfils (take to calls.now) receipts.new.items result }
     ensures room { length calls.now ≤ vec_capacity receipts.new }
     ensures worker { seat.new.worker ≡ seat.old.worker }
+    ensures none { HasAllFor record.old calls.now from to → result ≡ refused_before }
     ensures counted { seat.new.calls + length receipts.old.items ≡ seat.old.calls + length receipts.new.items }
 {
     let mut refused = refused_before;
