@@ -295,8 +295,8 @@ static void lists_of_each_length(void)
 		if (level + 1 < PIDTAB_LEVELS_MAX)
 			CHECK(pidtab_record_call(&record, 0, &fork, &reply, &ordinal) == PIDTAB_DONE && reply.kind == PIDTAB_FORKED);
 	}
-	/* Each list of more than five numbers takes memory of its own. */
-	CHECK(numbers_refused >= 28);
+	/* The entries grow, and so does the queue of the 28 lists that have more than five numbers: each at least twice. */
+	CHECK(numbers_refused >= 4);
 	CHECK(pidtab_record_counts(&record, &first, &all) == PIDTAB_DONE && first == 0);
 	for (uint32_t level = 0; level < PIDTAB_LEVELS_MAX; level++) {
 		while (first < places[level]) {
@@ -311,6 +311,33 @@ static void lists_of_each_length(void)
 	pidtab_record_close(&record);
 }
 
+/* Long lists, of which at most two are kept: their queue goes round, and takes no more memory. */
+static void lists_behind_a_bound(void)
+{
+	struct pidtab_record record = PIDTAB_RECORD_INIT;
+	const uint32_t level = 8;
+	struct pidtab_reply reply;
+	uint64_t ordinal, asked = 0;
+
+	CHECK(pidtab_record_open(&record, 32768, 1, 1) == PIDTAB_DONE);
+	for (uint32_t i = 0; i < level; i++) {
+		const struct pidtab_call fork = { .operation = PIDTAB_FORK, .caller = i + 1, .choice = 1 };
+		CHECK(pidtab_record_call(&record, 0, &fork, &reply, &ordinal) == PIDTAB_DONE && reply.kind == PIDTAB_FORKED);
+	}
+	for (int i = 0; i < 1000; i++) {
+		uint64_t place = ask_numbers(&record, level);
+
+		CHECK(pidtab_record_keep(&record, 4) == PIDTAB_DONE && pidtab_record_keep(&record, 4) == PIDTAB_DONE);
+		entry_has_numbers(&record, place, level);
+		if (i > 10)
+			entry_has_numbers(&record, place - 2, level);
+		if (i == 100)
+			asked = bytes_asked;
+	}
+	CHECK(bytes_asked == asked);
+	pidtab_record_close(&record);
+}
+
 int main(void)
 {
 	closed();
@@ -322,5 +349,6 @@ int main(void)
 	keeps_a_bound();
 	room_grows_with_the_calls();
 	lists_of_each_length();
+	lists_behind_a_bound();
 	return 0;
 }

@@ -62,4 +62,4 @@ PARTS = {
     (f"{FOLDER}/kinds.rt", "kinds"): kinds,
     (f"{FOLDER}/status.rt", "statuses"): statuses,
 }
-ROWS = {("crates/foreign_calls/src/ask.rt", "asks"): (arms("asks("), asks)}
+ROWS = {("crates/pid_table/src/step.rt", "is_query"): (arms("is_query("), asks)}

@@ -3,7 +3,7 @@ use Rattle.std.specs.Prelude.{◌≡◌, ◌≢◌, ◌↔◌, ◌-◌, ◌^◌,
 use Rattle.pid_types.specs.declared.call.Call.{Call}
 use Rattle.pid_types.specs.declared.reply.Reply.{Reply}
 use Rattle.pid_types.specs.declared.reply.ShortReply.{ShortReply}
-use Rattle.pid_types.specs.Short.{reply_of}
+use Rattle.kept_past.specs.Stored.{IsToldOf}
 use Rattle.pid_types.specs.Step.{may_grow}
 use Rattle.kept_table.specs.Chronicle.{Chronicle, last_reply}
 use Rattle.saved_form.specs.declared.numbers.ReplyNumbers.{ReplyNumbers}
@@ -21,9 +21,9 @@ pub record TellsReply (told : Reply) (old new : ReplyNumbers) (status : ℕ) : T
   pub reply : status ≡ DONE → new ≡ numbers_of told
   pub not_done : status ≢ DONE → new ≡ old
 
--- it is the reply of the record's last entry, unless it is none
+-- it is what is told of the reply of the record's last entry
 abbrev pub IsReplyToLast : Chronicle → Option ShortReply → Type 0
-IsReplyToLast held told = IfSome told (λ short. last_reply held ≡ Some (reply_of short))
+IsReplyToLast held told = IfSome (last_reply held) (λ reply. IsToldOf reply told)
 
 -- no stamp is left: the one of the next call would be the greatest number, which no call has
 abbrev pub IsSpent : ℕ → Type 0

@@ -5,41 +5,19 @@ ghost use Rattle.std.specs.Prelude.{◌≡◌, [], ◌∷◌, IsTrue, Some, IfSo
 ghost use Rattle.{
   kept_table.specs.Calls.{outcome},
   model_laws.specs.Refusals.{is_query},
+  pid_types.specs.declared.call.Call.TheVariants.{NsPid},
   foreign_numbers.specs.Numbers.{numbers_of},
   foreign_calls.specs.{Asked.{query_of, TellsAnswer}, Held.{IsDoneOr}},
   stamped_table.specs.Stamped.{reply_to},
 };
 
-use foreign_numbers::numbers::{CallNumbers, ReplyNumbers, put_reply, put_short, read_call};
+use arrayvec::ArrayVec;
+use foreign_numbers::numbers::{CallNumbers, ReplyNumbers, put_short, put_told, read_call};
 use foreign_numbers::status::{DONE, OUT_OF_RANGE};
 use kept_table::Kept;
-use pid_table::answers_list;
+use pid_table::is_query;
 use pid_types::call::Call;
-use pid_types::reply::Reply;
 use stamped_table::StampedTable;
-
-/// Whether the call is a query.
-fn asks(call: &Call) -> bool
-    ensures { result ≡ is_query call.now }
-{
-    match call {
-        Call::GetPid { caller: _ } => true,
-        Call::NsPid {
-            caller: _,
-            target: _,
-        } => true,
-        Call::GetPpid { caller: _ } => true,
-        Call::Count { id: _ } => true,
-        Call::GetPgid { caller: _, pid: _ } => true,
-        Call::GetSid { caller: _, pid: _ } => true,
-        Call::Next {
-            caller: _,
-            kind: _,
-            from: _,
-        } => true,
-        _ => false,
-    }
-}
 
 /// The query that the numbers say; none where they say no call, or another one.
 fn read_query(n: &CallNumbers) -> Option<Call>
@@ -47,16 +25,17 @@ fn read_query(n: &CallNumbers) -> Option<Call>
     ensures asks { IfSome result (λ call. IsTrue (is_query call)) }
 {
     let call = read_call(n)?;
-    if asks(&call) { Some(call) } else { None }
+    if is_query(&call) { Some(call) } else { None }
 }
 
-/// Answers a query that may be answered by a list. It is not inlined, since the others need no room for one.
+/// Answers `NSpid`. It is not inlined, since the others need no room for a list.
 #[inline(never)]
-fn ask_table_for_list(held: &StampedTable, asked: Call, reply: &mut ReplyNumbers)
-    requires { IsTrue (is_query asked) }
-    ensures { reply.new ≡ numbers_of (reply_to held.now asked) }
+fn ask_table_for_list(held: &StampedTable, caller: u32, target: u32, reply: &mut ReplyNumbers)
+    ensures { reply.new ≡ numbers_of (reply_to held.now (NsPid caller target)) }
 {
-    put_reply(&held.ask(asked), reply);
+    let mut numbers = ArrayVec::new();
+    let told = held.ns_pid(caller, target, &mut numbers);
+    put_told(told, numbers.as_slice(), reply);
 }
 
 /// Answers the query that the numbers say on the table. The result is the status.
@@ -67,8 +46,8 @@ pub fn ask_table(held: &StampedTable, call: &CallNumbers, reply: &mut ReplyNumbe
     let Some(asked) = read_query(call) else {
         return OUT_OF_RANGE;
     };
-    if answers_list(&asked) {
-        ask_table_for_list(held, asked, reply);
+    if let Call::NsPid { caller, target } = asked {
+        ask_table_for_list(held, caller, target, reply);
         return DONE;
     }
     put_short(held.ask_short(asked), reply);
@@ -77,13 +56,12 @@ pub fn ask_table(held: &StampedTable, call: &CallNumbers, reply: &mut ReplyNumbe
 
 /// The same at a record.
 #[inline(never)]
-fn ask_record_for_list(held: &Kept, asked: Call, reply: &mut ReplyNumbers)
-    requires { IsTrue (is_query asked) }
-    ensures { reply.new ≡ numbers_of (outcome held.now asked).reply }
+fn ask_record_for_list(held: &Kept, caller: u32, target: u32, reply: &mut ReplyNumbers)
+    ensures { reply.new ≡ numbers_of (outcome held.now (NsPid caller target)).reply }
 {
-    let mut told = Reply::Done;
-    held.ask(asked, &mut told);
-    put_reply(&told, reply);
+    let mut numbers = ArrayVec::new();
+    let told = held.ns_pid(caller, target, &mut numbers);
+    put_told(told, numbers.as_slice(), reply);
 }
 
 /// Answers the query that the numbers say on the record, which is not recorded. The result is the status.
@@ -95,8 +73,8 @@ pub fn ask_record(held: &Kept, call: &CallNumbers, reply: &mut ReplyNumbers) -> 
     let Some(asked) = read_query(call) else {
         return OUT_OF_RANGE;
     };
-    if answers_list(&asked) {
-        ask_record_for_list(held, asked, reply);
+    if let Call::NsPid { caller, target } = asked {
+        ask_record_for_list(held, caller, target, reply);
         return DONE;
     }
     put_short(held.ask_short(asked), reply);

@@ -8,7 +8,7 @@ ghost use Rattle.{
   foreign_calls.specs.Turns.{turn, AreMade, CanMakeAll, MayGrowAt},
 };
 
-use crate::record_calls::{make_on, put_told};
+use crate::record_calls::{make_on, put_last};
 use foreign_numbers::numbers::{CallNumbers, ReplyNumbers, read_call};
 use foreign_numbers::status::{DONE, NO_MEMORY, NO_ROOM, OUT_OF_RANGE, SPENT};
 use kept_table::Kept;
@@ -50,7 +50,7 @@ fn turn_on(
     if status != DONE {
         return status;
     }
-    put_told(held, told, reply);
+    put_last(held, told, reply);
     DONE
 }
 

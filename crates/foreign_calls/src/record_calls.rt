@@ -1,7 +1,8 @@
 //! Calls on a record, as numbers and as lines.
-ghost use Rattle.std.specs.Prelude.{◌≡◌, ◌≢◌, ◌+◌, ◌≤◌, Some, IsSome, length, take, option_map};
+ghost use Rattle.std.specs.Prelude.{◌≡◌, ◌≢◌, ◌+◌, ◌≤◌, Some, IfSome, IsSome, length, take, option_map};
 ghost use Rattle.{
   pid_script.specs.Answers.{reply_text},
+  kept_past.specs.Stored.{IsList},
   kept_table.specs.{Calls.{outcome}, Chronicle.{last_reply}},
   foreign_calls.specs.Made.{TellsReply, IsReplyToLast},
   foreign_calls.specs.{Records.{roomless, IsRecordedKeeping, IsWorkerStatus, RecordsCall}, Rooms.{KeepsRoom}},
@@ -43,9 +44,9 @@ pub fn make_on(
     DONE
 }
 
-/// Tells the reply to the call that was made last: the short one, or else that of its entry.
+/// Tells the reply to the call that was made last: the short one, or else the list of its entry.
 #[inline(always)]
-pub fn put_told(held: &Kept, told: Option<ShortReply>, reply: &mut ReplyNumbers)
+pub fn put_last(held: &Kept, told: Option<ShortReply>, reply: &mut ReplyNumbers)
     requires last { IsSome (last_reply held.now) }
     requires told { IsReplyToLast held.now told }
     ensures { Some reply.new ≡ option_map numbers_of (last_reply held.now) }
@@ -54,24 +55,21 @@ pub fn put_told(held: &Kept, told: Option<ShortReply>, reply: &mut ReplyNumbers)
         put_short(short, reply);
         return;
     }
-    put_last(held, reply);
+    put_last_list(held, reply);
 }
 
-/// Tells the reply of the last entry. It is not inlined, since a call rarely comes here.
+/// Tells the list of the last entry. It is not inlined, since a call rarely comes here.
 #[tactic(auto, unfolding(foreign_numbers::specs::Numbers::numbers_of))]
 #[inline(never)]
-fn put_last(held: &Kept, reply: &mut ReplyNumbers)
-    requires { IsSome (last_reply held.now) }
+fn put_last_list(held: &Kept, reply: &mut ReplyNumbers)
+    requires last { IsSome (last_reply held.now) }
+    requires list { IfSome (last_reply held.now) IsList }
     ensures { Some reply.new ≡ option_map numbers_of (last_reply held.now) }
 {
-    if let Some(list) = held.last_list() {
-        put_list(list, reply);
-        return;
-    }
-    let Some(last) = held.last_reply() else {
+    let Some(list) = held.last_list() else {
         unreachable!()
     };
-    put_reply(&last, reply);
+    put_list(list, reply);
 }
 
 /// Makes the call as [`make_on`] does, and tells its reply as numbers.
@@ -91,7 +89,7 @@ pub fn call_on(
     if status != DONE {
         return status;
     }
-    put_told(held, told, reply);
+    put_last(held, told, reply);
     DONE
 }
 

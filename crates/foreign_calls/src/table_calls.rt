@@ -2,15 +2,16 @@
 ghost use Rattle.std.specs.Prelude.{◌≡◌, ◌≢◌, ◌≤◌, length, take};
 ghost use Rattle.{
   pid_script.specs.Answers.{reply_text},
+  pid_types.specs.declared.call.Call.TheVariants.{NsPid},
   foreign_calls.specs.{Made.{IsCallStatus, TellsReply}, Rooms.{KeepsRoom}},
   stamped_table.specs.Stamped.{after_call, reply_to},
 };
 
 use crate::texts::write_reply;
-use foreign_numbers::numbers::{ReplyNumbers, put_reply, put_short};
+use arrayvec::ArrayVec;
+use foreign_numbers::numbers::{ReplyNumbers, put_short, put_told};
 use foreign_numbers::status::{DONE, status_of};
 use pid_script::answer::LONGEST_ANSWER;
-use pid_table::answers_list;
 use pid_types::call::Call;
 use pid_types::reply::Reply;
 use stamped_table::StampedTable;
@@ -23,8 +24,8 @@ pub fn call_table(held: &mut StampedTable, made: Call, reply: &mut ReplyNumbers)
     ensures reply { TellsReply (reply_to held.old made) reply.old reply.new result }
     ensures status { IsCallStatus held.old made result }
 {
-    if answers_list(&made) {
-        return call_for_list(held, made, reply);
+    if let Call::NsPid { caller, target } = made {
+        return call_for_list(held, caller, target, reply);
     }
     match held.make_short(made) {
         Ok(told) => {
@@ -35,18 +36,18 @@ pub fn call_table(held: &mut StampedTable, made: Call, reply: &mut ReplyNumbers)
     }
 }
 
-/// The same of a call that may be answered by a list. It is not inlined, since the others need no room for one.
+/// The same of the call `NSpid`. It is not inlined, since the others need no room for a list.
 #[inline(never)]
-fn call_for_list(held: &mut StampedTable, made: Call, reply: &mut ReplyNumbers) -> u32
-    ensures done { result ≡ DONE → held.new ≡ after_call held.old made }
+fn call_for_list(held: &mut StampedTable, caller: u32, target: u32, reply: &mut ReplyNumbers) -> u32
+    ensures done { result ≡ DONE → held.new ≡ after_call held.old (NsPid caller target) }
     ensures not_done { result ≢ DONE → held.new ≡ held.old }
-    ensures reply { TellsReply (reply_to held.old made) reply.old reply.new result }
-    ensures status { IsCallStatus held.old made result }
+    ensures reply { TellsReply (reply_to held.old (NsPid caller target)) reply.old reply.new result }
+    ensures status { IsCallStatus held.old (NsPid caller target) result }
 {
-    let mut told = Reply::Done;
-    match held.make(made, &mut told) {
-        Ok(()) => {
-            put_reply(&told, reply);
+    let mut numbers = ArrayVec::new();
+    match held.make_ns_pid(caller, target, &mut numbers) {
+        Ok(told) => {
+            put_told(told, numbers.as_slice(), reply);
             DONE
         }
         Err(fault) => status_of(fault),

@@ -2,7 +2,7 @@
 //! release.
 ghost use Rattle.std.specs.Prelude.{◌≡◌, ◌≤◌, length};
 ghost use Rattle.{
-  pid_types.specs.Short.{reply_of},
+  pid_types.specs.Short.{reply_of, told_of},
   foreign_numbers.specs.Numbers.{switch_of, which_of, kind_of, limit_of, status_of, call_of, control_call_of},
   foreign_numbers.specs.Numbers.{later_call_of, blank_reply, with_zeroes, levels_numbers, refusal_numbers, numbers_of},
 };
@@ -248,6 +248,18 @@ pub fn put_short(told: ShortReply, reply: &mut ReplyNumbers)
         ShortReply::Control(id) => put_values(reply, kinds::CONTROL, id, 0),
         ShortReply::End => put_values(reply, kinds::END, 0, 0),
         ShortReply::Refused(refusal) => put_refusal(reply, refusal),
+    }
+}
+
+/// Writes what is told of a call: a short reply, or else the list of numbers.
+#[inline(always)]
+pub fn put_told(told: Option<ShortReply>, numbers: &[u32], reply: &mut ReplyNumbers)
+    requires { length numbers.now ≤ LEVELS }
+    ensures { reply.new ≡ numbers_of (told_of told numbers.now) }
+{
+    match told {
+        Some(short) => put_short(short, reply),
+        None => put_list(numbers, reply),
     }
 }
 

@@ -1,4 +1,5 @@
 pub mod Along
+pub mod Lists
 pub mod Past
 pub mod Places
 pub mod Shown

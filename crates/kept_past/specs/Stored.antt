@@ -1,8 +1,9 @@
 -- The entries of a history, as they are kept.
-use Rattle.std.specs.Prelude.{ℕ, List, map, ◌≡◌, Option, Result, IfOk, MatchOption}
+use Rattle.std.specs.Prelude.{ℕ, ◌+◌, ◌-◌, ◌^◌, ◌<◌, ◌≤◌, ⊤, List, [], ◌∷◌, map, ◌≡◌, Option, Result, IfOk, MatchOption, slice_index_or}
+use Rattle.arrayvec.specs.ArrayVec.{ArrayVec}
 use Rattle.pid_types.specs.declared.entry.Entry.{Entry}
 use Rattle.pid_types.specs.declared.reply.Reply.{Reply}
-use Rattle.pid_types.specs.Short.{reply_of}
+use Rattle.pid_types.specs.Short.{list_reply, reply_of}
 use Rattle.kept_past.specs.declared.ring.Slot.{Slot}
 use Rattle.kept_past.specs.declared.ring.SlotReply.{SlotReply}
 use Rattle.kept_past.specs.declared.ring.SlotReply.TheVariants.{Short, Few, Many}
@@ -13,26 +14,55 @@ pub record Stored : Type 0 where
   pub entries : List Entry
   pub room : ℕ
 
--- the reply that is a list of these numbers
-abbrev pub list_reply : List ℕ → Reply
-list_reply numbers = Reply.Levels (record { items = numbers })
+-- the lists of many numbers, which are beside the slots
+abbrev pub Lists : Type 0
+Lists = List (ArrayVec ℕ)
 
--- the reply: all of it is in the slot, but for a list of many numbers, which are beside
-abbrev pub kept_reply : SlotReply → Reply
-kept_reply (Short short) = reply_of short
-kept_reply (Few numbers) = list_reply numbers
-kept_reply (Many numbers) = list_reply numbers.value.items
+-- the numbers of the list at a place, the first of which is that of the first list
+abbrev pub list_at : Lists → ℕ → ℕ → List ℕ
+list_at lists first place = (slice_index_or lists (place - first) (record { items = [] })).items
+
+-- the reply: all of it is in the slot, but for a list of many numbers
+abbrev pub kept_reply : Lists → ℕ → SlotReply → Reply
+kept_reply lists first (Short short) = reply_of short
+kept_reply lists first (Few numbers) = list_reply numbers
+kept_reply lists first (Many place) = list_reply (list_at lists first place)
 
 -- the replies of the entries
 abbrev pub replies_of : List Entry → List Reply
 replies_of entries = map (λ (e : Entry). e.reply) entries
 
 -- the entry in a slot
-abbrev pub entry_in : Slot → Entry
-entry_in slot = record { worker = slot.worker; call = slot.call; reply = kept_reply slot.reply }
+abbrev pub entry_in : Lists → ℕ → Slot → Entry
+entry_in lists first slot = record { worker = slot.worker; call = slot.call; reply = kept_reply lists first slot.reply }
 
-abbrev pub entries_in : List Slot → List Entry
-entries_in slots = map entry_in slots
+abbrev pub entries_in : Lists → ℕ → List Slot → List Entry
+entries_in lists first slots = map (entry_in lists first) slots
+
+-- a list of many numbers is at the place that is next
+abbrev pub IsListedNext : ℕ → SlotReply → Type 0
+IsListedNext next (Many place) = place ≡ next
+IsListedNext next _ = ⊤
+
+-- the place that is next behind it
+abbrev pub behind : ℕ → SlotReply → ℕ
+behind next (Many place) = next + 1
+behind next _ = next
+
+-- the lists are at the places from the next one to the end, in the order of their slots
+abbrev pub ListsAreInOrder : ℕ → ℕ → List Slot → Type 0
+ListsAreInOrder next end [] = next ≡ end
+ListsAreInOrder next end (slot ∷ slots) = IsListedNext next slot.reply × ListsAreInOrder (behind next slot.reply) end slots
+
+-- there is room for so many more lists, and their places are numbers
+pub record HasRoomFor (room capacity lists dropped : ℕ) : Type 0 where
+  pub lists_fit : lists + room ≤ capacity
+  pub places_fit : dropped + lists + room < 2 ^ 64
+
+-- a list of many numbers is at a place from the first one to the end
+abbrev pub IsListedWithin : ℕ → ℕ → SlotReply → Type 0
+IsListedWithin first end (Many place) = (first ≤ place) × (place < end)
+IsListedWithin first end _ = ⊤
 
 -- the reply is a list of numbers
 abbrev pub IsList : Reply → Type 0

@@ -5,18 +5,21 @@
 //! is made on what is held, and it is dropped. Contracts see the state that the calls which wait will lead to. So
 //! nothing is seen of the second step, which may find no memory.
 ghost use Rattle.std.specs.Prelude.{◌≡◌, ◌≢◌, ◌+◌, ◌-◌, ◌<◌, ◌≤◌, ◌^◌, ◌↔◌, IsTrue, IfOk, IfSome, OnOk, OnErr, ◌⊎◌};
-ghost use Rattle.std.specs.Prelude.{true, false, not, [], ◌∷◌, ◌++◌, length, slice_get, Some, None};
+ghost use Rattle.std.specs.Prelude.{ℕ, true, false, not, List, [], ◌∷◌, ◌++◌, length, slice_get, Some, None};
 ghost use Rattle.std.specs.Option.{option_map};
 ghost use Rattle.{
-  pid_types.specs.{declared.entry.Entry.{Entry}, Replay.{state_after, calls_of}, Shown.{Shows}, Sound.{IsBelow}},
+  pid_types.specs.declared.{call.Call.TheVariants.{NsPid}, entry.Entry.{Entry}},
+  pid_types.specs.{Replay.{state_after, calls_of}, Short.{list_reply}, Shown.{Shows}, Sound.{IsBelow}},
   pid_types.specs.{State.{State, root_state}, Step.{step, may_grow}},
-  kept_past.specs.{Stored.{list_reply, replies_of, TellsIfShort}, Past.{held_fixed, moves_or, opening_of, IsCutOnce}},
+  kept_past.specs.Stored.{replies_of, IsToldOf, TellsIfShort},
+  kept_past.specs.Past.{held_fixed, moves_or, opening_of, IsCutOnce},
 };
 
 use crate::opening::Opening;
 use crate::ring::Ring;
+use arrayvec::ArrayVec;
 use model_laws::soundness::soundness_is_kept;
-use pid_table::{PidTable, answers_list};
+use pid_table::PidTable;
 use pid_types::call::Call;
 use pid_types::config::Config;
 use pid_types::entry::Entry;
@@ -143,6 +146,9 @@ impl History {
     pub fn last_list(&self) -> Option<&[Pid]>
         ensures list { IfSome result (λ list.
             slice_get (replies_of self.now.entries) (length self.now.entries - 1) ≡ Some (list_reply list.now)) }
+        ensures all { (list : List ℕ) →
+            slice_get (replies_of self.now.entries) (length self.now.entries - 1) ≡ Some (list_reply list)
+            → result ≢ None }
         ensures fits { IfSome result (λ list. length list.now ≤ LEVELS) }
     {
         if self.len() == 0 {
@@ -458,35 +464,39 @@ fn enter_call(
     ensures none { OnErr result (ring.new ≡ ring.old) }
     ensures grows { OnErr result (IsTrue (may_grow call)) }
 {
-    if answers_list(&call) {
-        return enter_list(table, ring, stamp, worker, call);
+    if let Call::NsPid { caller, target } = call {
+        return Ok(enter_list(table, ring, worker, caller, target));
     }
     let short = table.step_short(stamp, call)?;
     ring.push_short(worker, call, short);
     Ok(Some(short))
 }
 
-/// The same of a call whose reply may be a list. It is not inlined, since the others need no room for one.
+/// Makes the call `NSpid`, and enters it as [`enter_call`] does. It is not inlined, since the others need no room for a
+/// list.
 #[inline(never)]
 fn enter_list(
-    table: &mut PidTable,
+    table: &PidTable,
     ring: &mut Ring,
-    stamp: u64,
     worker: usize,
-    call: Call,
-) -> Result<Option<ShortReply>, AllocError>
-    requires below { IsBelow stamp table.old }
+    caller: Pid,
+    target: Pid,
+) -> Option<ShortReply>
     requires room { 0 < ring.old.room }
-    ensures state { OnOk result (table.new ≡ (step table.old stamp call).state) }
-    ensures reply { TellsIfShort result (step table.old stamp call).reply }
-    ensures ring { OnOk result (ring.new.entries ≡ ring.old.entries
-        ++ record { worker = worker; call = call; reply = (step table.old stamp call).reply } ∷ []) }
+    ensures reply { (stamp : ℕ) → IsToldOf (step table.now stamp (NsPid caller target)).reply result }
+    ensures ring { (stamp : ℕ) → ring.new.entries ≡ ring.old.entries ++ record {
+      worker = worker;
+      call = NsPid caller target;
+      reply = (step table.now stamp (NsPid caller target)).reply;
+    } ∷ [] }
     ensures left { ring.old.room ≤ ring.new.room + 1 }
-    ensures err { OnErr result (table.new ≡ table.old) }
-    ensures none { OnErr result (ring.new ≡ ring.old) }
-    ensures grows { OnErr result (IsTrue (may_grow call)) }
 {
-    let mut reply = Reply::Done;
-    table.step(stamp, call, &mut reply)?;
-    Ok(ring.push(worker, call, &reply))
+    let call = Call::NsPid { caller, target };
+    let mut numbers = ArrayVec::new();
+    let told = table.ns_pid(caller, target, &mut numbers);
+    match told {
+        Some(short) => ring.push_short(worker, call, short),
+        None => ring.push_list(worker, call, numbers),
+    }
+    told
 }

@@ -3,7 +3,8 @@ ghost use Rattle.std.specs.Prelude.{◌≡◌, IfOk, OnOk, OnErr, true, false};
 ghost use Rattle.pid_types.specs.{Shown.{Shows}, Sound.{IsBelow}, State.{root_state}, Step.{step}};
 ghost use Rattle.kept_past.specs.Opening.{held_in, state_shown, IsHeldWell};
 
-use pid_table::PidTable;
+use model_laws::laws::nothing_changes;
+use pid_table::{PidTable, is_query};
 use pid_types::call::Call;
 use pid_types::config::Config;
 use pid_types::plain::Plain;
@@ -85,13 +86,18 @@ impl Opening {
         }
     }
 
-    /// Makes a call on it, of which nobody asks the reply. The error is want of memory.
+    /// Makes a call on it, of which nobody asks the reply: so of a query there is nothing to make. The error is want of
+    /// memory.
     pub(crate) fn make(&mut self, alloc: Global, stamp: u64, call: Call) -> Result<(), AllocError>
         requires below { IsBelow stamp self.old.state }
         requires moves { self.old.is_fixed ≡ false }
         ensures ok { OnOk result (self.new ≡ record self.old { state = (step self.old.state stamp call).state }) }
         ensures err { OnErr result (self.new ≡ self.old) }
     {
+        nothing_changes();
+        if is_query(&call) {
+            return Ok(());
+        }
         make_in(&mut self.form, alloc, stamp, call)
     }
 }

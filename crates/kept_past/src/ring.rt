@@ -1,9 +1,10 @@
-//! The entries of a history, at 64 bytes each. Where a reply is a list of more than five numbers, these stand beside
-//! the entry, in memory that is there before the call is made.
-ghost use Rattle.std.specs.Prelude.{◌≡◌, ◌+◌, ◌-◌, ◌<◌, ◌≤◌, [], ◌∷◌, ◌++◌, length, drop, slice_get, vec_len, OnOk};
-ghost use Rattle.std.specs.{Prelude.{OnErr, IfSome, Some}, Option.{option_map}};
-ghost use Rattle.pid_types.specs.{declared.entry.Entry.{Entry}, Short.{reply_of}};
-ghost use Rattle.kept_past.specs.Stored.{kept_reply, list_reply, replies_of, IsToldOf};
+//! The entries of a history, at 64 bytes each. Where a reply is a list of more than five numbers, these are in a queue
+//! beside the entries. There is room in both before a call is made.
+ghost use Rattle.std.specs.Prelude.{◌≡◌, ◌≢◌, ℕ, ◌+◌, ◌-◌, ◌<◌, ◌≤◌, List, [], ◌∷◌, ◌++◌, length, drop, slice_get};
+ghost use Rattle.std.specs.Prelude.{◌^◌, IfOk, OnOk, OnErr, IfSome, Some, None};
+ghost use Rattle.std.specs.{Option.{option_map}, VecDeque.{deque_capacity, deque_len}};
+ghost use Rattle.pid_types.specs.{declared.entry.Entry.{Entry}, Short.{list_reply, reply_of}};
+ghost use Rattle.kept_past.specs.Stored.{list_at, kept_reply, replies_of, HasRoomFor, IsListedWithin};
 
 use arrayvec::ArrayVec;
 use pid_types::call::Call;
@@ -42,8 +43,8 @@ enum SlotReply {
     Short(ShortReply),
     /// It is a list, and these are its numbers.
     Few(Few),
-    /// It is a list of more, and its numbers stand here.
-    Many(Box<ArrayVec<Pid, LEVELS>>),
+    /// It is a list of more, and this is its place among all such lists that there were.
+    Many(u64),
 }
 
 /// An entry, but for the numbers of a list of many.
@@ -58,20 +59,27 @@ struct Slot {
 #[derive(Drop)]
 pub(crate) struct Ring {
     slots: VecDeque<Slot>,
-    // Where the numbers of replies to come will stand.
-    spare: Vec<Box<ArrayVec<Pid, LEVELS>>>,
+    // The lists of many numbers, in the order of their entries.
+    lists: VecDeque<ArrayVec<Pid, LEVELS>>,
+    // How many such lists were dropped: the place of the first one.
+    dropped: u64,
+    // For so many more such lists there is room.
+    list_room: usize,
 }
 
 impl Model for Ring {
-    ghost use Rattle.std.specs.{Prelude.{◌-◌, min, vec_len}, VecDeque.{deque_len, deque_capacity}};
-    ghost use Rattle.kept_past.specs.Stored.{Stored, entries_in};
+    ghost use Rattle.std.specs.{Prelude.{◌+◌, ◌-◌, min}, VecDeque.{deque_len, deque_capacity}};
+    ghost use Rattle.kept_past.specs.Stored.{Stored, entries_in, HasRoomFor, ListsAreInOrder};
 
     ghost Value = { Stored };
 
     ghost view = { λ a. record {
-      entries = entries_in a.slots.items;
-      room = min (deque_capacity a.slots - deque_len a.slots) (vec_len a.spare);
+      entries = entries_in a.lists.items a.dropped a.slots.items;
+      room = min (deque_capacity a.slots - deque_len a.slots) a.list_room;
     } };
+
+    ghost invariant = { λ a. ListsAreInOrder a.dropped (a.dropped + deque_len a.lists) a.slots.items
+        × HasRoomFor a.list_room (deque_capacity a.lists) (deque_len a.lists) a.dropped };
 }
 
 impl Ring {
@@ -81,7 +89,9 @@ impl Ring {
     {
         Ring {
             slots: VecDeque::new(alloc),
-            spare: Vec::new(alloc),
+            lists: VecDeque::new(alloc),
+            dropped: 0,
+            list_room: 0,
         }
     }
 
@@ -106,7 +116,7 @@ impl Ring {
         Some(Entry {
             worker: slot.worker,
             call: slot.call,
-            reply: slot.reply.told(),
+            reply: told(&self.lists, self.dropped, &slot.reply),
         })
     }
 
@@ -131,14 +141,20 @@ impl Ring {
     pub(crate) fn last_list(&self) -> Option<&[Pid]>
         ensures list { IfSome result (λ list.
             slice_get (replies_of self.now.entries) (length self.now.entries - 1) ≡ Some (list_reply list.now)) }
+        ensures all { (list : List ℕ) →
+            slice_get (replies_of self.now.entries) (length self.now.entries - 1) ≡ Some (list_reply list)
+            → result ≢ None }
         ensures fits { IfSome result (λ list. length list.now ≤ LEVELS) }
     {
         let all = self.slots.len();
         if all == 0 {
             return None;
         }
-        let slot = self.slots.get(all - 1)?;
-        slot.reply.list()
+        match &self.slots[all - 1].reply {
+            SlotReply::Short(_) => None,
+            SlotReply::Few(few) => Some(few.as_slice()),
+            SlotReply::Many(place) => Some(list_at(&self.lists, self.dropped, *place)),
+        }
     }
 
     /// Makes room for n more entries, each of which may have a list. The error is want of memory.
@@ -150,28 +166,58 @@ impl Ring {
         ensures enough { OnErr result (self.old.room < n) }
     {
         self.slots.reserve(n)?;
-        if self.spare.len() < n {
-            return stock(&mut self.spare, n);
+        if self.list_room < n {
+            self.list_room = list_room_for(&mut self.lists, self.dropped, n)?;
         }
         Ok(())
     }
 
-    /// Puts an entry behind the others, whose reply may be a list. It answers the reply where that is none.
-    pub(crate) fn push(&mut self, worker: usize, call: Call, reply: &Reply) -> Option<ShortReply>
+    /// Puts an entry behind the others, whose reply is a list.
+    #[inline(always)]
+    pub(crate) fn push_list(&mut self, worker: usize, call: Call, numbers: ArrayVec<Pid, LEVELS>)
         requires { 0 < self.old.room }
-        ensures short { IsToldOf reply.now result }
         ensures entries { self.new.entries
-            ≡ self.old.entries ++ record { worker = worker; call = call; reply = reply.now } ∷ [] }
+            ≡ self.old.entries ++ record { worker = worker; call = call; reply = list_reply numbers.items } ∷ [] }
         ensures room { self.old.room ≤ self.new.room + 1 }
     {
-        let kept = slot_reply(reply, &mut self.spare);
-        let short = kept.short();
+        if numbers.len() <= FEW {
+            self.push_few(worker, call, Few::of(numbers.as_slice()));
+        } else {
+            self.push_many(worker, call, numbers);
+        }
+    }
+
+    /// Puts an entry behind the others, whose reply is a list of few numbers.
+    #[inline(always)]
+    fn push_few(&mut self, worker: usize, call: Call, few: Few)
+        requires { 0 < self.old.room }
+        ensures entries { self.new.entries
+            ≡ self.old.entries ++ record { worker = worker; call = call; reply = list_reply few } ∷ [] }
+        ensures room { self.old.room ≤ self.new.room + 1 }
+    {
         self.slots.push_back_reserved(Slot {
             worker,
             call,
-            reply: kept,
+            reply: SlotReply::Few(few),
         });
-        short
+    }
+
+    /// Puts an entry behind the others, and its list behind theirs.
+    #[inline(always)]
+    fn push_many(&mut self, worker: usize, call: Call, numbers: ArrayVec<Pid, LEVELS>)
+        requires { 0 < self.old.room }
+        ensures entries { self.new.entries
+            ≡ self.old.entries ++ record { worker = worker; call = call; reply = list_reply numbers.items } ∷ [] }
+        ensures room { self.old.room ≤ self.new.room + 1 }
+    {
+        let place = self.dropped + self.lists.len() as u64;
+        self.lists.push_back_reserved(numbers);
+        self.slots.push_back_reserved(Slot {
+            worker,
+            call,
+            reply: SlotReply::Many(place),
+        });
+        self.list_room -= 1;
     }
 
     /// Puts an entry behind the others, whose reply is no list.
@@ -194,7 +240,13 @@ impl Ring {
         ensures entries { self.new.entries ≡ drop 1 self.old.entries }
         ensures room { self.old.room ≤ self.new.room }
     {
-        let _first = self.slots.pop_front();
+        let Some(first) = self.slots.pop_front() else {
+            return;
+        };
+        if let SlotReply::Many(_) = first.reply {
+            let _list = self.lists.pop_front();
+            self.dropped += 1;
+        }
     }
 
     /// Drops all entries.
@@ -203,11 +255,13 @@ impl Ring {
         ensures room { self.old.room ≤ self.new.room }
     {
         self.slots.clear();
+        self.lists.clear();
     }
 }
 
 impl Few {
     /// A list of the numbers.
+    #[inline(always)]
     fn of(numbers: &[Pid]) -> Few
         requires { length numbers.now ≤ FEW }
         ensures { result ≡ numbers.now }
@@ -239,91 +293,51 @@ impl Few {
     }
 }
 
-impl SlotReply {
-    /// The whole reply.
-    fn told(&self) -> Reply
-        ensures { result ≡ kept_reply self.now }
-    {
-        match self {
-            SlotReply::Short(short) => {
-                let mut reply = Reply::Done;
-                (*short).tell(&mut reply);
-                reply
-            }
-            SlotReply::Few(few) => Reply::Levels(listed(few.as_slice())),
-            SlotReply::Many(numbers) => Reply::Levels(listed(numbers.as_slice())),
-        }
-    }
-
-    /// The reply, where it is no list.
-    fn short(&self) -> Option<ShortReply>
-        ensures { IsToldOf (kept_reply self.now) result }
-    {
-        match self {
-            SlotReply::Short(short) => Some(*short),
-            SlotReply::Few(_) => None,
-            SlotReply::Many(_) => None,
-        }
-    }
-
-    /// The numbers, where it is a list.
-    fn list(&self) -> Option<&[Pid]>
-        ensures list { IfSome result (λ list. kept_reply self.now ≡ list_reply list.now) }
-        ensures fits { IfSome result (λ list. length list.now ≤ LEVELS) }
-    {
-        match self {
-            SlotReply::Short(_) => None,
-            SlotReply::Few(few) => Some(few.as_slice()),
-            SlotReply::Many(numbers) => Some(numbers.as_slice()),
-        }
-    }
+/// The numbers of the list at a place, where that of the first list is told.
+fn list_at(lists: &VecDeque<ArrayVec<Pid, LEVELS>>, first: u64, place: u64) -> &[Pid]
+    requires { (first ≤ place) × (place < first + deque_len lists.now) }
+    ensures list { result.now ≡ list_at lists.now.items first place }
+    ensures fits { length result.now ≤ LEVELS }
+{
+    lists[(place - first) as usize].as_slice()
 }
 
-/// What a slot has of the reply. The numbers of a list go into spare memory.
-fn slot_reply(reply: &Reply, spare: &mut Vec<Box<ArrayVec<Pid, LEVELS>>>) -> SlotReply
-    requires { 0 < vec_len spare.old }
-    ensures reply { kept_reply result ≡ reply.now }
-    ensures spare { vec_len spare.old ≤ vec_len spare.new + 1 }
+/// Makes room for n more lists, and answers for how many there is room. It is not inlined, since a call rarely comes
+/// here. The error is want of memory, or of places, of which so many never were: stamps are spent before.
+#[inline(never)]
+fn list_room_for(
+    lists: &mut VecDeque<ArrayVec<Pid, LEVELS>>,
+    dropped: u64,
+    n: usize,
+) -> Result<usize, AllocError>
+    requires { dropped + deque_len lists.old < 2 ^ 64 }
+    ensures enough { IfOk result (λ room. n ≤ room) }
+    ensures room { IfOk result (λ room. HasRoomFor room (deque_capacity lists.new) (deque_len lists.new) dropped) }
+    ensures items { lists.new.items ≡ lists.old.items }
+    ensures len { deque_len lists.new ≡ deque_len lists.old }
+    ensures capacity { deque_capacity lists.old ≤ deque_capacity lists.new }
 {
-    let short = match reply {
-        Reply::Forked { child, root } => ShortReply::Forked {
-            child: *child,
-            root: *root,
-        },
-        Reply::Done => ShortReply::Done,
-        Reply::Number(number) => ShortReply::Number(*number),
-        Reply::Levels(numbers) => return slot_list(numbers.as_slice(), spare),
-        Reply::Reaped { child, ended } => ShortReply::Reaped {
-            child: *child,
-            ended: *ended,
-        },
-        Reply::NoneYet => ShortReply::NoneYet,
-        Reply::Counted(count) => ShortReply::Counted(*count),
-        Reply::Control(id) => ShortReply::Control(*id),
-        Reply::End => ShortReply::End,
-        Reply::Refused(refusal) => ShortReply::Refused(*refusal),
-    };
-    SlotReply::Short(short)
+    lists.reserve(n)?;
+    let places = (u64::MAX - dropped - lists.len() as u64) as usize;
+    if places < n {
+        return Err(AllocError);
+    }
+    Ok((lists.capacity() - lists.len()).min(places))
 }
 
-/// What a slot has of a list.
-fn slot_list(numbers: &[Pid], spare: &mut Vec<Box<ArrayVec<Pid, LEVELS>>>) -> SlotReply
-    requires spare { 0 < vec_len spare.old }
-    requires fits { length numbers.now ≤ LEVELS }
-    ensures reply { kept_reply result ≡ list_reply numbers.now }
-    ensures spare { vec_len spare.old ≤ vec_len spare.new + 1 }
+/// The whole reply, where lists of many numbers are beside the slots.
+fn told(lists: &VecDeque<ArrayVec<Pid, LEVELS>>, first: u64, reply: &SlotReply) -> Reply
+    requires { IsListedWithin first (first + deque_len lists.now) reply.now }
+    ensures { result ≡ kept_reply lists.now.items first reply.now }
 {
-    if numbers.len() <= FEW {
-        return SlotReply::Few(Few::of(numbers));
-    }
-    let Some(list) = spare.pop() else {
-        unreachable!()
-    };
-    let mut list = list;
-    list.clear();
-    match list.try_extend_from_slice(numbers) {
-        Ok(()) => SlotReply::Many(list),
-        Err(_) => unreachable!(),
+    match reply {
+        SlotReply::Short(short) => {
+            let mut reply = Reply::Done;
+            (*short).tell(&mut reply);
+            reply
+        }
+        SlotReply::Few(few) => Reply::Levels(listed(few.as_slice())),
+        SlotReply::Many(place) => Reply::Levels(listed(list_at(lists, first, *place))),
     }
 }
 
@@ -337,19 +351,4 @@ fn listed(numbers: &[Pid]) -> ArrayVec<Pid, LEVELS>
         Ok(()) => list,
         Err(_) => unreachable!(),
     }
-}
-
-/// Fetches memory for lists until there is some for n of them. It is not inlined, since a call rarely comes here. The
-/// error is want of memory.
-#[inline(never)]
-fn stock(spare: &mut Vec<Box<ArrayVec<Pid, LEVELS>>>, n: usize) -> Result<(), AllocError>
-    requires { vec_len spare.old < n }
-    ensures ok { OnOk result (n ≤ vec_len spare.new) }
-    ensures more { vec_len spare.old ≤ vec_len spare.new }
-{
-    let alloc = *spare.allocator();
-    for _ in spare.len()..n {
-        spare.push(Box::new(alloc, ArrayVec::new())?)?;
-    }
-    Ok(())
 }

@@ -3,13 +3,14 @@
 //! [`Kept::make_call_keeping`] bounds it.
 ghost use Rattle.std.specs.Prelude.{◌≡◌, ℕ, ◌+◌, ◌-◌, ◌^◌, ◌<◌, ◌≤◌, ◌==◌, [], ◌∷◌, ◌++◌, ◌↔◌, length, IsTrue, sum};
 ghost use Rattle.std.specs.Prelude.{slice_index, IfOk, OnOk, OnErr, IsOk, IfSome, Some, None, Err, ◌≢◌, ◌⊎◌, true};
-ghost use Rattle.std.specs.{Prelude.{false}, Option.{option_map}};
+ghost use Rattle.std.specs.{Prelude.{false, List}, Option.{option_map}};
 ghost use Rattle.{
   pid_types.specs.{declared.plain.Control.{Control}, Membership.{IsIn}, declared.entry.Entry.{Entry}, Shown.{Shows}},
-  pid_types.specs.{Sound.{IsBelow}, Step.{step, may_grow}, Short.{reply_of}},
+  pid_types.specs.{Sound.{IsBelow}, Step.{step, may_grow}, Short.{list_reply, reply_of, told_of}},
+  pid_types.specs.declared.call.Call.TheVariants.{NsPid},
   translate.specs.Stat.{stat_at, glimpse_in, IsSeen},
   call_effects.specs.Touched.{is_touching, most_in, most_of, Watches},
-  kept_past.specs.Stored.{list_reply, TellsIfShort},
+  kept_past.specs.Stored.{TellsIfShort},
   kept_table.specs.Calls.{begun, resumed, outcome, entry_of, after_recorded, counted, cut_at, IsWithoutFirst, to_cut},
   kept_table.specs.Calls.{to_cut_once},
   kept_table.specs.Chronicle.{Chronicle, total, next_stamp, recorded, recorded_by_all, kept_entry, last_reply},
@@ -18,6 +19,7 @@ ghost use Rattle.{
   pid_table.specs.Lists.{answers_list},
 };
 
+use arrayvec::ArrayVec;
 use call_effects::Touched;
 use kept_past::History;
 use model_laws::laws::{forks_keep_limits, no_reuse, numbers_are_apart};
@@ -247,6 +249,7 @@ impl Kept {
     /// The numbers of the last kept entry's reply, where that is a list, lent from there. It costs nothing.
     pub fn last_list(&self) -> Option<&[Pid]>
         ensures list { IfSome result (λ list. last_reply self.now ≡ Some (list_reply list.now)) }
+        ensures all { (list : List ℕ) → last_reply self.now ≡ Some (list_reply list) → result ≢ None }
         ensures fits { IfSome result (λ list. length list.now ≤ LEVELS) }
     {
         self.history.last_list()
@@ -325,8 +328,7 @@ impl Kept {
         self.table.ask(call, reply);
     }
 
-    /// Answers a query as [`Kept::ask`] does, where that is answered by no list
-    /// ([`answers_list`](pid_table::answers_list)).
+    /// Answers a query but `NSpid` as [`Kept::ask`] does ([`PidTable::ask_short`]).
     #[inline(always)]
     pub fn ask_short(&self, call: Call) -> ShortReply
         requires asks { IsTrue (is_query call) }
@@ -334,6 +336,19 @@ impl Kept {
         ensures { reply_of result ≡ (outcome self.now call).reply }
     {
         self.table.ask_short(call)
+    }
+
+    /// Answers `NSpid` as [`Kept::ask`] does, without a reply that has room for a list: [`PidTable::ns_pid`].
+    #[inline(always)]
+    pub fn ns_pid(
+        &self,
+        caller: Pid,
+        target: Pid,
+        numbers: &mut ArrayVec<Pid, LEVELS>,
+    ) -> Option<ShortReply>
+        ensures { told_of result numbers.new.items ≡ (outcome self.now (NsPid caller target)).reply }
+    {
+        self.table.ns_pid(caller, target, numbers)
     }
 
     /// Writes the reply that the call would get as the next one: [`PidTable::would`]. It is not recorded, and nothing

@@ -294,21 +294,25 @@ impl Numbers {
         number_at(&self.idents, ident, place)
     }
 
-    /// The identifier's numbers from the namespace inwards, the one there first: `NSpid` of
+    /// Writes the identifier's numbers over others, from the namespace inwards, the one there first: `NSpid` of
     /// `proc_pid_status(5)`. There are none where it is not visible in the namespace.
-    pub fn levels_from(&self, ident: IdentKey, space: SpaceKey) -> ArrayVec<Pid, LEVELS>
-        ensures { result.items ≡ levels_of self.now ident space }
+    pub fn write_levels_from(
+        &self,
+        ident: IdentKey,
+        space: SpaceKey,
+        numbers: &mut ArrayVec<Pid, LEVELS>,
+    )
+        ensures { numbers.new.items ≡ levels_of self.now ident space }
     {
+        numbers.clear();
         let Some(own) = home_of(&self.idents, ident) else {
-            return ArrayVec::new();
+            return;
         };
         if !self.tree.is_within(own, space) {
-            return ArrayVec::new();
+            return;
         }
         let above = self.tree.levels(own) - self.tree.levels(space);
-        let mut numbers = ArrayVec::new();
-        write_numbers_inwards(&self.idents, ident, above + 1, &mut numbers);
-        numbers
+        write_numbers_inwards(&self.idents, ident, above + 1, numbers);
     }
 
     /// Writes the identifier's name over another: the id of its namespace, and its numbers, the root's first. It costs

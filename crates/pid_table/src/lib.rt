@@ -25,7 +25,7 @@ use pid_types::plain::{ControlRow, Life, Plain, Row, Space};
 use pid_types::reply::{Refusal, ShortReply};
 use std::alloc::{AllocError, Global};
 use std::marker::Model;
-pub use step::answers_list;
+pub use step::is_query;
 use task_table::Tasks;
 use task_table::view::laws;
 use task_tree::Task;

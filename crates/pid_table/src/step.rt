@@ -2,16 +2,20 @@
 ghost use Rattle.std.specs.Prelude.{◌≡◌, ℕ, IsTrue, OnOk, OnErr, IfOk, false};
 ghost use Rattle.{
   model_laws.specs.Refusals.{is_query},
-  pid_types.specs.{Short.{reply_of}, Sound.{IsBelow}, Step.{step, may_grow}},
+  pid_types.specs.{Short.{reply_of, told_of}, Sound.{IsBelow}, Step.{step, may_grow}},
+  pid_types.specs.declared.call.Call.TheVariants.{NsPid},
   pid_table.specs.Lists.{answers_list},
   task_table.specs.{View.{state_of}, Whole.{HasParents, IsWhole}},
 };
 
 use crate::PidTable;
+use arrayvec::ArrayVec;
 use fork_calls::{fork, would_fork};
 use model_laws::soundness::soundness_is_kept;
 use ns_teardown::{exit, would_exit};
 use pid_types::call::Call;
+use pid_types::keys::Pid;
+use pid_types::plain::LEVELS;
 use pid_types::reply::{Reply, ShortReply};
 use set_calls::controls::{
     count, make_control, remove_control, set_limit, would_make_control, would_remove_control,
@@ -27,12 +31,27 @@ use task_table::Tasks;
 use translate::{get_pgid, get_pid, get_ppid, get_sid, next, ns_pid};
 use wait_calls::{wait, would_wait};
 
-/// Whether the reply to the call may be a list of numbers: [`PidTable::step_short`] makes all others.
-#[inline(always)]
-pub fn answers_list(call: &Call) -> bool
-    ensures { result ≡ answers_list call.now }
+/// Whether the call is a query: a getpid, getppid, getpgid, getsid, nspid, next or count. It changes nothing.
+pub fn is_query(call: &Call) -> bool
+    ensures { result ≡ is_query call.now }
 {
-    matches!(call, Call::NsPid { .. })
+    match call {
+        Call::GetPid { caller: _ } => true,
+        Call::NsPid {
+            caller: _,
+            target: _,
+        } => true,
+        Call::GetPpid { caller: _ } => true,
+        Call::Count { id: _ } => true,
+        Call::GetPgid { caller: _, pid: _ } => true,
+        Call::GetSid { caller: _, pid: _ } => true,
+        Call::Next {
+            caller: _,
+            kind: _,
+            from: _,
+        } => true,
+        _ => false,
+    }
 }
 
 /// Makes a call on a store that is answered by no list.
@@ -72,6 +91,19 @@ fn make_short(store: &mut Tasks, stamp: u64, call: Call) -> Result<ShortReply, A
     Ok(short)
 }
 
+/// Writes the reply to `NSpid` in place.
+#[tactic(auto, unfolding(pid_types::specs::Step::step))]
+fn list(store: &Tasks, caller: Pid, target: Pid, reply: &mut Reply)
+    requires { IsWhole store.now }
+    ensures { (stamp : ℕ) → reply.new ≡ (step (state_of store.now) stamp (NsPid caller target)).reply }
+{
+    let mut numbers = ArrayVec::new();
+    match ns_pid(store, caller, target, &mut numbers) {
+        Some(short) => short.tell(reply),
+        None => *reply = Reply::Levels(numbers),
+    }
+}
+
 /// Makes the call on a store, and writes the reply in place.
 #[tactic(auto, unfolding(pid_types::specs::Step::step))]
 #[inline(always)]
@@ -85,7 +117,7 @@ fn make(store: &mut Tasks, stamp: u64, call: Call, reply: &mut Reply) -> Result<
     ensures parents { HasParents store.new }
 {
     if let Call::NsPid { caller, target } = call {
-        ns_pid(store, caller, target, reply);
+        list(store, caller, target, reply);
         return Ok(());
     }
     make_short(store, stamp, call)?.tell(reply);
@@ -132,7 +164,7 @@ fn answer(store: &Tasks, call: Call, reply: &mut Reply)
     ensures { (stamp : ℕ) → reply.new ≡ (step (state_of store.now) stamp call).reply }
 {
     if let Call::NsPid { caller, target } = call {
-        ns_pid(store, caller, target, reply);
+        list(store, caller, target, reply);
         return;
     }
     answer_short(store, call).tell(reply);
@@ -179,7 +211,7 @@ impl PidTable {
         answer(&self.store, call, reply);
     }
 
-    /// Answers a query as [`PidTable::ask`] does, where that is answered by no list ([`answers_list`]).
+    /// Answers a query as [`PidTable::ask`] does, but `NSpid`, which may be answered by a list ([`PidTable::ns_pid`]).
     #[inline(always)]
     pub fn ask_short(&self, call: Call) -> ShortReply
         requires asks { IsTrue (is_query call) }
@@ -187,6 +219,21 @@ impl PidTable {
         ensures { (stamp : ℕ) → reply_of result ≡ (step self.now stamp call).reply }
     {
         answer_short(&self.store, call)
+    }
+
+    /// Answers `NSpid` as [`PidTable::ask`] does, without a reply that has room for a list: it writes the target's
+    /// numbers over others, or answers the refusal, and then the numbers are of no account.
+    #[tactic(auto, unfolding(pid_types::specs::Step::step))]
+    #[inline(always)]
+    pub fn ns_pid(
+        &self,
+        caller: Pid,
+        target: Pid,
+        numbers: &mut ArrayVec<Pid, LEVELS>,
+    ) -> Option<ShortReply>
+        ensures { (stamp : ℕ) → told_of result numbers.new.items ≡ (step self.now stamp (NsPid caller target)).reply }
+    {
+        ns_pid(&self.store, caller, target, numbers)
     }
 
     /// Writes the reply that the call would get with this stamp, and changes nothing: of a fork the numbers of the
@@ -219,8 +266,8 @@ impl PidTable {
         make(&mut self.store, stamp, call, reply)
     }
 
-    /// Makes the call as [`PidTable::step`] does, where that is answered by no list ([`answers_list`]): so the reply is
-    /// a short one, and nothing is written but that.
+    /// Makes a call but `NSpid`, which may be answered by a list, as [`PidTable::step`] does: so the reply is a short
+    /// one, and nothing is written but that.
     #[inline(always)]
     pub fn step_short(&mut self, stamp: u64, call: Call) -> Result<ShortReply, AllocError>
         requires below { IsBelow stamp self.old }

@@ -1,4 +1,5 @@
--- The reply that a short one stands for.
+-- The reply that a short one stands for, and what is told of a call.
+use Rattle.std.specs.Prelude.{ℕ, List, Option, None, Some}
 use Rattle.pid_types.specs.declared.reply.Reply.{Reply}
 use Rattle.pid_types.specs.declared.reply.ShortReply.{ShortReply}
 use Rattle.pid_types.specs.declared.reply.ShortReply.TheVariants as short
@@ -14,3 +15,12 @@ reply_of (short.Counted count) = Reply.Counted count
 reply_of (short.Control id) = Reply.Control id
 reply_of short.End = Reply.End
 reply_of (short.Refused refusal) = Reply.Refused refusal
+
+-- the reply that is a list of these numbers
+abbrev pub list_reply : List ℕ → Reply
+list_reply numbers = Reply.Levels (record { items = numbers })
+
+-- the reply: the short one, or where none is told the list of these numbers
+abbrev pub told_of : Option ShortReply → List ℕ → Reply
+told_of None numbers = list_reply numbers
+told_of (Some short) numbers = reply_of short

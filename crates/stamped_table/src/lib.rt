@@ -9,16 +9,20 @@ ghost use Rattle.{
   call_effects.specs.Touched.{is_touching, most_in, most_of, Watches},
   model_laws.specs.Refusals.{is_query},
   pid_table.specs.Lists.{answers_list},
-  pid_types.specs.{Short.{reply_of}, Sound.{IsSound, IsBelow}, State.{root_state}, Step.{may_grow}},
+  pid_types.specs.declared.call.Call.TheVariants.{NsPid},
+  pid_types.specs.{Short.{reply_of, told_of}, Sound.{IsSound, IsBelow}, State.{root_state}, Step.{may_grow}},
   stamped_table.specs.Stamped.{IsInOrder, after_call, reply_to},
   translate.specs.Stat.{stat_at},
 };
 
+use arrayvec::ArrayVec;
 use call_effects::Touched;
 use model_laws::soundness::{root_state_is_sound, soundness_is_kept};
 use pid_table::PidTable;
 use pid_types::call::Call;
 use pid_types::config::Config;
+use pid_types::keys::Pid;
+use pid_types::plain::LEVELS;
 use pid_types::reply::{CallFault, Refusal, Reply, ShortReply};
 use std::alloc::{AllocError, Global};
 use std::marker::Model;
@@ -117,8 +121,7 @@ impl StampedTable {
         Ok(())
     }
 
-    /// Makes the call as [`StampedTable::make`] does, where that is answered by no list
-    /// ([`answers_list`](pid_table::answers_list)).
+    /// Makes a call but `NSpid` as [`StampedTable::make`] does ([`PidTable::step_short`]).
     #[inline(always)]
     pub fn make_short(&mut self, call: Call) -> Result<ShortReply, CallFault>
         requires { answers_list call ≡ false }
@@ -135,6 +138,30 @@ impl StampedTable {
         Ok(reply)
     }
 
+    /// Makes the call `NSpid` as [`StampedTable::make`] does, without a reply that has room for a list: it writes the
+    /// target's numbers over others, or answers the refusal, and then the numbers are of no account.
+    #[tactic(auto, unfolding(pid_types::specs::Step::step))]
+    #[inline(always)]
+    pub fn make_ns_pid(
+        &mut self,
+        caller: Pid,
+        target: Pid,
+        numbers: &mut ArrayVec<Pid, LEVELS>,
+    ) -> Result<Option<ShortReply>, CallFault>
+        ensures state { OnOk result (self.new ≡ after_call self.old (NsPid caller target)) }
+        ensures reply { IfOk result (λ told.
+            told_of told numbers.new.items ≡ reply_to self.old (NsPid caller target)) }
+        ensures err { OnErr result (self.new ≡ self.old) }
+        ensures spent { (result ≡ Err CallFault.Spent) ↔ (self.old.stamp ≡ u64.MAX) }
+        ensures no_memory { result ≢ Err CallFault.NoMemory }
+    {
+        self.has_stamp()?;
+        soundness_is_kept();
+        let told = self.table.ns_pid(caller, target, numbers);
+        self.stamp += 1;
+        Ok(told)
+    }
+
     /// Answers a query. It uses no stamp, and changes nothing.
     pub fn ask(&self, call: Call) -> Reply
         requires { IsTrue (is_query call) }
@@ -145,8 +172,7 @@ impl StampedTable {
         reply
     }
 
-    /// Answers a query as [`StampedTable::ask`] does, where that is answered by no list
-    /// ([`answers_list`](pid_table::answers_list)).
+    /// Answers a query but `NSpid` as [`StampedTable::ask`] does ([`PidTable::ask_short`]).
     #[inline(always)]
     pub fn ask_short(&self, call: Call) -> ShortReply
         requires asks { IsTrue (is_query call) }
@@ -154,6 +180,19 @@ impl StampedTable {
         ensures { reply_of result ≡ reply_to self.now call }
     {
         self.table.ask_short(call)
+    }
+
+    /// Answers `NSpid` as [`StampedTable::ask`] does, without a reply that has room for a list: [`PidTable::ns_pid`].
+    #[inline(always)]
+    pub fn ns_pid(
+        &self,
+        caller: Pid,
+        target: Pid,
+        numbers: &mut ArrayVec<Pid, LEVELS>,
+    ) -> Option<ShortReply>
+        ensures { told_of result numbers.new.items ≡ reply_to self.now (NsPid caller target) }
+    {
+        self.table.ns_pid(caller, target, numbers)
     }
 
     /// Writes the reply that the call would get as the next one: [`PidTable::would`]. It uses no stamp, and changes

@@ -8,7 +8,8 @@
 ghost use Rattle.std.specs.Prelude.{◌≡◌};
 ghost use Rattle.{
   pid_types.specs.Queries.{get_pid as get_pid_of, get_ppid as get_ppid_of, get_pgid as get_pgid_of},
-  pid_types.specs.{Queries.{get_sid as get_sid_of, ns_pid as ns_pid_of, next as next_of}, Short.{reply_of}},
+  pid_types.specs.Queries.{get_sid as get_sid_of, ns_pid as ns_pid_of, next as next_of},
+  pid_types.specs.Short.{reply_of, told_of},
   task_table.specs.{View.{state_of}, Whole.{IsWhole}},
   translate.specs.Seen.{IsSeenReply},
 };
@@ -24,10 +25,12 @@ pub mod shown;
 pub mod space;
 pub mod stat;
 
+use arrayvec::ArrayVec;
 use model_laws::sights::queries_answer_seen;
 use pid_types::call::Kind;
 use pid_types::keys::Pid;
-use pid_types::reply::{Reply, ShortReply};
+use pid_types::plain::LEVELS;
+use pid_types::reply::ShortReply;
 use task_table::Tasks;
 
 /// `getpid(2)`.
@@ -70,15 +73,22 @@ pub fn get_sid(store: &Tasks, caller: Pid, pid: Pid) -> ShortReply
     queries::get_sid(store, caller, pid)
 }
 
-/// Writes `NSpid` of `proc_pid_status(5)` over another reply: the target's numbers from the caller's namespace inwards.
+/// `NSpid` of `proc_pid_status(5)`: writes the target's numbers from the caller's namespace inwards over others. It
+/// answers the refusal where there is one; the numbers are then of no account.
 #[inline(never)]
-pub fn ns_pid(store: &Tasks, caller: Pid, target: Pid, reply: &mut Reply)
+pub fn ns_pid(
+    store: &Tasks,
+    caller: Pid,
+    target: Pid,
+    numbers: &mut ArrayVec<Pid, LEVELS>,
+) -> Option<ShortReply>
     requires { IsWhole store.now }
-    ensures value { reply.new ≡ ns_pid_of (state_of store.now) caller target }
-    ensures seen { IsSeenReply (state_of store.now) caller (λ n. calls.NsPid n target) reply.new }
+    ensures value { told_of result numbers.new.items ≡ ns_pid_of (state_of store.now) caller target }
+    ensures seen { IsSeenReply (state_of store.now) caller (λ n. calls.NsPid n target)
+        (told_of result numbers.new.items) }
 {
     queries_answer_seen();
-    queries::ns_pid(store, caller, target, reply);
+    queries::ns_pid(store, caller, target, numbers)
 }
 
 /// The least number from the given one on that is in use as the kind, in the caller's namespace. It costs one

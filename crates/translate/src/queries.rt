@@ -3,16 +3,18 @@ ghost use Rattle.std.specs.{Prelude.{◌≡◌, ℕ, Some, IsSome, IfSome, optio
 ghost use Rattle.{
   pid_types.specs.{Names.{number_or_zero}, Queries.{get_pid as get_pid_of, get_ppid as get_ppid_of}},
   pid_types.specs.Queries.{get_pgid as get_pgid_of, get_sid as get_sid_of, ns_pid as ns_pid_of, next as next_of},
-  pid_types.specs.{Queries.{self_or_task}, Short.{reply_of}},
+  pid_types.specs.{Queries.{self_or_task}, Short.{reply_of, told_of}},
   pid_numbers.specs.Numbering.{id_at, identifier_at},
   task_tree.specs.{declared.Task.{Task}, Tree.{task_at, parent_of}},
   task_table.specs.{declared.view.Found.{Found}, Found.{IsFound}, View.{name_at, row_of, state_of}},
   task_table.specs.Whole.{HasParents, IsWhole},
 };
 
+use arrayvec::ArrayVec;
 use pid_types::call::Kind;
 use pid_types::keys::{IdentKey, Pid, SpaceKey, TaskKey};
-use pid_types::reply::{Refusal, Reply, ShortReply};
+use pid_types::plain::LEVELS;
+use pid_types::reply::{Refusal, ShortReply};
 use task_table::Tasks;
 use task_table::view::{Found, find_live, find_task, laws};
 
@@ -144,23 +146,29 @@ pub(crate) fn get_sid(store: &Tasks, caller: Pid, pid: Pid) -> ShortReply
     ShortReply::Number(seen_session(store, found.space, &task))
 }
 
-/// Writes `NSpid` of `proc_pid_status(5)` over another reply: the target's numbers from the caller's namespace inwards.
+/// `NSpid` of `proc_pid_status(5)`: writes the target's numbers from the caller's namespace inwards over others. It
+/// answers the refusal where there is one; the numbers are then of no account.
 #[tactic(auto, unfolding(pid_types::specs::Queries::ns_pid))]
-#[inline(never)]
-pub(crate) fn ns_pid(store: &Tasks, caller: Pid, target: Pid, reply: &mut Reply)
+pub(crate) fn ns_pid(
+    store: &Tasks,
+    caller: Pid,
+    target: Pid,
+    numbers: &mut ArrayVec<Pid, LEVELS>,
+) -> Option<ShortReply>
     requires { IsWhole store.now }
-    ensures { reply.new ≡ ns_pid_of (state_of store.now) caller target }
+    ensures { told_of result numbers.new.items ≡ ns_pid_of (state_of store.now) caller target }
 {
     laws(store);
     let Some(found) = find_live(store, caller) else {
-        *reply = Reply::Refused(Refusal::NoCaller);
-        return;
+        return Some(ShortReply::Refused(Refusal::NoCaller));
     };
     let Some(task) = find_task(store, found.space, target) else {
-        *reply = Reply::Refused(Refusal::NoTask);
-        return;
+        return Some(ShortReply::Refused(Refusal::NoTask));
     };
-    *reply = Reply::Levels(store.numbers().levels_from(task.key, found.space));
+    store
+        .numbers()
+        .write_levels_from(task.key, found.space, numbers);
+    None
 }
 
 /// The least number from the given one on that is in use as the kind, in the caller's namespace. It costs one

@@ -66,8 +66,12 @@ fn read_task(store: &Tasks, space: SpaceKey, found: &Found) -> Stat
         → result ≡ stat_of (state_of store.now) i (row_of store.now found.now.key found.now.task) }
 {
     laws(store);
+    let mut numbers = ArrayVec::new();
+    store
+        .numbers()
+        .write_levels_from(found.key, space, &mut numbers);
     Stat {
-        numbers: store.numbers().levels_from(found.key, space),
+        numbers,
         root: root_of(store, found.key),
         space: own_id(store, found),
         parent: seen_parent(store, space, found.key),

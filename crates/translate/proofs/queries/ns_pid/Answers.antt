@@ -25,4 +25,4 @@ returns c =
     c.in-Some.ensures.row
     ∙ ap (λ o. option_map_or levels o (Refused NoTask)) (c.in-Some-find_task.ensures.row space c.in-Some.ensures.id)
     ∙ ap told (levels-are s.numbering c.laws.ensures.numbering c.in-Some.found.space space task.key u.0 c.in-Some.ensures.id u.1
-    ∙ ap (λ b. levels_of b task.key c.in-Some.found.space) (sym c.numbers.ensures) ∙ sym c.levels_from.ensures))
+    ∙ ap (λ b. levels_of b task.key c.in-Some.found.space) (sym c.numbers.ensures) ∙ sym c.write_levels_from.ensures))

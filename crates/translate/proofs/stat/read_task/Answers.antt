@@ -12,8 +12,8 @@ returns c i at =
     let s = c.args.store.now in
     let found = c.args.found.now in
     let u = named s c.laws.ensures found.key found.task c.requires.found.there in
-    let levels : c.levels_from.result.items ≡ numbers_from (state_of s).spaces (name_at s.numbering found.key) i =
-    c.levels_from.ensures ∙ ap (λ b. levels_of b found.key c.args.space) c.numbers.ensures
+    let levels : c.write_levels_from.new.numbers.items ≡ numbers_from (state_of s).spaces (name_at s.numbering found.key) i =
+    c.write_levels_from.ensures ∙ ap (λ b. levels_of b found.key c.args.space) c.numbers.ensures
     ∙ sym (levels-are s.numbering c.laws.ensures.numbering c.args.space i found.key u.0 at u.1) in
     let home = c.home_id.ensures ∙ ap (λ (v : Charges). home_id v found.task.home) c.controls.ensures in
     λ j. record {

@@ -4,13 +4,13 @@ use Rattle.pid_numbers.proofs.Words.{ident_at}
 use Rattle.ns_tree.proofs.Paths as paths
 use Rattle.pid_numbers.proofs.Views as views
 use Rattle.pid_numbers.proofs.Inwards as inwards
-use Rattle.pid_numbers.proofs.Numbers.levels_from.Goals as goal
-use Rattle.pid_numbers.proofs.Numbers.levels_from.Goals.{After-levels-2}
+use Rattle.pid_numbers.proofs.Numbers.write_levels_from.Goals as goal
+use Rattle.pid_numbers.proofs.Numbers.write_levels_from.Goals.{After-levels-2}
 
 pub returns-then-not-is_within : goal.returns-then-not-is_within
 returns-then-not-is_within c =
     let h = views.home (ident_at c.self.inside.idents c.args.ident) c.in-Some.own c.in-Some.ensures in
-    c.new-then-not-is_within.ensures
+    c.clear.ensures
     ∙ sym (views.levels-of c.self.inside c.self.view_is c.args.ident c.args.space c.in-Some.own h.0 h.1 h.2
     ∙ inwards.from-none c.args.space (way c.self.inside.tree.nodes c.in-Some.own) h.0.numbers (sym c.if-not-is_within.ensures))
 
