@@ -142,6 +142,19 @@ class Checkout(unittest.TestCase):
         self.run_gate("write")
         self.assertIn("| `low` | 5\\* | 1\\* | 7\\* | 2 |\n", self.page.read_text())
 
+    def test_the_texts_of_an_edit(self) -> None:
+        code, edit = self.top / "crates/low/src/lib.rt", self.top / "crates/low/must-fail/one.edit"
+        self.run_gate("write")
+        code.write_text("fn f() {\n    first();\n    second();\n}\n")
+        edit.write_text("# why\nfile: src/lib.rt\nold:     first();\nnew:\nold:     second();\nnew:     second(); first();\n")
+        self.assertEqual(self.run_gate("--check"), (0, "", ""))
+        for text, times in (("    third();", 0), ("();", 2)):
+            edit.write_text(f"file: src/lib.rt\nold:     first();\nnew: second();\nold: {text}\nnew:\n")
+            said = f"crates/low/must-fail/one.edit: its text is in crates/low/src/lib.rt {times} times, and not once: {text.strip()}\n"
+            self.assertEqual(self.run_gate("--check"), (1, "", said))
+        edit.write_text("file: src/other.rt\nold: first\nnew: second\n")
+        self.assertEqual(self.run_gate("--check")[0], 1)
+
     def test_measure(self) -> None:
         self.assertEqual(self.run_gate("measure"), (0, "3 passed, 0 failed\n", ""))
         facts = self.table.read_text().splitlines()
