@@ -1,8 +1,8 @@
 /* Calls of the library for C by numbers, for callgrind: calls TABLE LOAD N.
  *
  * TABLE is plain, record or shared (with its lock taken for each call). LOAD is getpid; ask, the same as a query that is no call; turns, the same
- * with 100 in a turn, where N is how many turns, and no table is plain; or cycle: a fork, an exit and a wait. The difference of the instructions at
- * two lengths, divided by that of the lengths, is the cost; the loop is in it.
+ * with 100 in a turn, where N is how many turns, and no table is plain; nspid, of a task at level 8; or cycle: a fork, an exit and a wait. The
+ * difference of the instructions at two lengths, divided by that of the lengths, is the cost; the loop is in it.
  *
  *   cc -O2 -Iout loads/calls.c out/libpidtab.a -pthread -o out/calls
  *   valgrind --tool=callgrind --callgrind-out-file=/dev/null out/calls record getpid 12000
@@ -108,6 +108,29 @@ static uint32_t take_turns(make_call *make, long left)
 	return status;
 }
 
+/* The root number of a task at level 8. */
+static uint32_t deep_task(make_call *make)
+{
+	struct pidtab_call fork = { .operation = PIDTAB_FORK, .caller = 1, .choice = 1 };
+	struct pidtab_reply reply = { .second = 0 };
+
+	for (int level = 1; level <= 8 && make(&fork, &reply) == PIDTAB_DONE; level++)
+		fork.caller = (uint32_t)reply.second;
+	return fork.caller;
+}
+
+/* So many times the numbers of that task. */
+static uint32_t tell_numbers(make_call *make, long left)
+{
+	const struct pidtab_call call = { .operation = PIDTAB_NSPID, .caller = 1, .number = deep_task(make) };
+	struct pidtab_reply reply;
+	uint32_t status = 0;
+
+	for (; left > 0; left--)
+		status |= make(&call, &reply);
+	return status;
+}
+
 static uint32_t cycle_once(make_call *make)
 {
 	const struct pidtab_call forks = { .operation = PIDTAB_FORK, .caller = 1 };
@@ -126,11 +149,13 @@ int main(int count, char **words)
 	uint32_t status = 0;
 
 	if (!make) {
-		fprintf(stderr, "calls plain|record|shared getpid|ask|turns|cycle N\n");
+		fprintf(stderr, "calls plain|record|shared getpid|ask|turns|nspid|cycle N\n");
 		return 2;
 	}
 	if (is_word(words[2], "turns"))
 		return take_turns(make, atol(words[3])) != PIDTAB_DONE;
+	if (is_word(words[2], "nspid"))
+		return tell_numbers(make, atol(words[3])) != PIDTAB_DONE;
 	for (long left = atol(words[3]); left > 0; left--)
 		status |= is_word(words[2], "cycle") ? cycle_once(make) : getpid_once(make);
 	return status != PIDTAB_DONE;

@@ -33,6 +33,8 @@ mod many;
 #[cfg(test)]
 mod members;
 #[cfg(test)]
+mod numbers;
+#[cfg(test)]
 mod parts;
 #[cfg(test)]
 mod plain_openings;
