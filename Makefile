@@ -287,6 +287,7 @@ HELD = -Dmalloc=test_malloc -Drealloc=test_realloc
 CASES_TEST = test_cases shared guard guard_record heap
 RECORD_TEST = test_record guard guard_record
 REPLICA_TEST = test_replica guard guard_replica
+NUMBERS_TEST = test_numbers guard heap
 DUMP_TEST = test_dump guard
 DUMP_SEEDS_TEST = test_dump_seeds guard heap
 DUMP_RECORD_TEST = test_dump_record shared guard guard_record
@@ -317,6 +318,7 @@ bindings-c:
 		$(CC) $(CHECKED) -o $(OUT)/test_cases $(CASES_TEST:%=bindings/c/%.c) $(OUT)/proved.a && $(RUN) $(OUT)/test_cases interface/cases/*.cases && \
 		$(CC) $(CHECKED) -o $(OUT)/test_record $(RECORD_TEST:%=bindings/c/%.c) $(OUT)/test_heap.o $(OUT)/proved.a && $(RUN) $(OUT)/test_record && \
 		$(CC) $(CHECKED) -o $(OUT)/test_replica $(REPLICA_TEST:%=bindings/c/%.c) $(OUT)/test_heap.o $(OUT)/proved.a && $(RUN) $(OUT)/test_replica && \
+		$(CC) $(CHECKED) -o $(OUT)/test_numbers $(NUMBERS_TEST:%=bindings/c/%.c) $(OUT)/proved.a && $(RUN) $(OUT)/test_numbers && \
 		$(CC) $(CHECKED) -o $(OUT)/test_dump $(DUMP_TEST:%=bindings/c/%.c) $(OUT)/test_heap.o $(OUT)/proved.a && $(RUN) $(OUT)/test_dump && \
 		$(CC) $(CHECKED) -o $(OUT)/test_dump_seeds $(DUMP_SEEDS_TEST:%=bindings/c/%.c) $(OUT)/proved.a && $(RUN) $(OUT)/test_dump_seeds && \
 		$(CC) $(CHECKED) -o $(OUT)/test_effects_seeds $(EFFECTS_SEEDS_TEST:%=bindings/c/%.c) $(OUT)/proved.a && $(RUN) $(OUT)/test_effects_seeds && \

@@ -1,8 +1,9 @@
 /* Calls of the library for C by numbers, for callgrind: calls TABLE LOAD N.
  *
  * TABLE is plain, record or shared (with its lock taken for each call). LOAD is getpid; ask, the same as a query that is no call; turns, the same
- * with 100 in a turn, where N is how many turns, and no table is plain; nspid, of a task at level 8; or cycle: a fork, an exit and a wait. The
- * difference of the instructions at two lengths, divided by that of the lengths, is the cost; the loop is in it.
+ * with 100 in a turn, where N is how many turns, and no table is plain; number, the same by pidtab_getpid_of, of a plain table alone; nspid, of a
+ * task at level 8; or cycle: a fork, an exit and a wait. The difference of the instructions at two lengths, divided by that of the lengths, is the
+ * cost; the loop is in it.
  *
  *   cc -O2 -Iout loads/calls.c out/libpidtab.a -pthread -o out/calls
  *   valgrind --tool=callgrind --callgrind-out-file=/dev/null out/calls record getpid 12000
@@ -73,11 +74,18 @@ static bool is_word(const char *word, const char *other)
 	return strcmp(word, other) == 0;
 }
 
+static uint32_t number_of_plain(const struct pidtab_call *call, struct pidtab_reply *reply)
+{
+	return pidtab_getpid_of(&plain, call->caller, &reply->first);
+}
+
 /* Opens the table that the word names, with 16 workers and the whole history. */
 static make_call *opened(const char *table, const char *load)
 {
 	const bool asks = is_word(load, "ask"), turns = is_word(load, "turns");
 
+	if (is_word(load, "number"))
+		return !is_word(table, "plain") || pidtab_open(&plain, 32768) != PIDTAB_DONE ? NULL : number_of_plain;
 	if (is_word(table, "plain"))
 		return turns || pidtab_open(&plain, 32768) != PIDTAB_DONE ? NULL : asks ? ask_plain : on_plain;
 	if (is_word(table, "record"))
@@ -149,7 +157,7 @@ int main(int count, char **words)
 	uint32_t status = 0;
 
 	if (!make) {
-		fprintf(stderr, "calls plain|record|shared getpid|ask|turns|nspid|cycle N\n");
+		fprintf(stderr, "calls plain|record|shared getpid|ask|turns|number|nspid|cycle N\n");
 		return 2;
 	}
 	if (is_word(words[2], "turns"))

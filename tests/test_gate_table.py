@@ -154,6 +154,9 @@ class Checkout(unittest.TestCase):
             self.assertEqual(self.run_gate("--check"), (1, "", said))
         edit.write_text("file: src/other.rt\nold: first\nnew: second\n")
         self.assertEqual(self.run_gate("--check")[0], 1)
+        for text, said in (("old: first\n", "old: has no file:"), ("new: second\n", "new: has no file:"), ("file: src/lib.rt\nnew: second\n", "new: has no old:")):
+            edit.write_text(text)
+            self.assertEqual(self.run_gate("--check"), (1, "", f"crates/low/must-fail/one.edit: {said} before it\n"))
 
     def test_measure(self) -> None:
         self.assertEqual(self.run_gate("measure"), (0, "3 passed, 0 failed\n", ""))

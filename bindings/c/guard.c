@@ -10,6 +10,12 @@ uint32_t proved_list(struct pidtab *table, void *bytes, size_t room, size_t *siz
 uint32_t proved_dump(struct pidtab *table, void *bytes, size_t room, size_t *size);
 uint32_t proved_load(struct pidtab *table, const void *text, size_t length, struct pidtab_fault *fault);
 uint32_t proved_call(struct pidtab *table, const struct pidtab_call *call, struct pidtab_reply *reply);
+uint32_t proved_getpid_of(struct pidtab *table, uint32_t caller, uint64_t *number);
+uint32_t proved_getppid_of(struct pidtab *table, uint32_t caller, uint64_t *number);
+uint32_t proved_getpgid_of(struct pidtab *table, uint32_t caller, uint32_t pid, uint64_t *number);
+uint32_t proved_getsid_of(struct pidtab *table, uint32_t caller, uint32_t pid, uint64_t *number);
+uint32_t proved_next_of(struct pidtab *table, uint32_t caller, uint32_t kind, uint32_t from, uint64_t *number);
+uint32_t proved_count_of(struct pidtab *table, uint64_t id, uint64_t *number);
 uint32_t proved_ask(struct pidtab *table, const struct pidtab_call *call, struct pidtab_reply *reply);
 uint32_t proved_stat(struct pidtab *table, uint32_t caller, uint32_t number, struct pidtab_task *task);
 uint32_t proved_page(struct pidtab *table, uint32_t caller, uint32_t whom, uint32_t number, uint32_t from, uint32_t *numbers, size_t room, struct pidtab_reply *reply);
@@ -135,6 +141,60 @@ uint32_t pidtab_call(struct pidtab *table, const struct pidtab_call *call, struc
 	if (!enter(table, &held))
 		return PIDTAB_BUSY;
 	return leave(table, &held, proved_call(&held, call, reply));
+}
+
+uint32_t pidtab_getpid_of(struct pidtab *table, uint32_t caller, uint64_t *number)
+{
+	struct pidtab held;
+
+	if (!enter(table, &held))
+		return PIDTAB_BUSY;
+	return leave(table, &held, proved_getpid_of(&held, caller, number));
+}
+
+uint32_t pidtab_getppid_of(struct pidtab *table, uint32_t caller, uint64_t *number)
+{
+	struct pidtab held;
+
+	if (!enter(table, &held))
+		return PIDTAB_BUSY;
+	return leave(table, &held, proved_getppid_of(&held, caller, number));
+}
+
+uint32_t pidtab_getpgid_of(struct pidtab *table, uint32_t caller, uint32_t pid, uint64_t *number)
+{
+	struct pidtab held;
+
+	if (!enter(table, &held))
+		return PIDTAB_BUSY;
+	return leave(table, &held, proved_getpgid_of(&held, caller, pid, number));
+}
+
+uint32_t pidtab_getsid_of(struct pidtab *table, uint32_t caller, uint32_t pid, uint64_t *number)
+{
+	struct pidtab held;
+
+	if (!enter(table, &held))
+		return PIDTAB_BUSY;
+	return leave(table, &held, proved_getsid_of(&held, caller, pid, number));
+}
+
+uint32_t pidtab_next_of(struct pidtab *table, uint32_t caller, uint32_t kind, uint32_t from, uint64_t *number)
+{
+	struct pidtab held;
+
+	if (!enter(table, &held))
+		return PIDTAB_BUSY;
+	return leave(table, &held, proved_next_of(&held, caller, kind, from, number));
+}
+
+uint32_t pidtab_count_of(struct pidtab *table, uint64_t id, uint64_t *number)
+{
+	struct pidtab held;
+
+	if (!enter(table, &held))
+		return PIDTAB_BUSY;
+	return leave(table, &held, proved_count_of(&held, id, number));
 }
 
 uint32_t pidtab_ask(const struct pidtab *table, const struct pidtab_call *call, struct pidtab_reply *reply)

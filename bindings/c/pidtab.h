@@ -305,6 +305,16 @@ struct pidtab_reply {
 /* Makes a call. DONE, CLOSED, OUT_OF_RANGE, SPENT, and NO_MEMORY for FORK and MK alone. */
 uint32_t pidtab_call(struct pidtab *table, const struct pidtab_call *call, struct pidtab_reply *reply);
 
+/* Queries that tell one number, made as pidtab_call makes them, in half its time: there is no struct to fill and none to read. Each answers DONE, or
+ * why there is no number: CLOSED; OUT_OF_RANGE for a kind that is no enum pidtab_use, and then no call is made; SPENT; or the errno of the refusal,
+ * which is ESRCH, and of a count ENOENT. Then number is as it was. A next that finds none is DONE, and 0. */
+uint32_t pidtab_getpid_of(struct pidtab *table, uint32_t caller, uint64_t *number);
+uint32_t pidtab_getppid_of(struct pidtab *table, uint32_t caller, uint64_t *number);
+uint32_t pidtab_getpgid_of(struct pidtab *table, uint32_t caller, uint32_t pid, uint64_t *number);
+uint32_t pidtab_getsid_of(struct pidtab *table, uint32_t caller, uint32_t pid, uint64_t *number);
+uint32_t pidtab_next_of(struct pidtab *table, uint32_t caller, uint32_t kind, uint32_t from, uint64_t *number);
+uint32_t pidtab_count_of(struct pidtab *table, uint64_t id, uint64_t *number);
+
 /* Answers a query, as the operations have it, as a call would be answered, and is none: it uses no stamp, and nothing changes.
  * DONE, CLOSED, and OUT_OF_RANGE for each other operation too. */
 uint32_t pidtab_ask(const struct pidtab *table, const struct pidtab_call *call, struct pidtab_reply *reply);
@@ -437,6 +447,11 @@ static inline int64_t pidtab_value(struct pidtab *table, const struct pidtab_cal
 	return reply->kind == PIDTAB_LEVELS ? (int64_t)reply->count : (int64_t)reply->first;
 }
 
+static inline int64_t pidtab_number(uint32_t status, uint64_t number)
+{
+	return status == PIDTAB_DONE ? (int64_t)number : -(int64_t)status;
+}
+
 /* Written by tools/interface: calls. */
 /* fork(2), or clone(2) with CLONE_NEWPID: a child in the namespace for the caller's children, or in a new one. */
 static inline int64_t pidtab_fork(struct pidtab *table, uint32_t caller, uint32_t new_space, uint32_t *root)
@@ -452,9 +467,9 @@ static inline int64_t pidtab_fork(struct pidtab *table, uint32_t caller, uint32_
 /* getpid(2): the caller's number in its own namespace. */
 static inline int64_t pidtab_getpid(struct pidtab *table, uint32_t caller)
 {
-	struct pidtab_call call = { PIDTAB_GETPID, caller, 0, 0, 0, 0, 0 };
-	struct pidtab_reply reply;
-	return pidtab_value(table, &call, &reply);
+	uint64_t number = 0;
+	uint32_t status = pidtab_getpid_of(table, caller, &number);
+	return pidtab_number(status, number);
 }
 
 /* NSpid of proc(5): the numbers of the task number from the caller's namespace inwards, outermost first: 1 to 33 of them. */
@@ -498,9 +513,9 @@ static inline int64_t pidtab_wait(struct pidtab *table, uint32_t caller, enum pi
 /* getppid(2): the number of the caller's parent, 0 for one that it cannot see. */
 static inline int64_t pidtab_getppid(struct pidtab *table, uint32_t caller)
 {
-	struct pidtab_call call = { PIDTAB_GETPPID, caller, 0, 0, 0, 0, 0 };
-	struct pidtab_reply reply;
-	return pidtab_value(table, &call, &reply);
+	uint64_t number = 0;
+	uint32_t status = pidtab_getppid_of(table, caller, &number);
+	return pidtab_number(status, number);
 }
 
 /* setpgid(2): the task pid goes into the group pgid; 0 is the caller, and the task. */
@@ -554,33 +569,33 @@ static inline int64_t pidtab_move(struct pidtab *table, uint32_t task, uint64_t 
 /* How many tasks the control group and those below it have. */
 static inline int64_t pidtab_count(struct pidtab *table, uint64_t id)
 {
-	struct pidtab_call call = { PIDTAB_COUNT, 0, id, 0, 0, 0, 0 };
-	struct pidtab_reply reply;
-	return pidtab_value(table, &call, &reply);
+	uint64_t number = 0;
+	uint32_t status = pidtab_count_of(table, id, &number);
+	return pidtab_number(status, number);
 }
 
 /* getpgid(2): the process group of the task pid, where 0 is the caller; 0 where it cannot be seen. */
 static inline int64_t pidtab_getpgid(struct pidtab *table, uint32_t caller, uint32_t pid)
 {
-	struct pidtab_call call = { PIDTAB_GETPGID, caller, 0, pid, 0, 0, 0 };
-	struct pidtab_reply reply;
-	return pidtab_value(table, &call, &reply);
+	uint64_t number = 0;
+	uint32_t status = pidtab_getpgid_of(table, caller, pid, &number);
+	return pidtab_number(status, number);
 }
 
 /* getsid(2): the session of the task pid, where 0 is the caller; 0 where it cannot be seen. */
 static inline int64_t pidtab_getsid(struct pidtab *table, uint32_t caller, uint32_t pid)
 {
-	struct pidtab_call call = { PIDTAB_GETSID, caller, 0, pid, 0, 0, 0 };
-	struct pidtab_reply reply;
-	return pidtab_value(table, &call, &reply);
+	uint64_t number = 0;
+	uint32_t status = pidtab_getsid_of(table, caller, pid, &number);
+	return pidtab_number(status, number);
 }
 
 /* The least number from from on that is in use as that kind in the caller's namespace. */
 static inline int64_t pidtab_next(struct pidtab *table, uint32_t caller, enum pidtab_use kind, uint32_t from)
 {
-	struct pidtab_call call = { PIDTAB_NEXT, caller, 0, from, (uint32_t)kind, 0, 0 };
-	struct pidtab_reply reply;
-	return pidtab_value(table, &call, &reply);
+	uint64_t number = 0;
+	uint32_t status = pidtab_next_of(table, caller, kind, from, &number);
+	return pidtab_number(status, number);
 }
 
 /* setns(2) with CLONE_NEWPID: the caller's later children go into the namespace of the task number. */

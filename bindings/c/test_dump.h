@@ -105,6 +105,16 @@ static inline bool same_tables(struct pidtab *one, struct pidtab *other)
 	return same;
 }
 
+/* The text with process 1 alone, and a stamp. */
+static inline struct text first_text(const char *stamp)
+{
+	char said[256];
+	int size = snprintf(said, sizeof said, "pidtab table 1 pid-max 301 stamp %s\ntask 1@0 parent - group 1@0 session 1@0 control 0 children 0 live\n"
+		"space 0 parent - cursor 2\ncontrol 0 parent - limit max\n", stamp);
+
+	return sealed(said, (size_t)size);
+}
+
 /* Numbers that come in the same order each time. */
 static inline uint32_t drawn(uint64_t *seed, uint32_t below)
 {

@@ -4,9 +4,6 @@
 #include "test_dump.h"
 #include "test_heap.h"
 
-#define INIT "task 1@0 parent - group 1@0 session 1@0 control 0 children 0 live\n"
-#define REST "space 0 parent - cursor 2\ncontrol 0 parent - limit max\n"
-
 /* A fault that nothing has written. */
 #define UNTOLD (struct pidtab_fault){ 77, 77 }
 
@@ -49,14 +46,6 @@ static uint64_t calls_of(struct pidtab_record *record, uint32_t worker)
 	uint64_t calls = 7;
 	CHECK(pidtab_record_worker(record, worker, &calls) == PIDTAB_DONE);
 	return calls;
-}
-
-/* The text with process 1 alone, and a stamp. */
-static struct text first_text(const char *stamp)
-{
-	char said[256];
-	int size = snprintf(said, sizeof said, "pidtab table 1 pid-max 301 stamp %s\n" INIT REST, stamp);
-	return sealed(said, (size_t)size);
 }
 
 static void statuses_of_a_dump(void)

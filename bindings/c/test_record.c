@@ -338,6 +338,26 @@ static void lists_behind_a_bound(void)
 	pidtab_record_close(&record);
 }
 
+/* A query changes nothing, so one that is cut away takes no memory. What makes something is made once more, and does. */
+static void cut_queries_take_no_memory(void)
+{
+	static const struct pidtab_call getpid_1 = { .operation = PIDTAB_GETPID, .caller = 1 }, fork_1 = { .operation = PIDTAB_FORK, .caller = 1 };
+	struct pidtab_record record = PIDTAB_RECORD_INIT;
+	struct pidtab_reply reply;
+	uint64_t ordinal;
+
+	CHECK(pidtab_record_open(&record, 32768, 1, 1) == PIDTAB_DONE);
+	for (int i = 0; i < 100; i++)
+		CHECK(pidtab_record_call(&record, 0, &getpid_1, &reply, &ordinal) == PIDTAB_DONE);
+	bytes_asked = 0;
+	CHECK(pidtab_record_keep(&record, 0) == PIDTAB_DONE && bytes_asked == 0);
+	for (int i = 0; i < 100; i++)
+		CHECK(pidtab_record_call(&record, 0, &fork_1, &reply, &ordinal) == PIDTAB_DONE && reply.kind == PIDTAB_FORKED);
+	bytes_asked = 0;
+	CHECK(pidtab_record_keep(&record, 0) == PIDTAB_DONE && bytes_asked > 0);
+	pidtab_record_close(&record);
+}
+
 int main(void)
 {
 	closed();
@@ -350,5 +370,6 @@ int main(void)
 	room_grows_with_the_calls();
 	lists_of_each_length();
 	lists_behind_a_bound();
+	cut_queries_take_no_memory();
 	return 0;
 }

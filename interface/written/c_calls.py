@@ -39,8 +39,24 @@ def prototype(row):
     return f"int64_t pidtab_{row.call}(struct pidtab *table, {', '.join(taken)})"
 
 
+def tells_a_number(row):
+    """Whether the call is a query that tells one number, which has a function of its own in the library."""
+    return row.query == "yes" and not any(kind in BESIDES for kind in tells(row))
+
+
+def by_number(row):
+    """Such a query as a function."""
+    taken = "".join(f"{it.name}, " for it in arguments_of(row))
+    return [
+        f"/* {said(row)} */", f"static inline {prototype(row)}", "{", "\tuint64_t number = 0;",
+        f"\tuint32_t status = pidtab_{row.call}_of(table, {taken}&number);", "\treturn pidtab_number(status, number);", "}",
+    ]  # fmt: skip
+
+
 def function(row):
     """A call as a function."""
+    if tells_a_number(row):
+        return by_number(row)
     _, read = BESIDES.get(tells(row)[0], (None, []))
     made = ["\tint64_t told = pidtab_value(table, &call, &reply);", *[f"\t{line}" for line in read], "\treturn told;"]
     return [

@@ -10,6 +10,9 @@ IN_MEMORY = ("saved_put_head", "saved_put", "saved_take_head", "saved_take", "sa
 BY_HAND = ("close", "call_keeping")
 MAKES = ("open", "load")
 
+# The queries with arguments of their own: the package makes them by call.
+TYPED = "_of"
+
 NUMBERS = {"uint32_t": "u32", "uint64_t": "u64", "int32_t": "i32", "size_t": "usize", "bool": "bool", "int": "i32"}
 
 
@@ -98,7 +101,7 @@ def methods(tables, prefix):
     for it in tables["headers"].of("pidtab.h", prefix):
         owner, *arguments = it.arguments or [None]
         ending = it.name[len(prefix) :]
-        if owner is None or owner.kind.replace("const ", "") != f"struct pidtab{'_record' if prefix else ''} *" or ending in BY_HAND:
+        if owner is None or owner.kind.replace("const ", "") != f"struct pidtab{'_record' if prefix else ''} *" or ending in BY_HAND or it.name.endswith(TYPED):
             continue
         is_query = owner.kind.startswith("const ")
         taken, passed = lent(arguments)

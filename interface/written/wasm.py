@@ -4,6 +4,8 @@ AROUND = "bindings/js/wasm/around.c"
 
 # What is not called from there, and the structs at fixed places.
 BY_HAND = ("version", "close", "record_close", "record_calls", "record_read", "record_replay")
+# The queries with arguments of their own: a package makes them by call.
+TYPED = "_of"
 PLACES = ("call", "reply", "task", "space", "fault")
 LONGS = ("uint64_t", "uint64_t *", "const uint64_t *")
 
@@ -43,7 +45,7 @@ def functions(tables):
     """The functions of a table, and of a record."""
     lines = []
     for it in tables["headers"].of("pidtab.h"):
-        if it.name not in BY_HAND:
+        if it.name not in BY_HAND and not it.name.endswith(TYPED):
             taken, given = passed(it)
             lines += ["", f"uint32_t EXPORTED({it.name})({taken})", "{", f"\treturn pidtab_{it.name}({given});", "}"]
     return lines[1:]

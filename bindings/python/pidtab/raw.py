@@ -382,6 +382,12 @@ FUNCTIONS: dict[str, Function] = {
 LATER_FUNCTIONS: dict[str, Function] = {
     "pidtab_dump": (U32, [TABLE, BYTES, SIZE_T, SIZE]),
     "pidtab_load": (U32, [TABLE, ctypes.c_char_p, SIZE_T, FAULT]),
+    "pidtab_getpid_of": (U32, [TABLE, U32, NUMBER_64]),
+    "pidtab_getppid_of": (U32, [TABLE, U32, NUMBER_64]),
+    "pidtab_getpgid_of": (U32, [TABLE, U32, U32, NUMBER_64]),
+    "pidtab_getsid_of": (U32, [TABLE, U32, U32, NUMBER_64]),
+    "pidtab_next_of": (U32, [TABLE, U32, U32, U32, NUMBER_64]),
+    "pidtab_count_of": (U32, [TABLE, U64, NUMBER_64]),
     "pidtab_ask": (U32, [TABLE, CALL_BYTES, REPLY]),
     "pidtab_stat": (U32, [TABLE, U32, U32, TASK]),
     "pidtab_page": (U32, [TABLE, U32, U32, U32, U32, NUMBER_32, SIZE_T, REPLY]),

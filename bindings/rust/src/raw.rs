@@ -348,6 +348,13 @@ extern "C" {
     fn pidtab_dump(table: *const Held, bytes: *mut c_void, room: usize, size: *mut usize) -> u32;
     fn pidtab_load(table: *mut Held, text: *const c_void, length: usize, fault: *mut Fault) -> u32;
     fn pidtab_call(table: *mut Held, call: *const Call, reply: *mut Reply) -> u32;
+    fn pidtab_getpid_of(table: *mut Held, caller: u32, number: *mut u64) -> u32;
+    fn pidtab_getppid_of(table: *mut Held, caller: u32, number: *mut u64) -> u32;
+    fn pidtab_getpgid_of(table: *mut Held, caller: u32, pid: u32, number: *mut u64) -> u32;
+    fn pidtab_getsid_of(table: *mut Held, caller: u32, pid: u32, number: *mut u64) -> u32;
+    fn pidtab_next_of(table: *mut Held, caller: u32, kind: u32, from: u32, number: *mut u64)
+        -> u32;
+    fn pidtab_count_of(table: *mut Held, id: u64, number: *mut u64) -> u32;
     fn pidtab_ask(table: *const Held, call: *const Call, reply: *mut Reply) -> u32;
     fn pidtab_stat(table: *const Held, caller: u32, number: u32, task: *mut Task) -> u32;
     fn pidtab_page(

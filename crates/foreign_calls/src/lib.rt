@@ -9,6 +9,7 @@ pub mod effects;
 pub mod history;
 pub mod inside;
 pub mod many_calls;
+pub mod number_calls;
 pub mod page;
 pub mod read;
 pub mod record;

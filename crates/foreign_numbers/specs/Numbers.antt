@@ -117,3 +117,15 @@ numbers_of (Counted count) = record (blank_reply 6) { first = count }
 numbers_of (Control id) = record (blank_reply 7) { first = id }
 numbers_of End = blank_reply 8
 numbers_of (Refused refusal) = refusal_numbers refusal
+
+-- the error of a refusal, and 0 of any other reply: errno(3)
+abbrev pub errno_of : Reply → ℕ
+errno_of (Refused refusal) = (errno_entry (refusal_entry refusal).error).value
+errno_of _ = 0
+
+-- the number that a reply tells, 0 where none follows; what tells none leaves the one before
+abbrev pub number_or : ℕ → Reply → ℕ
+number_or before (Number number) = number
+number_or before (Counted count) = count
+number_or before End = 0
+number_or before _ = before

@@ -5,8 +5,10 @@ ghost use Rattle.{
   pid_types.specs.Short.{reply_of, told_of},
   foreign_numbers.specs.Numbers.{switch_of, which_of, kind_of, limit_of, status_of, call_of, control_call_of},
   foreign_numbers.specs.Numbers.{later_call_of, blank_reply, with_zeroes, levels_numbers, refusal_numbers, numbers_of},
+  foreign_numbers.specs.Numbers.{errno_of, number_or},
 };
 
+use crate::status::DONE;
 use crate::{choices, kinds, operations};
 use arrayvec::ArrayVec;
 use pid_types::call::{Call, Kind, Which};
@@ -39,7 +41,7 @@ fn read_which(choice: u32, number: u32) -> Option<Which>
 }
 
 /// What a number is in use as.
-fn read_kind(choice: u32) -> Option<Kind>
+pub fn read_kind(choice: u32) -> Option<Kind>
     ensures { result ≡ kind_of choice }
 {
     match choice {
@@ -249,6 +251,23 @@ pub fn put_short(told: ShortReply, reply: &mut ReplyNumbers)
         ShortReply::End => put_values(reply, kinds::END, 0, 0),
         ShortReply::Refused(refusal) => put_refusal(reply, refusal),
     }
+}
+
+/// Writes the number that a reply tells, and answers the error of a refusal, or `DONE`. A `next` that finds none is 0,
+/// and what tells no number leaves the one before.
+#[inline(always)]
+pub fn put_number(told: ShortReply, number: &mut u64) -> u32
+    ensures status { result ≡ errno_of (reply_of told) }
+    ensures number { number.new ≡ number_or number.old (reply_of told) }
+{
+    match told {
+        ShortReply::Number(told) => *number = u64::from(told),
+        ShortReply::Counted(told) => *number = told,
+        ShortReply::End => *number = 0,
+        ShortReply::Refused(refusal) => return refusal.errno(),
+        _ => {}
+    }
+    DONE
 }
 
 /// Writes what is told of a call: a short reply, or else the list of numbers.

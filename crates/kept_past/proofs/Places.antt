@@ -2,11 +2,12 @@
 use Rattle.std.specs.Prelude.{option_map, IfSome}
 use Rattle.std.proofs.Common.{◌≡◌, ℕ, zero, suc, ◌+◌, ◌-◌, ◌<◌, List, [], ◌∷◌, drop, length, get_or, slice_get, Option, Some, None, refl, sym, ap, ◌∙◌, arith}
 use Rattle.std.proofs.lemmas.List.{length-drop, length-map}
-use Rattle.std.proofs.lemmas.Option.{slice_get-map, slice_get_read}
+use Rattle.std.proofs.lemmas.Option.{slice_get-map}
 use Rattle.pid_types.specs.declared.entry.Entry.{Entry}
 use Rattle.pid_types.specs.declared.reply.Reply.{Reply}
 use Rattle.kept_past.specs.declared.ring.Slot.{Slot}
 use Rattle.kept_past.specs.Stored.{Lists, entry_in, entries_in, kept_reply, replies_of}
+use Rattle.kept_past.proofs.Lists.{entry-read}
 
 -- a kept entry is behind those that wait
 pub kept-at : (ring : List Entry) (lag place : ℕ) → slice_get (drop lag ring) place ≡ slice_get ring (lag + place)
@@ -34,8 +35,7 @@ last-slot lists first slots slot all many some at =
     let place : length (entries_in lists first slots) - 1 ≡ all - 1 = ap (λ n. n - 1) (length-map slots (entry_in lists first) ∙ sym many) in
     ap (slice_get (replies_of (entries_in lists first slots))) place
     ∙ (slice_get-map reply (entries_in lists first slots) (all - 1)
-    ∙ (ap (option_map reply) (slice_get-map (entry_in lists first) slots (all - 1))
-    ∙ ap (λ (o : Option Slot). option_map reply (option_map (entry_in lists first) o)) (slice_get_read slots all (all - 1) slot many (omega (arith, some)) at)))
+    ∙ ap (option_map reply) (entry-read lists first all (all - 1) slots slot many (omega (arith, some)) at))
 
 -- what follows of a value that may be there
 pub if_some-then : {X : Type 0} {P Q : X → Type 0} (o : Option X) → ((x : X) → P x → Q x) → IfSome o P → IfSome o Q

@@ -18,7 +18,7 @@ pub record Stored : Type 0 where
 abbrev pub Lists : Type 0
 Lists = List (ArrayVec ℕ)
 
--- the numbers of the list at a place, the first of which is that of the first list
+-- the numbers of the list at a place, where the first list is at this one
 abbrev pub list_at : Lists → ℕ → ℕ → List ℕ
 list_at lists first place = (slice_index_or lists (place - first) (record { items = [] })).items
 

@@ -116,7 +116,7 @@ impl Ring {
         Some(Entry {
             worker: slot.worker,
             call: slot.call,
-            reply: told(&self.lists, self.dropped, &slot.reply),
+            reply: whole_reply(&self.lists, self.dropped, &slot.reply),
         })
     }
 
@@ -326,7 +326,7 @@ fn list_room_for(
 }
 
 /// The whole reply, where lists of many numbers are beside the slots.
-fn told(lists: &VecDeque<ArrayVec<Pid, LEVELS>>, first: u64, reply: &SlotReply) -> Reply
+fn whole_reply(lists: &VecDeque<ArrayVec<Pid, LEVELS>>, first: u64, reply: &SlotReply) -> Reply
     requires { IsListedWithin first (first + deque_len lists.now) reply.now }
     ensures { result ≡ kept_reply lists.now.items first reply.now }
 {

@@ -97,8 +97,7 @@ pub fn exit(store: &mut Tasks, found: &Found, status: u8)
 /// and who is the child of a member is gone, zombies too. A namespace that has fallen is dropped when no
 /// identifier with a number in it is left.
 ///
-/// It costs a search for each member and each level of its identifier, and looks at no namespace but those inside,
-/// where there are more than a few.
+/// It costs a search for each member and each level of its identifier, and a step for each namespace that is inside.
 pub fn fall(store: &mut Tasks, init: &Found, status: u8)
     requires good { HasGoodTasks store.old }
     requires bound { HasGoodPidMax store.old.numbering.pid_max }

@@ -1,75 +1,129 @@
--- A walk over the namespaces in their order, which marks those inside one.
-use Rattle.std.proofs.Common.{map, ◌||◌, ◌≡◌, ◌≢◌, inl, inr, ℕ, List, [], ◌∷◌, ◌++◌, ◌==◌, Bool, true, false, if◌then◌else◌, Option, Some, None, option_map, unwrap_or, refl, sym, ap, ◌∙◌}
+-- A walk over the namespaces inside one, which marks them: after the one itself come those directly inside, each with all inside it.
+use Rattle.std.proofs.Common.{◌||◌, ◌≡◌, ◌≢◌, inl, inr, ℕ, ◌+◌, ◌<◌, List, [], ◌∷◌, ◌++◌, ◌==◌, Bool, true, false, length, slice_get, Option, Some, None, IsSome, option_map, refl, sym, ap, subst, ◌∙◌, arith}
+use Rattle.std.specs.List.{AllByRecursion, list_any}
 use Rattle.std.specs.Option.{option_map_or}
 use Rattle.std.proofs.lemmas.Bool.{cases_eq, eq-eqb, ne_eqb, or_right}
-use Rattle.std.proofs.lemmas.List.{map-append}
 use Rattle.std.proofs.lemmas.List.Folds.{list_any-append}
+use Rattle.member_lists.specs.Owners.{owner_of, times, AreMembers}
+use Rattle.member_lists.proofs.Owners.{times-later}
 use Rattle.pid_types.specs.Chains.{contains}
-use Rattle.id_slab.specs.Ids.{key_of}
-use Rattle.ns_tree.specs.Tree.{Node, felled_within}
+use Rattle.ns_tree.specs.Tree.{Node, IsPath, IsPathTree, felled, felled_within, outer_of}
+use Rattle.ns_tree.proofs.Paths as paths
 
-pub or_false : (b : Bool) → (b || false) ≡ b
-or_false true = refl
-or_false false = refl
+-- whether the walk has come to a namespace, after it has come to some of those directly inside
+abbrev pub is_met : ℕ → List ℕ → ℕ → List ℕ → Bool
+is_met outer inner s path = s == outer || list_any (contains path) inner
 
--- the namespace, fallen where its key is among those that a walk has met
-abbrev pub fallen_among : ℕ → List (ℕ × ℕ) → ℕ → Option Node → Option Node
-fallen_among outer met s o = if contains (map (λ p. p.1) met) s then option_map (felled_within outer) o else o
+-- the namespace, fallen if the walk has come to it
+abbrev pub fallen_so_far : ℕ → List ℕ → ℕ → Option Node → Option Node
+fallen_so_far outer inner s o = option_map {T = Node} (λ t. record t { fallen = t.fallen || is_met outer inner s t.path }) o
 
-module _ (outer : ℕ) (met : List (ℕ × ℕ)) (id key : ℕ) (first old new : ℕ → Option Node) (so_far : (s : ℕ) → old s ≡ fallen_among outer met s (first s))
-    (here : new key ≡ option_map (felled_within outer) (old key)) (others : (s : ℕ) → s ≢ key → new s ≡ old s) where
-  met-more : (s : ℕ) → contains (map (λ p. p.1) (met ++ (id, key) ∷ [])) s ≡ (contains (map (λ p. p.1) met) s || (key == s))
-  met-more s = ap (λ l. contains l s) (map-append (λ p. p.1) met ((id, key) ∷ [])) ∙ list_any-append (λ m. m == s) (map (λ p. p.1) met) (key ∷ []) ∙ ap (λ b. contains (map (λ p. p.1) met) s || b) (or_false (key == s))
+-- a namespace that fell keeps its path
+pub so_far-path : (outer : ℕ) (inner : List ℕ) (s : ℕ) (o : Option Node) → option_map_or (λ t. t.path) (fallen_so_far outer inner s o) [] ≡ option_map_or (λ t. t.path) o []
+so_far-path outer inner s None = refl
+so_far-path outer inner s (Some t) = refl
 
-  twice : (o : Option Node) → option_map (felled_within outer) (option_map (felled_within outer) o) ≡ option_map (felled_within outer) o
-  twice None = refl
-  twice (Some t) = ap (λ b. Some (record t { fallen = b })) (go t.fallen (contains t.path outer))
-    where
-      go : (a b : Bool) → ((a || b) || b) ≡ (a || b)
-      go true b = refl
-      go false true = refl
-      go false false = refl
+-- the one itself
+pub begun : (outer : ℕ) (first new : ℕ → Option Node) → new outer ≡ option_map felled (first outer) → ((s : ℕ) → s ≢ outer → new s ≡ first s) → (s : ℕ) → new s ≡ fallen_so_far outer [] s (first s)
+begun outer first new here others s = elim (cases_eq s outer) [
+  | inl same ↦ ap new same ∙ here ∙ fell (first outer) ∙ sym (ap (λ k. fallen_so_far outer [] k (first k)) same)
+  | inr differs ↦ others s differs ∙ stands (first s) differs
+]
+  where
+    fell : (o : Option Node) → option_map felled o ≡ fallen_so_far outer [] outer o
+    fell None = refl
+    fell (Some t) = ap (λ b. Some (record t { fallen = b })) (sym (or_right t.fallen (outer == outer || false) (ap (λ b. b || false) (eq-eqb outer outer refl))))
 
-  -- one namespace after the other
-  pub more : (s : ℕ) → new s ≡ fallen_among outer (met ++ (id, key) ∷ []) s (first s)
-  more s = elim (cases_eq s key) [
-    | inl same ↦
-        ap new same ∙ here ∙ ap (option_map (felled_within outer)) (so_far key) ∙ go (contains (map (λ p. p.1) met) key)
-        ∙ sym (ap (λ z. if contains (map (λ p. p.1) (met ++ (id, key) ∷ [])) z then option_map (felled_within outer) (first z) else first z) same ∙ ap (λ b. if b then option_map (felled_within outer) (first key) else first key) (met-more key ∙ or_right (contains (map (λ p. p.1) met) key) (key == key) (eq-eqb key key refl)))
-    | inr d ↦
-        others s d ∙ so_far s
-        ∙ sym (ap (λ b. if b then option_map (felled_within outer) (first s) else first s) (met-more s ∙ ap (λ b. contains (map (λ p. p.1) met) s || b) (ne_eqb key s (λ e. d (sym e))) ∙ or_false (contains (map (λ p. p.1) met) s)))
+    stands : (o : Option Node) → s ≢ outer → o ≡ fallen_so_far outer [] s o
+    stands None differs = refl
+    stands (Some t) differs = let off = ne_eqb s outer differs in ap (λ b. Some (record t { fallen = b })) (grind arith)
+
+-- one of those directly inside, with all inside it
+pub one_more : (outer : ℕ) (inner : List ℕ) (next s : ℕ) (first old new : Option Node) → old ≡ fallen_so_far outer inner s first → new ≡ option_map (felled_within next) old → new ≡ fallen_so_far outer (inner ++ next ∷ []) s first
+one_more outer inner next s first old new so_far here = here ∙ ap (option_map (felled_within next)) so_far ∙ go first
+  where
+    go : (o : Option Node) → option_map (felled_within next) (fallen_so_far outer inner s o) ≡ fallen_so_far outer (inner ++ next ∷ []) s o
+    go None = refl
+    go (Some t) = let more = list_any-append (contains t.path) inner (next ∷ []) in ap (λ b. Some (record t { fallen = b })) (grind arith)
+
+-- a list that has a key meets what holds of it
+met : (p : ℕ → Bool) (k : ℕ) (keys : List ℕ) → times k keys ≡ 1 → p k ≡ true → list_any p keys ≡ true
+met p k [] once holds = absurd (omega (arith, once))
+met p k (j ∷ js) once holds = elim (cases_eq j k) [
+  | inl same ↦ ap (λ b. b || list_any p js) (ap p same ∙ holds)
+  | inr differs ↦ or_right (p j) (list_any p js) (met p k js (sym (times-later j k js differs) ∙ once) holds)
+]
+
+-- and what it meets holds of one of its keys
+meets : (p : ℕ → Bool) (P : ℕ → Type 0) (keys : List ℕ) → AllByRecursion P keys → list_any p keys ≡ true → (k : ℕ) × P k × (p k ≡ true)
+meets p P [] all any = absurd (cc)
+meets p P (j ∷ js) all any = go (p j) refl any (meets p P js all.1)
+  where
+    go : (b : Bool) → p j ≡ b → (b || list_any p js) ≡ true → (list_any p js ≡ true → (k : ℕ) × P k × (p k ≡ true)) → (k : ℕ) × P k × (p k ≡ true)
+    go true is any later = (j, all.0, is)
+    go false is any later = later any
+
+module _ (ways : ℕ → List ℕ) (outer : ℕ) where
+  -- a path with a namespace that is directly inside has the one around it
+  around : (inner : ℕ) → outer_of ways inner ≡ Some outer → (path : List ℕ) → IsPath ways path → contains path inner ≡ true → contains path outer ≡ true
+  around inner inside [] is within = absurd (cc)
+  around inner inside (s ∷ ss) is within = elim (cases_eq s inner) [
+    | inl same ↦ or_right (s == outer) (contains ss outer) (second ss (sym (ap (λ p. slice_get p 1) (sym (ap ways same) ∙ is.0)) ∙ inside))
+    | inr differs ↦ or_right (s == outer) (contains ss outer) (around inner inside ss is.1 (sym (ap (λ b. b || contains ss inner) (ne_eqb s inner differs)) ∙ within))
   ]
     where
-      go : (b : Bool) → option_map (felled_within outer) (if b then option_map (felled_within outer) (first key) else first key) ≡ option_map (felled_within outer) (first key)
-      go true = twice (first key)
-      go false = refl
+      second : (ss : List ℕ) → slice_get (s ∷ ss) 1 ≡ Some outer → contains ss outer ≡ true
+      second [] at = absurd (cc)
+      second (t ∷ ts) at = ap (λ b. b || contains ts outer) (eq-eqb t outer (ap (λ o. option_map_or (λ n. n) o t) at))
 
--- the walk over all of them meets each that is there
-pub all-met : (outer : ℕ) (first : ℕ → Option Node) (order : List (ℕ × ℕ)) → ((s i : ℕ) → option_map (λ t. t.id) (first s) ≡ Some i → key_of order i ≡ Some s) → (s : ℕ) → fallen_among outer order s (first s) ≡ option_map (felled_within outer) (first s)
-all-met outer first order listed s = go (first s) refl
-  where
-    meets : (ps : List (ℕ × ℕ)) (i : ℕ) → key_of ps i ≡ Some s → contains (map (λ p. p.1) ps) s ≡ true
-    meets [] i e = absurd (cc)
-    meets (p ∷ ps) i e = by (p.0 == i) (λ f. meets ps i f) e
+  -- and a path with the one around begins with it, or has one that is directly inside
+  leads : (s : ℕ) (ss : List ℕ) → IsPath ways (s ∷ ss) → contains (s ∷ ss) outer ≡ true → s ≢ outer → (inner : ℕ) × (outer_of ways inner ≡ Some outer) × (contains (s ∷ ss) inner ≡ true)
+  leads s [] is within differs = absurd (let none = ne_eqb s outer differs in cc)
+  leads s (t ∷ ts) is within differs = elim (cases_eq t outer) [
+    | inl same ↦ (s, ap (λ p. slice_get p 1) is.0 ∙ ap Some same, ap (λ b. b || contains (t ∷ ts) s) (eq-eqb s s refl))
+    | inr other ↦
+        let rest = leads t ts is.1 (sym (ap (λ b. b || contains (t ∷ ts) outer) (ne_eqb s outer differs)) ∙ within) other in
+        (rest.0, rest.1, or_right (s == rest.0) (contains (t ∷ ts) rest.0) rest.2)
+  ]
+
+-- tests that follow from each other are the same
+same_test : (a b : Bool) → (a ≡ true → b ≡ true) → (b ≡ true → a ≡ true) → a ≡ b
+same_test true b to from = sym (to refl)
+same_test false true to from = from refl
+same_test false false to from = refl
+
+module _ (ways : ℕ → List ℕ) (tree : IsPathTree ways) (outer : ℕ) where
+  -- who is directly inside is one level deeper
+  pub deeper : (inner : ℕ) → outer_of ways inner ≡ Some outer → length (ways inner) ≡ length (ways outer) + 1
+  deeper inner inside = go (ways inner) (tree.paths inner) inside
+    where
+      go : (path : List ℕ) → IsPath ways path → slice_get path 1 ≡ Some outer → length path ≡ length (ways outer) + 1
+      go [] is at = absurd (cc)
+      go (s ∷ []) is at = absurd (cc)
+      go (s ∷ t ∷ ts) is at = let len = ap length (ap ways (sym (ap (λ o. option_map_or (λ n. n) o t) at)) ∙ is.1.0) in omega (arith, len)
+
+  module _ (children : List (Option ℕ)) (owned : (s : ℕ) → owner_of children s ≡ outer_of ways s) (inner : List ℕ) (all : AreMembers children outer inner) where
+    -- a walk that has come to all directly inside has come to all inside
+    whole : (s : ℕ) → 0 < length (ways s) → is_met outer inner s (ways s) ≡ contains (ways s) outer
+    whole s some = elim (cases_eq s outer) [
+      | inl same ↦ ap (λ b. b || any) (eq-eqb s outer same) ∙ sym (ap (contains (ways s)) (sym same) ∙ paths.own-in ways tree s some)
+      | inr differs ↦ ap (λ b. b || any) (ne_eqb s outer differs) ∙ same_test any (contains (ways s) outer) up (down differs)
+    ]
       where
-        by : (b : Bool) → (key_of ps i ≡ Some s → contains (map (λ p. p.1) ps) s ≡ true) → (if b then Some p.1 else key_of ps i) ≡ Some s → (p.1 == s || contains (map (λ p. p.1) ps) s) ≡ true
-        by true again e = ap (λ b. b || contains (map (λ p. p.1) ps) s) (eq-eqb p.1 s (ap (λ o. unwrap_or o s) e))
-        by false again e = or_right (p.1 == s) (contains (map (λ p. p.1) ps) s) (again e)
+        any : Bool
+        any = list_any (contains (ways s)) inner
 
-    go : (o : Option Node) → first s ≡ o → (if contains (map (λ p. p.1) order) s then option_map (felled_within outer) (first s) else first s) ≡ option_map (felled_within outer) (first s)
-    go None is = ap (λ o. if contains (map (λ p. p.1) order) s then option_map (felled_within outer) o else o) is ∙ same None (contains (map (λ p. p.1) order) s) ∙ sym (ap (option_map (felled_within outer)) is)
-      where
-        same : (o : Option Node) (b : Bool) → (if b then o else o) ≡ o
-        same o true = refl
-        same o false = refl
-    go (Some t) is = ap (λ b. if b then option_map (felled_within outer) (first s) else first s) (meets order t.id (listed s t.id (ap (option_map (λ t. t.id)) is)))
+        up : any ≡ true → contains (ways s) outer ≡ true
+        up e = let k = meets (contains (ways s)) (λ k. owner_of children k ≡ Some outer) inner all.owned e in around ways outer k.0 (sym (owned k.0) ∙ k.1) (ways s) (tree.paths s) k.2
 
--- it keeps its path
-pub among-path : (outer : ℕ) (met : List (ℕ × ℕ)) (s : ℕ) (o : Option Node) → option_map_or (λ t. t.path) (fallen_among outer met s o) [] ≡ option_map_or (λ t. t.path) o []
-among-path outer met s o = go (contains (map (λ p. p.1) met) s) o
-  where
-    go : (b : Bool) (o : Option Node) → option_map_or (λ t. t.path) (if b then option_map (felled_within outer) o else o) [] ≡ option_map_or (λ t. t.path) o []
-    go false o = refl
-    go true None = refl
-    go true (Some t) = refl
+        down : s ≢ outer → contains (ways s) outer ≡ true → any ≡ true
+        down differs within = elim (tree.head s) [
+          | inl none ↦ absurd (let l = ap length none in omega (arith, l, some))
+          | inr way ↦
+              let k = leads ways outer s way.0 (subst (IsPath ways) way.1 (tree.paths s)) (sym (ap (λ p. contains p outer) way.1) ∙ within) differs in
+              met (contains (ways s)) k.0 inner (all.once k.0 (owned k.0 ∙ k.1)) (ap (λ p. contains p k.0) way.1 ∙ k.2)
+        ]
+
+    pub all_met : (s : ℕ) (o : Option Node) → option_map_or (λ t. t.path) o [] ≡ ways s → (IsSome o → 0 < length (ways s)) → fallen_so_far outer inner s o ≡ option_map (felled_within outer) o
+    all_met s None path some = refl
+    all_met s (Some t) path some = ap (λ b. Some (record t { fallen = t.fallen || b })) (ap (is_met outer inner s) path ∙ whole s (some refl) ∙ sym (ap (λ p. contains p outer) path))

@@ -18,7 +18,7 @@ mod fall;
 mod places;
 
 use arrayvec::ArrayVec;
-use fall::{fall_among, mark_at};
+use fall::{fall_within, mark_at};
 use id_slab::{Iter, RisingIds};
 use member_lists::MemberLists;
 pub use member_lists::Members as InnerSpaces;
@@ -106,13 +106,6 @@ impl SpaceTree {
         ensures { result ≡ self.now.order }
     {
         self.order.iter()
-    }
-
-    /// How many namespaces there are. It costs one read.
-    pub fn count(&self) -> usize
-        ensures { result ≡ length self.now.order }
-    {
-        self.order.count()
     }
 
     /// Whether an id may be that of the next namespace: it is above those of all that are there. It costs one read,
@@ -247,14 +240,16 @@ impl SpaceTree {
         mark_at(&mut self.places, key);
     }
 
-    /// The namespace and all inside it have fallen. It costs a step for each namespace that is there.
+    /// The namespace and all inside it have fallen (`pid_namespaces(7)`). It costs a step for each of them.
     pub fn fell(&mut self, outer: SpaceKey)
         ensures nodes { (s : ℕ) → node_in self.new.nodes s
             ≡ option_map (felled_within outer) (node_in self.old.nodes s) }
         ensures count { length self.new.nodes ≡ length self.old.nodes }
         ensures order { self.new.order ≡ self.old.order }
     {
-        fall_among(&mut self.places, &self.order, outer);
+        if find_place(&self.places, outer).is_some() {
+            fall_within(&mut self.places, &self.children, outer);
+        }
     }
 
     /// Drops a namespace that none is inside. Its place is vacant, and its key may be given again.

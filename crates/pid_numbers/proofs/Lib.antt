@@ -11,4 +11,3 @@ pub mod Begins
 pub mod Inwards
 pub mod Marks
 pub mod Model
-pub mod Falling

@@ -13,9 +13,9 @@ pub use Rattle.std.specs.Prelude.{MatchBool, filter_map, nat_lt, reverse, slice_
 pub use Rattle.cyclic_ids.proofs.Draws.{cyclic_draw-same}
 pub use Rattle.cyclic_ids.specs.Ids.{Ids, planned}
 pub use Rattle.index_array.proofs.Indexes.{contains_indexes}
-pub use Rattle.index_array.specs.Place.{Entry, IsLeastIndex, Place, entry_at, index_count, indexes, is_marked, is_prepared, with_mark}
+pub use Rattle.index_array.specs.Place.{Entry, IsLeastIndex, Place, entry_at, indexes, is_marked, is_prepared, with_mark}
 pub use Rattle.ns_tree.proofs.Paths.{contains_at, distinct-path, everywhere, place_of}
-pub use Rattle.ns_tree.specs.Tree.{AreListed, IsPath, IsPathTree, Node, TreeOfSpaces, fell, felled, felled_within, grown, id_in, new_node, node_in, way}
+pub use Rattle.ns_tree.specs.Tree.{AreListed, IsPath, IsPathTree, Node, TreeOfSpaces, fell, felled_within, grown, id_in, new_node, node_in, way}
 pub use Rattle.ns_tree.specs.Vacancy.{AreVacant, IsDistinct}
 pub use Rattle.pid_types.proofs.LeastFree.{draw-Some, least_free-found}
 pub use Rattle.pid_types.specs.Chains.{contains}
@@ -31,7 +31,7 @@ pub use Rattle.pid_numbers.specs.Numbering.{has_fallen_at, id_at, identifier_at,
 pub use Rattle.pid_numbers.specs.Numbering.{namespace_at, new_identifier, number_in, number_of, path_at, swept_at, uses, with_uses}
 unfoldable pub use Rattle.pid_numbers.specs.Numbering.{taken_in}
 pub use Rattle.pid_numbers.specs.Slabs.{AreAround, AreFallen, AreIn, HaveNumbersInRange, AreMarked, ArePlanned, AreReady, IsNumberTable, IsNumbering, IsTied, IsConsistent}
-pub use Rattle.pid_numbers.specs.Slabs.{bound_on, cursor_on, dead_on, empty_on, entry_on, given_to, own_space_at, leads, mark_of, use_marks, namespace_of}
+pub use Rattle.pid_numbers.specs.Slabs.{bound_on, cursor_on, dead_on, empty_on, entry_on, given_to, leads, mark_of, use_marks, namespace_of}
 pub use Rattle.pid_numbers.specs.Slabs.{numbering_of, plan_on, ready, stepped, touched, namespaces_with}
 pub use Rattle.pid_numbers.specs.Table.{ChangesPlace, IsTable, Table, get, identifier_of, ident_at, shown}
 pub use Rattle.pid_numbers.specs.declared.idents.Ident.{Ident}

@@ -1,7 +1,7 @@
 -- The numbers of each namespace, at the namespace's key, and the identifiers, and what ties them.
 use Rattle.std.specs.Prelude.{◌≡◌, ℕ, suc, ◌+◌, ◌<◌, ◌==◌, ◌&&◌, Bool, true, false, List, [], ◌∷◌, length, map, Option, Some, IsSome, option_map, option_and_then, if◌then◌else◌, slice_get, slice_index_or, ◌≢◌}
 use Rattle.std.specs.Option.{option_map_or, option_eq}
-use Rattle.index_array.specs.Place.{Entry, entry_at, index_count, is_prepared, indexes}
+use Rattle.index_array.specs.Place.{Entry, entry_at, is_prepared, indexes}
 use Rattle.cyclic_ids.specs.Ids.{Ids, planned}
 use Rattle.pid_types.specs.Chains.{contains}
 use Rattle.pid_types.specs.Names.{beside}
@@ -11,7 +11,7 @@ use Rattle.pid_types.specs.declared.call.Kind.TheVariants.{Task, Group, Session}
 pub use Rattle.ns_tree.specs.Tree.{IsPath}
 use Rattle.ns_tree.specs.Tree.{Node, TreeOfSpaces, IsPathTree, AreListed, node_in, way, id_in, fell}
 use Rattle.pid_numbers.specs.Table.{Table, identifier_of, ident_at}
-use Rattle.pid_numbers.specs.Numbering.{Namespace, Identifier, Numbering, number_in, is_used_as, is_used, HasOwnTask}
+use Rattle.pid_numbers.specs.Numbering.{Namespace, Identifier, Numbering, number_in, is_used_as, is_used}
 
 -- a namespace of the tree, with the cursor of its numbers
 abbrev pub namespace_of : ℕ → Node → Namespace
@@ -131,17 +131,6 @@ pub record IsNumberTable (pid_max : ℕ) (tree : TreeOfSpaces) (ids : List (Ids 
   pub some : (s : ℕ) → IsSome (node_in tree.nodes s) → 0 < length (way tree.nodes s)
   pub listed : AreListed (id_in tree.nodes) tree.order
   pub count : length ids ≡ length tree.nodes
-
--- the own namespace of an identifier
-abbrev pub own_space_at : Table → ℕ → Option ℕ
-own_space_at idents i = option_map (λ u. u.space) (ident_at idents i)
-
--- the numbers that tasks have in the namespace lead to each namespace inside that has not fallen
-pub record LeadsInside (nodes : List (Option Node)) (ids : List (Ids ℕ)) (idents : Table) (outer : ℕ) : Type 0 where
-  pub tied : IsTied (way nodes) (ident_at idents) (leads (entry_on ids))
-  pub marks : AreMarked (entry_on ids) (ident_at idents)
-  pub range : (n i : ℕ) → leads (entry_on ids) outer n ≡ Some i → n < index_count
-  pub homes : (s : ℕ) → contains (way nodes s) outer ≡ true → fell nodes s ≡ false → HasOwnTask (ident_at idents) s
 
 -- whether no number in it is in use
 abbrev pub empty_on : List (Ids ℕ) → ℕ → Bool

@@ -22,7 +22,6 @@ ghost use Rattle.{
   pid_types.specs.{Bounds.{deepest_space}, Chains.{contains}, Settings.{HasGoodPidMax}},
 };
 
-mod fall;
 mod idents;
 mod levels;
 mod names;
@@ -32,7 +31,6 @@ mod spaces;
 
 use arrayvec::ArrayVec;
 use cyclic_ids::CyclicIds;
-use fall::fall_all;
 use id_slab::Iter;
 use idents::{Ident, Idents};
 use levels::LevelNumbers;
@@ -554,8 +552,7 @@ impl Numbers {
         self.tree.laws();
     }
 
-    /// The namespace and all inside it have fallen. It costs a step for each namespace that is there, where these are
-    /// few beside the numbers that the one that falls has given, or else a search for each task that has one in it.
+    /// The namespace and all inside it have fallen (`pid_namespaces(7)`). It costs a step for each of them.
     pub fn fell(&mut self, space: SpaceKey)
         requires inner { space ≢ 0 }
         requires homes { (s : ℕ) → contains (path_at self.old s) space ≡ true → has_fallen_at self.old s ≡ false
@@ -566,7 +563,7 @@ impl Numbers {
         ensures order { self.new.order ≡ self.old.order }
         ensures pid_max { self.new.pid_max ≡ self.old.pid_max }
     {
-        fall_all(&mut self.tree, &self.ids, &self.idents, space);
+        self.tree.fell(space);
         self.tree.laws();
     }
 

@@ -93,7 +93,7 @@ fn make_short(store: &mut Tasks, stamp: u64, call: Call) -> Result<ShortReply, A
 
 /// Writes the reply to `NSpid` in place.
 #[tactic(auto, unfolding(pid_types::specs::Step::step))]
-fn list(store: &Tasks, caller: Pid, target: Pid, reply: &mut Reply)
+fn put_ns_pid(store: &Tasks, caller: Pid, target: Pid, reply: &mut Reply)
     requires { IsWhole store.now }
     ensures { (stamp : ℕ) → reply.new ≡ (step (state_of store.now) stamp (NsPid caller target)).reply }
 {
@@ -117,7 +117,7 @@ fn make(store: &mut Tasks, stamp: u64, call: Call, reply: &mut Reply) -> Result<
     ensures parents { HasParents store.new }
 {
     if let Call::NsPid { caller, target } = call {
-        list(store, caller, target, reply);
+        put_ns_pid(store, caller, target, reply);
         return Ok(());
     }
     make_short(store, stamp, call)?.tell(reply);
@@ -164,7 +164,7 @@ fn answer(store: &Tasks, call: Call, reply: &mut Reply)
     ensures { (stamp : ℕ) → reply.new ≡ (step (state_of store.now) stamp call).reply }
 {
     if let Call::NsPid { caller, target } = call {
-        list(store, caller, target, reply);
+        put_ns_pid(store, caller, target, reply);
         return;
     }
     answer_short(store, call).tell(reply);
@@ -221,8 +221,8 @@ impl PidTable {
         answer_short(&self.store, call)
     }
 
-    /// Answers `NSpid` as [`PidTable::ask`] does, without a reply that has room for a list: it writes the target's
-    /// numbers over others, or answers the refusal, and then the numbers are of no account.
+    /// Writes `NSpid` of `proc_pid_status(5)` over other numbers, the caller's namespace first. It answers `NoCaller`,
+    /// then `NoTask`, where it is refused, and the numbers are of no account. It costs two searches and a read a level.
     #[tactic(auto, unfolding(pid_types::specs::Step::step))]
     #[inline(always)]
     pub fn ns_pid(
@@ -252,7 +252,7 @@ impl PidTable {
     /// account.
     ///
     /// It costs a search on each level of the namespaces that the call names, a step for each control group around the
-    /// task, and for a fall one for each member and for each namespace that there is. A wait for a group walks at
+    /// task, and for a fall one for each member and for each namespace inside. A wait for a group walks at
     /// most four times the shorter of two lists: the caller's children, and the members of the group.
     #[inline(always)]
     pub fn step(&mut self, stamp: u64, call: Call, reply: &mut Reply) -> Result<(), AllocError>

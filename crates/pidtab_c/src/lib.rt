@@ -27,6 +27,7 @@ mod effects;
 mod history;
 mod inside;
 mod many_calls;
+mod numbers;
 mod page;
 mod read;
 mod record;

@@ -17,6 +17,7 @@ ghost use Rattle.{
 
 use arrayvec::ArrayVec;
 use call_effects::Touched;
+use model_laws::laws::nothing_changes;
 use model_laws::soundness::{root_state_is_sound, soundness_is_kept};
 use pid_table::PidTable;
 use pid_types::call::Call;
@@ -138,8 +139,8 @@ impl StampedTable {
         Ok(reply)
     }
 
-    /// Makes the call `NSpid` as [`StampedTable::make`] does, without a reply that has room for a list: it writes the
-    /// target's numbers over others, or answers the refusal, and then the numbers are of no account.
+    /// Makes the call `NSpid` as [`StampedTable::make`] does, and tells it as [`PidTable::ns_pid`] does: an answer is a
+    /// refusal. The error is `Spent` alone, and then the table and the numbers are as they were.
     #[tactic(auto, unfolding(pid_types::specs::Step::step))]
     #[inline(always)]
     pub fn make_ns_pid(
@@ -160,6 +161,26 @@ impl StampedTable {
         let told = self.table.ns_pid(caller, target, numbers);
         self.stamp += 1;
         Ok(told)
+    }
+
+    /// Makes a query but `NSpid` as [`StampedTable::make_short`] does: the table stays, and the stamp rises. The error
+    /// is `Spent` alone.
+    #[inline(always)]
+    pub fn make_query(&mut self, call: Call) -> Result<ShortReply, CallFault>
+        requires asks { IsTrue (is_query call) }
+        requires short { answers_list call ≡ false }
+        ensures state { OnOk result (self.new ≡ after_call self.old call) }
+        ensures reply { IfOk result (λ reply. reply_of reply ≡ reply_to self.old call) }
+        ensures err { OnErr result (self.new ≡ self.old) }
+        ensures spent { (result ≡ Err CallFault.Spent) ↔ (self.old.stamp ≡ u64.MAX) }
+        ensures no_memory { result ≢ Err CallFault.NoMemory }
+    {
+        self.has_stamp()?;
+        soundness_is_kept();
+        nothing_changes();
+        let reply = self.table.ask_short(call);
+        self.stamp += 1;
+        Ok(reply)
     }
 
     /// Answers a query. It uses no stamp, and changes nothing.

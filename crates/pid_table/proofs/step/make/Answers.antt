@@ -5,4 +5,4 @@ use Rattle.task_table.specs.View.{state_of}
 use Rattle.pid_table.proofs.step.make.Goals as goal
 
 pub returns-in-NsPid-clause-reply : goal.returns-in-NsPid-clause-reply
-returns-in-NsPid-clause-reply c = c.list.ensures c.args.stamp ∙ ap (λ (call : Call). (step (state_of c.args.store.now) c.args.stamp call).reply) (sym c.in-NsPid.is)
+returns-in-NsPid-clause-reply c = c.put_ns_pid.ensures c.args.stamp ∙ ap (λ (call : Call). (step (state_of c.args.store.now) c.args.stamp call).reply) (sym c.in-NsPid.is)

@@ -1,4 +1,4 @@
-use Rattle.std.proofs.Common.{ap, ◌∙◌}
+use Rattle.std.proofs.Common.{ap}
 use Rattle.kept_past.specs.Opening.{Held}
 use Rattle.kept_past.proofs.Past.{anew}
 use Rattle.kept_past.proofs.history.History.copy.Goals as goal

@@ -1,4 +1,3 @@
-use Rattle.std.proofs.Common.{◌∙◌}
 use Rattle.kept_past.proofs.Past.{cut-all}
 use Rattle.kept_past.proofs.history.History.cut_all.Goals as goal
 

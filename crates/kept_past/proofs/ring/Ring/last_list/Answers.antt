@@ -1,7 +1,6 @@
-use Rattle.std.proofs.Common.{◌≡◌, ◌-◌, ◌+◌, ◌<◌, Some, ℕ, List, sym, ap, ◌∙◌, subst, length, slice_get, arith}
+use Rattle.std.proofs.Common.{◌≡◌, ◌-◌, ◌+◌, Some, ℕ, List, sym, ap, ◌∙◌, subst, length, slice_get, arith}
 use Rattle.std.specs.VecDeque.{deque_len}
 use Rattle.std.proofs.lemmas.Option.{same_Some}
-use Rattle.pid_types.specs.declared.reply.Reply.{Reply}
 use Rattle.pid_types.specs.Short.{list_reply}
 use Rattle.kept_past.specs.declared.ring.SlotReply.{SlotReply}
 use Rattle.kept_past.specs.Stored.{IsListedWithin, Stored, kept_reply, replies_of}

@@ -1,4 +1,4 @@
-use Rattle.std.proofs.Common.{◌≡◌, ◌+◌, ◌≤◌, ℕ, ap, ◌∙◌, subst, drop, arith}
+use Rattle.std.proofs.Common.{ap, ◌∙◌, drop, arith}
 use Rattle.kept_past.specs.Stored.{Stored}
 use Rattle.kept_past.proofs.Lists.{entries-less, list-there, one-fewer, listed-less}
 use Rattle.kept_past.proofs.ring.Ring.pop.Goals as goal
