@@ -305,9 +305,9 @@ struct pidtab_reply {
 /* Makes a call. DONE, CLOSED, OUT_OF_RANGE, SPENT, and NO_MEMORY for FORK and MK alone. */
 uint32_t pidtab_call(struct pidtab *table, const struct pidtab_call *call, struct pidtab_reply *reply);
 
-/* Queries that tell one number, made as pidtab_call makes them, in half its time: there is no struct to fill and none to read. Each answers DONE, or
- * why there is no number: CLOSED; OUT_OF_RANGE for a kind that is no enum pidtab_use, and then no call is made; SPENT; or the errno of the refusal,
- * which is ESRCH, and of a count ENOENT. Then number is as it was. A next that finds none is DONE, and 0. */
+/* Queries that tell one number, made as pidtab_call makes them, for half of its instructions, as no struct is filled. Each answers DONE, or why there
+ * is no number: CLOSED; OUT_OF_RANGE for a kind that is no enum pidtab_use, and then no call is made; SPENT; or the errno of the refusal, which is
+ * ESRCH, and of a count ENOENT. Then number is as it was. A next that finds none is DONE, and 0. */
 uint32_t pidtab_getpid_of(struct pidtab *table, uint32_t caller, uint64_t *number);
 uint32_t pidtab_getppid_of(struct pidtab *table, uint32_t caller, uint64_t *number);
 uint32_t pidtab_getpgid_of(struct pidtab *table, uint32_t caller, uint32_t pid, uint64_t *number);

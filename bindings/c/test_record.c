@@ -338,23 +338,30 @@ static void lists_behind_a_bound(void)
 	pidtab_record_close(&record);
 }
 
-/* A query changes nothing, so one that is cut away takes no memory. What makes something is made once more, and does. */
+/* What cutting away so many such calls asks for, in bytes. */
+static size_t asked_by_a_cut(struct pidtab_record *record, const struct pidtab_call *call, int calls)
+{
+	struct pidtab_reply reply;
+	uint64_t ordinal;
+
+	for (int i = 0; i < calls; i++)
+		CHECK(pidtab_record_call(record, 0, call, &reply, &ordinal) == PIDTAB_DONE && reply.kind != PIDTAB_REFUSED);
+	bytes_asked = 0;
+	for (int i = 0; i < calls; i++)
+		CHECK(pidtab_record_keep(record, 0) == PIDTAB_DONE);
+	return bytes_asked;
+}
+
+/* What makes something is made once more as it is cut away, and takes memory. A query is not. */
 static void cut_queries_take_no_memory(void)
 {
 	static const struct pidtab_call getpid_1 = { .operation = PIDTAB_GETPID, .caller = 1 }, fork_1 = { .operation = PIDTAB_FORK, .caller = 1 };
 	struct pidtab_record record = PIDTAB_RECORD_INIT;
-	struct pidtab_reply reply;
-	uint64_t ordinal;
+	uint64_t first_kept, recorded;
 
 	CHECK(pidtab_record_open(&record, 32768, 1, 1) == PIDTAB_DONE);
-	for (int i = 0; i < 100; i++)
-		CHECK(pidtab_record_call(&record, 0, &getpid_1, &reply, &ordinal) == PIDTAB_DONE);
-	bytes_asked = 0;
-	CHECK(pidtab_record_keep(&record, 0) == PIDTAB_DONE && bytes_asked == 0);
-	for (int i = 0; i < 100; i++)
-		CHECK(pidtab_record_call(&record, 0, &fork_1, &reply, &ordinal) == PIDTAB_DONE && reply.kind == PIDTAB_FORKED);
-	bytes_asked = 0;
-	CHECK(pidtab_record_keep(&record, 0) == PIDTAB_DONE && bytes_asked > 0);
+	CHECK(asked_by_a_cut(&record, &fork_1, 1000) > 0 && asked_by_a_cut(&record, &getpid_1, 1000) == 0);
+	CHECK(pidtab_record_counts(&record, &first_kept, &recorded) == PIDTAB_DONE && first_kept == 2000 && recorded == 2000);
 	pidtab_record_close(&record);
 }
 

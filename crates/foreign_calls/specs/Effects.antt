@@ -1,5 +1,5 @@
 -- What a call did to others, as numbers.
-use Rattle.std.specs.Prelude.{◌≡◌, ◌≢◌, ◌↔◌, ◌<◌, ◌≤◌, ◌+◌, ◌⊎◌, [], ◌∷◌, ℕ, IsTrue, List, length, map, Option, Some, None, IsSome}
+use Rattle.std.specs.Prelude.{◌≡◌, ◌≢◌, ◌↔◌, ◌<◌, ◌≤◌, ◌⊎◌, [], ◌∷◌, ℕ, IsTrue, List, length, map, Some}
 use Rattle.pid_types.specs.declared.call.Call.{Call}
 use Rattle.pid_types.specs.State.{State}
 use Rattle.pid_types.specs.Step.{may_grow}
@@ -11,9 +11,9 @@ use Rattle.call_effects.specs.declared.effect.Effect.{Effect}
 use Rattle.foreign_numbers.specs.Effects.{effect_numbers}
 use Rattle.foreign_numbers.specs.declared.effects.EffectNumbers.{EffectNumbers}
 use Rattle.foreign_numbers.specs.declared.status.TheConstants.{DONE, OUT_OF_RANGE, SPENT, NO_MEMORY, NO_ROOM}
-use Rattle.foreign_calls.specs.Held.{IsDoneOr, NeedsOpen}
+use Rattle.foreign_calls.specs.Held.{IsDoneOr}
 use Rattle.foreign_calls.specs.Made.{IsSpent}
-use Rattle.foreign_calls.specs.Records.{roomless, Has, IsRecorded}
+use Rattle.foreign_calls.specs.Records.{roomless, IsRecorded}
 
 -- what the way from the one state to the other did is at the front of the room, all of it, and how much it is is told
 pub record PutsEffects (old new : State) (before after : List EffectNumbers) (count : ℕ) : Type 0 where

@@ -6,7 +6,7 @@ use Rattle.replica.specs.Laws.{Applies}
 use Rattle.replica.specs.Log.{Log, Hosted}
 use Rattle.replica.specs.Replicas.{replica_of}
 use Rattle.replica.specs.declared.outcome.Applied.{Applied}
-use Rattle.replica.specs.Snapshots.{IsSnapshot, Restores, FailsAtHead, head_text}
+use Rattle.replica.specs.Snapshots.{Restores, FailsAtHead}
 use Rattle.replica.specs.declared.outcome.ReplicaFault.{ReplicaFault}
 use Rattle.replica.specs.declared.snapshot.HeadFault.{HeadFault}
 use Rattle.stamped_table.specs.Stamped.{Stamped}

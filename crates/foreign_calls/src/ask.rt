@@ -20,6 +20,7 @@ use pid_types::call::Call;
 use stamped_table::StampedTable;
 
 /// The query that the numbers say; none where they say no call, or another one.
+#[inline(always)]
 fn read_query(n: &CallNumbers) -> Option<Call>
     ensures query { result ≡ query_of n.now }
     ensures asks { IfSome result (λ call. IsTrue (is_query call)) }
@@ -39,6 +40,7 @@ fn ask_table_for_list(held: &StampedTable, caller: u32, target: u32, reply: &mut
 }
 
 /// Answers the query that the numbers say on the table. The result is the status.
+#[inline(always)]
 pub fn ask_table(held: &StampedTable, call: &CallNumbers, reply: &mut ReplyNumbers) -> u32
     ensures answers { TellsAnswer (Some held.now) reply_to (query_of call.now) reply.old reply.new result }
     ensures statuses { IsDoneOr result (OUT_OF_RANGE ∷ []) }
@@ -65,6 +67,7 @@ fn ask_record_for_list(held: &Kept, caller: u32, target: u32, reply: &mut ReplyN
 }
 
 /// Answers the query that the numbers say on the record, which is not recorded. The result is the status.
+#[inline(always)]
 pub fn ask_record(held: &Kept, call: &CallNumbers, reply: &mut ReplyNumbers) -> u32
     ensures answers { TellsAnswer (Some held.now) (λ c asked. (outcome c asked).reply)
         (query_of call.now) reply.old reply.new result }
