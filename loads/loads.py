@@ -23,6 +23,7 @@ import tempfile
 import time
 
 EVENTS = 8              # how often the one great event of `fall` comes
+FAMILIES = 50           # how many namespaces fall with the one of `fall_nested`
 
 
 class Numbers:
@@ -235,6 +236,35 @@ def fall(s, n):
         s.add(f"wait 1 pid {init}")
 
 
+def fall_beside(s, n):
+    """A namespace that has given n numbers, all free again, falls beside n others."""
+    tops = []
+    for _ in range(n):
+        s.fork(1, True)
+    for _ in range(EVENTS):
+        init = s.fork(1, True)
+        tops.append(init)
+        for _ in range(n):
+            cycle(s, init, "any")
+    s.body()
+    for init in tops:
+        s.add(f"exit {init} 0")
+
+
+def fall_nested(s, n):
+    """A namespace falls with FAMILIES inside it, each of an init and three tasks, beside n others."""
+    for _ in range(n):
+        s.fork(1, True)
+    tops = [s.fork(1, True) for _ in range(EVENTS)]
+    for top in tops:
+        for init in [s.fork(top, True) for _ in range(FAMILIES)]:
+            for _ in range(3):
+                s.fork(init)
+    s.body()
+    for top in tops:
+        s.add(f"exit {top} 0")
+
+
 def queries(s, n):
     # Four levels, a fourth of the tasks each.
     inits = [1]
@@ -436,6 +466,8 @@ LOADS = {
     "groups": (groups, 32768, (3000, 30000), 841),
     "control_cycle_64": (lambda s, n: control_cycle(s, 64, n), 32768, (12000,), 1894),
     "fall": (fall, 4194304, (300, 3000), 584),
+    "fall_beside": (fall_beside, 4194304, (30, 300, 3000), {3000: 1025}),
+    "fall_nested": (fall_nested, 4194304, (30, 300, 3000), None),
     "queries": (queries, 32768, (300, 30000), 760),
     "wait_any": (wait_any, 32768, (300, 30000), 1004),
     "reap_all": (reap_all, 32768, (3000, 30000), 1268),
@@ -460,8 +492,8 @@ LOADS = {
     "fork_storm_million": (fork_storm, 4194304, (1000000,), 1094),
 }
 
-# Those whose cost is told for each task that they concern.
-BY_TASK = {"fall", "exit_parent", "exit_parent_of_zombies"}
+# Those whose cost is told for each task that they concern, and how many these are.
+BY_TASK = dict.fromkeys(("fall", "exit_parent", "exit_parent_of_zombies"), lambda n: EVENTS * n) | {"fall_nested": lambda n: EVENTS * (1 + 4 * FAMILIES)}
 # Those that `measure` leaves out unless they are named, since they take minutes.
 LONG = {"fork_storm_million"}
 
@@ -494,7 +526,7 @@ def measure(program, names):
         _, pid_max, sizes, peer = LOADS[name]
         for n in sizes:
             s = make(name, n)
-            calls = EVENTS * n if name in BY_TASK else len(s.lines) - s.split
+            calls = BY_TASK[name](n) if name in BY_TASK else len(s.lines) - s.split
             cost = (collected(program, pid_max, s.lines) - collected(program, pid_max, s.lines[: s.split])) / calls
             theirs = peer.get(n) if isinstance(peer, dict) else peer
             compared = f"{theirs:,} | {cost / theirs:.2f}" if theirs else "| "
