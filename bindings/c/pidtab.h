@@ -447,11 +447,6 @@ static inline int64_t pidtab_value(struct pidtab *table, const struct pidtab_cal
 	return reply->kind == PIDTAB_LEVELS ? (int64_t)reply->count : (int64_t)reply->first;
 }
 
-static inline int64_t pidtab_number(uint32_t status, uint64_t number)
-{
-	return status == PIDTAB_DONE ? (int64_t)number : -(int64_t)status;
-}
-
 /* Written by tools/interface: calls. */
 /* fork(2), or clone(2) with CLONE_NEWPID: a child in the namespace for the caller's children, or in a new one. */
 static inline int64_t pidtab_fork(struct pidtab *table, uint32_t caller, uint32_t new_space, uint32_t *root)
@@ -469,7 +464,7 @@ static inline int64_t pidtab_getpid(struct pidtab *table, uint32_t caller)
 {
 	uint64_t number = 0;
 	uint32_t status = pidtab_getpid_of(table, caller, &number);
-	return pidtab_number(status, number);
+	return status == PIDTAB_DONE ? (int64_t)number : -(int64_t)status;
 }
 
 /* NSpid of proc(5): the numbers of the task number from the caller's namespace inwards, outermost first: 1 to 33 of them. */
@@ -515,7 +510,7 @@ static inline int64_t pidtab_getppid(struct pidtab *table, uint32_t caller)
 {
 	uint64_t number = 0;
 	uint32_t status = pidtab_getppid_of(table, caller, &number);
-	return pidtab_number(status, number);
+	return status == PIDTAB_DONE ? (int64_t)number : -(int64_t)status;
 }
 
 /* setpgid(2): the task pid goes into the group pgid; 0 is the caller, and the task. */
@@ -571,7 +566,7 @@ static inline int64_t pidtab_count(struct pidtab *table, uint64_t id)
 {
 	uint64_t number = 0;
 	uint32_t status = pidtab_count_of(table, id, &number);
-	return pidtab_number(status, number);
+	return status == PIDTAB_DONE ? (int64_t)number : -(int64_t)status;
 }
 
 /* getpgid(2): the process group of the task pid, where 0 is the caller; 0 where it cannot be seen. */
@@ -579,7 +574,7 @@ static inline int64_t pidtab_getpgid(struct pidtab *table, uint32_t caller, uint
 {
 	uint64_t number = 0;
 	uint32_t status = pidtab_getpgid_of(table, caller, pid, &number);
-	return pidtab_number(status, number);
+	return status == PIDTAB_DONE ? (int64_t)number : -(int64_t)status;
 }
 
 /* getsid(2): the session of the task pid, where 0 is the caller; 0 where it cannot be seen. */
@@ -587,7 +582,7 @@ static inline int64_t pidtab_getsid(struct pidtab *table, uint32_t caller, uint3
 {
 	uint64_t number = 0;
 	uint32_t status = pidtab_getsid_of(table, caller, pid, &number);
-	return pidtab_number(status, number);
+	return status == PIDTAB_DONE ? (int64_t)number : -(int64_t)status;
 }
 
 /* The least number from from on that is in use as that kind in the caller's namespace. */
@@ -595,7 +590,7 @@ static inline int64_t pidtab_next(struct pidtab *table, uint32_t caller, enum pi
 {
 	uint64_t number = 0;
 	uint32_t status = pidtab_next_of(table, caller, kind, from, &number);
-	return pidtab_number(status, number);
+	return status == PIDTAB_DONE ? (int64_t)number : -(int64_t)status;
 }
 
 /* setns(2) with CLONE_NEWPID: the caller's later children go into the namespace of the task number. */

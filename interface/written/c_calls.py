@@ -49,7 +49,7 @@ def by_number(row):
     taken = "".join(f"{it.name}, " for it in arguments_of(row))
     return [
         f"/* {said(row)} */", f"static inline {prototype(row)}", "{", "\tuint64_t number = 0;",
-        f"\tuint32_t status = pidtab_{row.call}_of(table, {taken}&number);", "\treturn pidtab_number(status, number);", "}",
+        f"\tuint32_t status = pidtab_{row.call}_of(table, {taken}&number);", "\treturn status == PIDTAB_DONE ? (int64_t)number : -(int64_t)status;", "}",
     ]  # fmt: skip
 
 
