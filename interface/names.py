@@ -24,6 +24,9 @@ def with_id(sentence):
     return sentence.replace("{id}", "with the id")
 
 
+# How the name of a query of C with arguments of its own ends. The packages make it by call.
+TYPED = "_of"
+
 FIELDS = ("caller", "id", "number", "choice", "pid", "pgid")
 
 

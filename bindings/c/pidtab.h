@@ -37,7 +37,8 @@ struct pidtab {
 
 /* Written by tools/interface: statuses. */
 /* What a function answers: 0, or a number of Linux's errno. Any status but PIDTAB_DONE says that the table is as it was.
- * A call that the table refuses, as ESRCH no-caller, is PIDTAB_DONE: its answer or reply says so. */
+ * A call that the table refuses, as ESRCH no-caller, is PIDTAB_DONE: its answer or reply says so. Those whose name ends with
+ * _of have no reply, and may answer the errno of the refusal: the query was made, and has used a stamp. */
 enum pidtab_status {
 	PIDTAB_DONE = 0,
 	PIDTAB_CLOSED = 9,        /* EBADF: there is no open table */
@@ -305,9 +306,10 @@ struct pidtab_reply {
 /* Makes a call. DONE, CLOSED, OUT_OF_RANGE, SPENT, and NO_MEMORY for FORK and MK alone. */
 uint32_t pidtab_call(struct pidtab *table, const struct pidtab_call *call, struct pidtab_reply *reply);
 
-/* Queries that tell one number, made as pidtab_call makes them, for half of its instructions, as no struct is filled. Each answers DONE, or why there
- * is no number: CLOSED; OUT_OF_RANGE for a kind that is no enum pidtab_use, and then no call is made; SPENT; or the errno of the refusal, which is
- * ESRCH, and of a count ENOENT. Then number is as it was. A next that finds none is DONE, and 0. */
+/* Queries that tell one number, made as pidtab_call makes them, for some half of its instructions, as no struct is filled. Each answers DONE, or why
+ * there is no number: CLOSED; OUT_OF_RANGE for a kind that is no enum pidtab_use; SPENT; and none of these makes a call. Or the errno of the refusal,
+ * which is ESRCH, and of a count ENOENT: that query was made, and has used a stamp. In all of them number is as it was. A next that finds none is DONE,
+ * and 0. */
 uint32_t pidtab_getpid_of(struct pidtab *table, uint32_t caller, uint64_t *number);
 uint32_t pidtab_getppid_of(struct pidtab *table, uint32_t caller, uint64_t *number);
 uint32_t pidtab_getpgid_of(struct pidtab *table, uint32_t caller, uint32_t pid, uint64_t *number);

@@ -1,6 +1,6 @@
 """The headers of C."""
 
-from names import capitals, columns, strings, takes, with_id, wrapped
+from names import TYPED, capitals, columns, strings, takes, with_id, wrapped
 
 HEADER = "bindings/c/pidtab.h"
 SAVED = "bindings/c/pidtab_saved.h"
@@ -54,7 +54,8 @@ def statuses(tables):
     """What the functions of a table and of a record answer."""
     return [
         "/* What a function answers: 0, or a number of Linux's errno. Any status but PIDTAB_DONE says that the table is as it was.",
-        " * A call that the table refuses, as ESRCH no-caller, is PIDTAB_DONE: its answer or reply says so. */",
+        " * A call that the table refuses, as ESRCH no-caller, is PIDTAB_DONE: its answer or reply says so. Those whose name ends with",
+        f" * {TYPED} have no reply, and may answer the errno of the refusal: the query was made, and has used a stamp. */",
         *enum("pidtab_status", status_enum(tables, "table")), "",
         "/* What the functions of a record answer besides. Any status but PIDTAB_DONE says that the record is as it was, but of",
         " * pidtab_record_replay, and of pidtab_record_calls as it says. */",

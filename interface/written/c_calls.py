@@ -1,7 +1,7 @@
 """The calls as functions of C, and the test that makes them."""
 
 from arguments import FIELDS, arguments_of, queries, said, tells
-from names import capitals, strings
+from names import TYPED, capitals, strings
 
 HEADER = "bindings/c/pidtab.h"
 TEST = "bindings/c/test_cases.c"
@@ -49,7 +49,7 @@ def by_number(row):
     taken = "".join(f"{it.name}, " for it in arguments_of(row))
     return [
         f"/* {said(row)} */", f"static inline {prototype(row)}", "{", "\tuint64_t number = 0;",
-        f"\tuint32_t status = pidtab_{row.call}_of(table, {taken}&number);", "\treturn status == PIDTAB_DONE ? (int64_t)number : -(int64_t)status;", "}",
+        f"\tuint32_t status = pidtab_{row.call}{TYPED}(table, {taken}&number);", "\treturn status == PIDTAB_DONE ? (int64_t)number : -(int64_t)status;", "}",
     ]  # fmt: skip
 
 

@@ -1,5 +1,7 @@
 """What the package for Rust has of the structs and the functions that the headers of C declare."""
 
+from names import TYPED
+
 RAW = "bindings/rust/src/raw.rs"
 
 # What each package takes as a value: the structs, and of the functions on saved histories those that work in memory.
@@ -9,9 +11,6 @@ IN_MEMORY = ("saved_put_head", "saved_put", "saved_take_head", "saved_take", "sa
 # What closes is called where the owner is dropped, and what keeps so many entries by none.
 BY_HAND = ("close", "call_keeping")
 MAKES = ("open", "load")
-
-# The queries with arguments of their own: the package makes them by call.
-TYPED = "_of"
 
 NUMBERS = {"uint32_t": "u32", "uint64_t": "u64", "int32_t": "i32", "size_t": "usize", "bool": "bool", "int": "i32"}
 

@@ -1,11 +1,11 @@
 """The functions that the module for JavaScript exports: those of C, whose memory is at fixed places."""
 
+from names import TYPED
+
 AROUND = "bindings/js/wasm/around.c"
 
 # What is not called from there, and the structs at fixed places.
 BY_HAND = ("version", "close", "record_close", "record_calls", "record_read", "record_replay")
-# The queries with arguments of their own: a package makes them by call.
-TYPED = "_of"
 PLACES = ("call", "reply", "task", "space", "fault")
 LONGS = ("uint64_t", "uint64_t *", "const uint64_t *")
 

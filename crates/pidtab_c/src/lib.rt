@@ -6,7 +6,8 @@
 //! that one function at a time works on a table or a record. The work is done in `foreign_calls`.
 //!
 //! Each function answers with a status, `DONE` or a number of Linux's errno. Any status but `DONE` says that the table
-//! is as it was. A function tests for its statuses in the order in which its comment names them.
+//! is as it was; those of [`numbers`] may answer the error of a refusal instead, of a query that was made and used a
+//! stamp. A function tests for its statuses in the order in which its comment names them.
 #![tactic(auto)]
 
 ghost use Rattle.std.specs.Prelude.{◌≡◌, ◌≢◌, ◌≤◌, ◌↔◌, [], ◌∷◌, IsSome, IsTrue, Some, None, IfSome, length, take};
