@@ -1,9 +1,8 @@
 -- A walk from an owner's first member meets each of its members once.
-use Rattle.std.proofs.Common.{◌≡◌, ◌≢◌, ◌⊎◌, inl, inr, ℕ, zero, suc, ◌+◌, ◌<◌, ◌≤◌, ◌==◌, List, [], ◌∷◌, length, Bool, true, false, ◌||◌, if◌then◌else◌, Some, refl, sym, ap, ◌∙◌, arith, map}
-use Rattle.std.specs.List.{AllByRecursion, IsDistinct, list_any}
-use Rattle.std.proofs.lemmas.Bool.{cases_eq, eq-eqb}
-use Rattle.std.proofs.lemmas.List.Sums.{sum_by-cons}
-use Rattle.std.proofs.lemmas.Map.Steps.{length-le_from_distinct_below}
+use Rattle.std.proofs.Common.{◌≡◌, ◌≢◌, ◌⊎◌, inl, inr, ℕ, zero, suc, ◌+◌, ◌<◌, ◌≤◌, ◌==◌, List, [], ◌∷◌, length, Bool, if◌then◌else◌, Some, refl, sym, ap, ◌∙◌, arith, map}
+use Rattle.std.specs.List.{AllByRecursion, IsDistinct}
+use Rattle.std.proofs.lemmas.Bool.{cases_eq}
+use Rattle.member_lists.proofs.Distinct.{apart-all, none_of, few_below}
 use Rattle.member_lists.proofs.Owners.{times-cons, times-here, times-later}
 use Rattle.member_lists.specs.declared.Link.{Link}
 use Rattle.member_lists.specs.Owners.{owner_of, times, AreMembers}
@@ -81,16 +80,15 @@ module _ (hs : List ℕ) (ls : List Link) (w : IsLinked hs ls) (h : ℕ) (room :
   behind : (n k : ℕ) → Owned k → AllByRecursion (λ j. Owned j × (w.rank k + 1 ≤ w.rank j)) (chain ls (next ls k) n)
   behind n k mine = above n (next ls k) (w.rank k + 1) (λ more. let higher = next_higher k mine more in (next_owned k mine more, omega (arith, higher)))
 
-  apart : (j : ℕ) (xs : List ℕ) → AllByRecursion (λ i. Owned i × (w.rank j + 1 ≤ w.rank i)) xs → AllByRecursion (λ i. (j == i) ≡ false) xs
-  apart j [] all = tt
-  apart j (x ∷ xs) all = grind (arith, apart j xs all.1)
+  higher : (j i : ℕ) → Owned i × (w.rank j + 1 ≤ w.rank i) → j ≢ i
+  higher j i more e = let r = ap w.rank e in omega (arith, more.1, r)
 
   distinct : (n k : ℕ) → (k ≢ nil → Owned k) → IsDistinct ◌==◌ (chain ls k n)
   unfolding IsDistinct
   distinct zero k start = tt
   distinct (suc n) k start = elim (cases_eq k nil) [
     | inl none ↦ rw (chain-nil ls k (suc n) none) tt
-    | inr some ↦ rw (chain-some ls k n some) (apart k _ (behind n k (start some)), distinct n (next ls k) (next_owned k (start some)))
+    | inr some ↦ rw (chain-some ls k n some) (apart-all _ k (higher k) _ (behind n k (start some)), distinct n (next ls k) (next_owned k (start some)))
   ]
 
   -- a chain that does not end is as long as may be
@@ -104,16 +102,12 @@ module _ (hs : List ℕ) (ls : List Link) (w : IsLinked hs ls) (h : ℕ) (room :
     ]
   ]
 
-  any_all : (P : ℕ → Type 0) (q : ℕ) (xs : List ℕ) → AllByRecursion P xs → list_any (λ y. q == y) xs ≡ true → P q
-  any_all P q [] all any = cc
-  any_all P q (x ∷ xs) all any = go (λ later. any_all P q xs all.1 later) (q == x) refl any
-    where
-      go : (list_any (λ y. q == y) xs ≡ true → P q) → (b : Bool) → (q == x) ≡ b → (b || list_any (λ y. q == y) xs) ≡ true → P q
-      go rest b e any = grind arith
+  inside_all : (xs : List ℕ) → AllByRecursion (λ j. Owned j × (0 ≤ w.rank j)) xs → AllByRecursion (λ k. k < length ls) xs
+  inside_all [] all = tt
+  inside_all (x ∷ xs) all = (inside x all.0.0, inside_all xs all.1)
 
   short : (n k : ℕ) → (k ≢ nil → Owned k) → length (chain ls k n) ≤ length ls
-  short n k start = length-le_from_distinct_below (chain ls k n) (length ls) (distinct n k start)
-      (λ q any. inside q (any_all (λ j. Owned j × (0 ≤ w.rank j)) q (chain ls k n) (above n k 0 (λ some. (start some, omega arith))) any).0)
+  short n k start = few_below (length ls) (chain ls k n) (distinct n k start) (inside_all _ (above n k 0 (λ some. (start some, omega arith))))
 
   first_owned : head_at hs h ≢ nil → Owned (head_at hs h)
   first_owned some = (w.head h some).0
@@ -123,10 +117,6 @@ module _ (hs : List ℕ) (ls : List Link) (w : IsLinked hs ls) (h : ℕ) (room :
     | inl ending ↦ ending
     | inr full ↦ let s = short (suc (length ls)) (head_at hs h) first_owned in absurd (omega (arith, full, s))
   ]
-
-  none_of : (j : ℕ) (xs : List ℕ) → AllByRecursion (λ i. Owned i × (w.rank j + 1 ≤ w.rank i)) xs → times j xs ≡ 0
-  none_of j [] all = refl
-  none_of j (x ∷ xs) all = grind (arith, cases_eq, times-later, none_of j xs all.1)
 
   times_all : (P : ℕ → Type 0) (j : ℕ) (xs : List ℕ) → AllByRecursion P xs → times j xs ≡ 1 → P j
   times_all P j [] all once = cc
@@ -138,7 +128,7 @@ module _ (hs : List ℕ) (ls : List Link) (w : IsLinked hs ls) (h : ℕ) (room :
   times-first : (n k : ℕ) → Owned k → ReachesNil ls k n → times k (chain ls k n) ≡ 1
   times-first zero k mine none = absurd (not_nil k mine none)
   times-first (suc n) k mine more =
-      let rest = none_of k (chain ls (next ls k) n) (behind n k mine) in
+      let rest = none_of _ k (higher k) (chain ls (next ls k) n) (behind n k mine) in
       rw (chain-some ls k n (not_nil k mine)) (times-here k (chain ls (next ls k) n) ∙ ap (λ m. 1 + m) rest)
 
   -- the key behind one that comes once does so

@@ -3,8 +3,9 @@ use Rattle.std.proofs.Common.{◌≡◌, ◌≢◌, ◌⊎◌, inl, inr, ℕ, �
 use Rattle.std.proofs.lemmas.Bool.{cases_eq}
 use Rattle.std.proofs.lemmas.List.{get_or_past, get_or-set_same, get_or-set_other, length-set}
 use Rattle.member_queues.specs.declared.Node.{Node}
-use Rattle.member_queues.specs.Heap.{nil, blank, node_at, root_at, HasBelow, AreSides, AreRanked, IsHeapTree, IsHeap, IsSinking}
-use Rattle.member_queues.proofs.Trees.{within, is_some, side_after, AreRanked-kept}
+use Rattle.member_queues.specs.declared.Side.TheVariants.{Beside}
+use Rattle.member_queues.specs.Heap.{nil, blank, node_at, root_at, HasBelow, AreSides, AreRanked, AreInRuns, IsHeapTree, IsHeap, IsSinking}
+use Rattle.member_queues.proofs.Trees.{within, is_some, side_after, inner, in_runs, fits_beside, AreRanked-kept}
 
 -- what taking a key k out of its place makes of the roots and the other nodes, where b comes there
 pub record Spliced (rs rs' : List ℕ) (ns ns' : List Node) (k b : ℕ) : Type 0 where
@@ -142,6 +143,64 @@ module _ (rs : List ℕ) (ns : List Node) (k b o : ℕ) (w : IsHeap rs ns nil) (
     apart_spliced : (j : ℕ) → j ≢ k → (node_at ns' j).owner ≢ nil → (node_at ns' j).next ≢ nil → (node_at ns' j).next ≢ (node_at ns' j).beside
     apart_spliced j gone mine = grind (arith, cases_eq, was, u_not_k, b_down)
 
+    -- where the key was the next of another, b is now, and no other next is new
+    next_was : (j : ℕ) → j ≢ k → (((node_at ns j).next ≡ k) × ((node_at ns' j).next ≡ b)) ⊎ ((node_at ns' j).next ≡ (node_at ns j).next)
+    next_was j gone = elim (cases_eq (root_at rs p) k) [
+      | inl first ↦ inr (f.sides j gone (inl first)).0
+      | inr away ↦ elim (cases_eq j u) [
+        | inr differs ↦ inr (f.sides j gone (inr differs)).0
+        | inl same ↦ elim (cases_eq (node_at ns u).next k) [
+          | inl at ↦ rw same (inl (at, (f.next away at).0))
+          | inr at ↦ rw same (inr (f.beside away at).0)
+        ]
+      ]
+    ]
+
+    -- who had no run beside it has none
+    alone_still : (m : ℕ) → m ≢ k → (node_at ns m).beside ≡ nil → (node_at ns' m).beside ≡ nil
+    alone_still m gone none = elim (cases_eq (root_at rs p) k) [
+      | inl first ↦ (f.sides m gone (inl first)).1 ∙ none
+      | inr away ↦ elim (cases_eq m u) [
+        | inr differs ↦ (f.sides m gone (inr differs)).1 ∙ none
+        | inl same ↦ elim (cases_eq (node_at ns u).next k) [
+          | inl at ↦ rw same ((f.next away at).1 ∙ ap (λ i. (node_at ns i).beside) (sym same) ∙ none)
+          | inr at ↦ absurd (elim (u_up away).2 [ inl e ↦ at e | inr e ↦ k_some (sym e ∙ ap (λ i. (node_at ns i).beside) (sym same) ∙ none) ])
+        ]
+      ]
+    ]
+
+    -- the next of another has no run beside it
+    k_inner : (j : ℕ) → (node_at ns j).owner ≢ nil → (node_at ns j).next ≡ k → (node_at ns k).beside ≡ nil
+    k_inner j mine e = rw e at (inner ns w.runs j mine (λ z. k_some (sym e ∙ z)))
+
+    b_inner : (node_at ns k).beside ≡ nil → b ≢ nil → (node_at ns b).beside ≡ nil
+    b_inner none some = elim both [
+      | inl s ↦ rw s.0 at (inner ns w.runs k owned (λ z. some (sym s.0 ∙ z)))
+      | inr s ↦ absurd (some (sym s.1 ∙ none))
+    ]
+
+    never_k : (j : ℕ) → j ≢ k → (node_at ns' j).owner ≢ nil → (node_at ns' j).next ≢ k
+    never_k j gone mine e = elim (back j k gone mine k_some (inl e)) [ inl new ↦ b_not_k (λ z. k_some (new.0 ∙ z)) (sym new.0) | inr old ↦ old.1 refl ]
+
+    inner_spliced : (j : ℕ) → j ≢ k → (node_at ns' j).owner ≢ nil → (node_at ns' j).next ≢ nil → (node_at ns' (node_at ns' j).next).beside ≡ nil
+    inner_spliced j gone mine more = elim (next_was j gone) [
+      | inl came ↦
+          let some : b ≢ nil = λ z. more (came.1 ∙ z) in
+          rw came.1 (alone_still b (b_not_k some) (b_inner (k_inner j (was j gone mine) came.0) some))
+      | inr same ↦
+          let away : (node_at ns j).next ≢ k = λ z. never_k j gone mine (same ∙ z) in
+          rw same (alone_still (node_at ns j).next away (inner ns w.runs j (was j gone mine) (λ z. more (same ∙ z))))
+    ]
+
+    -- where the key had two sides, b is the first of a run now
+    first_spliced : o ≢ nil → b ≢ nil → (j : ℕ) → j ≢ k → (node_at ns' j).owner ≢ nil → (node_at ns' j).next ≢ b
+    first_spliced more some j gone mine e = elim (next_was j gone) [
+      | inl came ↦
+          let none = k_inner j (was j gone mine) came.0 in
+          elim both [ inl s ↦ more (sym s.1 ∙ none) | inr s ↦ some (sym s.1 ∙ none) ]
+      | inr same ↦ gone (sym (w.tree.down j b (was j gone mine) some (inl (sym same ∙ e))).1 ∙ (b_down some).1)
+    ]
+
     -- the key has no owner, and its other side is held
     module _ (here : (node_at ns' k).owner ≡ nil) where
       gone : (j : ℕ) → (node_at ns' j).owner ≢ nil → j ≢ k
@@ -166,12 +225,18 @@ module _ (rs : List ℕ) (ns : List Node) (k b o : ℕ) (w : IsHeap rs ns nil) (
             w.ranked.distinct j m (was j (gone j mine) mine) (sym (f.own j (gone j mine)) ∙ same ∙ f.own m (gone m mine_m)) (sym (f.ranks j) ∙ e ∙ f.ranks m);
       }
 
-      pub IsSinking-filled : (o ≢ nil → (b ≢ nil) × ((node_at ns b).rank < (node_at ns o).rank)) → IsSinking rs' ns' b o
-      IsSinking-filled order = grind (arith, ranked_filled, tree_filled, b_down, b_not_k, o_not_k, o_down)
+      pub IsSinking-filled : (o ≢ nil → (b ≢ nil) × ((node_at ns b).rank < (node_at ns o).rank)) → IsSinking Beside rs' ns' b o
+      IsSinking-filled order = record {
+        heap = record { ranked = ranked_filled; tree = tree_filled; runs = in_runs ns' (λ j mine. inner_spliced j (gone j mine) mine) };
+        owned = grind (arith, b_down, b_not_k);
+        same = grind (arith, b_down, b_not_k, o_not_k, o_down);
+        lower = grind (arith, b_not_k, o_not_k);
+        fits = λ more. fits_beside ns' b o (λ j mine. first_spliced more (order more).0 j (gone j mine) mine);
+      }
 
     -- the key keeps its owner and its other side, and is held
     module _ (mine : (node_at ns' k).owner ≡ p) (left : (m : ℕ) → m ≢ nil → HasBelow ns' k m → m ≡ o) (has : o ≢ nil → HasBelow ns' k o)
-        (one : (node_at ns' k).next ≢ nil → (node_at ns' k).next ≢ (node_at ns' k).beside) where
+        (one : (node_at ns' k).next ≢ nil → (node_at ns' k).next ≢ (node_at ns' k).beside) (behind : (node_at ns k).next ≡ o) where
       own_all : (j : ℕ) → (node_at ns' j).owner ≡ (node_at ns j).owner
       own_all j = elim (cases_eq j k) [ inl same ↦ rw same mine | inr differs ↦ f.own j differs ]
 
@@ -183,6 +248,12 @@ module _ (rs : List ℕ) (ns : List Node) (k b o : ℕ) (w : IsHeap rs ns nil) (
 
       o_owner : o ≢ nil → (node_at ns' o).owner ≡ (node_at ns' k).owner
       o_owner some = f.own o (o_not_k some) ∙ (o_down some).0 ∙ sym mine
+
+      k_inner_cut : (node_at ns' k).next ≢ nil → (node_at ns' (node_at ns' k).next).beside ≡ nil
+      k_inner_cut more =
+          let e : (node_at ns' k).next ≡ o = left (node_at ns' k).next more (inl refl) in
+          let there : o ≢ nil = λ z. more (e ∙ z) in
+          rw e (alone_still o (o_not_k there) (rw behind at (inner ns w.runs k owned (λ z. there (sym behind ∙ z)))))
 
       tree_cut : IsHeapTree rs' ns' k
       tree_cut = record {
@@ -198,8 +269,14 @@ module _ (rs : List ℕ) (ns : List Node) (k b o : ℕ) (w : IsHeap rs ns nil) (
         apart = λ j owned'. elim (cases_eq j k) [ inl same ↦ rw same one | inr differs ↦ apart_spliced j differs owned' ];
       }
 
+      runs_cut : AreInRuns ns'
+      runs_cut = in_runs ns' (λ j owned' more. elim (cases_eq j k) [
+        | inr differs ↦ inner_spliced j differs owned' more
+        | inl same ↦ rw same (k_inner_cut (λ z. more (ap (λ i. (node_at ns' i).next) same ∙ z)))
+      ])
+
       pub IsHeap-cut : IsHeap rs' ns' k
-      IsHeap-cut = record { ranked = AreRanked-kept rs rs' ns ns' w.ranked own_all f.ranks f.len f.rooms; tree = tree_cut }
+      IsHeap-cut = record { ranked = AreRanked-kept rs rs' ns ns' w.ranked own_all f.ranks f.len f.rooms; tree = tree_cut; runs = runs_cut }
 
 -- what the code writes at the other keys, before it writes k's own node
 module _ (rs rs' : List ℕ) (ns n1 n2 : List Node) (k b o : ℕ) (l x : Node) (w : IsHeap rs ns nil) (owned : (node_at ns k).owner ≢ nil) (both : AreSides (node_at ns k) b o)

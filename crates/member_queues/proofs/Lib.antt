@@ -1,4 +1,5 @@
 pub mod Trees
+pub mod Walks
 pub mod Sinking
 pub mod Filling
 pub mod Entering

@@ -1,91 +1,103 @@
 -- Members that go to another owner all at once, and keep their tree.
-use Rattle.std.proofs.Common.{◌≡◌, ◌≢◌, inl, inr, ℕ, ◌+◌, ◌<◌, ◌==◌, Bool, false, List, [], ◌∷◌, length, set, map, if◌then◌else◌, Option, Some, option_map, refl, sym, ap, ◌∙◌, arith}
+use Rattle.std.proofs.Common.{◌≡◌, ◌≢◌, ◌⊎◌, inl, inr, ℕ, ◌<◌, List, [], ◌∷◌, length, set, map, Option, Some, option_map, refl, sym, ap, ◌∙◌, arith}
 use Rattle.std.specs.List.{AllByRecursion}
-use Rattle.std.proofs.lemmas.Bool.{cases_eq, eq-eqb}
+use Rattle.std.proofs.lemmas.Bool.{cases_eq}
 use Rattle.std.proofs.lemmas.List.{get_or_past, get_or-set_same, get_or-set_other, length-set, length-map}
-use Rattle.std.proofs.lemmas.List.Sums.{sum_by-cons}
-use Rattle.member_lists.proofs.Owners.{handed-from, handed-other, times-cons, times-here, times-later}
+use Rattle.member_lists.proofs.Owners.{handed-from, handed-other, times-later}
 use Rattle.member_lists.specs.Owners.{times, handed}
 use Rattle.member_queues.specs.declared.Node.{Node}
 use Rattle.member_queues.specs.Ranks.{ranked, holder, AreRankedMembers}
-use Rattle.member_queues.specs.Heap.{nil, blank, node_at, root_at, member_in, retold, HasBelow, IsHeap}
-use Rattle.member_queues.proofs.Trees.{within, is_some, ranked-nodes, member_some, some_member, none_member}
+use Rattle.member_queues.specs.Heap.{nil, node_at, root_at, member_in, walk, run_after, key_after, WalkEnds, AreRetold, HasBelow, AreInRuns, IsHeap}
+use Rattle.member_queues.proofs.Trees.{is_some, ranked-nodes, member_some, some_member, none_member, member_owner, owner_member, AreInRuns-kept}
+use Rattle.member_queues.proofs.Walks as walks
 
 -- a key with its owner told
 abbrev with_owner : ℕ → Node → Node
 with_owner to node = record node { owner = to }
 
-told-len : (to : ℕ) (ns : List Node) (keys : List ℕ) → length (retold to ns keys) ≡ length ns
-told-len to ns [] = refl
-told-len to ns (k ∷ keys) = told-len to (set ns k (with_owner to (node_at ns k))) keys ∙ length-set ns k (with_owner to (node_at ns k))
-
-told-other : (to : ℕ) (ns : List Node) (keys : List ℕ) (j : ℕ) → times j keys ≡ 0 → node_at (retold to ns keys) j ≡ node_at ns j
-told-other to ns [] j none = refl
-told-other to ns (k ∷ keys) j none = elim (cases_eq k j) [
-  | inl same ↦
-      let e : times j (j ∷ keys) ≡ 0 = rw same at none in
-      let f = times-here j keys in
-      absurd (omega (arith, e, f))
-  | inr differs ↦
-      told-other to (set ns k (with_owner to (node_at ns k))) keys j (sym (times-later k j keys differs) ∙ none)
-      ∙ get_or-set_other ns k j (with_owner to (node_at ns k)) blank (λ e. differs (sym e))
-]
-
-all_below : (m n : ℕ) (keys : List ℕ) → n ≡ m → AllByRecursion (λ k. k < m) keys → AllByRecursion (λ k. k < n) keys
-all_below m n keys e all = grind arith
-
-told-here : (to : ℕ) (ns : List Node) (keys : List ℕ) (j : ℕ) → AllByRecursion (λ k. k < length ns) keys → times j keys ≡ 1
-    → node_at (retold to ns keys) j ≡ with_owner to (node_at ns j)
-told-here to ns [] j all once = cc
-told-here to ns (k ∷ keys) j all once =
-    let ns' : List Node = set ns k (with_owner to (node_at ns k)) in
-    elim (cases_eq k j) [
-      | inl same ↦
-          let e : times j (j ∷ keys) ≡ 1 = rw same at once in
-          let f = times-here j keys in
-          let lt : j < length ns = rw same at all.0 in
-          told-other to ns' keys j (omega (arith, e, f)) ∙ ap (λ i. node_at (set ns i (with_owner to (node_at ns i))) j) same
-          ∙ get_or-set_same ns j (with_owner to (node_at ns j)) blank lt
-      | inr differs ↦
-          told-here to ns' keys j (all_below (length ns) (length ns') keys (length-set ns k (with_owner to (node_at ns k))) all.1)
-          (sym (times-later k j keys differs) ∙ once)
-          ∙ ap (with_owner to) (get_or-set_other ns k j (with_owner to (node_at ns k)) blank (λ e. differs (sym e)))
-    ]
-
--- whose member a key is, by its node
-holder_owner : (n : Node) (p : ℕ) → option_map (λ (m : ℕ × ℕ). m.0) (member_in n) ≡ Some p → (n.owner ≡ p) × (p ≢ nil)
-holder_owner n p is = grind (arith, member_some)
-
-member_owner : (ns : List Node) (k p : ℕ) → holder (map member_in ns) k ≡ Some p → (node_at ns k).owner ≡ p × (p ≢ nil)
-member_owner ns k p is = holder_owner (node_at ns k) p (sym (ap (option_map (λ (m : ℕ × ℕ). m.0)) (ranked-nodes ns k)) ∙ is)
-
-owner_member : (ns : List Node) (k p : ℕ) → (node_at ns k).owner ≡ p → p ≢ nil → holder (map member_in ns) k ≡ Some p
-owner_member ns k p mine some = ap (option_map (λ (m : ℕ × ℕ). m.0)) (ranked-nodes ns k ∙ some_member (node_at ns k) p mine some)
-
--- the keys that are given are within the nodes
-pub all_within : (ns : List Node) (from : ℕ) (keys : List ℕ) → AllByRecursion (λ k. holder (map member_in ns) k ≡ Some from) keys → AllByRecursion (λ k. k < length ns) keys
-all_within ns from [] all = tt
-all_within ns from (k ∷ keys) all = grind (arith, member_owner, within, all_within ns from keys all.1)
-
--- another's member is not among them
-none_of : (ns : List Node) (from : ℕ) (keys : List ℕ) (j : ℕ) → (node_at ns j).owner ≢ from → AllByRecursion (λ k. holder (map member_in ns) k ≡ Some from) keys → times j keys ≡ 0
-none_of ns from [] j other all = refl
-none_of ns from (k ∷ keys) j other all = grind (arith, cases_eq, member_owner, times-later, none_of ns from keys j other all.1)
-
--- each of the one's members is told the other owner
-pub record Told (ns ns' : List Node) (from to : ℕ) : Type 0 where
-  pub here : (k : ℕ) → (node_at ns k).owner ≡ from → node_at ns' k ≡ record (node_at ns k) { owner = to }
+-- how far the walk has come: who was not told is still to come
+pub record IsTelling (ns ns' : List Node) (from to run at : ℕ) : Type 0 where
+  pub here : (k : ℕ) → (node_at ns k).owner ≡ from → (node_at ns' k ≡ with_owner to (node_at ns k)) ⊎ ((node_at ns' k ≡ node_at ns k) × (times k (walk ns run at (length ns)) ≡ 1))
   pub others : (k : ℕ) → (node_at ns k).owner ≢ from → node_at ns' k ≡ node_at ns k
   pub len : length ns' ≡ length ns
+  pub ends : WalkEnds ns run at (length ns)
+  pub owned : AllByRecursion (λ k. (node_at ns k).owner ≡ from) (walk ns run at (length ns))
 
-pub Told-all : (ns : List Node) (from to : ℕ) (keys : List ℕ) → from ≢ nil → AreRankedMembers (map member_in ns) from keys → Told ns (retold to ns keys) from to
-Told-all ns from to keys some all = record {
-  here = λ k mine. told-here to ns keys k (all_within ns from keys all.owned) (all.once k (owner_member ns k from mine some));
-  others = λ k other. told-other to ns keys k (none_of ns from keys k other all.owned);
-  len = told-len to ns keys;
+pub begins : (ns : List Node) (from to first : ℕ) → from ≢ nil → WalkEnds ns first first (length ns) → AreRankedMembers (map member_in ns) from (walk ns first first (length ns)) → IsTelling ns ns from to first first
+begins ns from to first some ends all = record {
+  here = λ k mine. inr (refl, all.once k (owner_member ns k from mine some));
+  others = λ k other. refl;
+  len = refl;
+  ends = ends;
+  owned = owners (walk ns first first (length ns)) all.owned;
 }
+  where
+    owners : (keys : List ℕ) → AllByRecursion (λ k. holder (map member_in ns) k ≡ Some from) keys → AllByRecursion (λ k. (node_at ns k).owner ≡ from) keys
+    owners [] all = tt
+    owners (k ∷ keys) all = ((member_owner ns k from all.0).0, owners keys all.1)
 
-module _ (rs : List ℕ) (ns ns' : List Node) (from to : ℕ) (w : IsHeap rs ns nil) (differ : from ≢ to) (room_from : from < length rs) (room_to : to < length rs) (t : Told ns ns' from to)
+module _ (ns ns' : List Node) (from to run at : ℕ) (w : IsTelling ns ns' from to run at) (some : at ≢ nil) where
+  step : walks.Step ns run at (length ns)
+  step = walks.step ns run at (length ns) w.ends some
+
+  pub at_within : at < length ns'
+  at_within = let lt = step.inside in omega (arith, lt, w.len)
+
+  at_owned : ((node_at ns at).owner ≡ from) × AllByRecursion (λ k. (node_at ns k).owner ≡ from) (walk ns (run_after ns run at) (key_after ns run at) (length ns))
+  at_owned = rw step.rest at w.owned
+
+  -- what leads on is as it was
+  sides : (k : ℕ) → ((node_at ns' k).next ≡ (node_at ns k).next) × ((node_at ns' k).beside ≡ (node_at ns k).beside)
+  sides k = grind (arith, cases_eq)
+
+  abbrev told : List Node
+  told = set ns' at (with_owner to (node_at ns' at))
+
+  sides_told : (k : ℕ) → ((node_at told k).next ≡ (node_at ns k).next) × ((node_at told k).beside ≡ (node_at ns k).beside)
+  sides_told k = grind (arith, cases_eq, sides, get_or-set_same, get_or-set_other, at_within)
+
+  runs_on : run_after told run at ≡ run_after ns run at
+  runs_on = grind (arith, sides_told)
+
+  keys_on : key_after told run at ≡ key_after ns run at
+  keys_on = grind (arith, sides_told)
+
+  IsTelling-told : IsTelling ns told from to (run_after ns run at) (key_after ns run at)
+  IsTelling-told = record {
+    here = λ k mine. elim (cases_eq k at) [
+      | inl same ↦ grind (arith, get_or-set_same, at_within, at_owned)
+      | inr differs ↦ grind (arith, get_or-set_other, step, times-later)
+    ];
+    others = λ k other. grind (arith, get_or-set_other, at_owned);
+    len = length-set ns' at (with_owner to (node_at ns' at)) ∙ w.len;
+    ends = step.ends;
+    owned = at_owned.1;
+  }
+
+  -- what the code read and wrote
+  module _ (z : Node) (l : List Node) (run' at' : ℕ) (is : z ≡ node_at ns' at) (written : l ≡ set ns' at (with_owner to z))
+      (on_run : run' ≡ run_after l run at) (on_key : at' ≡ key_after l run at) where
+    l_told : l ≡ told
+    l_told = written ∙ ap (λ n. set ns' at (with_owner to n)) is
+
+    run_is : run' ≡ run_after ns run at
+    run_is = on_run ∙ ap (λ m. run_after m run at) l_told ∙ runs_on
+
+    key_is : at' ≡ key_after ns run at
+    key_is = on_key ∙ ap (λ m. key_after m run at) l_told ∙ keys_on
+
+    pub turn : IsTelling ns (set ns' at (with_owner to z)) from to run' at'
+    turn = rw (is, run_is, key_is) IsTelling-told
+
+    -- fewer are to come
+    pub fewer_read : length (walk ns run' at' (length ns)) < length (walk ns run at (length ns))
+    fewer_read = rw (run_is, key_is) (let e = ap length step.rest in omega (arith, e))
+
+-- at the end all were told
+pub all_told : (ns ns' : List Node) (from to run at : ℕ) → IsTelling ns ns' from to run at → at ≡ nil → AreRetold ns ns' from to
+all_told ns ns' from to run at w none = grind (arith, walks.over)
+
+module _ (rs : List ℕ) (ns ns' : List Node) (from to : ℕ) (w : IsHeap rs ns nil) (differ : from ≢ to) (room_from : from < length rs) (room_to : to < length rs) (t : AreRetold ns ns' from to)
     (apart : (j k r : ℕ) → ranked (map member_in ns) j ≡ Some (from, r) → ranked (map member_in ns) k ≢ Some (to, r)) where
   from_some : from ≢ nil
   from_some = omega (arith, room_from, w.ranked.few, w.ranked.rooms)
@@ -178,9 +190,12 @@ module _ (rs : List ℕ) (ns ns' : List Node) (from to : ℕ) (w : IsHeap rs ns 
   apart_told : (j : ℕ) → (node_at ns' j).owner ≢ nil → (node_at ns' j).next ≢ nil → (node_at ns' j).next ≢ (node_at ns' j).beside
   apart_told j owned some e = w.tree.apart j (was j owned) (λ z. some (nexts j ∙ z)) (sym (nexts j) ∙ e ∙ besides j)
 
+  runs_told : AreInRuns ns'
+  runs_told = AreInRuns-kept ns ns' w.runs was nexts besides
+
   -- the one has no members, and its tree is held
   pub IsHeap-told : IsHeap (set rs from nil) ns' (root_at rs from)
-  IsHeap-told = grind (arith, length-set, ranks, known_told, distinct_told, above_told, was_away, tops_told, down_told, apart_told)
+  IsHeap-told = grind (arith, length-set, ranks, known_told, distinct_told, above_told, was_away, tops_told, down_told, apart_told, runs_told)
 
   pub top-told : root_at rs from ≢ nil → (node_at ns' (root_at rs from)).owner ≡ to
   top-told some = own_from (root_at rs from) (first some)

@@ -1,5 +1,5 @@
 -- For each owner a tree of its members, in which each key's rank is above that of the key over it.
-use Rattle.std.specs.Prelude.{◌≡◌, ◌≢◌, ◌⊎◌, ℕ, ◌<◌, ◌≤◌, ◌==◌, List, [], ◌∷◌, length, map, Option, Some, None, if◌then◌else◌, slice_index_or, slice_set}
+use Rattle.std.specs.Prelude.{◌≡◌, ◌≢◌, ◌⊎◌, ℕ, zero, suc, ◌<◌, ◌≤◌, ◌==◌, List, [], ◌∷◌, length, map, Option, Some, None, if◌then◌else◌, slice_index_or}
 pub use Rattle.member_lists.specs.Links.{nil}
 use Rattle.member_queues.specs.declared.Forest.{Forest}
 use Rattle.member_queues.specs.declared.Node.{Node}
@@ -32,10 +32,30 @@ abbrev pub with_side : Side → ℕ → Node → Node
 with_side Next k node = record node { next = k }
 with_side Beside k node = record node { beside = k }
 
--- the nodes after keys were told another owner, one after the other
-abbrev pub retold : ℕ → List Node → List ℕ → List Node
-retold to nodes [] = nodes
-retold to nodes (k ∷ keys) = retold to (slice_set nodes k (record (node_at nodes k) { owner = to })) keys
+-- of a walk in a run, the run that it is in behind a key: at the run's end the one beside
+abbrev pub run_after : List Node → ℕ → ℕ → ℕ
+run_after nodes run k = if (node_at nodes k).next == 4294967295 then (node_at nodes run).beside else run
+
+-- and the key that it meets there
+abbrev pub key_after : List Node → ℕ → ℕ → ℕ
+key_after nodes run k = if (node_at nodes k).next == 4294967295 then (node_at nodes run).beside else (node_at nodes k).next
+
+-- the keys of a run from one on, and those of the runs beside, as far as a number of them
+abbrev pub walk : List Node → ℕ → ℕ → ℕ → List ℕ
+walk nodes run k zero = []
+walk nodes run k (suc n) = if k == 4294967295 then [] else k ∷ walk nodes (run_after nodes run k) (key_after nodes run k) n
+
+-- from a key on the walk meets no more keys than that
+abbrev pub WalkEnds : List Node → ℕ → ℕ → ℕ → Type 0
+WalkEnds nodes run k zero = k ≡ nil
+WalkEnds nodes run k (suc n) = k ≢ nil
+    → (k < length nodes) × (run < length nodes) × WalkEnds nodes (run_after nodes run k) (key_after nodes run k) n
+
+-- the members of one owner are told another, and nothing else changes
+pub record AreRetold (nodes nodes' : List Node) (from to : ℕ) : Type 0 where
+  pub here : (k : ℕ) → (node_at nodes k).owner ≡ from → node_at nodes' k ≡ record (node_at nodes k) { owner = to }
+  pub others : (k : ℕ) → (node_at nodes k).owner ≢ from → node_at nodes' k ≡ node_at nodes k
+  pub len : length nodes' ≡ length nodes
 
 -- one key is on a side of another
 abbrev pub HasBelow : List Node → ℕ → ℕ → Type 0
@@ -65,9 +85,15 @@ pub record IsHeapTree (roots : List ℕ) (nodes : List Node) (held : ℕ) : Type
       × (root_at roots (node_at nodes k).owner ≢ k)
   pub apart : (j : ℕ) → (node_at nodes j).owner ≢ nil → (node_at nodes j).next ≢ nil → (node_at nodes j).next ≢ (node_at nodes j).beside
 
+-- a run is beside the first of a run alone: who is the next of another has none beside it
+unfoldable pub AreInRuns : List Node → Type 0
+AreInRuns nodes = (j : ℕ) → (node_at nodes j).owner ≢ nil → (node_at nodes j).next ≢ nil
+    → (node_at nodes (node_at nodes j).next).beside ≡ nil
+
 pub record IsHeap (roots : List ℕ) (nodes : List Node) (held : ℕ) : Type 0 where
   pub ranked : AreRanked roots nodes
   pub tree : IsHeapTree roots nodes held
+  pub runs : AreInRuns nodes
 
 -- no key is held, and all is as it should be
 abbrev pub IsWholeForest : Forest → Type 0
@@ -80,9 +106,19 @@ pub record Keeps (old new : Forest) (held : ℕ) : Type 0 where
   pub len : length new.nodes.items ≡ length old.nodes.items
   pub rooms : length new.roots.items ≡ length old.roots.items
 
+-- a key that begins a run: no other has it as its next
+abbrev pub BeginsRun : List Node → ℕ → Type 0
+BeginsRun nodes k = (j : ℕ) → (node_at nodes j).owner ≢ nil → (node_at nodes j).next ≢ k
+
+-- what may be put on a side: a key that has no run beside it behind another, and any one beside the first of a run
+unfoldable pub FitsOn : Side → List Node → ℕ → ℕ → Type 0
+FitsOn Next nodes at held = (node_at nodes held).beside ≡ nil
+FitsOn Beside nodes at held = BeginsRun nodes at
+
 -- the held key, if there is one, belongs somewhere below another
-pub record IsSinking (roots : List ℕ) (nodes : List Node) (at held : ℕ) : Type 0 where
+pub record IsSinking (side : Side) (roots : List ℕ) (nodes : List Node) (at held : ℕ) : Type 0 where
   pub heap : IsHeap roots nodes held
   pub owned : held ≢ nil → (node_at nodes at).owner ≢ nil
   pub same : held ≢ nil → (node_at nodes held).owner ≡ (node_at nodes at).owner
   pub lower : held ≢ nil → (node_at nodes at).rank < (node_at nodes held).rank
+  pub fits : held ≢ nil → FitsOn side nodes at held

@@ -2,21 +2,25 @@
 //!
 //! The members of an owner are a few sorted runs. Each key knows the next of its run, and the first of a run knows
 //! the first of the run beside it, which ranks above it. So each key ranks above the key that leads to it, and the
-//! first of all is the least. Two runs of one level become one of the next level, as in a binary counter. So members
-//! that came in any order are in at most a logarithm of their number of runs, and up to 32 runs more may have been
-//! handed on. No call but `grow` takes memory. Keys and owners are numbers below 2^30.
+//! first of all is the least. A walk over the members goes along a run, and at its end to the one beside. Two runs of
+//! one level become one of the next level, as in a binary counter. So members that came in any order are in at most a
+//! logarithm of their number of runs, and up to 32 runs more may have been handed on.
+//!
+//! No call but `grow` takes memory. Keys and owners are numbers below 2^30.
 #![tactic(auto)]
 
 ghost use Rattle.std.specs.Prelude.{◌≡◌, ◌≢◌, ◌⊎◌, ℕ, ◌+◌, ◌<◌, ◌≤◌, ◌^◌, length, map, Some, None, MatchOption, OnOk};
 ghost use Rattle.std.specs.Prelude.{OnErr, [], ◌++◌, replicate, IsSome, IsTrue, ◌↔◌, slice_set, option_map};
-ghost use Rattle.std.specs.List.{AllByRecursion};
 ghost use Rattle.{
   member_lists.specs.Owners.{handed},
-  member_queues.specs.{Ranks.{ranked, IsLeast, AreRankedMembers}, Heap.{nil, node_at, root_at, member_in, retold}},
-  member_queues.specs.Heap.{key_on, with_side, AreSides, IsHeap, IsSinking, Keeps, IsWholeForest},
+  member_queues.specs.{Ranks.{ranked, IsLeast, AreRankedMembers}, Heap.{nil, node_at, root_at, member_in}},
+  member_queues.specs.Heap.{key_on, with_side, AreSides, AreRetold, IsHeap, IsSinking, Keeps, IsWholeForest},
 };
 
-use member_lists::Members;
+mod members;
+
+pub use members::RankedMembers;
+use members::after;
 use std::alloc::{AllocError, Global};
 use std::marker::Model;
 
@@ -144,10 +148,10 @@ fn rank_of(nodes: &[Node], key: u32) -> u32
 /// Joins a tree below a key one step further. It answers the next key, and what is to go below it with its rank.
 #[inline(always)]
 fn step(forest: &mut Forest, side: Side, at: u32, held: u32, rank: u32) -> (u32, u32, u32)
-    requires sinking { IsSinking forest.old.roots.items forest.old.nodes.items at held }
+    requires sinking { IsSinking side forest.old.roots.items forest.old.nodes.items at held }
     requires some { held ≢ nil }
     requires rank { rank ≡ (node_at forest.old.nodes.items held).rank }
-    ensures sinking { IsSinking forest.new.roots.items forest.new.nodes.items result.0 result.1 }
+    ensures sinking { IsSinking side forest.new.roots.items forest.new.nodes.items result.0 result.1 }
     ensures on { (node_at forest.old.nodes.items at).rank < (node_at forest.new.nodes.items result.0).rank }
     ensures rank { result.1 ≢ nil → result.2 ≡ (node_at forest.new.nodes.items result.1).rank }
     ensures members { map member_in forest.new.nodes.items ≡ map member_in forest.old.nodes.items }
@@ -169,7 +173,7 @@ fn step(forest: &mut Forest, side: Side, at: u32, held: u32, rank: u32) -> (u32,
 /// of that, and so on, becomes one sequence in the order of the ranks.
 #[inline(always)]
 fn sink(forest: &mut Forest, side: Side, mut at: u32, mut held: u32)
-    requires { IsSinking forest.old.roots.items forest.old.nodes.items at held }
+    requires { IsSinking side forest.old.roots.items forest.old.nodes.items at held }
     ensures { Keeps forest.old forest.new nil }
 {
     let mut rank = rank_of(forest.nodes.as_slice(), held);
@@ -260,7 +264,8 @@ fn fill(forest: &mut Forest, key: u32, by: u32, other: u32)
 fn cut(forest: &mut Forest, key: u32)
     requires heap { IsWholeForest forest.old }
     requires owned { (node_at forest.old.nodes.items key).owner ≢ nil }
-    ensures { Keeps forest.old forest.new key }
+    ensures kept { Keeps forest.old forest.new key }
+    ensures alone { (node_at forest.new.nodes.items key).beside ≡ nil }
 {
     let Node {
         owner,
@@ -413,6 +418,7 @@ fn add(forest: &mut Forest, owner: u32, key: u32)
     requires heap { IsHeap forest.old.roots.items forest.old.nodes.items key }
     requires owner { owner < length forest.old.roots.items }
     requires mine { (node_at forest.old.nodes.items key).owner ≡ owner }
+    requires alone { (node_at forest.old.nodes.items key).beside ≡ nil }
     requires some { root_at forest.old.roots.items owner ≢ nil }
     ensures { Keeps forest.old forest.new nil }
 {
@@ -454,24 +460,28 @@ fn enter(forest: &mut Forest, key: u32, owner: u32, rank: u32)
     }
 }
 
-/// Tells keys another owner, one after the other.
-fn tell_owner(nodes: &mut Vec<Node>, keys: Members<'_>, owner: u32)
-    requires { AllByRecursion (λ k. k < length nodes.old.items) keys }
-    ensures { nodes.new.items ≡ retold owner nodes.old.items keys.entry }
+/// Tells the members of one owner another owner.
+fn tell_owner(forest: &mut Forest, from: u32, to: u32)
+    requires heap { IsWholeForest forest.old }
+    requires from { from < length forest.old.roots.items }
+    ensures told { AreRetold forest.old.nodes.items forest.new.nodes.items from to }
+    ensures roots { forest.new.roots.items ≡ forest.old.roots.items }
 {
-    for key in keys {
-        nodes[key as usize].owner = owner;
+    let mut run = forest.roots[from as usize];
+    let mut at = run;
+    while at != NIL {
+        forest.nodes[at as usize].owner = to;
+        (run, at) = after(forest.nodes.as_slice(), run, at);
     }
 }
 
 /// Takes the runs of one owner out, as runs of the other's that are to be joined with its own. It answers the first
 /// of them all, if there is one.
-fn detach(forest: &mut Forest, from: u32, to: u32, members: Members<'_>) -> u32
+fn detach(forest: &mut Forest, from: u32, to: u32) -> u32
     requires heap { IsWholeForest forest.old }
     requires differ { from ≢ to }
     requires from { from < length forest.old.roots.items }
     requires to { to < length forest.old.roots.items }
-    requires all { AreRankedMembers (map member_in forest.old.nodes.items) from members }
     requires apart { (j k r : ℕ) → ranked (map member_in forest.old.nodes.items) j ≡ Some (from, r)
         → ranked (map member_in forest.old.nodes.items) k ≢ Some (to, r) }
     ensures heap { IsHeap forest.new.roots.items forest.new.nodes.items result }
@@ -482,7 +492,7 @@ fn detach(forest: &mut Forest, from: u32, to: u32, members: Members<'_>) -> u32
     ensures rooms { length forest.new.roots.items ≡ length forest.old.roots.items }
 {
     let root = forest.roots[from as usize];
-    tell_owner(&mut forest.nodes, members, to);
+    tell_owner(forest, from, to);
     forest.roots[from as usize] = NIL;
     root
 }
@@ -547,6 +557,15 @@ impl MemberQueues {
         if root == NIL { None } else { Some(root) }
     }
 
+    /// The members of an owner, one after the other, each once: run after run, from the one of least rank on.
+    pub fn members(&self, owner: u32) -> RankedMembers<'_>
+        requires { owner < length self.now }
+        ensures { AreRankedMembers self.now owner result }
+    {
+        let first = self.forest.roots[owner as usize];
+        RankedMembers::from(self.forest.nodes.as_slice(), first)
+    }
+
     /// Makes a key that has no owner a member of this one, with a rank that no other member has.
     ///
     /// Where it ranks above the one that came before it and that one ends a run, it goes behind that one: so members
@@ -563,23 +582,21 @@ impl MemberQueues {
         enter(&mut self.forest, key, owner, rank);
     }
 
-    /// All members of the one owner become the other's, with their ranks. They are given one after the other, each
-    /// once.
+    /// All members of the one owner become the other's, with their ranks.
     ///
     /// It costs one read and one write for each of them, and then a read for each run of the two, which are put in
     /// order. Where there are more than 32, those of one level become one: a logarithm of the members, taken over many
     /// calls.
-    pub fn move_all(&mut self, from: u32, to: u32, members: Members<'_>)
+    pub fn move_all(&mut self, from: u32, to: u32)
         requires differ { from ≢ to }
         requires from { from < length self.old }
         requires to { to < length self.old }
-        requires all { AreRankedMembers self.old from members }
         requires apart { (j k r : ℕ) → ranked self.old j ≡ Some (from, r) → ranked self.old k ≢ Some (to, r) }
         ensures members { (k : ℕ) → ranked self.new k
             ≡ option_map (λ (m : ℕ × ℕ). (handed from to m.0, m.1)) (ranked self.old k) }
         ensures keys { length self.new ≡ length self.old }
     {
-        let held = detach(&mut self.forest, from, to, members);
+        let held = detach(&mut self.forest, from, to);
         meld(&mut self.forest, to, held);
         if held != NIL && is_long(&self.forest, to) {
             settle_all(&mut self.forest, to);

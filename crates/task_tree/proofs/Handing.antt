@@ -1,15 +1,13 @@
 -- All children of one task go to another.
-use Rattle.std.proofs.Common.{◌≡◌, ◌≢◌, ◌⊎◌, inl, inr, ℕ, ◌<◌, ◌==◌, Bool, true, false, List, [], ◌∷◌, length, Option, Some, None, option_map, refl, sym, ap, ◌∙◌, arith}
-use Rattle.std.specs.List.{AllByRecursion}
+use Rattle.std.proofs.Common.{◌≡◌, ◌≢◌, ◌⊎◌, inl, inr, ℕ, ◌<◌, Bool, true, false, List, length, Option, Some, None, option_map, refl, sym, ap, ◌∙◌, arith}
 use Rattle.std.specs.Option.{option_map_or}
 use Rattle.std.specs.Prelude.{slice_index_or, if◌then◌else◌}
-use Rattle.std.proofs.lemmas.Bool.{eq-eqb, cases_eq}
+use Rattle.std.proofs.lemmas.Bool.{cases_eq}
 use Rattle.member_lists.proofs.Owners.{handed-from, handed-other}
-use Rattle.member_lists.specs.Owners.{owner_of, AreMembers}
-use Rattle.member_queues.specs.Ranks.{ranked, holder, AreRankedMembers}
+use Rattle.member_lists.specs.Owners.{owner_of}
+use Rattle.member_queues.specs.Ranks.{ranked}
 use Rattle.task_tree.specs.declared.Task.{Task}
 use Rattle.task_tree.specs.Tree.{IsTaskTree, is_zombie, waits_for, handed}
-use Rattle.task_tree.specs.Ended.{AreQueued}
 use Rattle.task_tree.proofs.Changes.{of_parent}
 
 -- the rank among the children of the one or of the other
@@ -51,23 +49,6 @@ module _ (from to : ℕ) (es : List (Option (ℕ × ℕ)))
 through : (from to : ℕ) (o : Option (ℕ × ℕ)) → option_map of_parent (option_map (rank_handed from to) o) ≡ option_map (handed from to) (option_map of_parent o)
 through from to None = refl
 through from to (Some m) = refl
-
--- the ended children that a list has are those whom the queue has
-pub AreRankedMembers-listed : (es : List (Option (ℕ × ℕ))) (lists : List (Option ℕ)) (parent : ℕ) (keys : List ℕ) → AreQueued es lists → AreMembers lists parent keys → AreRankedMembers es parent keys
-AreRankedMembers-listed es lists parent keys l m = record { once = λ k mine. m.once k (l.same k ∙ mine); owned = all keys m.owned }
-  where
-    all : (keys : List ℕ) → AllByRecursion (λ k. owner_of lists k ≡ Some parent) keys → AllByRecursion (λ k. holder es k ≡ Some parent) keys
-    all [] owned = tt
-    all (k ∷ keys) owned = (sym (l.same k) ∙ owned.0, all keys owned.1)
-
--- lists and queue agree once all have gone in both
-pub AreListed-handed : (es es' : List (Option (ℕ × ℕ))) (lists lists' : List (Option ℕ)) (from to : ℕ) → AreQueued es lists
-    → ((k : ℕ) → ranked es' k ≡ option_map (rank_handed from to) (ranked es k)) → ((k : ℕ) → owner_of lists' k ≡ option_map (handed from to) (owner_of lists k))
-    → length es' ≡ length es → length lists' ≡ length lists → AreQueued es' lists'
-AreListed-handed es es' lists lists' from to l ranks owners keys rooms = record {
-  rooms = let r = l.rooms in omega (arith, keys, rooms, r);
-  same = λ k. owners k ∙ ap (option_map (handed from to)) (l.same k) ∙ sym (ap (option_map of_parent) (ranks k) ∙ through from to (ranked es k));
-}
 
 module _ (tasks : List (Option Task)) (ps : List (Option ℕ)) (es : List (Option (ℕ × ℕ))) (t : IsTaskTree tasks ps es) (from to : ℕ) (below : to < length tasks)
     (apart : (j k r : ℕ) → ranked es j ≡ Some (from, r) → ranked es k ≢ Some (to, r)) where

@@ -1,4 +1,3 @@
 pub mod Tree
 pub mod Waiting
-pub mod Ended
 pub mod Places

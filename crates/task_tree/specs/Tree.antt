@@ -1,5 +1,5 @@
 -- What a contract sees of `TaskTree`: by key the tasks, their parents, and the ranks of those that have ended.
-use Rattle.std.specs.Prelude.{◌≡◌, ℕ, ◌<◌, ◌≤◌, ◌==◌, Bool, true, false, not, List, length, Option, Some, None, option_map, if◌then◌else◌, slice_index_or}
+use Rattle.std.specs.Prelude.{◌≡◌, ℕ, ◌<◌, ◌≤◌, Bool, true, false, not, List, length, Option, Some, None, option_map, if◌then◌else◌, slice_index_or}
 use Rattle.std.specs.Option.{option_map_or}
 use Rattle.member_lists.specs.Owners.{owner_of}
 pub use Rattle.member_lists.specs.Owners.{handed}

@@ -1,7 +1,7 @@
 //! Tasks, their parents, and the children that have ended and wait to be reaped.
 //!
 //! Tasks stand at keys, numbers below 2^30 that the caller picks. Each task has its children in a list and
-//! those of them that have ended in a list and in a queue by rank, so that the one that `waitpid(2)` reaps is found by
+//! those of them that have ended in a queue by rank, so that the one that `waitpid(2)` reaps is found by
 //! one read and no live child is touched. Each call but `grow` takes no memory.
 //!
 //! A task may be removed while it has children; they keep its key as their parent's.
@@ -12,20 +12,18 @@ ghost use Rattle.std.specs.Prelude.{IsSome, MatchOption, OnOk, OnErr, ◌++◌, 
 ghost use Rattle.{
   pid_types.specs.declared.plain.Life.{Life},
   member_lists.specs.Owners.{AreMembers},
-  member_queues.specs.Ranks.{IsLeast},
-  task_tree.specs.Ended.{AreEnded},
+  member_queues.specs.Ranks.{IsLeast, AreRankedMembers},
   task_tree.specs.Tree.{task_at, parent_of, rank_of, lives, is_zombie, is_subreaper, waits_for, handed},
 };
 
 mod cells;
-mod ended;
 mod links;
 mod places;
 
 use cells::Cells;
-use ended::EndedChildren;
 use links::{enter_ended, forget_ended, hand_all, leave_parent, room_for_parents, room_for_ranks};
 use member_lists::{MemberLists, Members};
+use member_queues::{MemberQueues, RankedMembers};
 use pid_types::keys::{ControlKey, Pid, TaskKey};
 use pid_types::plain::{Ended, Life};
 use std::alloc::{AllocError, Global};
@@ -47,11 +45,11 @@ pub struct Task {
 
 /// Tasks by key, in a tree.
 ///
-/// It takes some 80 bytes for each key.
+/// It takes some 60 bytes for each key.
 pub struct TaskTree {
     tasks: Cells,
     children: MemberLists,
-    ended: EndedChildren,
+    ended: MemberQueues,
 }
 
 // Written out, and not derived: so the crates above cite this drop, and do not prove it anew.
@@ -83,7 +81,7 @@ impl TaskTree {
         TaskTree {
             tasks: Cells::new(alloc),
             children: MemberLists::new(alloc),
-            ended: EndedChildren::new(alloc),
+            ended: MemberQueues::new(alloc),
         }
     }
 
@@ -151,11 +149,11 @@ impl TaskTree {
     }
 
     /// The children of the task that have ended, one after the other, each once.
-    pub fn ended_children(&self, parent: TaskKey) -> Members<'_>
+    pub fn ended_children(&self, parent: TaskKey) -> RankedMembers<'_>
         requires { parent < length self.now.tasks }
-        ensures { AreEnded self.now.ended parent result }
+        ensures { AreRankedMembers self.now.ended parent result }
     {
-        self.ended.children(parent)
+        self.ended.members(parent)
     }
 
     /// Of the children of the task that have ended, the one with the least rank: whom a wait for any child

@@ -7,8 +7,8 @@ ghost use Rattle.{
   task_tree.specs.{Tree.{handed}, Waiting.{IsWaiting}},
 };
 
-use crate::ended::EndedChildren;
 use member_lists::MemberLists;
+use member_queues::MemberQueues;
 use pid_types::keys::{Pid, TaskKey};
 use std::alloc::AllocError;
 
@@ -26,7 +26,7 @@ pub(crate) fn room_for_parents(children: &mut MemberLists, keys: usize) -> Resul
 }
 
 /// Makes room for so many keys among the ranks, where there is none yet.
-pub(crate) fn room_for_ranks(ended: &mut EndedChildren, keys: usize) -> Result<(), AllocError>
+pub(crate) fn room_for_ranks(ended: &mut MemberQueues, keys: usize) -> Result<(), AllocError>
     requires { keys ≤ 2 ^ 30 }
     ensures ok { OnOk result (keys ≤ length ended.new) }
     ensures more { length ended.old ≤ length ended.new }
@@ -40,12 +40,7 @@ pub(crate) fn room_for_ranks(ended: &mut EndedChildren, keys: usize) -> Result<(
 
 /// The key enters its parent's ended children, if it has a parent.
 #[inline(always)]
-pub(crate) fn enter_ended(
-    ended: &mut EndedChildren,
-    children: &MemberLists,
-    key: TaskKey,
-    rank: Pid,
-)
+pub(crate) fn enter_ended(ended: &mut MemberQueues, children: &MemberLists, key: TaskKey, rank: Pid)
     requires key { key < length ended.old }
     requires parents { key < length children.now }
     requires free { ranked ended.old key ≡ None }
@@ -62,7 +57,7 @@ pub(crate) fn enter_ended(
 
 /// The key leaves the ended children that it is among.
 #[inline(always)]
-pub(crate) fn forget_ended(ended: &mut EndedChildren, key: TaskKey)
+pub(crate) fn forget_ended(ended: &mut MemberQueues, key: TaskKey)
     requires { key < length ended.old }
     ensures here { ranked ended.new key ≡ None }
     ensures others { (k : ℕ) → k ≢ key → ranked ended.new k ≡ ranked ended.old k }
@@ -87,7 +82,7 @@ pub(crate) fn leave_parent(children: &mut MemberLists, key: TaskKey)
 }
 
 /// All ended children of the one become the other's. A task past the room for ranks has none.
-fn hand_ended(ended: &mut EndedChildren, from: TaskKey, to: TaskKey)
+fn hand_ended(ended: &mut MemberQueues, from: TaskKey, to: TaskKey)
     requires differ { from ≢ to }
     requires to { to < length ended.old }
     requires apart { (j k r : ℕ) → ranked ended.old j ≡ Some (from, r) → ranked ended.old k ≢ Some (to, r) }
@@ -105,7 +100,7 @@ fn hand_ended(ended: &mut EndedChildren, from: TaskKey, to: TaskKey)
 #[inline(never)]
 pub(crate) fn hand_all(
     children: &mut MemberLists,
-    ended: &mut EndedChildren,
+    ended: &mut MemberQueues,
     from: TaskKey,
     to: TaskKey,
 )

@@ -8,7 +8,7 @@ use Rattle.member_lists.specs.Owners.{times}
 use Rattle.std.specs.List.{AllByRecursion}
 use Rattle.pid_types.proofs.General.{both, some_number}
 use Rattle.task_table.specs.Store.{Store}
-use Rattle.task_tree.specs.Ended.{waiting_at}
+use Rattle.member_queues.specs.Ranks.{holder}
 use Rattle.task_tree.specs.Tree.{task_at, parent_of, rank_of, is_zombie, waits_for}
 use Rattle.groups_sessions.specs.Membership.{group_of}
 use Rattle.wait_calls.specs.declared.selection.Selected.TheVariants.{Group}
@@ -125,7 +125,7 @@ module _ (s : Store) (caller group : ℕ) where
       go true = λ e. (cc)
       go false = λ e. (cc)
 
-  never_looked : (choice : Choice) (k : ℕ) → waiting_at s.tree.ended k ≡ Some caller → choice ≢ NoneEnded → looked_at s caller group choice k ≢ NoneEnded
+  never_looked : (choice : Choice) (k : ℕ) → holder s.tree.ended k ≡ Some caller → choice ≢ NoneEnded → looked_at s caller group choice k ≢ NoneEnded
   never_looked choice k waits off = go (is_group_match s caller group k) (rank_of s.tree k) refl waits
     where
       go : (b : Bool) (o : Option (ℕ × ℕ)) → rank_of s.tree k ≡ o → option_map (λ (m : ℕ × ℕ). m.0) o ≡ Some caller
@@ -134,7 +134,7 @@ module _ (s : Store) (caller group : ℕ) where
       go true None at w = absurd (cc)
       go true (Some m) at w = λ e. never_counted choice k m.1 off (sym (ap (choice_with choice k) (ap (option_map (λ (m : ℕ × ℕ). m.1)) at)) ∙ e)
 
-  never : (keys : List ℕ) (choice : Choice) → AllByRecursion (λ k. waiting_at s.tree.ended k ≡ Some caller) keys → choice ≢ NoneEnded → walked s caller group choice keys ≢ NoneEnded
+  never : (keys : List ℕ) (choice : Choice) → AllByRecursion (λ k. holder s.tree.ended k ≡ Some caller) keys → choice ≢ NoneEnded → walked s caller group choice keys ≢ NoneEnded
   never [] choice all off = off
   never (k ∷ keys) choice all off = never keys (looked_at s caller group choice k) all.1 (never_looked choice k all.0 off)
 
@@ -164,7 +164,7 @@ module _ (s : Store) (caller group : ℕ) where
             (e, rw (at, owner, rank) refl)
 
     -- a list of all ended children leads to the choice among those that have ended
-    pub chosen-ended : (keys : List ℕ) → ((k : ℕ) → waiting_at s.tree.ended k ≡ Some caller → times k keys ≡ 1) → AllByRecursion (λ k. waiting_at s.tree.ended k ≡ Some caller) keys
+    pub chosen-ended : (keys : List ℕ) → ((k : ℕ) → holder s.tree.ended k ≡ Some caller → times k keys ≡ 1) → AllByRecursion (λ k. holder s.tree.ended k ≡ Some caller) keys
         → IsEndedChoice s caller group (walked s caller group NoChild keys)
     chosen-ended keys once owned = go (walked s caller group NoChild keys) (names_walked keys NoChild tt) covered (never keys NoChild owned (λ e. (cc)))
       where

@@ -16,8 +16,8 @@ set_above-requires c some =
     let len = c.set_child.ensures.len in
     omega (arith, lt, len)
 
-pub returns : goal.returns
-returns c =
+pub returns-clause-kept : goal.returns-clause-kept
+returns-clause-kept c =
     let rs : List ℕ = c.args.forest.now.roots.items in
     let rs' : List ℕ = c.set_child.new.forest.roots.items in
     let ns : List Node = c.args.forest.now.nodes.items in
@@ -42,7 +42,7 @@ returns c =
           (ap (λ (n : Node). n.owner) t.1 ∙ ap (λ (n : Node). n.owner) ez ∙ t.2)
           (λ m some below. elim below [ inl e ↦ sym e ∙ next | inr e ↦ absurd (some (sym e ∙ beside)) ])
           (λ _. inl next)
-          (λ some e. some (e ∙ beside));
+          (λ some e. some (e ∙ beside)) refl;
       members = grind (arith, trees.within, map-set_same, trees.node_is);
       len = grind (arith, length-set);
       rooms = s.rooms;

@@ -6,7 +6,7 @@ pub cut-requires-clause-owned : goal.cut-requires-clause-owned
 cut-requires-clause-owned c z = c.requires.owned (sym c.requires.same ∙ z)
 
 pub sink-requires : goal.sink-requires
-sink-requires c = grind (arith, trees.same_member)
+sink-requires c = grind (arith, trees.same_member, trees.fits_behind)
 
 pub set_level-requires-clause-at : goal.set_level-requires-clause-at
 set_level-requires-clause-at c given = grind (arith, trees.within)

@@ -17,6 +17,13 @@ is_before-requires-clause-b c =
     rw c.as_slice.ensures.value (melding.held_within c.args.forest.now.roots.items c.args.forest.now.nodes.items c.args.owner c.args.held c.index-root.result.now
     c.requires.heap c.requires.owner c.requires.top (root_is c))
 
+pub sink-requires : goal.sink-requires
+sink-requires c =
+    let lower = rw c.as_slice.ensures.value at (c.is_before.ensures.0 c.if-is_before.true) in
+    melding.sinks_beside_root c.args.forest.now.roots.items c.args.forest.now.nodes.items c.args.owner c.args.held c.index-root.result.now
+    c.requires.heap c.requires.owner c.requires.top (trees.root_is c.args.forest.now.roots.items c.args.owner c.index-root.result.now c.requires.owner c.index-root.ensures)
+    lower.0 lower.1
+
 pub sink-requires-then-held-ne-NIL : goal.sink-requires-then-held-ne-NIL
 sink-requires-then-held-ne-NIL c =
     melding.sinks_as_root c.args.forest.now.roots.items c.args.forest.now.nodes.items c.args.owner c.args.held c.index-root.result.now

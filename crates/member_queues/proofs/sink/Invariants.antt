@@ -4,7 +4,7 @@ use Rattle.member_queues.proofs.sink.Given as goal
 
 abbrev pub invariant-loop-held : goal.invariant-loop-held
 invariant-loop-held l = record {
-  sinking : IsSinking l.forest.roots.items l.forest.nodes.items l.at l.held;
+  sinking : IsSinking l.side l.forest.roots.items l.forest.nodes.items l.at l.held;
   rank : l.held ≢ nil → l.rank ≡ (node_at l.forest.nodes.items l.held).rank;
   members : map member_in l.forest.nodes.items ≡ map member_in l.initial.forest.nodes.items;
   rooms : length l.forest.roots.items ≡ length l.initial.forest.roots.items;

@@ -1,10 +1,13 @@
-use Rattle.std.proofs.Common.{◌≡◌, ◌<◌, length}
-use Rattle.std.specs.List.{AllByRecursion}
-use Rattle.member_queues.specs.Heap.{retold}
+use Rattle.std.proofs.Common.{◌≡◌, length}
+use Rattle.member_queues.specs.Heap.{walk}
+use Rattle.member_queues.proofs.Telling.{IsTelling}
 use Rattle.member_queues.proofs.tell_owner.Given as goal
 
-abbrev pub invariant-loop-key : goal.invariant-loop-key
-invariant-loop-key l = record {
-  retold : retold l.owner l.nodes.items l.key-iterator ≡ retold l.owner l.initial.nodes.items l.initial.key-iterator;
-  within : AllByRecursion (λ k. k < length l.nodes.items) l.key-iterator;
+abbrev pub invariant-loop-at : goal.invariant-loop-at
+invariant-loop-at l = record {
+  telling : IsTelling l.initial.forest.nodes.items l.forest.nodes.items l.from l.to l.run l.at;
+  roots : l.forest.roots.items ≡ l.initial.forest.roots.items;
 }
+
+abbrev pub decreases-loop-at : goal.decreases-loop-at
+decreases-loop-at l = length (walk l.initial.forest.nodes.items l.run l.at (length l.initial.forest.nodes.items))
