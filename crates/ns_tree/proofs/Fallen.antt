@@ -1,5 +1,6 @@
 -- A walk over the namespaces inside one, which marks them: after the one itself come those directly inside, each with all inside it.
 use Rattle.std.proofs.Common.{◌||◌, ◌≡◌, ◌≢◌, inl, inr, ℕ, ◌+◌, ◌<◌, List, [], ◌∷◌, ◌++◌, ◌==◌, Bool, true, false, length, slice_get, Option, Some, None, IsSome, option_map, refl, sym, ap, subst, ◌∙◌, arith}
+use Rattle.std.specs.Cmp.{both_ways}
 use Rattle.std.specs.List.{AllByRecursion, list_any}
 use Rattle.std.specs.Option.{option_map_or}
 use Rattle.std.proofs.lemmas.Bool.{cases_eq, eq-eqb, ne_eqb, or_right}
@@ -86,12 +87,6 @@ module _ (ways : ℕ → List ℕ) (outer : ℕ) where
         (rest.0, rest.1, or_right (s == rest.0) (contains (t ∷ ts) rest.0) rest.2)
   ]
 
--- tests that follow from each other are the same
-same_test : (a b : Bool) → (a ≡ true → b ≡ true) → (b ≡ true → a ≡ true) → a ≡ b
-same_test true b to from = sym (to refl)
-same_test false true to from = from refl
-same_test false false to from = refl
-
 module _ (ways : ℕ → List ℕ) (tree : IsPathTree ways) (outer : ℕ) where
   -- who is directly inside is one level deeper
   pub deeper : (inner : ℕ) → outer_of ways inner ≡ Some outer → length (ways inner) ≡ length (ways outer) + 1
@@ -107,7 +102,7 @@ module _ (ways : ℕ → List ℕ) (tree : IsPathTree ways) (outer : ℕ) where
     whole : (s : ℕ) → 0 < length (ways s) → is_met outer inner s (ways s) ≡ contains (ways s) outer
     whole s some = elim (cases_eq s outer) [
       | inl same ↦ ap (λ b. b || any) (eq-eqb s outer same) ∙ sym (ap (contains (ways s)) (sym same) ∙ paths.own-in ways tree s some)
-      | inr differs ↦ ap (λ b. b || any) (ne_eqb s outer differs) ∙ same_test any (contains (ways s) outer) up (down differs)
+      | inr differs ↦ ap (λ b. b || any) (ne_eqb s outer differs) ∙ both_ways any (contains (ways s) outer) up (down differs)
     ]
       where
         any : Bool

@@ -1,5 +1,6 @@
 -- The model's paths and numbers are those of the keys.
-use Rattle.std.proofs.Common.{◌≡◌, ◌≢◌, ◌⊎◌, ℕ, zero, suc, ◌<◌, ◌≤◌, Bool, true, ◌==◌, List, [], ◌∷◌, ◌++◌, length, map, get_or, Option, Some, None, if◌then◌else◌, refl, sym, ap, ◌∙◌, arith, option_and_then}
+use Rattle.std.proofs.Common.{◌≡◌, ◌≢◌, ◌⊎◌, ℕ, zero, suc, ◌<◌, ◌≤◌, true, ◌==◌, List, [], ◌∷◌, ◌++◌, length, map, get_or, Option, Some, None, if◌then◌else◌, refl, sym, ap, ◌∙◌, arith, option_and_then}
+use Rattle.std.specs.Cmp.{both_ways}
 use Rattle.pid_numbers.proofs.Words.{reverse, option_map_or, cases_eq, eq-eqb, ne_eqb, option_and_then_some, length-reverse, reverse-append, map-append, climb}
 use Rattle.pid_numbers.proofs.Words.{beside, parent_space, path_up, number, contains, names_in_use, taken, cyclic_draw, cursor_of, draw, cyclic_draw-same}
 use Rattle.pid_numbers.proofs.Words.{Numbering, Namespace, Identifier, namespace_at, identifier_at, number_of, number_in, path_at, taken_in, draw_in, IsPath}
@@ -80,9 +81,6 @@ module _ (ways : ℕ → List ℕ) where
         map-reverse [] = refl
         map-reverse (x ∷ xs) = reverse-append (id x ∷ []) (map id xs) ∙ ap (λ l. l ++ id x ∷ []) (map-reverse xs) ∙ sym (ap (map id) (reverse-append (x ∷ []) xs) ∙ map-append id (reverse xs) (x ∷ []))
 
-same_test : (a b : Bool) → (a ≡ true → b ≡ true) → (b ≡ true → a ≡ true) → a ≡ b
-same_test a b f g = grind arith
-
 -- a namespace gives the number that the model draws, where the names in use are the same
 pub draw-is : (state : State) (b : Numbering) (sid s : ℕ) (t : Namespace) → namespace_at b s ≡ Some t → state.pid_max ≡ b.pid_max → cursor_of state sid ≡ t.cursor
     → ((i : ℕ) (u : Identifier) → identifier_at b i ≡ Some u → (x : ℕ) × (x < length (names_in_use state.rows)) × (number state.spaces (get_or (names_in_use state.rows) x root_name) sid ≡ number_of b i s))
@@ -100,7 +98,7 @@ draw-is state b sid s t at max cursor there back =
         among (λ name. number state.spaces name sid) root_name (names_in_use state.rows) r.0 n r.1 (r.2 ∙ e))
 
     same : (n : ℕ) → contains (taken state sid) n ≡ contains (taken_in b s) n
-    same n = same_test (contains (taken state sid) n) (contains (taken_in b s) n)
+    same n = both_ways (contains (taken state sid) n) (contains (taken_in b s) n)
         (λ e.
         let r = among_from (λ name. number state.spaces name sid) root_name (names_in_use state.rows) n e in
         let k = back r.0 r.1 in
