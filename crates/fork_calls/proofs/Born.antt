@@ -1,28 +1,23 @@
 -- What a new task makes of the model's state.
-use Rattle.std.proofs.Common.{◌≡◌, ◌≢◌, inl, inr, ℕ, ◌+◌, ◌<◌, false, List, [], ◌∷◌, length, map, Option, Some, None, IsSome, is_some, refl, sym, ap, subst, ◌∙◌, arith, option_map, unwrap_or}
-use Rattle.std.specs.Prelude.{reverse}
+use Rattle.std.proofs.Common.{◌≡◌, inl, inr, ℕ, false, List, map, Some, IsSome, is_some, refl, sym, ap, subst, ◌∙◌, option_map, unwrap_or}
 use Rattle.std.specs.Option.{option_map_or}
 use Rattle.std.proofs.lemmas.Bool.{cases_eq}
-use Rattle.pid_types.proofs.General.{held}
-use Rattle.pid_types.specs.declared.plain.Name.{Name}
 use Rattle.pid_types.specs.declared.plain.Life.TheVariants.{Live}
 use Rattle.pid_types.specs.State.{State, root_name}
-use Rattle.pid_types.specs.Names.{beside, path_up, root_number, number_or_zero}
+use Rattle.pid_types.specs.Names.{path_up, root_number, number_or_zero}
 use Rattle.pid_types.specs.Outcome.{sweep}
 use Rattle.pid_types.specs.Fork.{drawn, child_of, with_child, with_cursors, moved_cursor, insert_row}
 use Rattle.pid_types.specs.declared.reply.Reply.TheVariants.{Forked}
 use Rattle.model_laws.proofs.SpaceMaps.{number-map_spaces}
-use Rattle.pid_numbers.specs.Numbering.{Numbering, Namespace, Identifier, namespace_at, id_at, identifier_at, number_in, number_of, path_at, new_identifier}
+use Rattle.pid_numbers.specs.Numbering.{id_at, new_identifier}
 use Rattle.task_tree.specs.declared.Task.{Task}
 use Rattle.task_tree.specs.Tree.{task_at, parent_of}
-use Rattle.groups_sessions.specs.Membership.{Membership, membership_at}
-use Rattle.pids_charge.specs.Charges.{Home, home_at, home_id}
-use Rattle.task_table.specs.Store.{Store, Begins, bare}
-use Rattle.task_table.specs.View.{name_of, name_at, row_of, row_with, spaces_of, state_of}
+use Rattle.pids_charge.specs.Charges.{home_id}
+use Rattle.task_table.specs.Store.{Store, Begins}
+use Rattle.task_table.specs.View.{name_of, name_at, row_of, spaces_of, state_of}
 use Rattle.task_table.specs.Lawful.{IsLawful}
 use Rattle.task_table.specs.Whole.{HasParents}
-use Rattle.task_table.proofs.Keys.{on_path}
-use Rattle.task_table.proofs.LookUps.{named, group-named, session-named}
+use Rattle.task_table.proofs.LookUps.{named}
 use Rattle.task_table.proofs.InUse.{member}
 use Rattle.task_table.proofs.Rows.{row-ext, rows-insert}
 use Rattle.task_table.proofs.Newborn.{KeepsNamespaces, Comes, some_of, named_in, group_in, session_in, name-kept, root_kept, home_kept, group_name, session_name, other_rows, born}

@@ -1,5 +1,5 @@
 -- The reply that a fork would get.
-use Rattle.std.proofs.Common.{◌≡◌, ℕ, ◌-◌, ◌<◌, true, List, [], ◌∷◌, length, map, reverse, Option, Some, None, refl, sym, ap, subst, ◌∙◌, arith, unwrap_or, option_map, inl, inr}
+use Rattle.std.proofs.Common.{◌≡◌, ℕ, ◌-◌, ◌<◌, List, length, map, reverse, Option, Some, None, refl, sym, ap, ◌∙◌, arith, unwrap_or, inl, inr}
 use Rattle.std.specs.Prelude.{slice_index}
 use Rattle.std.proofs.lemmas.List.{get_or-reverse}
 use Rattle.pid_types.specs.Membership.{IsIn}
@@ -7,7 +7,7 @@ use Rattle.pid_types.specs.declared.plain.Row.{Row}
 use Rattle.pid_types.specs.declared.reply.Refusal.{Refusal}
 use Rattle.pid_types.specs.declared.reply.Reply.TheVariants.{Forked}
 use Rattle.pid_types.specs.State.{State}
-use Rattle.pid_types.specs.Names.{path_up, number_or_zero, root_number, space_at}
+use Rattle.pid_types.specs.Names.{path_up, number_or_zero, root_number}
 use Rattle.pid_types.specs.Chains.{climb}
 use Rattle.pid_types.specs.Outcome.{unless_found}
 use Rattle.pid_types.specs.Fork.{drawn, child_of, forked, no_room}
@@ -16,7 +16,7 @@ use Rattle.pid_numbers.specs.Numbering.{id_at, draw_in}
 use Rattle.task_tree.specs.declared.Task.{Task}
 use Rattle.task_tree.specs.Tree.{task_at}
 use Rattle.task_table.specs.Store.{Store}
-use Rattle.task_table.specs.View.{row_of, spaces_of, state_of}
+use Rattle.task_table.specs.View.{row_of, spaces_of}
 use Rattle.task_table.specs.Lawful.{IsLawful}
 use Rattle.task_table.specs.Whole.{IsWhole}
 use Rattle.task_table.proofs.Keys.{space_at-key}

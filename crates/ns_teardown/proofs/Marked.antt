@@ -12,8 +12,7 @@ use Rattle.task_tree.specs.declared.Task.{Task}
 use Rattle.task_tree.specs.Tree.{task_at, parent_of}
 use Rattle.pid_types.specs.declared.call.Kind.TheVariants.{Task as AsTask}
 use Rattle.task_table.specs.Store.{Store, IsStore}
-use Rattle.task_table.proofs.Less as less
-use Rattle.task_table.specs.Lawful.{HasLaws, IsLawful}
+use Rattle.task_table.specs.Lawful.{IsLawful}
 use Rattle.task_table.specs.Whole.{HasParents}
 use Rattle.ns_teardown.specs.GoodTasks.{HasGoodTasks}
 use Rattle.ns_teardown.specs.Fall.{Slot, FallsWithin, slot_at, is_visible_in, member_after_fall, has_parent_inside, slot_after_fall}

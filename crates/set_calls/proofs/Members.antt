@@ -1,23 +1,18 @@
 -- The groups and sessions of a store's rows, by keys.
-use Rattle.std.proofs.Common.{◌≡◌, ◌≢◌, ℕ, Bool, true, false, Some, IsSome, is_some, refl, sym, ap, ◌∙◌, option_map}
-use Rattle.std.specs.Option.{option_map_or}
-use Rattle.std.proofs.lemmas.Bool.{eqb-true}
-use Rattle.pid_types.proofs.General.{held}
+use Rattle.std.proofs.Common.{◌≡◌, ◌≢◌, ℕ, Bool, true, false, Some, is_some, refl, sym, ap, ◌∙◌, option_map}
 use Rattle.pid_types.specs.declared.plain.Row.{Row}
-use Rattle.pid_types.specs.State.{root_name}
 use Rattle.pid_types.specs.Names.{same_name}
 use Rattle.pid_types.specs.Groups.{has_members}
 use Rattle.model_laws.proofs.Names.{same_name-true, same_name-refl}
 use Rattle.model_laws.proofs.Lists.{some_passes, list_any-from_one}
-use Rattle.pid_numbers.specs.Numbering.{identifier_at}
 use Rattle.task_tree.specs.declared.Task.{Task}
 use Rattle.task_tree.specs.Tree.{task_at}
-use Rattle.groups_sessions.specs.Membership.{Membership, membership_at, group_of, HasMembers}
+use Rattle.groups_sessions.specs.Membership.{Membership, group_of, HasMembers}
 use Rattle.task_table.specs.Store.{Store}
 use Rattle.task_table.proofs.Groups.{in_group}
 use Rattle.task_table.specs.View.{name_at, row_of, state_of}
 use Rattle.task_table.specs.Lawful.{IsLawful}
-use Rattle.task_table.proofs.LookUps.{named, group-named, same-name, in-rows, rows-in}
+use Rattle.task_table.proofs.LookUps.{named, group-named, in-rows, rows-in}
 use Rattle.task_table.proofs.InUse.{member}
 use Rattle.task_table.proofs.Seated.{group-name, who, one-key}
 

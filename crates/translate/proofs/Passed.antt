@@ -1,14 +1,13 @@
 -- The tasks of a namespace by a walk over its numbers, and in the model.
-use Rattle.std.proofs.Common.{◌≡◌, ◌≢◌, ◌⊎◌, inl, inr, ℕ, zero, suc, ◌+◌, ◌<◌, ◌≤◌, ◌==◌, ◌&&◌, Bool, true, false, nat_le, List, [], ◌∷◌, ◌++◌, filter, filter_map, Option, Some, None, MatchOption, IsSome, is_some, if◌then◌else◌, cond, option_map, refl, sym, ap, subst, ◌∙◌, arith}
+use Rattle.std.proofs.Common.{◌≡◌, ◌≢◌, ◌⊎◌, inl, inr, ℕ, zero, suc, ◌+◌, ◌<◌, ◌≤◌, ◌==◌, Bool, true, false, nat_le, List, [], ◌∷◌, ◌++◌, filter, filter_map, Option, Some, None, IsSome, is_some, if◌then◌else◌, cond, option_map, refl, sym, ap, subst, ◌∙◌, arith}
 use Rattle.std.specs.Option.{option_eq}
 use Rattle.std.specs.List.Sorted.{IsPermutation, IsSorted}
 use Rattle.std.specs.Ordering.{nat_cmp}
-use Rattle.std.proofs.lemmas.Bool.{cases_eq, eq-eqb, eqb-true}
+use Rattle.std.proofs.lemmas.Bool.{cases_eq, eq-eqb}
 use Rattle.std.proofs.lemmas.List.Sorted.{IsNonDecreasingBy-from_sort}
 use Rattle.std.proofs.lemmas.List.Sums.{sum_by-append}
-use Rattle.pid_types.proofs.General.{apart, held, some_number, number_tested}
+use Rattle.pid_types.proofs.General.{apart, held, some_number}
 use Rattle.pid_types.specs.declared.call.Kind.TheVariants.{Task as AsTask}
-use Rattle.pid_types.specs.declared.plain.Row.{Row}
 use Rattle.pid_types.specs.Membership.{IsIn}
 use Rattle.pid_types.specs.Names.{number}
 use Rattle.model_laws.proofs.Lists.{IsIn-append, IsIn-append_left, IsIn-append_right, IsIn-filter, IsIn-from_filter, IsIn-filter_map, IsIn-from_filter_map}
@@ -30,7 +29,7 @@ use Rattle.translate.specs.Members.{is_among, visible_numbers}
 use Rattle.translate.specs.Pages.{AreListedFrom}
 use Rattle.translate.specs.Passed.{is_reached, numbers_passed, IsBehindCursor, ArePassed}
 use Rattle.translate.proofs.Parts.{task-used, used-task}
-use Rattle.translate.proofs.Rising.{zero-of, times-cons, IsIn-times, times-IsIn, times-permuted, IsIn-permuted, IsIn-unpermuted, rising-once}
+use Rattle.translate.proofs.Rising.{zero-of, times-cons, times-IsIn, times-permuted, IsIn-permuted, IsIn-unpermuted, rising-once}
 
 module _ (s : Store) (l : IsLawful s) (asked : Asked) where
   -- the number that one task adds

@@ -1,7 +1,7 @@
 -- A namespace's own list of its tasks is read off what it sees.
-use Rattle.std.proofs.Common.{◌≡◌, ◌≢◌, ◌⊎◌, inl, inr, ℕ, zero, suc, ◌+◌, ◌-◌, ◌<◌, ◌≤◌, ◌==◌, ◌&&◌, Bool, true, false, nat_lt, List, [], ◌∷◌, ◌++◌, length, map, drop, filter, Option, Some, None, is_some, if◌then◌else◌, option_map, unwrap_or, refl, sym, ap, subst, ◌∙◌, arith}
+use Rattle.std.proofs.Common.{◌≡◌, ℕ, ◌+◌, ◌<◌, ◌==◌, true, nat_lt, List, [], ◌∷◌, ◌++◌, length, map, filter, Option, Some, None, is_some, unwrap_or, refl, sym, ap, subst, ◌∙◌, arith}
 use Rattle.std.proofs.Math.ListN.{length-drop}
-use Rattle.std.proofs.lemmas.Bool.{cases_eq, eq-eqb, ne_eqb}
+use Rattle.std.proofs.lemmas.Bool.{eq-eqb, ne_eqb}
 use Rattle.std.proofs.lemmas.List.{length-append}
 use Rattle.pid_types.specs.declared.call.Kind.TheVariants.{Task}
 use Rattle.pid_types.specs.declared.plain.Row.{Row}
@@ -11,7 +11,7 @@ use Rattle.pid_types.specs.Sight.{Glimpse, sight, is_seen, glimpse_of, number_by
 use Rattle.pid_types.specs.Sound.{IsWellNumbered, IsCoherent}
 use Rattle.pid_types.specs.State.{State}
 use Rattle.model_laws.proofs.Glimpses.{first-numbers_from}
-use Rattle.model_laws.proofs.Ground.{IsIn-filter, IsIn-from_filter, IsIn-map, IsIn-from_map, number-within, number-on_path, own_name_in_use, Stops-at_root, climb_suffix, IsOnTree, IsOnTree-name, path_antisym, path_first, root_space_parent}
+use Rattle.model_laws.proofs.Ground.{IsIn-filter, IsIn-from_filter, IsIn-map, IsIn-from_map, number-within, own_name_in_use, Stops-at_root, climb_suffix, IsOnTree, IsOnTree-name, path_antisym, path_first, root_space_parent}
 use Rattle.model_laws.proofs.Levels.{numbers_are_from_level}
 use Rattle.model_laws.proofs.Lists.{IsIn-filter_map, IsIn-from_filter_map}
 use Rattle.translate.specs.declared.members.Reach.{Reach}

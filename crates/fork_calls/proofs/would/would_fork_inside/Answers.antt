@@ -6,7 +6,7 @@ use Rattle.pid_types.specs.Membership.{IsIn}
 use Rattle.pid_types.specs.Names.{path_up}
 use Rattle.pid_types.specs.Outcome.{unless_found}
 use Rattle.pid_types.specs.Fork.{forked, with_space}
-use Rattle.pid_numbers.specs.Numbering.{id_at, path_at, draw_in}
+use Rattle.pid_numbers.specs.Numbering.{path_at, draw_in}
 use Rattle.task_table.specs.View.{row_of, state_of}
 use Rattle.fork_calls.proofs.Plans.{full-there}
 use Rattle.fork_calls.proofs.Inside as inside

@@ -1,5 +1,5 @@
 -- The plan is that of a fork, and so are its refusals; the numbers are those that the model's child would have
-use Rattle.std.proofs.Common.{ℕ, List, ◌≡◌, ◌<◌, ◌∙◌, find, is_none, map, length, Some, None, sym, ap, subst}
+use Rattle.std.proofs.Common.{◌≡◌, ◌<◌, ◌∙◌, find, is_none, map, length, Some, None, sym, ap, subst}
 use Rattle.std.specs.Prelude.{unwrap_or}
 use Rattle.std.proofs.lemmas.List.{length-map}
 use Rattle.pid_types.specs.Outcome.{unless_found}

@@ -1,7 +1,7 @@
-use Rattle.std.proofs.Common.{◌≡◌, ℕ, false, ◌&&◌, ◌==◌, sym, ap, ◌∙◌}
+use Rattle.std.proofs.Common.{◌≡◌, ℕ, false, ◌&&◌, ◌==◌, sym, ap}
 use Rattle.std.specs.Option.{option_map_or}
 use Rattle.pid_numbers.specs.Numbering.{identifier_at}
-use Rattle.task_tree.specs.Tree.{task_at, parent_of, is_subreaper}
+use Rattle.task_tree.specs.Tree.{task_at, is_subreaper}
 use Rattle.ns_teardown.specs.Heirs.{is_subreaper_of, ancestor_keys}
 use Rattle.ns_teardown.proofs.Ancestors as ancestors
 use Rattle.ns_teardown.proofs.heirs.nearest_subreaper.Goals as goal

@@ -1,10 +1,10 @@
-use Rattle.std.proofs.Common.{◌≡◌, ◌<◌, ◌++◌, ℕ, List, [], length, ◌+◌, Err, ap, sym, inl, subst, ◌∙◌, arith}
-use Rattle.saved_form.specs.declared.take.EntryFault.TheVariants.{Torn, WrongByte}
+use Rattle.std.proofs.Common.{◌≡◌, ◌++◌, ℕ, List, [], length, ◌+◌, Err, ap, sym, inl, subst, ◌∙◌, arith}
+use Rattle.saved_form.specs.declared.take.EntryFault.TheVariants.{Torn}
 use Rattle.saved_form.specs.Taking.{IsTorn, IsWrongAt}
 use Rattle.saved_form.specs.Ends.{IsOpen, IsTornEnd}
 use Rattle.saved_form.specs.Ends.IsOpen.{within_entry}
 use Rattle.saved_form.proofs.Ends.{from_passed, from_wrong, none_before, wrong_there, torn_short}
-use Rattle.saved_form.proofs.Ends.{Passes, passes_no_entry, passes_wrong, passes_torn, passes_end, passes_open}
+use Rattle.saved_form.proofs.Ends.{passes_no_entry, passes_wrong, passes_torn, passes_end, passes_open}
 use Rattle.saved_form.proofs.next.read_on.Goals as goal
 
 pub returns-then-passed-ne0-clause-open : goal.returns-then-passed-ne0-clause-open
