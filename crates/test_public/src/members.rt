@@ -110,6 +110,32 @@ fn answers_least(rt: HostRuntime) {
     assert!(rt; ranks(&members) == [None; 3]);
 }
 
+/// The members of an owner in rising order, behind `None` for each of four that is not there.
+fn ranked_members(members: &MemberQueues, owner: u32) -> [Option<u32>; 4]
+    requires { owner < length members.now }
+{
+    let mut walk = members.members(owner);
+    let mut found = [walk.next(), walk.next(), walk.next(), walk.next()];
+    found.sort_unstable();
+    found
+}
+
+/// All members of owner 2 go to owner 0, who has one, and each keeps its rank.
+#[test]
+fn moves_ranked_members(rt: HostRuntime) {
+    let mut members = three_members(&rt);
+    members.grow(1).expect(&rt, "no memory");
+    members.insert(3, 0, 45);
+    assert!(rt; ranked_members(&members, 2) == [None, Some(0), Some(1), Some(2)]);
+    assert!(rt; ranked_members(&members, 0) == [None, None, None, Some(3)]);
+    members.move_all(2, 0);
+    assert!(rt; ranked_members(&members, 2) == [None; 4]);
+    assert!(rt; ranked_members(&members, 0) == [Some(0), Some(1), Some(2), Some(3)]);
+    assert!(rt; [members.least(2), members.least(0)] == [None, Some(1)]);
+    members.remove(1);
+    assert!(rt; [members.least(0), members.rank(3)] == [Some(3), Some(45)]);
+}
+
 /// The ids 3, 5 and 9.
 fn three_ids(rt: &(impl AllocGlobal + Abort)) -> RisingIds
     ensures { result ≡ (3, 7) ∷ (5, 8) ∷ (9, 6) ∷ [] }
