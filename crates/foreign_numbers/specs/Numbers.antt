@@ -95,11 +95,16 @@ refused_by (NoNumber space) = space
 refused_by (PidsLimit control) = control
 refused_by _ = 0
 
+-- the error of a refusal, and 0 of any other reply: errno(3)
+abbrev pub errno_of : Reply → ℕ
+errno_of (Refused refusal) = (errno_entry (refusal_entry refusal).error).value
+errno_of _ = 0
+
 -- the error and the number of the refusal, and the id of what refused
 abbrev pub refusal_numbers : Refusal → ReplyNumbers
 refusal_numbers refusal =
     record (blank_reply 9) {
-      errno = (errno_entry (refusal_entry refusal).error).value;
+      errno = errno_of (Refused refusal);
       refusal = (refusal_entry refusal).number;
       first = refused_by refusal;
     }
@@ -117,11 +122,6 @@ numbers_of (Counted count) = record (blank_reply 6) { first = count }
 numbers_of (Control id) = record (blank_reply 7) { first = id }
 numbers_of End = blank_reply 8
 numbers_of (Refused refusal) = refusal_numbers refusal
-
--- the error of a refusal, and 0 of any other reply: errno(3)
-abbrev pub errno_of : Reply → ℕ
-errno_of (Refused refusal) = (errno_entry (refusal_entry refusal).error).value
-errno_of _ = 0
 
 -- the number that a reply tells, 0 where none follows; what tells none leaves the one before
 abbrev pub number_or : ℕ → Reply → ℕ

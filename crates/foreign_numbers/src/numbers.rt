@@ -261,8 +261,8 @@ pub fn put_number(told: ShortReply, number: &mut u64) -> u32
     ensures number { number.new ≡ number_or number.old (reply_of told) }
 {
     match told {
-        ShortReply::Number(told) => *number = u64::from(told),
-        ShortReply::Counted(told) => *number = told,
+        ShortReply::Number(value) => *number = u64::from(value),
+        ShortReply::Counted(count) => *number = count,
         ShortReply::End => *number = 0,
         ShortReply::Refused(refusal) => return refusal.errno(),
         _ => {}
