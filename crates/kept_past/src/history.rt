@@ -16,7 +16,7 @@ ghost use Rattle.{
 };
 
 use crate::opening::Opening;
-use crate::ring::Ring;
+use crate::ring::{FEW, Ring};
 use arrayvec::ArrayVec;
 use model_laws::soundness::soundness_is_kept;
 use pid_table::PidTable;
@@ -496,7 +496,8 @@ fn enter_list(
     let told = table.ns_pid(caller, target, &mut numbers);
     match told {
         Some(short) => ring.push_short(worker, call, short),
-        None => ring.push_list(worker, call, numbers),
+        None if numbers.len() <= FEW => ring.push_few(worker, call, numbers.as_slice()),
+        None => ring.push_many(worker, call, numbers),
     }
     told
 }

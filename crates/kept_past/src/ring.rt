@@ -17,7 +17,7 @@ use std::collections::VecDeque;
 use std::marker::Model;
 
 /// So many numbers have room in a slot.
-const FEW: usize = 5;
+pub(crate) const FEW: usize = 5;
 
 /// A list of few numbers.
 #[derive(Drop)]
@@ -172,39 +172,25 @@ impl Ring {
         Ok(())
     }
 
-    /// Puts an entry behind the others, whose reply is a list.
-    #[inline(always)]
-    pub(crate) fn push_list(&mut self, worker: usize, call: Call, numbers: ArrayVec<Pid, LEVELS>)
-        requires { 0 < self.old.room }
-        ensures entries { self.new.entries
-            ≡ self.old.entries ++ record { worker = worker; call = call; reply = list_reply numbers.items } ∷ [] }
-        ensures room { self.old.room ≤ self.new.room + 1 }
-    {
-        if numbers.len() <= FEW {
-            self.push_few(worker, call, Few::of(numbers.as_slice()));
-        } else {
-            self.push_many(worker, call, numbers);
-        }
-    }
-
     /// Puts an entry behind the others, whose reply is a list of few numbers.
     #[inline(always)]
-    fn push_few(&mut self, worker: usize, call: Call, few: Few)
-        requires { 0 < self.old.room }
+    pub(crate) fn push_few(&mut self, worker: usize, call: Call, numbers: &[Pid])
+        requires room { 0 < self.old.room }
+        requires few { length numbers.now ≤ FEW }
         ensures entries { self.new.entries
-            ≡ self.old.entries ++ record { worker = worker; call = call; reply = list_reply few } ∷ [] }
+            ≡ self.old.entries ++ record { worker = worker; call = call; reply = list_reply numbers.now } ∷ [] }
         ensures room { self.old.room ≤ self.new.room + 1 }
     {
         self.slots.push_back_reserved(Slot {
             worker,
             call,
-            reply: SlotReply::Few(few),
+            reply: SlotReply::Few(Few::of(numbers)),
         });
     }
 
     /// Puts an entry behind the others, and its list behind theirs.
     #[inline(always)]
-    fn push_many(&mut self, worker: usize, call: Call, numbers: ArrayVec<Pid, LEVELS>)
+    pub(crate) fn push_many(&mut self, worker: usize, call: Call, numbers: ArrayVec<Pid, LEVELS>)
         requires { 0 < self.old.room }
         ensures entries { self.new.entries
             ≡ self.old.entries ++ record { worker = worker; call = call; reply = list_reply numbers.items } ∷ [] }
