@@ -137,10 +137,11 @@ fn tell_owner(links: &mut Vec<Link>, first: u32, owner: u32) -> u32
     ensures last { ((link_at links.old.items result).owner ≡ (link_at links.old.items first).owner)
         × ((link_at links.old.items result).next ≡ nil) }
 {
+    let all = links.as_mut_slice();
     let mut last = first;
     let mut at = first;
     while at != NIL {
-        let link = &mut links[at as usize];
+        let link = &mut all[at as usize];
         link.owner = owner;
         last = at;
         at = link.next;

@@ -1,5 +1,5 @@
 -- Members that go to another owner all at once, and keep their tree.
-use Rattle.std.proofs.Common.{◌≡◌, ◌≢◌, ◌⊎◌, inl, inr, ℕ, ◌<◌, List, [], ◌∷◌, length, set, map, Option, Some, option_map, refl, sym, ap, ◌∙◌, arith}
+use Rattle.std.proofs.Common.{take, drop, ◌++◌, drop_of_length-le, append-nil, take_all, ◌≡◌, ◌≢◌, ◌⊎◌, inl, inr, ℕ, ◌<◌, List, [], ◌∷◌, length, set, map, Option, Some, option_map, refl, sym, ap, ◌∙◌, arith}
 use Rattle.std.specs.List.{AllByRecursion}
 use Rattle.std.proofs.lemmas.Bool.{cases_eq}
 use Rattle.std.proofs.lemmas.List.{get_or_past, get_or-set_same, get_or-set_other, length-set, length-map}
@@ -75,16 +75,13 @@ module _ (ns ns' : List Node) (from to run at : ℕ) (w : IsTelling ns ns' from 
   }
 
   -- what the code read and wrote
-  module _ (z : Node) (l : List Node) (run' at' : ℕ) (is : z ≡ node_at ns' at) (written : l ≡ set ns' at (with_owner to z))
-      (on_run : run' ≡ run_after l run at) (on_key : at' ≡ key_after l run at) where
-    l_told : l ≡ told
-    l_told = written ∙ ap (λ n. set ns' at (with_owner to n)) is
-
+  module _ (z : Node) (run' at' : ℕ) (is : z ≡ node_at ns' at)
+      (on_run : run' ≡ run_after (set ns' at (with_owner to z)) run at) (on_key : at' ≡ key_after (set ns' at (with_owner to z)) run at) where
     run_is : run' ≡ run_after ns run at
-    run_is = on_run ∙ ap (λ m. run_after m run at) l_told ∙ runs_on
+    run_is = on_run ∙ ap (λ n. run_after (set ns' at (with_owner to n)) run at) is ∙ runs_on
 
     key_is : at' ≡ key_after ns run at
-    key_is = on_key ∙ ap (λ m. key_after m run at) l_told ∙ keys_on
+    key_is = on_key ∙ ap (λ n. key_after (set ns' at (with_owner to n)) run at) is ∙ keys_on
 
     pub turn : IsTelling ns (set ns' at (with_owner to z)) from to run' at'
     turn = rw (is, run_is, key_is) IsTelling-told
@@ -92,6 +89,10 @@ module _ (ns ns' : List Node) (from to run at : ℕ) (w : IsTelling ns ns' from 
     -- fewer are to come
     pub fewer_read : length (walk ns run' at' (length ns)) < length (walk ns run at (length ns))
     fewer_read = rw (run_is, key_is) (let e = ap length step.rest in omega (arith, e))
+
+-- what is written back
+pub written : (ns l : List Node) (n : ℕ) → length l ≡ length ns → n ≡ length ns → take n (l ++ drop (length l) ns) ≡ l
+written ns l n same all = grind (arith, drop_of_length-le, append-nil, take_all)
 
 -- at the end all were told
 pub all_told : (ns ns' : List Node) (from to run at : ℕ) → IsTelling ns ns' from to run at → at ≡ nil → AreRetold ns ns' from to

@@ -467,11 +467,12 @@ fn tell_owner(forest: &mut Forest, from: u32, to: u32)
     ensures told { AreRetold forest.old.nodes.items forest.new.nodes.items from to }
     ensures roots { forest.new.roots.items ≡ forest.old.roots.items }
 {
+    let nodes = forest.nodes.as_mut_slice();
     let mut run = forest.roots[from as usize];
     let mut at = run;
     while at != NIL {
-        forest.nodes[at as usize].owner = to;
-        (run, at) = after(forest.nodes.as_slice(), run, at);
+        nodes[at as usize].owner = to;
+        (run, at) = after(nodes, run, at);
     }
 }
 
