@@ -1,5 +1,5 @@
 -- What is said of the digest of a writer.
-use Rattle.std.proofs.Common.{◌≡◌, ◌⊎◌, inl, inr, ℕ, Bool, true, false, eqb, nat_eq, List, Option, Some, None, Result, Err, refl, sym, ap, ◌∙◌, subst}
+use Rattle.std.proofs.Common.{◌≡◌, ◌<◌, ◌⊎◌, inl, inr, ℕ, Bool, true, false, eqb, nat_eq, List, Option, Some, None, Result, Err, refl, sym, ap, ◌∙◌, subst}
 use Rattle.std.specs.List.{starts_with}
 use Rattle.std.specs.Map.{lookup}
 use Rattle.hex.specs.Hex.{encode_lower}
@@ -8,9 +8,13 @@ use Rattle.pid_script.proofs.Cuts.{by_test}
 use Rattle.replica.specs.Entries.{LogEntry, Settings, Opened, Ended, Calls, Wanted, Announced, IsGood, entry_text}
 use Rattle.replica.specs.declared.outcome.ReplicaFault.{ReplicaFault}
 use Rattle.replica.specs.declared.outcome.ReplicaFault.TheVariants as fault
+use Rattle.replica.specs.declared.outcome.Applied.{Applied}
+use Rattle.replica.specs.declared.outcome.Outcome.{Outcome}
 use Rattle.replica.specs.Log.{Log}
-use Rattle.replica.specs.Replicas.{Replica, checked, is_before, judged, may_come}
-use Rattle.replica.specs.Applied.{IsLookedAt, Refuses}
+use Rattle.replica.specs.Replicas.{Replica, at, checked, is_before, judged, may_come, replica_of, sequence_of, session_in_entry, used}
+use Rattle.replica.specs.Applied.{Enters, IsLookedAt, IsNext, Refuses, StopsApplying}
+use Rattle.replica.specs.Laws.{Applies}
+use Rattle.stamped_table.specs.Stamped.{Stamped}
 
 pub calls_checked : (log : Log) (s n q : ℕ) (d : List ℕ) (ls : List (List ℕ)) (kept : List (ℕ × List ℕ)) (found : Option (List ℕ)) (before : Bool) (r : Result Unit ReplicaFault)
     → r ≡ judged found before d → found ≡ lookup (λ p. eqb q p) kept → before ≡ is_before q (last_entry kept) → kept ≡ log.kept → r ≡ checked log (Calls s n q d ls)
@@ -51,3 +55,33 @@ at_odds position bytes old before entry e looked good text comes is =
       | inr diverged ↦ subst (Refuses position bytes old before old before) (sym diverged)
           (looked, (entry, good, text, comes, is ∙ ap Err diverged), record { replica = refl; answers = refl })
     ]
+
+-- an entry is looked at where what is held says so
+pub looked_at : (position : ℕ) (table : Stamped) (inside log : Log) → inside ≡ log → inside.torn ≡ false → inside.position < position → IsLookedAt position (replica_of log table)
+looked_at position table inside log same whole rises =
+    subst (λ (l : Log). IsLookedAt position (replica_of l table)) same (record { whole = whole; rises = rises })
+
+-- there was no memory for what the next entry says
+pub stopped : (position : ℕ) (bytes : List ℕ) (old : Replica) (before : List ℕ) (new : Replica) (after : List ℕ) (entry : LogEntry) (e : ReplicaFault)
+    → IsNext position bytes old entry → StopsApplying entry old before new after e → Refuses position bytes old before new after e
+stopped position bytes old before new after entry fault.NoMemory next stops = (subst (IsNext position bytes old) stops.0 next, stops.1)
+stopped position bytes old before new after entry fault.Torn next stops = (stops, inr (entry, next))
+stopped position bytes old before new after entry fault.NotRising next stops = absurd stops
+stopped position bytes old before new after entry fault.NoEntry next stops = absurd stops
+stopped position bytes old before new after entry fault.OtherSettings next stops = absurd stops
+stopped position bytes old before new after entry fault.Missing next stops = absurd stops
+stopped position bytes old before new after entry fault.Diverged next stops = absurd stops
+
+-- the next entry was entered, and its digest is kept
+pub applies : (position : ℕ) (bytes : List ℕ) (old : Replica) (before : List ℕ) (entry : LogEntry) (log kept : Log) (table : Stamped) (what : Outcome) (said : Applied) (after : List ℕ)
+    → IsNext position bytes old entry → Enters entry position old before (replica_of log table) what after
+    → kept ≡ record log { position = position; kept = used position log.digest log.kept }
+    → said ≡ record { outcome = what; session = session_in_entry entry; sequence = sequence_of entry }
+    → Applies position bytes old before (replica_of kept table) said after
+applies position bytes old before entry log kept table what said after next enters keeps is = record {
+  entry = entry;
+  next = next;
+  made = ap (λ (l : Log). replica_of l table) keeps ∙ ap (at position) enters.made;
+  said = is ∙ ap (λ (o : Outcome). record { outcome = o; session = session_in_entry entry; sequence = sequence_of entry }) enters.outcome;
+  answers = enters.answers;
+}

@@ -256,3 +256,10 @@ state_written log old a b c d first second third fourth =
   where
     joined : (old p a b c d e : List ℕ) → (((old ++ p) ++ (a ++ b)) ++ (c ++ d)) ++ e ≡ old ++ (p ++ (a ++ (b ++ (c ++ (d ++ e)))))
     joined old p a b c d e = simp append_assoc
+
+-- the head, as it is written
+pub head_written : (log : Log) (text a b d e last : List ℕ) → text ≡ [] → a ≡ text ++ settings_text log → b ≡ a ++ 32 ∷ [] → d ≡ b ++ state_text log
+    → e ≡ d ++ 10 ∷ [] → last ≡ e ++ sessions_text log.sessions → last ≡ head_text log
+head_written log text a b d e last none settings space state newline sessions =
+    let line = ap (λ t. (t ++ 32 ∷ []) ++ state_text log) (settings ∙ ap (λ t. t ++ settings_text log) none) ∙ append_assoc (settings_text log) (32 ∷ []) (state_text log) in
+    sessions ∙ ap (λ t. t ++ sessions_text log.sessions) (newline ∙ ap (λ t. t ++ 10 ∷ []) (state ∙ ap (λ t. t ++ state_text log) space ∙ line))

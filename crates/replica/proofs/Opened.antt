@@ -1,6 +1,6 @@
 -- Sessions of a snapshot, as their lines say them.
 use mathlib.Core.List.{reverse-cons}
-use Rattle.std.proofs.Common.{◌≡◌, ℕ, zero, suc, ◌+◌, ◌<◌, ◌≤◌, ◌^◌, true, false, eqb, nat_eq, is_some, List, [], ◌∷◌, ◌++◌, length, take, reverse, flat_map, decimal, Option, Some, None, nat_le, refl, sym, ap, ◌∙◌, subst, append_assoc, append-nil, arith}
+use Rattle.std.proofs.Common.{◌≡◌, ℕ, zero, suc, ◌+◌, ◌-◌, ◌<◌, ◌≤◌, ◌^◌, true, false, eqb, nat_eq, is_some, List, [], ◌∷◌, ◌++◌, length, take, reverse, flat_map, decimal, Option, Some, None, nat_le, refl, sym, ap, ◌∙◌, subst, append_assoc, append-nil, arith}
 use Rattle.std.specs.List.{AllByRecursion, IsDistinct}
 use Rattle.std.specs.Map.{keys_of, lookup}
 use Rattle.std.proofs.lemmas.Bool.Decides.{nat_tests}
@@ -114,6 +114,9 @@ more_says (suc n) ss text p fits distinct is =
       distinct = b.distinct;
     })
 
+few_is : (n : ℕ) → n ≤ 4096 → nat_le n 4096 ≡ true
+few_is n few = grind (arith, nat_tests)
+
 -- the lines of all sessions are read as these
 pub sessions_told : (ss : List (ℕ × ℕ)) (rest : List ℕ) → MayBeOpen ss → sessions_in (length ss) (sessions_text ss ++ rest) ≡ Some (ss, rest)
 unfolding sessions_in
@@ -121,9 +124,6 @@ sessions_told ss rest may =
     let within : nat_le (length ss) 4096 ≡ true = few_is (length ss) may.few in
     let count : length ss + 0 ≡ length ss = omega arith in
     rw within (ap (λ m. opened_more m [] (sessions_text ss ++ rest)) (sym count) ∙ more_told ss 0 rest may.numbers may.distinct)
-  where
-    few_is : (n : ℕ) → n ≤ 4096 → nat_le n 4096 ≡ true
-    few_is n few = grind (arith, nat_tests)
 
 pub record AreSessions (count : ℕ) (lines : List ℕ) (p : List (ℕ × ℕ) × List ℕ) : Type 0 where
   pub number : length p.0 ≡ count
@@ -161,3 +161,22 @@ unfolding with_session
 opened_is session last ss new lines rest found is here none room put =
     let other : is_some (lookup (λ s. eqb session s) ss) ≡ false = ap is_some (sym here) ∙ none in
     rw (← is, other) (ap (λ l. Some (l, rest)) (sym (put ∙ used_new session last ss other room)))
+
+-- its line says one that is open
+pub stands_twice : (session last : ℕ) (ss : List (ℕ × ℕ)) (lines rest : List ℕ) (found : Option ℕ) → Some ((session, last), rest) ≡ session_in lines
+    → found ≡ lookup (λ s. eqb session s) ss → true ≡ is_some found → with_session ss lines ≡ None
+unfolding with_session
+stands_twice session last ss lines rest found is here some =
+    let there : is_some (lookup (λ s. eqb session s) ss) ≡ true = ap is_some (sym here) ∙ sym some in
+    rw (← is, there)
+
+-- there is room for one more, and behind the last all are open
+pub room_for_one : (before counter count : ℕ) → before ≡ counter → counter < count → count ≤ 4096 → before < 4096
+room_for_one before counter count is below few = omega arith
+
+pub all_opened : (count counter : ℕ) (ss : List (ℕ × ℕ)) (lines rest : List ℕ) → count ≤ 4096 → count ≤ counter
+    → opened_more (count - counter) ss rest ≡ opened_more count [] lines → sessions_in count lines ≡ Some (ss, rest)
+unfolding sessions_in
+all_opened count counter ss lines rest few past more =
+    let none : count - counter ≡ 0 = omega arith in
+    rw (few_is count few) (sym more ∙ ap (λ n. opened_more n ss rest) none)
