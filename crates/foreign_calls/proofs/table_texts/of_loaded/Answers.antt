@@ -1,5 +1,4 @@
-use Rattle.std.proofs.Common.{rules}
 use Rattle.foreign_calls.proofs.table_texts.of_loaded.Goals as goal
 
 pub returns : goal.returns
-returns c = search rules
+returns c = c.of.ensures

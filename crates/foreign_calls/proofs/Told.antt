@@ -1,0 +1,124 @@
+-- What is told where a function is done, or why it is not.
+use Rattle.std.proofs.Common.{◌≡◌, ◌<◌, ◌++◌, ◌∷◌, ◌↔◌, ◌∙◌, [], ℕ, List, length, take, Option, Some, None, Result, Err, IsTrue, refl, sym, ap, inl, inr, arith}
+use Rattle.std.proofs.lemmas.Bool.Decides.{leb_tells}
+use Rattle.std.proofs.lemmas.Option.{none-some}
+use Rattle.pid_types.specs.declared.call.Call.{Call}
+use Rattle.pid_types.specs.declared.reply.CallFault.{CallFault}
+use Rattle.pid_types.specs.declared.reply.CallFault.TheVariants.{NoMemory, Spent}
+use Rattle.pid_types.specs.declared.reply.Reply.{Reply}
+use Rattle.pid_types.specs.Step.{may_grow}
+use Rattle.saved_form.specs.declared.numbers.ReplyNumbers.{ReplyNumbers}
+use Rattle.kept_table.specs.Calls.{counted, entry_of, outcome}
+use Rattle.kept_table.specs.Chronicle.{Chronicle, next_stamp, total}
+use Rattle.foreign_numbers.specs.Numbers.{numbers_of}
+use Rattle.foreign_numbers.specs.declared.status.TheConstants.{DONE, NOT_KEPT, NO_ROOM, OUT_OF_RANGE, SPENT, NO_MEMORY}
+use Rattle.foreign_calls.specs.Asked.{TellsAnswer}
+use Rattle.foreign_calls.specs.Held.{IsDoneOr}
+use Rattle.foreign_calls.specs.Made.{IsSpent, TellsReply}
+use Rattle.foreign_calls.specs.Records.{RecordsCall, roomless}
+use Rattle.foreign_calls.specs.Replicas.{TellsFound}
+use Rattle.foreign_calls.specs.Rooms.{KeepsRoom, PutsLine}
+
+-- the numbers are those of the reply
+pub tells_reply : (told : Reply) (old new : ReplyNumbers) → new ≡ numbers_of told → TellsReply told old new DONE
+tells_reply told old new is = record { reply = λ _. is; not_done = λ not. absurd (not refl) }
+
+-- the query has its answer
+pub tells_answer : {X : Type 0} (held : X) (answer : X → Call → Reply) (said : Option Call) (asked : Call) (old new : ReplyNumbers)
+    → said ≡ Some asked → new ≡ numbers_of (answer held asked) → TellsAnswer (Some held) answer said old new DONE
+tells_answer held answer said asked old new is tells = record {
+  done = λ _. (asked, is, tells);
+  not_done = λ not. absurd (not refl);
+  out_of_range = (
+    λ out. let z : DONE ≡ OUT_OF_RANGE = out in absurd (omega (arith, z)),
+    λ none. absurd (none-some asked (sym none.1 ∙ is)),
+  );
+}
+
+-- what is there is told, and that nothing is
+pub tells_found : {X : Type 0} (found : Option X) (before after : X) → found ≡ Some after → TellsFound found before after NOT_KEPT DONE
+tells_found found before after is = record {
+  done = λ _. is;
+  not_there = (
+    λ not. let z : DONE ≡ NOT_KEPT = not in absurd (omega (arith, z)),
+    λ none. absurd (none-some after (sym none ∙ is)),
+  );
+  not_done = λ not. absurd (not refl);
+}
+
+pub tells_none : {X : Type 0} (found : Option X) (before : X) → found ≡ None → TellsFound found before before NOT_KEPT NOT_KEPT
+tells_none found before none = record {
+  done = λ done. let z : NOT_KEPT ≡ DONE = done in absurd (omega (arith, z));
+  not_there = (λ _. none, λ _. refl);
+  not_done = λ _. refl;
+}
+
+-- the worker's call was made, or not
+pub records_call : (c d : Chronicle) (worker : ℕ) (call : Call) (before place : ℕ) → worker < length c.cut → (IsSpent (next_stamp c) → ⊥) → place ≡ total c
+    → d.entries ≡ c.entries ++ entry_of c worker call ∷ [] → d.present ≡ (outcome c call).state → d ≡ counted c d.entries d.present d.room
+    → RecordsCall c worker call before place DONE d
+records_call c d worker call before place known unspent at history step others = record {
+  done = λ _. record { left = ap Some (ap roomless others ∙ (λ i. counted c (history i) (step i) 0)); place = at };
+  not_done = λ not. absurd (not refl);
+  why = record {
+    out_of_range = (λ out. let z : DONE ≡ OUT_OF_RANGE = out in absurd (omega (arith, z)), λ past. absurd (omega (arith, past, known)));
+    spent = (λ spent. let z : DONE ≡ SPENT = spent in absurd (omega (arith, z)), λ p. absurd (unspent p.1));
+    no_memory = λ none. let z : DONE ≡ NO_MEMORY = none in absurd (omega (arith, z));
+    statuses = inl refl;
+  };
+}
+
+pub records_none : {A : Type 0} (r : Result A CallFault) (fault : CallFault) (c d : Chronicle) (worker : ℕ) (call : Call) (ordinal status : ℕ) → r ≡ Err fault
+    → worker < length c.cut → d ≡ record c { room = d.room } → ((r ≡ Err Spent) ↔ IsSpent (next_stamp c))
+    → (r ≡ Err NoMemory → 0 < c.room → IsTrue (may_grow call)) → (fault ≡ NoMemory → status ≡ NO_MEMORY) → (fault ≡ Spent → status ≡ SPENT)
+    → RecordsCall c worker call ordinal ordinal status d
+records_none r NoMemory c d worker call ordinal status err known same spent grows none spends =
+    let is : status ≡ NO_MEMORY = none refl in record {
+      done = λ done. let z : NO_MEMORY ≡ DONE = sym is ∙ done in absurd (omega (arith, z));
+      not_done = λ _. (ap roomless same, refl);
+      why = record {
+        out_of_range = (λ out. let z : NO_MEMORY ≡ OUT_OF_RANGE = sym is ∙ out in absurd (omega (arith, z)), λ past. absurd (omega (arith, past, known)));
+        spent = (λ gone. let z : NO_MEMORY ≡ SPENT = sym is ∙ gone in absurd (omega (arith, z)), λ p. let never = sym err ∙ spent.1 p.1 in cc never);
+        no_memory = λ _. grows err;
+        statuses = inr (inr (inr is));
+      };
+    }
+records_none r Spent c d worker call ordinal status err known same spent grows none spends =
+    let is : status ≡ SPENT = spends refl in record {
+      done = λ done. let z : SPENT ≡ DONE = sym is ∙ done in absurd (omega (arith, z));
+      not_done = λ _. (ap roomless same, refl);
+      why = record {
+        out_of_range = (λ out. let z : SPENT ≡ OUT_OF_RANGE = sym is ∙ out in absurd (omega (arith, z)), λ past. absurd (omega (arith, past, known)));
+        spent = (λ _. (known, spent.0 err), λ _. is);
+        no_memory = λ gone. let z : SPENT ≡ NO_MEMORY = sym is ∙ gone in absurd (omega (arith, z));
+        statuses = inr (inr (inl is));
+      };
+    }
+
+-- whose call was made is a worker
+pub is_known : (c : Chronicle) (worker : ℕ) (call : Call) (before ordinal status : ℕ) (d : Chronicle) → status ≡ DONE → RecordsCall c worker call before ordinal status d → worker < length c.cut
+is_known c worker call before ordinal status d done records =
+    elim (leb_tells (length c.cut) worker) [
+      | inl past ↦ let z : DONE ≡ OUT_OF_RANGE = sym done ∙ records.why.out_of_range.1 past.1 in absurd (omega (arith, z))
+      | inr within ↦ within.1
+    ]
+
+-- a line is put, or there is no room for it
+within_range : (status : ℕ) → IsDoneOr status (NO_ROOM ∷ []) → status ≡ OUT_OF_RANGE → ⊥
+within_range status (inl done) out = let z : DONE ≡ OUT_OF_RANGE = sym done ∙ out in omega (arith, z)
+within_range status (inr full) out = let z : NO_ROOM ≡ OUT_OF_RANGE = sym full ∙ out in omega (arith, z)
+
+pub puts_line : {X : Type 0} (said : Option X) (x : X) (text : X → List ℕ) (line old new : List ℕ) (before size status : ℕ) → said ≡ Some x → line ≡ text x
+    → size ≡ length line → (status ≡ DONE → take size new ≡ line) → KeepsRoom old new size status → ((status ≡ NO_ROOM) ↔ (length old < length line))
+    → IsDoneOr status (NO_ROOM ∷ []) → PutsLine said text old new before size status
+puts_line said x text line old new before size status is of long put keeps full statuses = record {
+  done = λ done. (x, is, put done ∙ of);
+  room = keeps;
+  out_of_range = (λ out. absurd (within_range status statuses out), λ none. absurd (none-some x (sym none ∙ is)));
+  no_room = λ none. (x, is, long ∙ ap length of, omega (arith, full.0 none, long));
+  same_size = λ out. absurd (within_range status statuses out);
+  statuses = elim statuses [
+    | inl done ↦ inl done
+    | inr none ↦ inr (inr none)
+  ];
+}
