@@ -1,7 +1,7 @@
 -- What is told where a function is done, or why it is not.
-use Rattle.std.proofs.Common.{◌≡◌, ◌<◌, ◌++◌, ◌∷◌, ◌↔◌, ◌∙◌, [], ℕ, List, length, take, Option, Some, None, Result, Err, IsTrue, refl, sym, ap, inl, inr, arith}
+use Rattle.std.proofs.Common.{◌≡◌, ◌<◌, ◌++◌, ◌∷◌, ◌↔◌, ◌∙◌, [], ℕ, List, length, take, Option, Some, None, Result, Err, IsTrue, option_map, refl, sym, ap, inl, inr, arith}
 use Rattle.std.proofs.lemmas.Bool.Decides.{leb_tells}
-use Rattle.std.proofs.lemmas.Option.{none-some}
+use Rattle.std.proofs.lemmas.Option.{none-some, same_Some}
 use Rattle.pid_types.specs.declared.call.Call.{Call}
 use Rattle.pid_types.specs.declared.reply.CallFault.{CallFault}
 use Rattle.pid_types.specs.declared.reply.CallFault.TheVariants.{NoMemory, Spent}
@@ -22,6 +22,14 @@ use Rattle.foreign_calls.specs.Rooms.{KeepsRoom, PutsLine}
 -- the numbers are those of the reply
 pub tells_reply : (told : Reply) (old new : ReplyNumbers) → new ≡ numbers_of told → TellsReply told old new DONE
 tells_reply told old new is = record { reply = λ _. is; not_done = λ not. absurd (not refl) }
+
+-- those of the last reply
+pub last_told : (last : Option Reply) (told : Reply) (new : ReplyNumbers) → last ≡ Some told → Some new ≡ option_map numbers_of last → new ≡ numbers_of told
+last_told last told new is tells = same_Some new (numbers_of told) (tells ∙ ap (option_map numbers_of) is)
+
+pub again_told : (last : Option Reply) (told made : Reply) (tells saved : ReplyNumbers) → tells ≡ saved → last ≡ Some made → last ≡ Some told → tells ≡ numbers_of told
+    → saved ≡ numbers_of made
+again_told last told made tells saved same is here of = sym same ∙ of ∙ ap numbers_of (same_Some told made (sym here ∙ is))
 
 -- the query has its answer
 pub tells_answer : {X : Type 0} (held : X) (answer : X → Call → Reply) (said : Option Call) (asked : Call) (old new : ReplyNumbers)
