@@ -246,7 +246,7 @@ impl TaskTree {
     }
 
     /// All children of the one task become the other's, and those that have ended keep their ranks. It costs one write
-    /// for each child and two more for each that has ended, and a logarithm of these, taken over many calls.
+    /// for each child and one more for each that has ended, and a logarithm of these, taken over many calls.
     pub fn hand_on(&mut self, from: TaskKey, to: TaskKey)
         requires differ { from ≢ to }
         requires from { from < length self.old.tasks }
