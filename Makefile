@@ -68,7 +68,7 @@ test: ## * the gate: proves every crate from nothing, tries the edits that must 
 	@tools/report out/gate.txt crates/pidtab/out/pidtab -- $(MAKE) --no-print-directory gate
 
 # What the gate may cost, in processor minutes: tools/gate says on which machine. It is to come to 160.
-GATE_MINUTES = 205
+GATE_MINUTES = 195
 
 # The steps of the gate. Two look at the C around the library, which is not proved. The last is hostile to the programs that were built.
 # `rt ci` takes no links.
