@@ -558,7 +558,8 @@ impl MemberQueues {
         if root == NIL { None } else { Some(root) }
     }
 
-    /// The members of an owner, one after the other, each once: run after run, from the one of least rank on.
+    /// The members of an owner, one after the other, each once, in no order that a caller may rely on. To ask for them
+    /// costs one read.
     pub fn members(&self, owner: u32) -> RankedMembers<'_>
         requires { owner < length self.now }
         ensures { AreRankedMembers self.now owner result }

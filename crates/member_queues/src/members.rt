@@ -23,7 +23,7 @@ pub(crate) fn after(nodes: &[Node], run: u32, key: u32) -> (u32, u32)
     }
 }
 
-/// The members of an owner that are still to come: run after run, and each run in the order of the ranks.
+/// The members of an owner that are still to come, in no order that a caller may rely on.
 ///
 /// A step costs one read, and at the end of a run two.
 #[derive(Drop)]

@@ -148,7 +148,7 @@ impl TaskTree {
         self.children.members(parent)
     }
 
-    /// The children of the task that have ended, one after the other, each once.
+    /// The children of the task that have ended, one after the other, each once, in no order that a caller may rely on.
     pub fn ended_children(&self, parent: TaskKey) -> RankedMembers<'_>
         requires { parent < length self.now.tasks }
         ensures { AreRankedMembers self.now.ended parent result }
