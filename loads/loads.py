@@ -418,6 +418,19 @@ def chain(s, n):
         s.num.release(child)
 
 
+def deep_end(s, n):
+    """A chain of n tasks below a subreaper ends from its deep end: each exit hands the child that has ended to the subreaper."""
+    parent = s.fork(1)
+    s.add(f"subreaper {parent} on")
+    line = []
+    for _ in range(n):
+        parent = s.fork(parent)
+        line.append(parent)
+    s.body()
+    for task in reversed(line):
+        s.add(f"exit {task} 0")
+
+
 def wait_group(s, n):
     """Waits for a group of two among so many children."""
     for _ in range(n):
@@ -480,6 +493,7 @@ LOADS = {
     "wait_group_miss": (wait_group_miss, 4194304, (300, 3000, 30000), {30000: 330575}),
     "containers": (containers, 4194304, (300, 3000, 30000), 1600),
     "chain": (chain, 4194304, (300, 3000, 30000), 1107),
+    "deep_end": (deep_end, 4194304, (300, 3000), None),
     "wait_group": (wait_group, 4194304, (300, 30000), None),
     "remove_control": (remove_control, 4194304, (100, 10000), None),
     "getpid": (one_line("getpid 1"), 32768, (20000,), 492),
@@ -493,7 +507,10 @@ LOADS = {
 }
 
 # Those whose cost is told for each task that they concern, and how many these are.
-BY_TASK = dict.fromkeys(("fall", "exit_parent", "exit_parent_of_zombies"), lambda n: EVENTS * n) | {"fall_nested": lambda n: EVENTS * (1 + 4 * FAMILIES)}
+BY_TASK = dict.fromkeys(("fall", "exit_parent", "exit_parent_of_zombies"), lambda n: EVENTS * n) | {
+    "fall_nested": lambda n: EVENTS * (1 + 4 * FAMILIES),
+    "deep_end": lambda n: n * (n - 1) // 2,
+}
 # Those that `measure` leaves out unless they are named, since they take minutes.
 LONG = {"fork_storm_million"}
 
