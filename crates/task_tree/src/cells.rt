@@ -1,6 +1,6 @@
 //! Tasks by key, and how many of them are subreapers.
 ghost use Rattle.std.specs.Prelude.{◌≡◌, ℕ, ◌+◌, ◌<◌, ◌≤◌, ◌^◌, length, Some, None, true, false, OnOk, OnErr, []};
-ghost use Rattle.std.specs.Prelude.{slice_set, slice_index_or, ◌++◌, replicate};
+ghost use Rattle.std.specs.Prelude.{slice_set, slice_index_or, IsSome, ◌++◌, replicate};
 ghost use Rattle.task_tree.specs.Tree.{is_subreaper};
 
 use crate::Task;
@@ -99,6 +99,15 @@ impl Cells {
             self.subreapers += 1;
         }
         self.cells.set(key, task);
+    }
+
+    /// Whether the task with the key, which is there, is a subreaper.
+    #[inline(always)]
+    pub(crate) fn is_subreaper_at(&self, key: TaskKey) -> bool
+        requires { IsSome (slice_index_or self.now key None) }
+        ensures { result ≡ is_subreaper (slice_index_or self.now key None) }
+    {
+        self.cells.is_subreaper_at(key)
     }
 
     /// Whether some task is a subreaper. It costs one read.

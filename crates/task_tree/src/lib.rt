@@ -123,6 +123,15 @@ impl TaskTree {
         self.children.owner(key)
     }
 
+    /// Whether the task, which is there, is a subreaper. It costs one read, and no test whether it is there.
+    #[inline(always)]
+    pub fn is_subreaper_at(&self, key: TaskKey) -> bool
+        requires { IsSome (task_at self.now key) }
+        ensures { result ≡ is_subreaper (task_at self.now key) }
+    {
+        self.tasks.is_subreaper_at(key)
+    }
+
     /// Whether some task is a subreaper, one that has ended and waits to be reaped too. It costs one read.
     pub fn any_subreaper(&self) -> bool
         ensures none { result ≡ false → (k : ℕ) → is_subreaper (task_at self.now k) ≡ false }

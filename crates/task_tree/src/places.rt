@@ -1,7 +1,7 @@
 //! Tasks by key, as they lie in memory.
 ghost use Rattle.std.specs.Prelude.{◌≡◌, ◌+◌, ◌<◌, ◌≤◌, ◌^◌, length, None, Some, OnOk, OnErr, [], ◌++◌, replicate};
-ghost use Rattle.std.specs.Prelude.{slice_set, slice_index_or};
-ghost use Rattle.task_tree.specs.Places.{task_in, life_in};
+ghost use Rattle.std.specs.Prelude.{slice_set, slice_index_or, IsSome};
+ghost use Rattle.task_tree.specs.{Places.{task_in, life_in}, Tree.{is_subreaper}};
 
 use crate::Task;
 use pid_types::keys::{ControlKey, TaskKey};
@@ -147,6 +147,15 @@ impl Places {
         ensures { result ≡ slice_index_or self.now key None }
     {
         read_task(*self.places.get(key as usize)?)
+    }
+
+    /// Whether the task with the key, which is there, is a subreaper.
+    #[inline(always)]
+    pub(crate) fn is_subreaper_at(&self, key: TaskKey) -> bool
+        requires { IsSome (slice_index_or self.now key None) }
+        ensures { result ≡ is_subreaper (slice_index_or self.now key None) }
+    {
+        self.places[key as usize].subreaper
     }
 
     /// A task, or none, comes in the place of what the key had.
