@@ -261,6 +261,15 @@ impl Numbers {
         home_of(&self.idents, ident)
     }
 
+    /// The namespace of an identifier that is there. It costs one read, and no test whether it is there.
+    #[inline(always)]
+    pub fn space_at(&self, ident: IdentKey) -> SpaceKey
+        requires { IsSome (identifier_at self.now ident) }
+        ensures { option_map (λ u. u.space) (identifier_at self.now ident) ≡ Some result }
+    {
+        self.idents.at(ident).space
+    }
+
     /// Whether the identifier has a use of the kind.
     pub fn has_use(&self, ident: IdentKey, kind: Kind) -> bool
         ensures { result ≡ is_used_as kind (identifier_at self.now ident) }
