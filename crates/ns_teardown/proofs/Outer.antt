@@ -1,8 +1,8 @@
 -- Above an ancestor in another namespace none is in this one.
-use Rattle.std.proofs.Common.{◌≡◌, ◌≢◌, ℕ, zero, suc, ◌+◌, ◌-◌, ◌<◌, ◌==◌, ◌&&◌, Bool, true, false, not, cond, drop, [], length, Option, Some, None, option_map, refl, sym, ap, ◌∙◌, arith}
+use Rattle.std.proofs.Common.{◌≡◌, ◌≢◌, ℕ, zero, suc, ◌+◌, ◌-◌, ◌<◌, ◌==◌, ◌&&◌, Bool, true, false, cond, drop, [], length, Option, Some, None, option_map, refl, sym, ap, ◌∙◌, arith}
 use Rattle.std.specs.Prelude.{slice_index_or, find}
-use Rattle.std.specs.Option.{option_map_or, option_eq}
-use Rattle.std.proofs.lemmas.Bool.{eq-eqb, eqb-true}
+use Rattle.std.specs.Option.{option_map_or}
+use Rattle.std.proofs.lemmas.Bool.{eq-eqb}
 use Rattle.std.proofs.lemmas.List.{length-drop, get_or-drop}
 use Rattle.pid_types.specs.Chains.{climb, contains}
 use Rattle.pid_numbers.specs.Numbering.{Numbering, Identifier, identifier_at, path_at}
@@ -38,21 +38,6 @@ module _ (b : Numbering) (laws : HasLaws b) where
       let lt = j.1 in
       let zero : i.0 ≡ 0 = omega (arith, down, up, below, lt) in
       sym i.2 ∙ ap (λ n. slice_index_or (path_at b s) n 0) zero ∙ laws.own s (omega (arith, below))
-
--- what the comparison of two keys tells
-pub key_same : (o : Option ℕ) (n : ℕ) → false ≡ not (option_eq ◌==◌ o (Some n)) → o ≡ Some n
-key_same None n e = absurd (cc)
-key_same (Some m) n e = ap Some (eqb-true m n (go (m == n) e))
-  where
-    go : (b : Bool) → false ≡ not b → b ≡ true
-    go true e = refl
-    go false e = absurd (cc)
-
-pub key_other : (o : Option ℕ) (n : ℕ) → true ≡ not (option_eq ◌==◌ o (Some n)) → o ≢ Some n
-key_other None n e z = absurd (cc)
-key_other (Some m) n e z =
-    let on : (m == n) ≡ true = eq-eqb m n (ap (λ o. option_map_or (λ k. k) o m) z) in
-    absurd (let f = e ∙ ap not on in cc)
 
 -- a subreaper of this namespace, by its mark and its namespace
 pub marked-here : (s : Store) (space k : ℕ) → option_map_or (λ t. t.subreaper) (task_at s.tree k) false ≡ true → option_map (λ (u : Identifier). u.space) (identifier_at s.numbering k) ≡ Some space → is_subreaper_of s space k ≡ true

@@ -2,23 +2,13 @@
 ghost use Rattle.std.specs.Prelude.{◌≡◌, Some, IsSome, option_map};
 ghost use Rattle.{
   pid_numbers.specs.Numbering.{identifier_at},
-  task_tree.specs.Tree.{task_at, is_subreaper as is_subreaper_of},
+  task_tree.specs.Tree.{task_at},
   ns_teardown.specs.{GoodTasks.{HasGoodTasks}, Heirs.{nearest_subreaper_key}},
 };
 
 use pid_types::keys::{SpaceKey, TaskKey};
 use task_table::Tasks;
 use task_table::view::laws;
-
-/// Whether the task is a subreaper.
-fn is_subreaper(store: &Tasks, key: TaskKey) -> bool
-    ensures { result ≡ is_subreaper_of (task_at store.now.tree key) }
-{
-    match store.tree().task(key) {
-        Some(task) => task.subreaper,
-        None => false,
-    }
-}
 
 /// The nearest ancestor of a task of the namespace that is a subreaper there. It costs a step for each
 /// ancestor up to that one, or else up to the first in another namespace, above which none is in this one.
@@ -31,14 +21,14 @@ fn climb_to_subreaper(store: &Tasks, space: SpaceKey, key: TaskKey) -> Option<Ta
 {
     laws(store);
     let mut at = key;
-    for _ in 0..store.tree().keys() {
-        at = store.tree().parent(at)?;
-        if store.numbers().space_of(at) != Some(space) {
+    while let Some(parent) = store.tree().parent(at) {
+        if store.numbers().space_at(parent) != space {
             return None;
         }
-        if is_subreaper(store, at) {
-            return Some(at);
+        if store.tree().is_subreaper_at(parent) {
+            return Some(parent);
         }
+        at = parent;
     }
     None
 }
