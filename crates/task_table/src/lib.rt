@@ -208,10 +208,8 @@ impl Tasks {
         let Some(parent) = self.tree.parent(key) else {
             return 0;
         };
-        match self.numbers.space_of(parent) {
-            Some(space) => self.numbers.number_in(key, space).unwrap_or(0),
-            None => 0,
-        }
+        let space = self.numbers.space_at(parent);
+        self.numbers.number_in(key, space).unwrap_or(0)
     }
 
     /// A live task without a parent becomes a child of one: [`TaskTree::adopt`].

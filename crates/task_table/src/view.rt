@@ -65,10 +65,7 @@ fn own_space(store: &Tasks, key: TaskKey) -> SpaceKey
     ensures id { id_at store.now.numbering result ≡ Some (name_at store.now.numbering key).space }
 {
     laws(store);
-    match store.numbers().space_of(key) {
-        Some(space) => space,
-        None => unreachable!(),
-    }
+    store.numbers().space_at(key)
 }
 
 /// The task with the number in the namespace, zombies among them. It costs one search in the namespace's
