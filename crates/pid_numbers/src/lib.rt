@@ -315,6 +315,11 @@ impl Numbers {
         let Some(own) = home_of(&self.idents, ident) else {
             return;
         };
+        // Most identifiers are asked for in their own namespace, from which on they have one number.
+        if own == space {
+            write_numbers_inwards(&self.idents, ident, 1, numbers);
+            return;
+        }
         if !self.tree.is_within(own, space) {
             return;
         }

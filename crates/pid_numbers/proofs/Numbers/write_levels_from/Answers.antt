@@ -14,6 +14,30 @@ returns-then-not-is_within c =
     ∙ sym (views.levels-of c.self.inside c.self.view_is c.args.ident c.args.space c.in-Some.own h.0 h.1 h.2
     ∙ inwards.from-none c.args.space (way c.self.inside.tree.nodes c.in-Some.own) h.0.numbers (sym c.if-not-is_within.ensures))
 
+-- in its own namespace the first number is the only one
+pub write_numbers_inwards-requires : goal.write_numbers_inwards-requires
+write_numbers_inwards-requires c =
+    let h = views.home (ident_at c.self.inside.idents c.args.ident) c.in-Some.own c.in-Some.ensures in
+    let some = c.self.invariant.whole.numbering.tied.some c.args.ident h.0 h.1 in
+    record {
+      there = subst (λ o. IfSome o (λ u. 1 ≤ length u.numbers)) (sym h.1) (omega (arith, some));
+      few = omega arith;
+    }
+
+pub returns-then-own-space : goal.returns-then-own-space
+returns-then-own-space c =
+    let ways = way c.self.inside.tree.nodes in
+    let b = c.self.invariant.whole.numbering in
+    let own = c.in-Some.own in
+    let h = views.home (ident_at c.self.inside.idents c.args.ident) own c.in-Some.ensures in
+    let len : length h.0.numbers ≡ length (ways own) = b.tied.full c.args.ident h.0 h.1 ∙ ap (λ s. length (ways s)) h.2 in
+    let some = b.tied.some c.args.ident h.0 h.1 in
+    let below : 0 < length (ways own) = omega (arith, len, some) in
+    c.write_numbers_inwards.ensures
+    ∙ ap (λ o. option_map_or (λ u. reverse (take 1 u.numbers)) o []) h.1
+    ∙ sym (views.levels-of c.self.inside c.self.view_is c.args.ident c.args.space own h.0 h.1 h.2
+    ∙ inwards.from-place c.args.space (ways own) h.0.numbers (paths.distinct-path ways (ways own) (b.tree.paths own)) len 0 below (paths.own-first ways b.tree own below ∙ c.if-own-space.true))
+
 pub overflow_sub-above : goal.overflow_sub-above
 overflow_sub-above c =
     let few = (paths.within (way c.self.inside.tree.nodes) c.self.invariant.whole.numbering.tree c.in-Some.own c.args.space (sym c.if-not-is_within.ensures)).1 in
@@ -28,11 +52,11 @@ placed c =
     let place : c.levels.result - c.levels-2.result ≡ length (ways own) - length (ways c.args.space) = ap (λ n. n - c.levels-2.result) c.levels.ensures.value ∙ ap (λ n. length (ways own) - n) c.levels-2.ensures.value in
     (omega (arith, place, w.0, w.1), ap (λ j. get_or (ways own) j 0) place ∙ w.2)
 
-pub write_numbers_inwards-requires : goal.write_numbers_inwards-requires
-write_numbers_inwards-requires c =
+pub write_numbers_inwards-requires-2 : goal.write_numbers_inwards-requires-2
+write_numbers_inwards-requires-2 c =
     let h = views.home (ident_at c.self.inside.idents c.args.ident) c.in-Some.own c.in-Some.ensures in
     let len = c.self.invariant.whole.numbering.tied.full c.args.ident h.0 h.1 ∙ ap (λ s. length (way c.self.inside.tree.nodes s)) h.2 in
-    let lt = (placed (goal.at.write_numbers_inwards-requires c).After-levels-2).0 in
+    let lt = (placed (goal.at.write_numbers_inwards-requires-2 c).After-levels-2).0 in
     record {
       there = subst (λ o. IfSome o (λ u. c.levels.result - c.levels-2.result + 1 ≤ length u.numbers)) (sym h.1) (omega (arith, lt, len));
       few = omega (arith, lt, c.levels.ensures.value, c.levels.ensures.few);
@@ -47,7 +71,7 @@ returns c =
     let h = views.home (ident_at c.self.inside.idents c.args.ident) own c.in-Some.ensures in
     let place = placed (goal.at.returns c).After-levels-2 in
     let one : k + 1 ≡ suc k = omega arith in
-    c.write_numbers_inwards.ensures
+    c.write_numbers_inwards-2.ensures
     ∙ ap (λ o. option_map_or (λ u. reverse (take (k + 1) u.numbers)) o []) h.1
     ∙ ap (λ n. reverse (take n h.0.numbers)) one
     ∙ sym (views.levels-of c.self.inside c.self.view_is c.args.ident c.args.space own h.0 h.1 h.2
