@@ -3,8 +3,10 @@ use Rattle.std.specs.Prelude.{◌≡◌, ◌≢◌, ◌↔◌, ◌<◌, ◌≤�
 use Rattle.pid_types.specs.declared.call.Call.{Call}
 use Rattle.pid_types.specs.Settings.{HasGoodPidMax}
 use Rattle.pid_types.specs.Step.{may_grow}
-use Rattle.kept_table.specs.Calls.{after_recorded, begun, cut_at, to_cut, IsWithoutFirst}
+use Rattle.saved_form.specs.declared.numbers.ReplyNumbers.{ReplyNumbers}
+use Rattle.kept_table.specs.Calls.{after_recorded, begun, cut_at, outcome, to_cut, IsWithoutFirst}
 use Rattle.kept_table.specs.Chronicle.{Chronicle, total, recorded, next_stamp}
+use Rattle.foreign_numbers.specs.Numbers.{numbers_of}
 use Rattle.foreign_numbers.specs.declared.status.TheConstants.{DONE, OUT_OF_RANGE, SPENT, NO_MEMORY}
 use Rattle.foreign_calls.specs.Held.{IsDoneOr, NeedsOpen}
 use Rattle.foreign_calls.specs.Made.{IsSpent}
@@ -67,6 +69,12 @@ pub record IsSaidStatus (held : Option Chronicle) (worker : ℕ) (said : Option 
   pub spent : (status ≡ SPENT) ↔ IsSome said × Has held (λ c. (worker < length c.cut) × IsSpent (next_stamp c))
   pub no_memory : status ≡ NO_MEMORY → (made : Call) × (said ≡ Some made) × Has held (λ c. 0 < c.room → IsTrue (may_grow made))
   pub needs_open : NeedsOpen held status (OUT_OF_RANGE ∷ SPENT ∷ NO_MEMORY ∷ [])
+
+-- the worker's call that numbers say was made and recorded, and its reply is told; or the status says why not, and nothing shows of it
+pub record RecordsSaid (c : Chronicle) (worker : ℕ) (said : Option Call) (old new : ReplyNumbers) (before ordinal status : ℕ) (d : Chronicle) : Type 0 where
+  pub done : status ≡ DONE → (made : Call) × (said ≡ Some made) × IsRecorded c worker made ordinal (Some d) × (new ≡ numbers_of (outcome c made).reply)
+  pub not_done : status ≢ DONE → (roomless d ≡ roomless c) × (new ≡ old) × (ordinal ≡ before)
+  pub why : IsSaidStatus (Some c) worker said status
 
 -- the history was cut away: the present state is the opening, ordinals go on, and each worker's calls stay counted
 pub record IsCut (c d : Chronicle) : Type 0 where

@@ -5,13 +5,16 @@ ghost use Rattle.{
   kept_past.specs.Stored.{IsList},
   kept_table.specs.{Calls.{outcome}, Chronicle.{last_reply}},
   foreign_calls.specs.Made.{TellsReply, IsReplyToLast},
-  foreign_calls.specs.{Records.{roomless, IsRecordedKeeping, IsWorkerStatus, RecordsCall}, Rooms.{KeepsRoom}},
-  foreign_numbers.specs.Numbers.{numbers_of},
+  foreign_calls.specs.{Records.{roomless, IsRecordedKeeping, IsWorkerStatus, RecordsCall, RecordsSaid}, Rooms.{KeepsRoom}},
+  foreign_numbers.specs.Numbers.{call_of, numbers_of},
 };
 
 use crate::texts::write_reply;
-use foreign_numbers::numbers::{ReplyNumbers, put_list, put_reply, put_short};
-use foreign_numbers::status::{DONE, OUT_OF_RANGE, status_of};
+use foreign_numbers::numbers::{
+    CallNumbers, ReplyNumbers, put_list, put_reply, put_short, read_call,
+};
+use foreign_numbers::operations;
+use foreign_numbers::status::{DONE, OUT_OF_RANGE, status_of, unmade};
 use kept_table::Kept;
 use pid_script::answer::LONGEST_ANSWER;
 use pid_types::call::Call;
@@ -33,7 +36,7 @@ pub fn make_on(
     ensures room { held.old.room ≤ held.new.room + 1 }
 {
     if worker >= held.workers() {
-        return OUT_OF_RANGE;
+        return unmade(OUT_OF_RANGE);
     }
     let place = held.total();
     match held.make_call(worker, made) {
@@ -91,6 +94,52 @@ pub fn call_on(
     }
     put_last(held, told, reply);
     DONE
+}
+
+/// Makes the call that is said as [`call_on`] does. The status is `OUT_OF_RANGE` too where none is.
+#[inline(always)]
+fn said_on(
+    held: &mut Kept,
+    worker: u32,
+    said: Option<Call>,
+    reply: &mut ReplyNumbers,
+    ordinal: &mut u64,
+) -> u32
+    ensures { RecordsSaid held.old worker said reply.old reply.new ordinal.old ordinal.new result held.new }
+{
+    let Some(made) = said else {
+        return unmade(OUT_OF_RANGE);
+    };
+    call_on(held, worker, made, reply, ordinal)
+}
+
+/// Makes the call that the numbers say, and tells its reply and its place. Each operation that comes often has a copy of
+/// the whole way: in it the compiler knows the operation, and leaves out what only others need.
+#[inline(always)]
+pub fn said_by_operation(
+    held: &mut Kept,
+    worker: u32,
+    said: &CallNumbers,
+    reply: &mut ReplyNumbers,
+    ordinal: &mut u64,
+) -> u32
+    ensures { RecordsSaid held.old worker (call_of said.now) reply.old reply.new ordinal.old ordinal.new
+        result held.new }
+{
+    match said.operation {
+        operations::FORK => said_on(held, worker, read_call(said), reply, ordinal),
+        operations::EXEC => said_on(held, worker, read_call(said), reply, ordinal),
+        operations::EXIT => said_on(held, worker, read_call(said), reply, ordinal),
+        operations::WAIT => said_on(held, worker, read_call(said), reply, ordinal),
+        operations::SETPGID => said_on(held, worker, read_call(said), reply, ordinal),
+        operations::GETPID => said_on(held, worker, read_call(said), reply, ordinal),
+        operations::GETPPID => said_on(held, worker, read_call(said), reply, ordinal),
+        operations::GETPGID => said_on(held, worker, read_call(said), reply, ordinal),
+        operations::NSPID => said_on(held, worker, read_call(said), reply, ordinal),
+        operations::NEXT => said_on(held, worker, read_call(said), reply, ordinal),
+        operations::COUNT => said_on(held, worker, read_call(said), reply, ordinal),
+        _ => said_on(held, worker, read_call(said), reply, ordinal),
+    }
 }
 
 /// Makes the call as [`call_on`] does, and then cuts first entries away where more than so many are kept.

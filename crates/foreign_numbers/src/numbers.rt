@@ -106,6 +106,7 @@ pub fn read_call(n: &CallNumbers) -> Option<Call>
 
 /// The call from operation 9 on.
 #[tactic(auto, unfolding(crate::specs::Numbers::control_call_of))]
+#[inline(always)]
 fn read_control_call(n: &CallNumbers) -> Option<Call>
     ensures { result ≡ control_call_of n.now }
 {
@@ -124,6 +125,7 @@ fn read_control_call(n: &CallNumbers) -> Option<Call>
 
 /// The call from operation 14 on.
 #[tactic(auto, unfolding(crate::specs::Numbers::later_call_of))]
+#[inline(always)]
 fn read_later_call(n: &CallNumbers) -> Option<Call>
     ensures { result ≡ later_call_of n.now }
 {

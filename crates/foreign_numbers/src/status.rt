@@ -78,7 +78,18 @@ pub const BAD_TEXT: u32 = 117;
 pub const NOT_RECOVERABLE: u32 = 131;
 // The end of statuses.
 
+/// The status of a call that is not made. So few are that the compiler puts the way here behind that of the others.
+#[cold]
+#[inline(never)]
+pub fn unmade(status: u32) -> u32
+    ensures { result ≡ status }
+{
+    status
+}
+
 /// The status of a call that has no reply.
+#[cold]
+#[inline(never)]
 pub fn status_of(fault: CallFault) -> u32
     ensures no_memory { fault ≡ NoMemory → result ≡ NO_MEMORY }
     ensures spent { fault ≡ Spent → result ≡ SPENT }

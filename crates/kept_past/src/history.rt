@@ -201,6 +201,7 @@ impl History {
     }
 
     /// Holds the present state, which is the opening. It is not inlined, since a call rarely comes here.
+    #[cold]
     #[inline(never)]
     fn hold(&mut self, table: &PidTable, config: &Config, is_root: bool) -> Result<(), AllocError>
         requires bare { self.old.opening ≡ None }

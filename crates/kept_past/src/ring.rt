@@ -290,6 +290,7 @@ fn list_at(lists: &VecDeque<ArrayVec<Pid, LEVELS>>, first: u64, place: u64) -> &
 
 /// Makes room for n more lists, and answers for how many there is room. It is not inlined, since a call rarely comes
 /// here. The error is want of memory, or of places, of which so many never were: stamps are spent before.
+#[cold]
 #[inline(never)]
 fn list_room_for(
     lists: &mut VecDeque<ArrayVec<Pid, LEVELS>>,

@@ -11,10 +11,10 @@ ghost use Rattle.{
 ghost use Rattle.pid_script.specs.declared.line.Line.TheVariants as says;
 
 use foreign_calls::record::PidtabRecord;
-use foreign_calls::record_calls::{call_keeping_on, call_on, line_on};
+use foreign_calls::record_calls::{call_keeping_on, line_on, said_by_operation};
 use foreign_numbers::numbers::{CallNumbers, ReplyNumbers, read_call};
 use foreign_numbers::status::{
-    BAD_LINE, CLOSED, DONE, EMPTY_LINE, NO_MEMORY, NO_ROOM, OUT_OF_RANGE, SPENT,
+    BAD_LINE, CLOSED, DONE, EMPTY_LINE, NO_MEMORY, NO_ROOM, OUT_OF_RANGE, SPENT, unmade,
 };
 use pid_script::answer::LONGEST_ANSWER;
 use pid_script::line::{Line, parse_line};
@@ -45,12 +45,9 @@ pub extern "C" fn pidtab_record_call(
     ensures status { IsSaidStatus table.old.handle.held worker (call_of call.now) result }
 {
     if !table.is_open {
-        return CLOSED;
+        return unmade(CLOSED);
     }
-    let Some(made) = read_call(call) else {
-        return OUT_OF_RANGE;
-    };
-    call_on(table.handle.lend(), worker, made, reply, ordinal)
+    said_by_operation(table.handle.lend(), worker, call, reply, ordinal)
 }
 
 /// Makes the call as [`pidtab_record_call`] does, with the same statuses, and then keeps at most so many entries, the

@@ -75,7 +75,7 @@ pub fn get_sid(store: &Tasks, caller: Pid, pid: Pid) -> ShortReply
 
 /// `NSpid` of `proc_pid_status(5)`: writes the target's numbers from the caller's namespace inwards over others. It
 /// answers the refusal where there is one; the numbers are then of no account.
-#[inline(never)]
+#[inline(always)]
 pub fn ns_pid(
     store: &Tasks,
     caller: Pid,

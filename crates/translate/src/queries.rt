@@ -19,6 +19,7 @@ use task_table::Tasks;
 use task_table::view::{Found, find_live, find_task, laws};
 
 /// The number of an identifier in a namespace, 0 where it is not visible there.
+#[inline(always)]
 fn seen(store: &Tasks, space: SpaceKey, key: IdentKey) -> Pid
     requires { IsSome (identifier_at store.now.numbering key) }
     ensures { (i : ℕ) → id_at store.now.numbering space ≡ Some i
@@ -29,6 +30,7 @@ fn seen(store: &Tasks, space: SpaceKey, key: IdentKey) -> Pid
 }
 
 /// The number of a task in a namespace.
+#[inline(always)]
 fn seen_task(store: &Tasks, space: SpaceKey, key: IdentKey) -> Pid
     requires { IsSome (task_at store.now.tree key) }
     ensures { (i : ℕ) → id_at store.now.numbering space ≡ Some i
@@ -39,6 +41,7 @@ fn seen_task(store: &Tasks, space: SpaceKey, key: IdentKey) -> Pid
 }
 
 /// The number of a task's group in a namespace.
+#[inline(always)]
 pub(crate) fn seen_group(store: &Tasks, space: SpaceKey, found: &Found) -> Pid
     requires { task_at store.now.tree found.now.key ≡ Some found.now.task }
     ensures { (i : ℕ) → id_at store.now.numbering space ≡ Some i
@@ -50,6 +53,7 @@ pub(crate) fn seen_group(store: &Tasks, space: SpaceKey, found: &Found) -> Pid
 }
 
 /// The number of a task's session in a namespace.
+#[inline(always)]
 pub(crate) fn seen_session(store: &Tasks, space: SpaceKey, found: &Found) -> Pid
     requires { task_at store.now.tree found.now.key ≡ Some found.now.task }
     ensures { (i : ℕ) → id_at store.now.numbering space ≡ Some i
@@ -62,6 +66,7 @@ pub(crate) fn seen_session(store: &Tasks, space: SpaceKey, found: &Found) -> Pid
 }
 
 /// The number of a task's parent in a namespace; 0 for the root init, which has none.
+#[inline(always)]
 pub(crate) fn seen_parent(store: &Tasks, space: SpaceKey, key: TaskKey) -> Pid
     requires parents { HasParents store.now }
     requires there { IsSome (task_at store.now.tree key) }
@@ -78,6 +83,7 @@ pub(crate) fn seen_parent(store: &Tasks, space: SpaceKey, key: TaskKey) -> Pid
 
 /// `getpid(2)`.
 #[tactic(auto, unfolding(pid_types::specs::Queries::get_pid))]
+#[inline(always)]
 pub(crate) fn get_pid(store: &Tasks, caller: Pid) -> ShortReply
     requires { IsWhole store.now }
     ensures { reply_of result ≡ get_pid_of (state_of store.now) caller }
@@ -90,6 +96,7 @@ pub(crate) fn get_pid(store: &Tasks, caller: Pid) -> ShortReply
 
 /// `getppid(2)`: 0 for a parent that the caller cannot see, and for the root init.
 #[tactic(auto, unfolding(pid_types::specs::Queries::get_ppid))]
+#[inline(always)]
 pub(crate) fn get_ppid(store: &Tasks, caller: Pid) -> ShortReply
     requires { IsWhole store.now }
     ensures { reply_of result ≡ get_ppid_of (state_of store.now) caller }
@@ -101,6 +108,7 @@ pub(crate) fn get_ppid(store: &Tasks, caller: Pid) -> ShortReply
 }
 
 /// The task with the number in the caller's namespace, where 0 is the caller.
+#[inline(always)]
 pub(crate) fn self_or_task(store: &Tasks, caller: &Found, pid: Pid) -> Option<Found>
     requires { IsFound store.now caller.now }
     ensures there { IfSome result (λ f. task_at store.now.tree f.key ≡ Some f.task) }
@@ -118,6 +126,7 @@ pub(crate) fn self_or_task(store: &Tasks, caller: &Found, pid: Pid) -> Option<Fo
 
 /// `getpgid(2)`: 0 for a group that the caller cannot see.
 #[tactic(auto, unfolding(pid_types::specs::Queries::get_pgid))]
+#[inline(always)]
 pub(crate) fn get_pgid(store: &Tasks, caller: Pid, pid: Pid) -> ShortReply
     requires { IsWhole store.now }
     ensures { reply_of result ≡ get_pgid_of (state_of store.now) caller pid }
@@ -133,6 +142,7 @@ pub(crate) fn get_pgid(store: &Tasks, caller: Pid, pid: Pid) -> ShortReply
 
 /// `getsid(2)`: 0 for a session that the caller cannot see.
 #[tactic(auto, unfolding(pid_types::specs::Queries::get_sid))]
+#[inline(always)]
 pub(crate) fn get_sid(store: &Tasks, caller: Pid, pid: Pid) -> ShortReply
     requires { IsWhole store.now }
     ensures { reply_of result ≡ get_sid_of (state_of store.now) caller pid }
@@ -149,6 +159,7 @@ pub(crate) fn get_sid(store: &Tasks, caller: Pid, pid: Pid) -> ShortReply
 /// `NSpid` of `proc_pid_status(5)`: writes the target's numbers from the caller's namespace inwards over others. It
 /// answers the refusal where there is one; the numbers are then of no account.
 #[tactic(auto, unfolding(pid_types::specs::Queries::ns_pid))]
+#[inline(always)]
 pub(crate) fn ns_pid(
     store: &Tasks,
     caller: Pid,
@@ -174,6 +185,7 @@ pub(crate) fn ns_pid(
 /// The least number from the given one on that is in use as the kind, in the caller's namespace. It costs one
 /// search by marks.
 #[tactic(auto, unfolding(pid_types::specs::Queries::next))]
+#[inline(always)]
 pub(crate) fn next(store: &Tasks, caller: Pid, kind: Kind, from: Pid) -> ShortReply
     requires { IsWhole store.now }
     ensures { reply_of result ≡ next_of (state_of store.now) caller kind from }
