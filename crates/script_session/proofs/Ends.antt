@@ -1,7 +1,8 @@
 -- How a script ends.
-use Rattle.std.proofs.Common.{◌≡◌, ℕ, Bool, List, [], ◌++◌, Option, Some, sym, ap, ◌∙◌, subst, append-nil}
-use Rattle.script_session.proofs.Names.{Appends, Consumes, IsAtEnd, State, Call, Reply, Event, heard, said, Line, Tally, at_start, said_of, said_within, kept_after, last_said, progress_of, ended_at, SaysScript, Answers, Finishes}
-use Rattle.pid_script.proofs.Said.{said_within-all}
+use Rattle.std.proofs.Common.{◌≡◌, ◌↔◌, ℕ, Bool, true, false, IsTrue, List, [], ◌∷◌, ◌++◌, Option, Some, sym, ap, ◌∙◌, subst, append-nil}
+use Rattle.script_session.proofs.Names.{Appends, Consumes, IsAtEnd, State, Call, Reply, Event, heard, said, Line, Tally, at_start, said_of, said_within, kept_after, kept_more, last_said, progress_of, ended_at, SaysScript, Answers, Finishes}
+use Rattle.pid_script.specs.Script.{said_line}
+use Rattle.pid_script.proofs.Said.{said_within-all, last_line}
 use Rattle.pid_script.proofs.Within.{said_within-append, kept_after-append}
 
 module _ {may : Call → Bool} {state : State} {stamp : ℕ} {from to before after : Option (List ℕ)} where
@@ -40,3 +41,9 @@ more_kept read piece part after is next = next ∙ ap (λ kept. kept_after kept 
 -- the last line
 pub last_of : (read : List ℕ) (part : Option (List ℕ)) → part ≡ kept_after (Some []) read → said_within (Some []) read ++ last_said part ≡ said_of read
 last_of read part is = ap (λ kept. said_within (Some []) read ++ last_said kept) is ∙ said_within-all read
+
+-- the line of what is kept, where a test says that something is
+pub last_kept : (line : Line) (kept : Option (List ℕ)) (empty : Bool) → line ≡ said_line (kept_more kept [])
+    → IsTrue empty ↔ (kept ≡ Some []) → empty ≡ false → line ∷ [] ≡ last_said kept
+last_kept line kept empty is tested some =
+    ap (λ l. l ∷ []) is ∙ last_line kept (λ none. let z : false ≡ true = sym some ∙ tested.1 none in cc)

@@ -94,7 +94,6 @@ impl Job {
     }
 
     /// Adds the last line, if it has no newline.
-    #[tactic(auto, using(pid_script::proofs::Said::last_line))]
     fn push_last(&mut self) -> Result<(), JobFault>
         requires room { self.old.lines + 1 < 2 ^ 64 }
         ensures ok { OnOk result (Adds self.old.calls.items self.old.lines

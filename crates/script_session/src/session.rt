@@ -181,7 +181,6 @@ fn answer_line<T: Table, K: Sink>(
 }
 
 /// Answers the lines that end within the chunk.
-#[tactic(auto, using(pid_script::proofs::Within::no_end))]
 fn answer_chunk<T: Table, K: Sink>(
     session: &mut Session,
     table: &mut T,
@@ -209,7 +208,6 @@ fn answer_chunk<T: Table, K: Sink>(
 }
 
 /// Answers the last line, if it has no newline.
-#[tactic(auto, using(pid_script::proofs::Said::last_line))]
 fn answer_last<T: Table, K: Sink>(
     session: &mut Session,
     table: &mut T,

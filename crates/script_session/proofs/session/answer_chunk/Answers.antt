@@ -67,3 +67,32 @@ returns-clause-told g c =
       fault = tt;
       stopped = tt;
     }
+
+pub answer_line-requires : goal.answer_line-requires
+answer_line-requires g c =
+    let before = c.loop-end.invariant in
+    let end = first_end c.loop-end.session.part c.loop-end.rest.now (c.in-Some.end.now, c.in-Some.after.now) (sym c.in-Some.ensures) in
+    record { counted = before.counted; room = omega (arith, before.few, end.shorter, c.requires.room) }
+
+pub returns-in_err-answer_line-clause-part : goal.returns-in_err-answer_line-clause-part
+returns-in_err-answer_line-clause-part g c = let p = err_from_is_err_and c.from_residual.result c.from_residual.ensures.1 in rw p.1 tt
+
+pub returns-in_err-answer_line-clause-counted : goal.returns-in_err-answer_line-clause-counted
+returns-in_err-answer_line-clause-counted g c = c.in_err-answer_line.ensures.counted.counted
+
+pub returns-in_err-answer_line-clause-lines : goal.returns-in_err-answer_line-clause-lines
+returns-in_err-answer_line-clause-lines g c =
+    let before = c.loop-end.invariant in
+    let end = first_end c.loop-end.session.part c.loop-end.rest.now (c.in-Some.end.now, c.in-Some.after.now) (sym c.in-Some.ensures) in
+    omega (arith, before.few, end.shorter, c.in_err-answer_line.ensures.counted.lines)
+
+pub returns-clause-part : goal.returns-clause-part
+returns-clause-part g c =
+    let none = no_end c.loop-end.session.part c.loop-end.rest.now (sym c.in_default.ensures) in
+    c.push.ensures.value ∙ sym none.1 ∙ c.loop-end.invariant.kept
+
+pub returns-clause-counted : goal.returns-clause-counted
+returns-clause-counted g c = c.loop-end.invariant.counted
+
+pub returns-clause-lines : goal.returns-clause-lines
+returns-clause-lines g c = omega (arith, c.loop-end.invariant.few)
