@@ -2,10 +2,19 @@
 use Rattle.std.proofs.Common.{◌∙◌, refl, sym, ap, rules}
 use Rattle.pid_types.specs.Outcome.{Outcome, unless_found}
 use Rattle.pid_types.specs.Fork.{forked}
+use Rattle.pids_charge.specs.Charges.{stands}
+use Rattle.task_tree.specs.declared.Task.{Task}
 use Rattle.task_table.specs.View.{name_at, row_of, state_of}
+use Rattle.task_table.proofs.InUse.{live-home}
 use Rattle.fork_calls.proofs.Plans.{room-ok}
 use Rattle.fork_calls.proofs.Into as into
 use Rattle.fork_calls.proofs.fork_planned.Goals as goal
+
+pub fork-requires-clause-home : goal.fork-requires-clause-home
+fork-requires-clause-home c =
+    let found = c.requires.caller.found.there in
+    ap (λ (t : Task). stands c.args.store.now.charges t.home) c.child_of-task.ensures
+    ∙ live-home c.args.store.now c.laws.ensures c.args.found.now.key c.args.found.now.task found c.requires.caller.live
 
 pub returns-in-Some-clause-state : goal.returns-in-Some-clause-state
 returns-in-Some-clause-state c =
