@@ -1,5 +1,6 @@
 -- The parts are written one after another and agree again only at the end: the drawn key is the one made room for, in no part before
 use Rattle.std.proofs.Common.{◌≡◌, ◌+◌, ℕ, List, [], None, Some, Option, true, is_some, option_map, if◌then◌else◌, refl, sym, ap, subst, arith, ◌∙◌}
+use Rattle.std.proofs.lemmas.List.Sums.{count_by-le-length}
 use Rattle.std.specs.Option.{option_map_or}
 use Rattle.std.specs.Prelude.{slice_set, slice_index_or}
 use Rattle.pids_charge.specs.Charges.{Home, stands}
@@ -20,6 +21,11 @@ settle-requires-clause-from c p e =
     let same = rw (← c.self.view_is) at c.make_room.ensures.same in
     let there : is_some (task_at c.self.inside.tree p) ≡ true = ap is_some (same.tasks p) ∙ c.requires.from p e in
     (c.self.invariant.agree.members p ∙ there, changes.in_range c.self.inside.tree.tasks p there)
+
+pub settle-requires-clause-all : goal.settle-requires-clause-all
+settle-requires-clause-all c =
+    let all = c.self.invariant.agree.all in
+    omega (arith, all, count_by-le-length is_some c.self.inside.tree.tasks, c.laws-3.ensures.few)
 
 pub settle-requires-clause-named : goal.settle-requires-clause-named
 settle-requires-clause-named c k m is =

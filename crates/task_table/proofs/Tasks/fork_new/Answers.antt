@@ -1,5 +1,6 @@
 -- The parts agree again only at the end; the new namespace is on no older path, so the ranks of waiting children stay as they are
-use Rattle.std.proofs.Common.{◌≡◌, ◌+◌, ℕ, List, [], None, Some, Option, is_some, option_map, if◌then◌else◌, refl, sym, ap, subst, arith, ◌∙◌}
+use Rattle.std.proofs.Common.{◌≡◌, true, ◌+◌, ℕ, List, [], None, Some, Option, is_some, option_map, if◌then◌else◌, refl, sym, ap, subst, arith, ◌∙◌}
+use Rattle.std.proofs.lemmas.List.Sums.{count_by-le-length}
 use Rattle.std.specs.Option.{option_map_or}
 use Rattle.std.specs.Prelude.{slice_set, slice_index_or, drop}
 use Rattle.pids_charge.specs.Charges.{Home, stands}
@@ -7,11 +8,26 @@ use Rattle.pid_types.specs.declared.call.Kind.TheVariants.{Group, Session}
 use Rattle.pid_numbers.specs.Numbering.{Namespace, identifier_at, namespace_at, path_at, moved as cursor_moved}
 use Rattle.task_table.specs.Store.{Store}
 use Rattle.task_table.specs.Residents.{live_home}
+use Rattle.task_tree.specs.Tree.{task_at}
+use Rattle.task_table.proofs.Changes as changes
 use Rattle.task_table.proofs.Less as less
 use Rattle.task_table.proofs.Groups as groups
 use Rattle.task_table.proofs.Births as births
 use Rattle.task_table.proofs.Housed as housed
 use Rattle.task_table.proofs.Tasks.fork_new.Goals as goal
+
+pub settle-requires-clause-from : goal.settle-requires-clause-from
+settle-requires-clause-from c p e =
+    let same = rw (← c.self.view_is) at c.make_room.ensures.same in
+    let is : c.args.from ≡ p = cc in
+    let from = subst (λ k. is_some (task_at c.args.self.now.tree k) ≡ true) is c.requires.from in
+    let there : is_some (task_at c.self.inside.tree p) ≡ true = ap is_some (same.tasks p) ∙ from in
+    (c.self.invariant.agree.members p ∙ there, changes.in_range c.self.inside.tree.tasks p there)
+
+pub settle-requires-clause-all : goal.settle-requires-clause-all
+settle-requires-clause-all c =
+    let all = c.self.invariant.agree.all in
+    omega (arith, all, count_by-le-length is_some c.self.inside.tree.tasks, c.laws-3.ensures.few)
 
 pub settle-requires-clause-named : goal.settle-requires-clause-named
 settle-requires-clause-named c k m is =

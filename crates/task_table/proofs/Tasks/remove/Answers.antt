@@ -45,3 +45,38 @@ pub returns-clause-numbers : goal.returns-clause-numbers
 returns-clause-numbers c =
     subst (λ (s : Store). IsLess s.numbering c.take_use.new.numbers) c.self.view_is
     (less.IsLess-trans c.self.inside.numbers c.laws.ensures.full c.laws.ensures.own c.take_uses.new.numbers c.take_use.new.numbers c.take_uses.ensures.less c.take_use.ensures.less)
+
+pub leave_home-requires-clause-key : goal.leave_home-requires-clause-key
+leave_home-requires-clause-key c =
+    let there = rw (← c.self.view_is) at c.requires in
+    let room = changes.in_range c.self.inside.tree.tasks c.args.key (ap is_some there) in
+    let rooms = c.self.invariant.housed.within in
+    omega (arith, room, rooms)
+
+pub leave_home-requires-clause-live : goal.leave_home-requires-clause-live
+leave_home-requires-clause-live c =
+    let old : Store = record { numbering = c.self.inside.numbers; tree = c.self.inside.tree; members = c.self.inside.members; charges = c.self.inside.controls } in
+    let there = rw (← c.self.view_is) at c.requires in
+    changes.live_some old c.self.invariant.agree c.args.key c.args.task there
+
+pub leave_home-requires-clause-ended : goal.leave_home-requires-clause-ended
+leave_home-requires-clause-ended c =
+    let old : Store = record { numbering = c.self.inside.numbers; tree = c.self.inside.tree; members = c.self.inside.members; charges = c.self.inside.controls } in
+    let there = rw (← c.self.view_is) at c.requires in
+    changes.zombie_some old c.self.invariant.agree c.args.key c.args.task there
+
+pub take_uses-requires-clause-group : goal.take_uses-requires-clause-group
+take_uses-requires-clause-group c =
+    let old : Store = record { numbering = c.self.inside.numbers; tree = c.self.inside.tree; members = c.self.inside.members; charges = c.self.inside.controls } in
+    let there = rw (← c.self.view_is) at c.requires in
+    let m = held (membership_at c.self.inside.members c.args.key) (changes.member_there old c.self.invariant.agree c.args.key c.args.task there) in
+    rw (← groups.group_is c.self.inside.members c.args.key m.0 m.1 c.group-group.result c.group-group.ensures)
+    (groups.group_used old c.self.invariant.agree c.args.key m.0 m.1)
+
+pub take_uses-requires-clause-session : goal.take_uses-requires-clause-session
+take_uses-requires-clause-session c =
+    let old : Store = record { numbering = c.self.inside.numbers; tree = c.self.inside.tree; members = c.self.inside.members; charges = c.self.inside.controls } in
+    let there = rw (← c.self.view_is) at c.requires in
+    let m = held (membership_at c.self.inside.members c.args.key) (changes.member_there old c.self.invariant.agree c.args.key c.args.task there) in
+    rw (← groups.session_is c.self.inside.members c.args.key m.0 m.1 c.session-session.result c.session-session.ensures)
+    (groups.session_used old c.self.invariant.agree c.args.key m.0 m.1)
