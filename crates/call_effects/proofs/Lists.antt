@@ -1,8 +1,9 @@
 -- Lists of numbers that rise, and lists in which each comes once.
-use Rattle.std.proofs.Common.{◌≡◌, ◌⊎◌, ◌==◌, ◌<◌, ◌≤◌, ℕ, zero, suc, List, [], ◌∷◌, length, refl, sym, subst, inl, inr, arith}
+use Rattle.std.proofs.Common.{◌≡◌, ◌⊎◌, ◌==◌, ◌<◌, ◌≤◌, ℕ, zero, suc, List, [], ◌∷◌, length, refl, sym, subst, inl, inr, arith, ◌+◌, ◌++◌, ◌∙◌, ap, flat_map, get_or, take}
 use Rattle.std.specs.Prelude.{slice_index_or}
 use Rattle.std.specs.List.{AllPairs, Contains, dedup}
 use Rattle.std.specs.Ordering.{nat_cmp}
+use Rattle.std.proofs.lemmas.List.{flat_map_more, take_more}
 use Rattle.std.proofs.lemmas.List.Kept.{AllPairs-from_increasing, Contains-dedup_nat, Contains-from_dedup}
 use Rattle.std.proofs.lemmas.Map.Keys.{IsStrictlyIncreasing-dedup}
 use Rattle.member_lists.specs.Owners.{times}
@@ -66,3 +67,10 @@ distinct old new d = record {
     λ h. subst (IsIn m) (sym d.is) (IsIn-from_Contains (dedup ◌==◌ d.sorted) m (Contains-dedup_nat d.sorted m (IsIn-Contains d.sorted m (IsIn-permuted m old d.sorted d.permutes h.1)))),
   );
 }
+
+-- what is listed of one item more
+pub listed_more : {X A : Type 0} (f : X → List A) (before : List A) (xs : List X) (i : ℕ) (d : X) (ys zs : List A) → i < length xs
+    → ys ≡ before ++ flat_map f (take i xs) → zs ≡ ys ++ f (get_or xs i d) → zs ≡ before ++ flat_map f (take (i + 1) xs)
+listed_more f before xs i d ys zs here listed more =
+    more ∙ ap (λ l. l ++ f (get_or xs i d)) listed ∙ flat_map_more f before (take i xs) (get_or xs i d)
+    ∙ ap (λ l. before ++ flat_map f l) (sym (take_more xs i d here))
