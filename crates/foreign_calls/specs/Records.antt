@@ -71,8 +71,10 @@ pub record IsSaidStatus (held : Option Chronicle) (worker : ℕ) (said : Option 
   pub needs_open : NeedsOpen held status (OUT_OF_RANGE ∷ SPENT ∷ NO_MEMORY ∷ [])
 
 -- the worker's call that numbers say was made and recorded, and its reply is told; or the status says why not, and nothing shows of it
-pub record RecordsSaid (c : Chronicle) (worker : ℕ) (said : Option Call) (old new : ReplyNumbers) (before ordinal status : ℕ) (d : Chronicle) : Type 0 where
-  pub done : status ≡ DONE → (made : Call) × (said ≡ Some made) × IsRecorded c worker made ordinal (Some d) × (new ≡ numbers_of (outcome c made).reply)
+pub record RecordsSaid (c : Chronicle) (worker : ℕ) (said : Option Call) (old new : ReplyNumbers)
+    (before ordinal status : ℕ) (d : Chronicle) : Type 0 where
+  pub done : status ≡ DONE → (made : Call) × (said ≡ Some made)
+      × IsRecorded c worker made ordinal (Some d) × (new ≡ numbers_of (outcome c made).reply)
   pub not_done : status ≢ DONE → (roomless d ≡ roomless c) × (new ≡ old) × (ordinal ≡ before)
   pub why : IsSaidStatus (Some c) worker said status
 

@@ -5,7 +5,8 @@ ghost use Rattle.{
   kept_past.specs.Stored.{IsList},
   kept_table.specs.{Calls.{outcome}, Chronicle.{last_reply}},
   foreign_calls.specs.Made.{TellsReply, IsReplyToLast},
-  foreign_calls.specs.{Records.{roomless, IsRecordedKeeping, IsWorkerStatus, RecordsCall, RecordsSaid}, Rooms.{KeepsRoom}},
+  foreign_calls.specs.Records.{roomless, IsRecordedKeeping, IsWorkerStatus, RecordsCall, RecordsSaid},
+  foreign_calls.specs.Rooms.{KeepsRoom},
   foreign_numbers.specs.Numbers.{call_of, numbers_of},
 };
 
@@ -113,8 +114,8 @@ fn said_on(
     call_on(held, worker, made, reply, ordinal)
 }
 
-/// Makes the call that the numbers say, and tells its reply and its place. Each operation that comes often has a copy of
-/// the whole way: in it the compiler knows the operation, and leaves out what only others need.
+/// Makes the call that the numbers say, and tells its reply and its place. Each operation that comes often has a copy
+/// of the whole way: in it the compiler knows the operation, and leaves out what only others need.
 #[inline(always)]
 pub fn said_by_operation(
     held: &mut Kept,
