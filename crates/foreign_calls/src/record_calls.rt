@@ -5,21 +5,19 @@ ghost use Rattle.{
   kept_past.specs.Stored.{IsList},
   kept_table.specs.{Calls.{outcome}, Chronicle.{last_reply}},
   foreign_calls.specs.Made.{TellsReply, IsReplyToLast},
-  foreign_calls.specs.Records.{roomless, IsRecordedKeeping, IsWorkerStatus, RecordsCall, RecordsSaid},
+  foreign_calls.specs.Records.{roomless, IsRecordedKeeping, IsSaidStatus, RecordsCall, RecordsSaid},
   foreign_calls.specs.Rooms.{KeepsRoom},
   foreign_numbers.specs.Numbers.{call_of, numbers_of},
 };
 
 use crate::texts::write_reply;
-use foreign_numbers::numbers::{
-    CallNumbers, ReplyNumbers, put_list, put_reply, put_short, read_call,
-};
+use foreign_numbers::numbers::{CallNumbers, ReplyNumbers, put_list, put_short, read_call};
 use foreign_numbers::operations;
 use foreign_numbers::status::{DONE, OUT_OF_RANGE, status_of, unmade};
 use kept_table::Kept;
 use pid_script::answer::LONGEST_ANSWER;
 use pid_types::call::Call;
-use pid_types::reply::{Reply, ShortReply};
+use pid_types::reply::ShortReply;
 
 /// Makes the worker's call on the record, and tells its place in the history, and its reply where that is no list. The
 /// result is the status.
@@ -143,32 +141,28 @@ pub fn said_by_operation(
     }
 }
 
-/// Makes the call as [`call_on`] does, and then cuts first entries away where more than so many are kept.
-pub fn call_keeping_on(
+/// Makes the call that the numbers say, tells its reply and its place, and then cuts first entries away where more than
+/// so many are kept.
+pub fn said_keeping(
     held: &mut Kept,
     worker: u32,
-    made: Call,
+    said: &CallNumbers,
     keep: u64,
     reply: &mut ReplyNumbers,
     ordinal: &mut u64,
 ) -> u32
-    ensures done { result ≡ DONE → IsRecordedKeeping keep held.old worker made ordinal.new held.new }
-    ensures not_done { result ≢ DONE → (roomless held.new ≡ roomless held.old) × (ordinal.new ≡ ordinal.old) }
-    ensures reply { TellsReply (outcome held.old made).reply reply.old reply.new result }
-    ensures status { IsWorkerStatus held.old worker made result }
+    ensures done { result ≡ DONE → (made : Call) × (call_of said.now ≡ Some made)
+        × IsRecordedKeeping keep held.old worker made ordinal.new held.new
+        × (reply.new ≡ numbers_of (outcome held.old made).reply) }
+    ensures not_done { result ≢ DONE
+        → (roomless held.new ≡ roomless held.old) × (reply.new ≡ reply.old) × (ordinal.new ≡ ordinal.old) }
+    ensures status { IsSaidStatus (Some held.old) worker (call_of said.now) result }
 {
-    let worker = worker as usize;
-    if worker >= held.workers() {
-        return OUT_OF_RANGE;
+    let status = said_on(held, worker, read_call(said), reply, ordinal);
+    if status == DONE {
+        held.keep_at_most(keep);
     }
-    let next = held.total();
-    let mut told = Reply::Done;
-    if let Err(fault) = held.make_call_keeping(worker, made, keep, &mut told) {
-        return status_of(fault);
-    }
-    put_reply(&told, reply);
-    *ordinal = next;
-    DONE
+    status
 }
 
 /// Makes the call as [`make_on`] does, and puts the text of its reply at the front of the room.

@@ -11,8 +11,8 @@ ghost use Rattle.{
 ghost use Rattle.pid_script.specs.declared.line.Line.TheVariants as says;
 
 use foreign_calls::record::PidtabRecord;
-use foreign_calls::record_calls::{call_keeping_on, line_on, said_by_operation};
-use foreign_numbers::numbers::{CallNumbers, ReplyNumbers, read_call};
+use foreign_calls::record_calls::{line_on, said_by_operation, said_keeping};
+use foreign_numbers::numbers::{CallNumbers, ReplyNumbers};
 use foreign_numbers::status::{
     BAD_LINE, CLOSED, DONE, EMPTY_LINE, NO_MEMORY, NO_ROOM, OUT_OF_RANGE, SPENT, unmade,
 };
@@ -74,12 +74,9 @@ pub extern "C" fn pidtab_record_call_keeping(
     ensures status { IsSaidStatus table.old.handle.held worker (call_of call.now) result }
 {
     if !table.is_open {
-        return CLOSED;
+        return unmade(CLOSED);
     }
-    let Some(made) = read_call(call) else {
-        return OUT_OF_RANGE;
-    };
-    call_keeping_on(table.handle.lend(), worker, made, keep, reply, ordinal)
+    said_keeping(table.handle.lend(), worker, call, keep, reply, ordinal)
 }
 
 /// Makes the call that is written on the line for the worker, records it with its reply, and puts its answer at the
