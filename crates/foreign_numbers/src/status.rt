@@ -78,7 +78,7 @@ pub const BAD_TEXT: u32 = 117;
 pub const NOT_RECOVERABLE: u32 = 131;
 // The end of statuses.
 
-/// The status of a call that is not made. So few are that the compiler puts the way here behind that of the others.
+/// The status of a call that is not made. Few are not, so the compiler lays out the way of the others first.
 #[cold]
 #[inline(never)]
 pub fn unmade(status: u32) -> u32

@@ -1,0 +1,26 @@
+-- First entries that go behind a recorded call.
+use Rattle.std.proofs.Common.{◌≡◌, ℕ, ◌+◌, ◌≤◌, [], ◌∷◌, Some, length, length-append, inl, inr, ◌∙◌, ap, subst, arith}
+use Rattle.std.specs.Prelude.{◌⊎◌}
+use Rattle.std.proofs.lemmas.Option.{same_Some}
+use Rattle.pid_types.specs.declared.call.Call.{Call}
+use Rattle.kept_table.specs.Calls.{after_recorded, entry_of, to_cut, IsWithoutFirst}
+use Rattle.kept_table.specs.Chronicle.{Chronicle}
+use Rattle.foreign_calls.specs.Records.{roomless, IsRecorded, IsRecordedKeeping}
+
+-- the room for more entries is no matter
+without_roomless : (n : ℕ) (c d : Chronicle) → IsWithoutFirst n c d → IsWithoutFirst n (roomless c) d
+without_roomless n c d w = record { gone = w.gone; many = w.many; were = w.were; left = w.left; workers = w.workers; counts = w.counts }
+
+pub recorded_keeping : (keep : ℕ) (c m d : Chronicle) (worker : ℕ) (call : Call) (ordinal : ℕ) → IsRecorded c worker call ordinal (Some m)
+    → IsWithoutFirst (to_cut m keep) m d → (length d.entries ≤ keep) ⊎ (length d.entries + 2 ≤ length m.entries) → IsRecordedKeeping keep c worker call ordinal d
+recorded_keeping keep c m d worker call ordinal made cut bound =
+    let is : roomless m ≡ after_recorded c worker call = same_Some (roomless m) (after_recorded c worker call) made.left in
+    let longer : length m.entries ≡ length c.entries + 1 = ap (λ r. length r.entries) is ∙ length-append c.entries (entry_of c worker call ∷ []) in
+    record {
+      cut = subst (λ r. IsWithoutFirst (to_cut r keep) r d) is (without_roomless (to_cut m keep) m d cut);
+      bound = elim bound [
+        | inl few ↦ inl few
+        | inr less ↦ inr (omega (arith, less, longer))
+      ];
+      place = made.place;
+    }
