@@ -1,9 +1,9 @@
 /* Calls of the library for C by numbers, for callgrind: calls TABLE LOAD N.
  *
- * TABLE is plain, record or shared (with its lock taken for each call). LOAD is getpid; ask, the same as a query that is no call; turns, the same
- * with 100 in a turn, where N is how many turns, and no table is plain; number, the same by pidtab_getpid_of, of a plain table alone; nspid, of a
- * task at level 8; or cycle: a fork, an exit and a wait. The difference of the instructions at two lengths, divided by that of the lengths, is the
- * cost; the loop is in it.
+ * TABLE is plain, record, bounded (a record that keeps 1,000 entries), or shared (with its lock taken for each call). LOAD is getpid; ask, the same as
+ * a query that is no call; turns, the same with 100 in a turn, where N is how many turns, of record or shared alone; number, the same by
+ * pidtab_getpid_of, of plain alone; nspid, of a task at level 8; or cycle: a fork, an exit and a wait. The difference of the instructions at two
+ * lengths, divided by that of the lengths, is the cost; the loop is in it.
  *
  *   cc -O2 -Iout loads/calls.c out/libpidtab.a -pthread -o out/calls
  *   valgrind --tool=callgrind --callgrind-out-file=/dev/null out/calls record getpid 12000
@@ -21,6 +21,9 @@ static struct pidtab_shared shared;
 /* So many calls are made in a turn. */
 #define A_TURN 100
 
+/* So many entries are kept of a bounded record. */
+#define KEPT 1000
+
 typedef uint32_t make_call(const struct pidtab_call *call, struct pidtab_reply *reply);
 
 static uint32_t on_plain(const struct pidtab_call *call, struct pidtab_reply *reply)
@@ -32,6 +35,12 @@ static uint32_t on_record(const struct pidtab_call *call, struct pidtab_reply *r
 {
 	uint64_t ordinal;
 	return pidtab_record_call(&record, 0, call, reply, &ordinal);
+}
+
+static uint32_t on_bounded(const struct pidtab_call *call, struct pidtab_reply *reply)
+{
+	uint64_t ordinal;
+	return pidtab_record_call_keeping(&record, 0, call, KEPT, reply, &ordinal);
 }
 
 static uint32_t on_shared(const struct pidtab_call *call, struct pidtab_reply *reply)
@@ -79,7 +88,7 @@ static uint32_t number_of_plain(const struct pidtab_call *call, struct pidtab_re
 	return pidtab_getpid_of(&plain, call->caller, &reply->first);
 }
 
-/* Opens the table that the word names, with 16 workers and the whole history. */
+/* Opens the table that the word names, with 16 workers. */
 static make_call *opened(const char *table, const char *load)
 {
 	const bool asks = is_word(load, "ask"), turns = is_word(load, "turns");
@@ -90,6 +99,8 @@ static make_call *opened(const char *table, const char *load)
 		return turns || pidtab_open(&plain, 32768) != PIDTAB_DONE ? NULL : asks ? ask_plain : on_plain;
 	if (is_word(table, "record"))
 		return pidtab_record_open(&record, 32768, 1, 16) != PIDTAB_DONE ? NULL : asks ? ask_record : turns ? turn_on_record : on_record;
+	if (is_word(table, "bounded"))
+		return asks || turns || pidtab_record_open(&record, 32768, 1, 16) != PIDTAB_DONE ? NULL : on_bounded;
 	if (is_word(table, "shared"))
 		return pidtab_shared_open(&shared, 32768, 1, 16, 0) != PIDTAB_DONE ? NULL : asks ? ask_shared : turns ? turn_on_shared : on_shared;
 	return NULL;
@@ -157,7 +168,7 @@ int main(int count, char **words)
 	uint32_t status = 0;
 
 	if (!make) {
-		fprintf(stderr, "calls plain|record|shared getpid|ask|turns|number|nspid|cycle N\n");
+		fprintf(stderr, "calls plain|record|bounded|shared getpid|ask|turns|number|nspid|cycle N\n");
 		return 2;
 	}
 	if (is_word(words[2], "turns"))
