@@ -1,5 +1,5 @@
 -- What a call leaves of a table without a history, and what is told of it.
-use Rattle.std.specs.Prelude.{◌≡◌, ◌≢◌, ◌↔◌, ◌-◌, ◌^◌, ℕ, [], ◌∷◌, Option, Some, None, IfSome, IsTrue}
+use Rattle.std.specs.Prelude.{◌≡◌, ◌≢◌, ◌↔◌, ◌-◌, ◌^◌, ℕ, [], ◌∷◌, Option, Some, None, IsSome, IfSome, IsTrue}
 use Rattle.pid_types.specs.declared.call.Call.{Call}
 use Rattle.pid_types.specs.declared.reply.Reply.{Reply}
 use Rattle.pid_types.specs.declared.reply.ShortReply.{ShortReply}
@@ -34,6 +34,15 @@ pub record IsCallStatus (s : Stamped) (call : Call) (status : ℕ) : Type 0 wher
   pub spent : (status ≡ SPENT) ↔ IsSpent s.stamp
   pub no_memory : status ≡ NO_MEMORY → IsTrue (may_grow call)
   pub statuses : IsDoneOr status (SPENT ∷ NO_MEMORY ∷ [])
+
+-- the call that numbers say was made on a table, once, and its reply is told; or the status says why not, and nothing has changed
+pub record MakesSaid (s : Stamped) (said : Option Call) (old new : ReplyNumbers) (status : ℕ) (t : Stamped) : Type 0 where
+  pub done : status ≡ DONE → (made : Call) × (said ≡ Some made) × (t ≡ after_call s made) × (new ≡ numbers_of (reply_to s made))
+  pub not_done : status ≢ DONE → (t ≡ s) × (new ≡ old)
+  pub out_of_range : (status ≡ OUT_OF_RANGE) ↔ (said ≡ None)
+  pub spent : (status ≡ SPENT) ↔ IsSpent s.stamp × IsSome said
+  pub no_memory : status ≡ NO_MEMORY → (made : Call) × (said ≡ Some made) × IsTrue (may_grow made)
+  pub statuses : IsDoneOr status (OUT_OF_RANGE ∷ SPENT ∷ NO_MEMORY ∷ [])
 
 -- a query was made, once: the status is the error of its reply, and its number is told. Where no stamp is left all stays as it was
 pub record TellsNumber (s : Stamped) (query : Call) (before number status : ℕ) (t : Stamped) : Type 0 where

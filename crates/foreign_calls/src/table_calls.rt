@@ -3,14 +3,16 @@ ghost use Rattle.std.specs.Prelude.{◌≡◌, ◌≢◌, ◌≤◌, length, tak
 ghost use Rattle.{
   pid_script.specs.Answers.{reply_text},
   pid_types.specs.declared.call.Call.TheVariants.{NsPid},
-  foreign_calls.specs.{Made.{IsCallStatus, TellsReply}, Rooms.{KeepsRoom}},
+  foreign_calls.specs.{Made.{IsCallStatus, MakesSaid, TellsReply}, Rooms.{KeepsRoom}},
+  foreign_numbers.specs.Numbers.{call_of},
   stamped_table.specs.Stamped.{after_call, reply_to},
 };
 
 use crate::texts::write_reply;
 use arrayvec::ArrayVec;
-use foreign_numbers::numbers::{ReplyNumbers, put_short, put_told};
-use foreign_numbers::status::{DONE, status_of};
+use foreign_numbers::numbers::{CallNumbers, ReplyNumbers, put_short, put_told, read_call};
+use foreign_numbers::operations;
+use foreign_numbers::status::{DONE, OUT_OF_RANGE, status_of, unmade};
 use pid_script::answer::LONGEST_ANSWER;
 use pid_types::call::Call;
 use pid_types::reply::Reply;
@@ -36,7 +38,44 @@ pub fn call_table(held: &mut StampedTable, made: Call, reply: &mut ReplyNumbers)
     }
 }
 
-/// The same of the call `NSpid`. It is not inlined, since the others need no room for a list.
+/// Makes the call that is said as [`call_table`] does. The status is `OUT_OF_RANGE` too where none is.
+#[inline(always)]
+fn said_table(held: &mut StampedTable, said: Option<Call>, reply: &mut ReplyNumbers) -> u32
+    ensures { MakesSaid held.old said reply.old reply.new result held.new }
+{
+    let Some(made) = said else {
+        return unmade(OUT_OF_RANGE);
+    };
+    call_table(held, made, reply)
+}
+
+/// Makes the call that the numbers say, and tells its reply. Each operation that comes often has a copy of the whole
+/// way, as [`crate::record_calls::said_by_operation`] has it.
+#[inline(always)]
+pub fn said_table_by_operation(
+    held: &mut StampedTable,
+    said: &CallNumbers,
+    reply: &mut ReplyNumbers,
+) -> u32
+    ensures { MakesSaid held.old (call_of said.now) reply.old reply.new result held.new }
+{
+    match said.operation {
+        operations::FORK => said_table(held, read_call(said), reply),
+        operations::EXEC => said_table(held, read_call(said), reply),
+        operations::EXIT => said_table(held, read_call(said), reply),
+        operations::WAIT => said_table(held, read_call(said), reply),
+        operations::SETPGID => said_table(held, read_call(said), reply),
+        operations::GETPID => said_table(held, read_call(said), reply),
+        operations::GETPPID => said_table(held, read_call(said), reply),
+        operations::GETPGID => said_table(held, read_call(said), reply),
+        operations::NSPID => said_table(held, read_call(said), reply),
+        operations::NEXT => said_table(held, read_call(said), reply),
+        operations::COUNT => said_table(held, read_call(said), reply),
+        _ => said_table(held, read_call(said), reply),
+    }
+}
+
+/// Makes the call `NSpid` as [`call_table`] does. It is not inlined, since the others need no room for a list.
 #[inline(never)]
 fn call_for_list(held: &mut StampedTable, caller: u32, target: u32, reply: &mut ReplyNumbers) -> u32
     ensures done { result ≡ DONE → held.new ≡ after_call held.old (NsPid caller target) }

@@ -45,12 +45,12 @@ mod texts;
 mod would;
 
 use foreign_calls::table::{Pidtab, new_table};
-use foreign_calls::table_calls::{call_table, line_table};
+use foreign_calls::table_calls::{line_table, said_table_by_operation};
 use foreign_calls::table_texts::list_of;
 use foreign_calls::texts::write_text;
-use foreign_numbers::numbers::{CallNumbers, ReplyNumbers, read_call};
+use foreign_numbers::numbers::{CallNumbers, ReplyNumbers};
 use foreign_numbers::status::{
-    BAD_LINE, BUSY, CLOSED, DONE, EMPTY_LINE, NO_MEMORY, NO_ROOM, OUT_OF_RANGE, SPENT,
+    BAD_LINE, BUSY, CLOSED, DONE, EMPTY_LINE, NO_MEMORY, NO_ROOM, OUT_OF_RANGE, SPENT, unmade,
 };
 use pid_script::answer::LONGEST_ANSWER;
 use pid_script::line::{Line, parse_line};
@@ -185,10 +185,7 @@ pub extern "C" fn pidtab_call(
     ensures no_memory { result ≡ NO_MEMORY → (made : Call) × (call_of call.now ≡ Some made) × IsTrue (may_grow made) }
 {
     if !table.is_open {
-        return CLOSED;
+        return unmade(CLOSED);
     }
-    let Some(made) = read_call(call) else {
-        return OUT_OF_RANGE;
-    };
-    call_table(table.handle.lend(), made, reply)
+    said_table_by_operation(table.handle.lend(), call, reply)
 }
