@@ -115,6 +115,14 @@ pub side_after : (rs : List ℕ) (ns : List Node) (held j k : ℕ) → IsHeap rs
     → ((node_at ns k).owner ≡ (node_at ns j).owner) × ((node_at ns j).rank < (node_at ns k).rank)
 side_after rs ns held j k w owned some b = grind arith
 
+-- the key over one that was read and is no root has a node
+pub above_within : (rs : List ℕ) (ns : List Node) (k : ℕ) (n : Node) → IsHeap rs ns nil → (node_at ns k).owner ≢ nil
+    → n ≡ slice_index_or ns k n → root_at rs n.owner ≢ k → n.above < length ns
+above_within rs ns k n w owned read away =
+    let is = node_is ns k n (within ns k owned) read in
+    let over = w.tree.above k owned (is_some ns k w.ranked.few owned) (λ z. away (ap (λ (y : Node). root_at rs y.owner) is ∙ z)) in
+    rw is (within ns (node_at ns k).above (λ z. owned (sym over.0 ∙ z)))
+
 -- members that are as before keep their owner and rank
 pub same_member : (ns ns' : List Node) (k : ℕ) → map member_in ns' ≡ map member_in ns → (node_at ns k).owner ≢ nil
     → ((node_at ns' k).owner ≡ (node_at ns k).owner) × ((node_at ns' k).rank ≡ (node_at ns k).rank)

@@ -1,5 +1,6 @@
 -- What was beside the key hangs where the key hung: the key ranked between the two, so ranks still rise, and the key itself is held
 use Rattle.std.proofs.Common.{◌≡◌, inl, inr, ℕ, ◌<◌, length, refl, sym, ap, ◌∙◌, arith, List, set}
+use Rattle.std.proofs.lemmas.Grind.{common_steps}
 use Rattle.std.proofs.Math.Seq.{map-set_same}
 use Rattle.std.proofs.lemmas.List.{length-set}
 use Rattle.member_queues.specs.declared.Node.{Node}
@@ -8,6 +9,16 @@ use Rattle.member_queues.proofs.Trees as trees
 use Rattle.member_queues.proofs.Filling as filling
 use Rattle.member_queues.proofs.cut.Goals as goal
 
+pub index-requires : goal.index-requires
+index-requires c = grind (arith, common_steps)
+
+pub set_child-requires-clause-owner : goal.set_child-requires-clause-owner
+set_child-requires-clause-owner c = grind (arith, common_steps)
+
+pub set_child-requires-clause-above : goal.set_child-requires-clause-above
+set_child-requires-clause-above c away =
+    trees.above_within _ _ c.args.key c.index.result.now c.requires.heap c.requires.owned c.index.ensures away
+
 pub set_above-requires : goal.set_above-requires
 set_above-requires c some =
     let ns : List Node = c.args.forest.now.nodes.items in
@@ -15,6 +26,9 @@ set_above-requires c some =
     let lt = filling.side_within _ ns c.args.key c.index.result.now.beside c.requires.heap c.requires.owned (inr (sym (ap (λ (n : Node). n.beside) is))) some in
     let len = c.set_child.ensures.len in
     omega (arith, lt, len)
+
+pub index_mut-requires : goal.index_mut-requires
+index_mut-requires c = grind (arith, common_steps)
 
 pub returns-clause-kept : goal.returns-clause-kept
 returns-clause-kept c =
@@ -47,3 +61,6 @@ returns-clause-kept c =
       len = grind (arith, length-set);
       rooms = s.rooms;
     }
+
+pub returns-clause-alone : goal.returns-clause-alone
+returns-clause-alone c = grind (arith, common_steps)

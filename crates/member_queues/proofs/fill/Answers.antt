@@ -1,15 +1,29 @@
 use Rattle.std.proofs.Common.{◌<◌, length, ap, arith, List}
+use Rattle.std.proofs.lemmas.Grind.{common_steps}
 use Rattle.std.proofs.lemmas.List.{map-set}
 use Rattle.member_queues.specs.declared.Node.{Node}
 use Rattle.member_queues.proofs.Trees as trees
 use Rattle.member_queues.proofs.Filling as filling
 use Rattle.member_queues.proofs.fill.Goals as goal
 
+pub index-requires : goal.index-requires
+index-requires c = grind (arith, common_steps)
+
+pub set_child-requires-clause-owner : goal.set_child-requires-clause-owner
+set_child-requires-clause-owner c = grind (arith, common_steps)
+
+pub set_child-requires-clause-above : goal.set_child-requires-clause-above
+set_child-requires-clause-above c away =
+    trees.above_within _ _ c.args.key c.index.result.now c.requires.heap c.requires.owned c.index.ensures away
+
 pub set_above-requires : goal.set_above-requires
 set_above-requires c some =
     let lt = filling.by_within c.args.forest.now.roots.items c.args.forest.now.nodes.items c.args.key c.args.by c.args.other c.requires.heap c.requires.owned c.requires.sides some in
     let len = c.set_child.ensures.len in
     omega (arith, lt, len)
+
+pub index_mut-requires : goal.index_mut-requires
+index_mut-requires c = grind (arith, common_steps)
 
 pub sink-requires : goal.sink-requires
 sink-requires c =

@@ -1,4 +1,4 @@
-use Rattle.std.proofs.Common.{◌≡◌, Bool, true, false}
+use Rattle.std.proofs.Common.{◌≡◌, Bool, true, false, arith}
 use Rattle.member_queues.specs.Heap.{root_at}
 use Rattle.member_queues.proofs.Trees as trees
 use Rattle.member_queues.proofs.Melding as melding
@@ -32,3 +32,6 @@ sink-requires-then-held-ne-NIL c =
   where
     not_both : {b : Bool} → b ≡ false → b ≡ true → ⊥
     not_both f t = cc
+
+pub returns-else-held-ne-NIL : goal.returns-else-held-ne-NIL
+returns-else-held-ne-NIL c = grind arith

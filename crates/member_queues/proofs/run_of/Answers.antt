@@ -1,8 +1,18 @@
 use Rattle.std.proofs.Common.{◌≢◌, inr, List, sym, ap, ◌∙◌, arith}
+use Rattle.std.proofs.lemmas.Grind.{common_steps}
 use Rattle.member_queues.specs.declared.Node.{Node}
 use Rattle.member_queues.specs.Heap.{nil, node_at}
 use Rattle.member_queues.proofs.Trees as trees
 use Rattle.member_queues.proofs.run_of.Goals as goal
+
+pub index-requires : goal.index-requires
+index-requires c = grind (arith, common_steps)
+
+pub index-requires-in-loop-at : goal.index-requires-in-loop-at
+index-requires-in-loop-at c = grind (arith, common_steps)
+
+pub loop-at-smaller : goal.loop-at-smaller
+loop-at-smaller c = grind (arith, common_steps)
 
 pub loop-at-preserved : goal.loop-at-preserved
 loop-at-preserved c =

@@ -1,10 +1,20 @@
 -- One step of a merge: what ranks lower stays, else the held tree is hung there and the rest is held; either way ranks rise
 use Rattle.std.proofs.Common.{◌≢◌, ◌<◌, List, length, sym, ◌∙◌, arith}
+use Rattle.std.proofs.lemmas.Grind.{common_steps}
 use Rattle.member_queues.specs.declared.Node.{Node}
 use Rattle.member_queues.specs.Heap.{nil, node_at, key_on}
 use Rattle.member_queues.proofs.Trees as trees
 use Rattle.member_queues.proofs.Sinking as sinking
 use Rattle.member_queues.proofs.step.Goals as goal
+
+pub index-requires : goal.index-requires
+index-requires c = grind (arith, common_steps)
+
+pub index_mut-requires : goal.index_mut-requires
+index_mut-requires c = grind (arith, common_steps)
+
+pub index_mut-requires-else-lower-rank : goal.index_mut-requires-else-lower-rank
+index_mut-requires-else-lower-rank c = grind (arith, common_steps)
 
 pub returns-then-lower-rank-clause-sinking : goal.returns-then-lower-rank-clause-sinking
 returns-then-lower-rank-clause-sinking c =

@@ -1,4 +1,5 @@
 use Rattle.std.proofs.Common.{◌≢◌, ℕ, List, get_or, arith}
+use Rattle.std.proofs.lemmas.Grind.{common_steps}
 use Rattle.std.proofs.lemmas.List.{get_or_default}
 use Rattle.member_queues.specs.declared.Node.{Node}
 use Rattle.member_queues.specs.Heap.{nil, blank}
@@ -19,6 +20,9 @@ loop-at-init c =
     let is = trees.root_is rs c.args.from c.index-run.result.now c.requires.from c.index-run.ensures in
     rw (← is, c.as_mut_slice-nodes.ensures.value) (telling.begins ns c.args.from c.args.to _ some (walks.all_end rs ns c.requires.heap c.args.from c.requires.from)
     (walks.are_members rs ns c.requires.heap c.args.from c.requires.from))
+
+pub after-requires-clause-run : goal.after-requires-clause-run
+after-requires-clause-run c = grind (arith, common_steps)
 
 pub loop-at-smaller : goal.loop-at-smaller
 loop-at-smaller c =

@@ -5,6 +5,15 @@ use Rattle.member_queues.specs.Heap.{blank, member_in}
 use Rattle.member_queues.proofs.Entering as entering
 use Rattle.member_queues.proofs.MemberQueues.grow.Goals as goal
 
+pub invariant_of-self : goal.invariant_of-self
+invariant_of-self c = grind arith
+
+pub invariant_of-self-in_err-resize : goal.invariant_of-self-in_err-resize
+invariant_of-self-in_err-resize c = grind arith
+
+pub invariant_of-self-in_err-resize-2 : goal.invariant_of-self-in_err-resize-2
+invariant_of-self-in_err-resize-2 c = grind arith
+
 pub invariant_of-self-2 : goal.invariant_of-self-2
 invariant_of-self-2 c =
     let forest = c.self.inside.forest in

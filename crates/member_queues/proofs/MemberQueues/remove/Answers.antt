@@ -1,5 +1,6 @@
 -- Two runs lose what led to them: the one that begins lower takes the key's place, and not being lower must mean the other is
 use Rattle.std.proofs.Common.{◌≡◌, ◌≢◌, inl, inr, ℕ, IsSome, sym, ap, List, Option, map, arith}
+use Rattle.std.proofs.lemmas.Grind.{common_steps}
 use Rattle.member_queues.specs.declared.Node.{Node}
 use Rattle.member_queues.specs.Ranks.{ranked}
 use Rattle.member_queues.specs.Heap.{nil, node_at, member_in}
@@ -10,6 +11,9 @@ use Rattle.member_queues.proofs.MemberQueues.remove.Goals.{then-is_before, else-
 
 owned : (ns : List Node) (view : List (Option (ℕ × ℕ))) (k : ℕ) → map member_in ns ≡ view → IsSome (ranked view k) → (node_at ns k).owner ≢ nil
 owned ns view k is some = grind (arith, trees.member_there, trees.ranked-nodes)
+
+pub index-requires : goal.index-requires
+index-requires c = grind (arith, common_steps)
 
 pub is_before-requires-clause-a : goal.is_before-requires-clause-a
 is_before-requires-clause-a c =
@@ -25,8 +29,23 @@ is_before-requires-clause-b c =
     let is = trees.node_is ns c.args.key c.index.result.now (trees.within ns c.args.key mine) c.index.ensures in
     rw c.as_slice.ensures.value (filling.side_within _ ns c.args.key c.index.result.now.beside c.self.invariant mine (inr (sym (ap (λ (x : Node). x.beside) is))))
 
+pub fill-requires-clause-owned : goal.fill-requires-clause-owned
+fill-requires-clause-owned c = grind (arith, common_steps)
+
+pub fill-requires-clause-sides : goal.fill-requires-clause-sides
+fill-requires-clause-sides c = grind (arith, common_steps)
+
+pub fill-requires-else-is_before-clause-owned : goal.fill-requires-else-is_before-clause-owned
+fill-requires-else-is_before-clause-owned c = grind (arith, common_steps)
+
+pub fill-requires-else-is_before-clause-sides : goal.fill-requires-else-is_before-clause-sides
+fill-requires-else-is_before-clause-sides c = grind (arith, common_steps)
+
 pub fill-requires-else-is_before-clause-order : goal.fill-requires-else-is_before-clause-order
 fill-requires-else-is_before-clause-order c = grind (arith, owned, trees.node_is, trees.within, filling.after_beside)
+
+pub set_level-requires-clause-heap : goal.set_level-requires-clause-heap
+set_level-requires-clause-heap c = grind arith
 
 pub set_level-requires-clause-at : goal.set_level-requires-clause-at
 set_level-requires-clause-at c some =
