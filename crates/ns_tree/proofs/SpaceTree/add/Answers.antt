@@ -35,6 +35,9 @@ add-requires-clause-owner c =
     let longer = c.in_ok-key.ensures.longer in
     omega (arith, lt, lists, longer)
 
+pub invariant_of-self : goal.invariant_of-self
+invariant_of-self c = grind arith
+
 pub invariant_of-self-2 : goal.invariant_of-self-2
 invariant_of-self-2 c =
     let places = c.self.inside.places.items in
@@ -71,6 +74,12 @@ pub returns-clause-vacant : goal.returns-clause-vacant
 returns-clause-vacant c =
     ap (λ (t : TreeOfSpaces). node_in t.nodes c.in_ok-key.key) (sym c.self.view_is) ∙ unused c.self.inside.places.items c.self.inside.vacant.items (vec_capacity c.self.inside.vacant) c.self.inside.order c.self.inside.children c.self.invariant c.in_ok-key.key c.in_ok-key.ensures.key
 
+pub fill_place-requires-clause-room : goal.fill_place-requires-clause-room
+fill_place-requires-clause-room c = grind arith
+
+pub fill_place-requires-clause-rooms : goal.fill_place-requires-clause-rooms
+fill_place-requires-clause-rooms c = grind arith
+
 pub returns-clause-near : goal.returns-clause-near
 returns-clause-near c =
     let places = c.self.inside.places.items in
@@ -79,6 +88,9 @@ returns-clause-near c =
     let near = vacancy.next-near places (nodes_of places) c.self.inside.vacant.items (vec_capacity c.self.inside.vacant) (sym n) c.self.invariant.vacancies in
     let key = c.in_ok-key.ensures.key in
     omega (arith, n, l, near, key)
+
+pub invariant_of-self-in_err-push : goal.invariant_of-self-in_err-push
+invariant_of-self-in_err-push c = grind arith
 
 pub returns-clause-count : goal.returns-clause-count
 returns-clause-count c =

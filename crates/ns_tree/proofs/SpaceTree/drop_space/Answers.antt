@@ -1,5 +1,6 @@
 -- An empty path makes the place vacant: its key was not vacant before, so there is room for it, and its id alone leaves the order
 use Rattle.std.proofs.Common.{◌≡◌, ◌≢◌, inl, inr, ◌++◌, ◌∷◌, [], ℕ, ◌<◌, List, length, get_or, Option, subst, ◌∙◌, sym, ap, Some, None, IsSome, is_some, true, false, option_map, set, slice_get, arith}
+use Rattle.std.proofs.lemmas.Grind.{common_steps}
 use Rattle.std.specs.Prelude.{vec_capacity}
 use Rattle.std.specs.List.{filter}
 use Rattle.std.specs.Option.{option_map_or}
@@ -64,6 +65,9 @@ push_reserved-requires c =
     let more = vacancy.room-more (nodes_of c.self.inside.places.items) c.self.inside.vacant.items (vec_capacity c.self.inside.vacant) c.args.key (node_of c.index_mut-space.result.now) c.self.invariant.vacancies (was b) in
     omega (arith, more, c.self.inside.vacant.ok.0)
 
+pub returns-clause-count : goal.returns-clause-count
+returns-clause-count c = grind (arith, common_steps)
+
 pub remove-requires-2-clause-key : goal.remove-requires-2-clause-key
 remove-requires-2-clause-key c =
     let b = bared (goal.at.remove-requires-2-clause-key c).After-clear in
@@ -115,3 +119,6 @@ returns-clause-order c =
     let z : Place = record c.index_mut-space.result.now { path = c.clear.new.self } in
     c.remove.ensures.rest ∙ left (bared (goal.at.returns-clause-order c).After-clear) c.self.inside.order c.self.invariant.listed
     ∙ ap (λ (t : TreeOfSpaces). filter (λ p. is_some (node_in (nodes_of (set c.self.inside.places.items c.args.key z)) p.1)) t.order) c.self.view_is
+
+pub index_mut-space-requires : goal.index_mut-space-requires
+index_mut-space-requires c = grind (arith, common_steps)

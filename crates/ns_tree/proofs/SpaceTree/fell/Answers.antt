@@ -1,5 +1,6 @@
 -- None is inside a namespace that is not there
 use Rattle.std.proofs.Common.{◌≡◌, ◌∙◌, ℕ, false, List, [], length, Option, None, option_map, refl, ap, subst, arith}
+use Rattle.std.proofs.lemmas.Grind.{common_steps}
 use Rattle.std.specs.Prelude.{vec_capacity}
 use Rattle.std.specs.Option.{option_map_or}
 use Rattle.std.proofs.lemmas.Bool.{false_from_ne_true}
@@ -9,6 +10,9 @@ use Rattle.ns_tree.specs.Places.{nodes_of}
 use Rattle.ns_tree.proofs.Nodes as nodes
 use Rattle.ns_tree.proofs.Paths as paths
 use Rattle.ns_tree.proofs.SpaceTree.fell.Goals as goal
+
+pub returns-then-is_some-clause-count : goal.returns-then-is_some-clause-count
+returns-then-is_some-clause-count c = grind (arith, common_steps)
 
 pub invariant_of-self : goal.invariant_of-self
 invariant_of-self c =

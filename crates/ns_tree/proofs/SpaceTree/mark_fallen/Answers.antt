@@ -1,4 +1,5 @@
-use Rattle.std.proofs.Common.{refl, ◌∙◌, ap, [], option_map}
+use Rattle.std.proofs.Common.{refl, ◌∙◌, ap, [], option_map, arith}
+use Rattle.std.proofs.lemmas.Grind.{common_steps}
 use Rattle.std.specs.Prelude.{vec_capacity}
 use Rattle.std.specs.Option.{option_map_or}
 use Rattle.ns_tree.specs.Tree.{felled, way, id_in, node_in}
@@ -6,6 +7,9 @@ use Rattle.ns_tree.specs.Places.{nodes_of}
 use Rattle.ns_tree.proofs.Nodes as nodes
 use Rattle.ns_tree.proofs.Paths.{everywhere}
 use Rattle.ns_tree.proofs.SpaceTree.mark_fallen.Goals as goal
+
+pub returns-clause-count : goal.returns-clause-count
+returns-clause-count c = grind (arith, common_steps)
 
 pub invariant_of-self : goal.invariant_of-self
 invariant_of-self c =

@@ -1,4 +1,5 @@
 use Rattle.std.proofs.Common.{◌≡◌, length, arith, Some, sym, ap, ◌∙◌, ◌+◌, true, if◌then◌else◌, subst, set}
+use Rattle.std.proofs.lemmas.Grind.{common_steps}
 use Rattle.std.specs.Prelude.{vec_capacity, nat_lt}
 use Rattle.std.proofs.lemmas.List.{length-set}
 use Rattle.std.proofs.lemmas.Bool.Decides.{nat_tests}
@@ -9,6 +10,12 @@ use Rattle.ns_tree.proofs.Filled as filled
 use Rattle.ns_tree.proofs.Nodes as nodes
 use Rattle.ns_tree.proofs.Vacancy as vacancy
 use Rattle.ns_tree.proofs.places.fill_place.Goals as goal
+
+pub index_mut-requires : goal.index_mut-requires
+index_mut-requires c = grind (arith, common_steps)
+
+pub returns-in-None-clause-others : goal.returns-in-None-clause-others
+returns-in-None-clause-others c = grind (arith, common_steps)
 
 pub returns-in-Some : goal.returns-in-Some
 returns-in-Some c =
@@ -32,3 +39,9 @@ returns-in-Some c =
           (vacancy.one-less (nodes_of places) vacant rest room key c.requires.vacant c.in-Some.ensures.items (node_of x)));
       count = length-set places key x ∙ sym (ap (λ b. if b then length places else key + 1) below) ∙ ap (grown (length places)) (sym next);
     }
+
+pub returns-in-None-clause-vacant : goal.returns-in-None-clause-vacant
+returns-in-None-clause-vacant c = grind (arith, common_steps)
+
+pub returns-in-None-clause-here : goal.returns-in-None-clause-here
+returns-in-None-clause-here c = grind (arith, common_steps)
