@@ -1,5 +1,6 @@
 -- The climb may stop at the first ancestor in another namespace, since above that one none is in the task's own again
-use Rattle.std.proofs.Common.{◌≡◌, ℕ, ◌+◌, Bool, true, false, cond, length, Some, None, refl, sym, ap, ◌∙◌}
+use Rattle.std.proofs.Common.{◌≡◌, ℕ, ◌+◌, Bool, true, false, cond, length, Some, None, refl, sym, ap, ◌∙◌, arith}
+use Rattle.std.proofs.lemmas.Grind.{common_steps}
 use Rattle.std.specs.Option.{option_map_or}
 use Rattle.pid_types.specs.Chains.{climb}
 use Rattle.pid_types.proofs.Ancestors.{found_above, climb-step, found-top}
@@ -39,6 +40,9 @@ loop-parent-init c = record {
   there = c.requires.there;
   own = c.requires.own;
 }
+
+pub parent-requires : goal.parent-requires
+parent-requires c = grind (arith, common_steps)
 
 pub space_at-requires : goal.space_at-requires
 space_at-requires c =

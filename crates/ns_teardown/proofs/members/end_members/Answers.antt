@@ -50,6 +50,15 @@ loop-number-preserved c =
       below = omega (arith, in_range, bound);
     }
 
+pub loop-number-smaller : goal.loop-number-smaller
+loop-number-smaller c = grind arith
+
+pub overflow_add-from : goal.overflow_add-from
+overflow_add-from c = grind arith
+
+pub unreachable-requires : goal.unreachable-requires
+unreachable-requires c = grind arith
+
 pub returns-clause-slots : goal.returns-clause-slots
 returns-clause-slots c =
     let none = rw c.numbers.ensures at c.in_default.ensures in

@@ -1,5 +1,5 @@
 -- Marking namespaces as fallen changes no number or parent: so how each member ends is told by the store before the fall
-use Rattle.std.proofs.Common.{◌≡◌, is_some, sym, ap, ◌∙◌}
+use Rattle.std.proofs.Common.{◌≡◌, is_some, sym, ap, ◌∙◌, arith}
 use Rattle.pid_numbers.specs.Numbering.{path_at}
 use Rattle.ns_teardown.specs.Fall.{FallsWithin, slot_at, slot_after_fall}
 use Rattle.ns_teardown.proofs.Visible as visible
@@ -11,6 +11,9 @@ fell-requires-clause-inner c root =
     let x = visible.live_of _ c.requires.live in
     let u = visible.named c.args.store.now c.laws.ensures.agree c.args.init.now.key (ap is_some x.1) in
     (c.requires.top u.0 u.1).1 (sym (c.requires.own u.0 u.1) ∙ root)
+
+pub returns-clause-homes : goal.returns-clause-homes
+returns-clause-homes c = grind arith
 
 pub fell-requires-clause-homes : goal.fell-requires-clause-homes
 fell-requires-clause-homes c n inside stands =
@@ -31,6 +34,9 @@ returns-clause-slots c u is k =
     let slots : slot_at c.end_members.new.store k ≡ slot_after_fall c.args.store.now init.space init.key c.args.status k =
     c.end_members.ensures.slots k ∙ marked.slot-marked c.args.store.now c.fell.new.self init.space falls c.fell.ensures.rest init.key c.args.status k in
     slots ∙ ap (λ s. slot_after_fall c.args.store.now s init.key c.args.status k) (c.requires.own u is)
+
+pub returns-clause-numbers : goal.returns-clause-numbers
+returns-clause-numbers c = grind arith
 
 pub returns-clause-tree : goal.returns-clause-tree
 returns-clause-tree c =

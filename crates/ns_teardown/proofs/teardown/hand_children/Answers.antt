@@ -1,4 +1,5 @@
-use Rattle.std.proofs.Common.{◌≡◌, ◌≢◌, ℕ, Some}
+use Rattle.std.proofs.Common.{◌≡◌, ◌≢◌, ℕ, Some, arith}
+use Rattle.std.proofs.lemmas.Grind.{common_steps}
 use Rattle.task_tree.specs.Tree.{parent_of}
 use Rattle.task_table.proofs.Changes.{in_range}
 use Rattle.ns_teardown.proofs.NewParents as parents
@@ -19,6 +20,12 @@ pub hand_on-requires-clause-to : goal.hand_on-requires-clause-to
 hand_on-requires-clause-to c =
     in_range c.args.store.now.tree.tasks c.new_parent-heir.result
     (parents.heir-beside c.args.store.now c.laws.ensures c.requires.good c.args.key c.new_parent-heir.result c.requires.live c.requires.inner c.new_parent-heir.ensures).1
+
+pub hand_on-requires-clause-from : goal.hand_on-requires-clause-from
+hand_on-requires-clause-from c = grind arith
+
+pub first_child-requires : goal.first_child-requires
+first_child-requires c = grind (arith, common_steps)
 
 pub hand_on-requires-clause-beside : goal.hand_on-requires-clause-beside
 hand_on-requires-clause-beside c =
