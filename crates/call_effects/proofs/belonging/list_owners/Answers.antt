@@ -1,4 +1,5 @@
-use Rattle.std.proofs.Common.{◌∙◌, ◌++◌, ◌∷◌, [], map, ap, subst, sym}
+use Rattle.std.proofs.Common.{◌∙◌, ◌++◌, ◌∷◌, [], map, ap, subst, sym, arith}
+use Rattle.std.proofs.lemmas.Grind.{common_steps}
 use Rattle.std.proofs.lemmas.List.{take_all, map_more}
 use Rattle.translate.specs.Pages.{AreListedFrom}
 use Rattle.call_effects.specs.Belonging.{owner_by}
@@ -15,3 +16,6 @@ loop-watched-preserved c = record {
   owners = c.in_ok-push.ensures.items ∙ (λ i. c.loop-watched.invariant.owners i ++ c.owner_of.ensures i ∷ [])
       ∙ sym (map_more (owner_by c.args.kind) c.args.tasks.now c.loop-watched.watched-index _ c.loop-watched-test.true);
 }
+
+pub returns-clause-few : goal.returns-clause-few
+returns-clause-few c = grind (arith, common_steps)

@@ -1,4 +1,5 @@
-use Rattle.std.proofs.Common.{◌≡◌, ◌∙◌, ◌++◌, ◌∷◌, [], map, sym, ap, subst}
+use Rattle.std.proofs.Common.{◌≡◌, ◌∙◌, ◌++◌, ◌∷◌, [], map, sym, ap, subst, arith}
+use Rattle.std.proofs.lemmas.Grind.{common_steps}
 use Rattle.std.specs.Prelude.{slice_index_or}
 use Rattle.std.proofs.lemmas.List.{map-append, take_more}
 use Rattle.pid_types.specs.Membership.{IsIn}
@@ -6,6 +7,9 @@ use Rattle.model_laws.proofs.Lists.{each_pushed}
 use Rattle.call_effects.specs.declared.spaces.WatchedSpace.{WatchedSpace}
 use Rattle.call_effects.specs.Effects.{takes_tasks}
 use Rattle.call_effects.proofs.spaces.watch_spaces.Goals as goal
+
+pub returns : goal.returns
+returns c = grind (arith, common_steps)
 
 pub loop-id-preserved : goal.loop-id-preserved
 loop-id-preserved c =

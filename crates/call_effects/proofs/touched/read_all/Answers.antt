@@ -1,4 +1,5 @@
-use Rattle.std.proofs.Common.{◌≡◌, ◌∙◌, ◌++◌, ◌∷◌, [], map, sym, ap, subst, Some, false, true, is_some}
+use Rattle.std.proofs.Common.{◌≡◌, ◌∙◌, ◌++◌, ◌∷◌, [], map, sym, ap, subst, Some, false, true, is_some, arith}
+use Rattle.std.proofs.lemmas.Grind.{common_steps}
 use Rattle.std.specs.Prelude.{slice_index_or}
 use Rattle.std.proofs.lemmas.List.{map-append, take_more}
 use Rattle.pid_types.specs.Membership.{IsIn}
@@ -28,3 +29,6 @@ loop-number-preserved c =
             (sym c.relations.ensures ∙ c.in-Some.is) w (subst (IsIn w) items on);
       };
     }
+
+pub returns : goal.returns
+returns c = grind (arith, common_steps)

@@ -1,4 +1,4 @@
-use Rattle.std.proofs.Common.{◌∙◌, [], ◌∷◌, ◌++◌, sym, ap, subst}
+use Rattle.std.proofs.Common.{◌≡◌, ◌∙◌, Bool, true, false, [], ◌∷◌, ◌++◌, sym, ap, subst}
 use Rattle.std.proofs.lemmas.Result.{IfOk-weaker}
 use Rattle.std.specs.List.Sorted.{IsPermutation}
 use Rattle.pid_types.specs.declared.call.Call.TheVariants.{Exit}
@@ -7,11 +7,14 @@ unfoldable use Rattle.pid_types.specs.Step.{step}
 use Rattle.call_effects.proofs.Touching.{touches_refused, touches_members, touches_children}
 use Rattle.call_effects.proofs.whom.touched_by_exit.Goals as goal
 
+not_both : {b : Bool} → b ≡ true → b ≡ false → ⊥
+not_both t f = cc
+
 pub returns-then-not-would_be_done : goal.returns-then-not-would_be_done
 returns-then-not-would_be_done c =
     subst (Touches c.args.table.now (step c.args.table.now c.args.stamp (Exit c.args.caller c.args.status)).state) (sym c.new.ensures.items)
     (touches_refused c.args.table.now c.args.stamp c.laws.ensures c.requires c.args.caller c.args.status
-    (λ done. let w = c.would_be_done.ensures.1 done in let z = c.if-not-would_be_done.true in cc))
+    (λ done. not_both (c.would_be_done.ensures.1 done) c.if-not-would_be_done.true))
 
 pub returns-then-is_own_init : goal.returns-then-is_own_init
 returns-then-is_own_init c =

@@ -1,4 +1,4 @@
-use Rattle.std.proofs.Common.{◌∙◌, sym, subst}
+use Rattle.std.proofs.Common.{◌∙◌, sym, subst, arith}
 use Rattle.std.proofs.lemmas.Result.{IfOk-weaker}
 unfoldable use Rattle.pid_types.specs.Step.{step}
 use Rattle.model_laws.proofs.StepKept.{step_keeps}
@@ -16,6 +16,12 @@ returns-then-not-may_touch-clause-watches c =
     (watches_none s new c.laws.ensures (step_keeps s c.args.stamp c.args.call c.laws.ensures c.requires).0
     (untouched s c.args.stamp c.laws.ensures c.requires c.args.call (sym c.may_touch.ensures ∙ c.if-not-may_touch.true))
     (keeps_spaces s c.args.stamp c.args.call c.laws.ensures c.requires))
+
+pub returns-clause-touching : goal.returns-clause-touching
+returns-clause-touching c = grind arith
+
+pub returns-clause-err : goal.returns-clause-err
+returns-clause-err c = grind arith
 
 pub returns-clause-watches : goal.returns-clause-watches
 returns-clause-watches c =

@@ -1,4 +1,4 @@
-use Rattle.std.proofs.Common.{ℕ, IsTrue, map, flat_map, sym, subst, length, ◌≤◌, vec_len}
+use Rattle.std.proofs.Common.{ℕ, IsTrue, map, flat_map, sym, subst, length, ◌≤◌, vec_len, arith}
 use Rattle.pid_types.specs.declared.call.Kind.TheVariants.{Group, Session}
 use Rattle.pid_types.specs.Membership.{IsIn}
 use Rattle.translate.specs.Pages.{AreListedFrom}
@@ -14,6 +14,9 @@ pub list_spaces-requires : goal.list_spaces-requires
 list_spaces-requires c =
     subst (λ ts. (id : ℕ) → IsIn id (flat_map watched_spaces ts) → IsTrue (is_space c.args.table.now id)) (sym c.deref-3.ensures.value)
     (own_there c.args.table.now c.laws.ensures c.args.numbers.now c.in_ok-tasks.tasks.items c.in_ok-tasks.ensures)
+
+pub invariant_of-result : goal.invariant_of-result
+invariant_of-result c = grind arith
 
 pub returns-clause-watches : goal.returns-clause-watches
 returns-clause-watches c new sound touches keeps =
