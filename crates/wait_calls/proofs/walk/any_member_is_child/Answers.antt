@@ -1,4 +1,5 @@
-use Rattle.std.proofs.Common.{◌≡◌, ℕ, None, option_map, sym, ap, ◌∙◌}
+use Rattle.std.proofs.Common.{◌≡◌, ℕ, None, option_map, sym, ap, ◌∙◌, arith}
+use Rattle.std.proofs.lemmas.Grind.{common_steps}
 use Rattle.std.proofs.Math.ListN.{get_or-map}
 use Rattle.member_lists.specs.Owners.{times}
 use Rattle.groups_sessions.specs.Membership.{Membership}
@@ -13,3 +14,9 @@ returns-clause-none c off k (child, member) =
     let none : times k c.loop-member.member-iterator ≡ 0 = ap (times k) c.in-None.ensures.steps.0 in
     let all = ap (times k) c.into_iter-member-iterator.ensures.into_iter_gives in
     differ (times k c.group_members-member-items.result) one (sym all ∙ sym (c.loop-member.invariant.left k child) ∙ none)
+
+pub returns-then-eq-clause-some : goal.returns-then-eq-clause-some
+returns-then-eq-clause-some c = grind (arith, common_steps)
+
+pub loop-member-preserved : goal.loop-member-preserved
+loop-member-preserved c = grind arith

@@ -1,9 +1,13 @@
-use Rattle.std.proofs.Common.{◌≡◌, subst, sym, ap, ◌∙◌}
+use Rattle.std.proofs.Common.{◌≡◌, subst, sym, ap, ◌∙◌, arith}
+use Rattle.std.proofs.lemmas.Grind.{common_steps}
 use Rattle.wait_calls.specs.declared.selection.Choice.TheVariants.{NoChild}
 use Rattle.wait_calls.specs.Choice.{IsEndedChoice}
 use Rattle.wait_calls.specs.Walk.{walked}
 use Rattle.wait_calls.proofs.Chosen.{chosen-ended}
 use Rattle.wait_calls.proofs.walk.choose_ended.Goals as goal
+
+pub ended_children-child-items-requires : goal.ended_children-child-items-requires
+ended_children-child-items-requires c = grind (arith, common_steps)
 
 pub returns : goal.returns
 returns c =
