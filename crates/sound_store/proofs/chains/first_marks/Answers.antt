@@ -1,9 +1,13 @@
 use Rattle.std.proofs.Common.{◌≡◌, ◌<◌, ◌∙◌, List, Bool, true, length, is_some, sym, ap, subst, arith, rules}
+use Rattle.std.proofs.lemmas.Grind.{common_steps}
 use Rattle.std.specs.Prelude.{slice_set}
 use Rattle.task_table.proofs.Changes.{in_range}
 use Rattle.sound_store.proofs.Marks.{marked-one}
 use Rattle.sound_store.specs.Ways.{AreReached}
 use Rattle.sound_store.proofs.chains.first_marks.Goals as goal
+
+pub index_mut-requires : goal.index_mut-requires
+index_mut-requires c = grind (arith, common_steps)
 
 pub returns : goal.returns
 returns c =

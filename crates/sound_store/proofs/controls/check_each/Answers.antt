@@ -1,4 +1,4 @@
-use Rattle.std.proofs.Common.{◌≡◌, ◌⊎◌, ℕ, List, true, inl, inr, map, refl, sym, subst}
+use Rattle.std.proofs.Common.{◌≡◌, ◌⊎◌, ℕ, List, true, inl, inr, map, refl, sym, subst, arith}
 use Rattle.std.specs.List.{AllByRecursion}
 use Rattle.pid_types.specs.Membership.{IsIn}
 use Rattle.pids_charge.specs.Charges.{stands, home_id}
@@ -14,6 +14,9 @@ returns-then-not-is_good_control-clause-told c good =
     let keys = subst (AllByRecursion (λ (p : ℕ × ℕ). (stands v p.1 ≡ true) × (home_id v p.1 ≡ p.0))) c.in-Some.ensures.steps c.loop-id.invariant.keys in
     let on : IsIn c.in-Some.id (ids_of v) = c.loop-id.invariant.listed c.in-Some.id (subst (λ (it : List (ℕ × ℕ)). IsIn c.in-Some.id (map (λ p. p.0) it)) (sym c.in-Some.ensures.steps) (inl refl)) in
     never (c.if-not-is_good_control.ensures.1 (subst (IsGoodControl v) (sym keys.0.1) (good-each v good c.in-Some.id on)))
+
+pub returns-clause-ok : goal.returns-clause-ok
+returns-clause-ok c = grind arith
 
 pub loop-id-preserved : goal.loop-id-preserved
 loop-id-preserved c =
