@@ -21,6 +21,12 @@ add-requires-clause-shallow c =
     let s = c.requires.shallow in
     omega (arith, l, s)
 
+pub returns-clause-next : goal.returns-clause-next
+returns-clause-next c = grind arith
+
+pub invariant_of-self : goal.invariant_of-self
+invariant_of-self c = grind arith
+
 pub invariant_of-self-2 : goal.invariant_of-self-2
 invariant_of-self-2 c =
     let k = c.self.invariant in
@@ -66,6 +72,9 @@ invariant_of-self-2 c =
 pub returns-clause-fresh : goal.returns-clause-fresh
 returns-clause-fresh c =
     views.namespace_is c.self.inside c.self.view_is c.in_ok-key.key ∙ ap (option_map (namespace_of (cursor_on c.self.inside.ids.items c.in_ok-key.key))) c.in_ok-key.ensures.vacant
+
+pub invariant_of-self-in_err-key : goal.invariant_of-self-in_err-key
+invariant_of-self-in_err-key c = grind arith
 
 pub returns-clause-made : goal.returns-clause-made
 returns-clause-made c =

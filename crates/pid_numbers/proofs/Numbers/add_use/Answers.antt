@@ -1,4 +1,6 @@
 -- The marks along the path are those of the uses: they change with the first use of a kind alone
+use Rattle.std.proofs.Common.{arith}
+use Rattle.std.proofs.lemmas.Grind.{common_steps}
 use Rattle.pid_numbers.proofs.Words.{◌≡◌, ◌∙◌, ◌+◌, sym, ap, subst, Some, true, IsSome, way, Identifier, uses, is_used_as, ident_at}
 use Rattle.ns_tree.proofs.Paths as paths
 use Rattle.pid_numbers.proofs.Views as views
@@ -21,10 +23,16 @@ used c = let v = found c in ap (is_used_as c.args.kind) (c.more_use.ensures.here
 pub has_use_at-had-requires : goal.has_use_at-had-requires
 has_use_at-had-requires c = subst IsSome (views.identifier_is c.self.inside c.self.view_is c.args.ident) c.requires.there
 
+pub returns-then-had-clause-here : goal.returns-then-had-clause-here
+returns-then-had-clause-here c = grind (arith, common_steps)
+
 pub invariant_of-self : goal.invariant_of-self
 invariant_of-self c =
     let m = (goal.at.invariant_of-self c).After-more_use in
     uses.counted c.self.invariant (recounted m) (used m ∙ sym (sym c.has_use_at-had.ensures ∙ c.if-had.true))
+
+pub more_use-requires-clause-there : goal.more_use-requires-clause-there
+more_use-requires-clause-there c = grind (arith, common_steps)
 
 pub returns-then-had-clause-others : goal.returns-then-had-clause-others
 returns-then-had-clause-others c j m =
@@ -50,3 +58,6 @@ pub returns-clause-others : goal.returns-clause-others
 returns-clause-others c j m =
     views.name_is c.self.inside.pid_max c.self.inside.tree c.mark_numbers.new.ids.items c.more_use.new.self j ∙ c.more_use.ensures.others j m
     ∙ sym (views.identifier_is c.self.inside c.self.view_is j)
+
+pub returns-clause-here : goal.returns-clause-here
+returns-clause-here c = grind (arith, common_steps)

@@ -1,3 +1,5 @@
+use Rattle.std.proofs.Common.{arith}
+use Rattle.std.proofs.lemmas.Grind.{common_steps}
 use Rattle.pid_numbers.proofs.Words.{◌≡◌, ◌∙◌, refl, sym, ap, length, Some, option_map, slice_get, option_map_or, slice_get_read, node_in, cursor_on}
 use Rattle.pid_numbers.proofs.Words.{namespace_of}
 use Rattle.pid_numbers.proofs.Views as views
@@ -7,6 +9,9 @@ pub returns-then-not-is_there : goal.returns-then-not-is_there
 returns-then-not-is_there c =
     sym (ap (option_map (λ t. t.cursor)) (views.namespace_is c.self.inside c.self.view_is c.args.space
     ∙ ap (option_map (namespace_of (cursor_on c.self.inside.ids.items c.args.space))) (views.absent (node_in c.self.inside.tree.nodes c.args.space) (sym c.is_there.ensures ∙ c.if-not-is_there.true))))
+
+pub index-requires : goal.index-requires
+index-requires c = grind (arith, common_steps)
 
 pub returns : goal.returns
 returns c =

@@ -1,4 +1,5 @@
 -- All memory is taken first, and taking it moves no plan: so the numbers planned are free still when the path is written
+use Rattle.std.proofs.lemmas.Grind.{common_steps}
 use Rattle.pid_numbers.proofs.Words.{rules, ◌≡◌, ◌∙◌, sym, ap, subst, refl, arith, ℕ, ◌<◌, length, get_or, None, option_map, node_in, way, IsDistinct, path_at}
 use Rattle.pid_numbers.proofs.Words.{moved, new_identifier, namespace_of, cursor_on, entry_on, bound_on, touched, stepped, given_to, ArePlanned, ident_at}
 use Rattle.pid_numbers.proofs.Views.{IsPlan}
@@ -45,6 +46,9 @@ give_path-requires c =
       len = p.len ∙ ap length (sym c.path_up-path.ensures);
     }
 
+pub invariant_of-self-in_err-prepare_path : goal.invariant_of-self-in_err-prepare_path
+invariant_of-self-in_err-prepare_path c = grind arith
+
 pub invariant_of-self-2 : goal.invariant_of-self-2
 invariant_of-self-2 c =
     let ids = c.self.inside.ids.items in
@@ -72,6 +76,21 @@ pub returns-clause-others : goal.returns-clause-others
 returns-clause-others c j m =
     views.name_is c.self.inside.pid_max c.self.inside.tree c.give_path.new.ids.items c.insert_reserved.new.self j ∙ (put (goal.at.returns-clause-others c).After-insert_reserved).others j m
     ∙ sym (views.identifier_is c.self.inside c.self.view_is j)
+
+pub invariant_of-self-in_err-stored : goal.invariant_of-self-in_err-stored
+invariant_of-self-in_err-stored c = grind arith
+
+pub returns-clause-fresh : goal.returns-clause-fresh
+returns-clause-fresh c = grind (arith, common_steps)
+
+pub returns-clause-pid_max : goal.returns-clause-pid_max
+returns-clause-pid_max c = grind arith
+
+pub invariant_of-self : goal.invariant_of-self
+invariant_of-self c = grind arith
+
+pub returns-clause-named : goal.returns-clause-named
+returns-clause-named c = grind (arith, common_steps)
 
 pub returns-clause-namespaces : goal.returns-clause-namespaces
 returns-clause-namespaces c s =

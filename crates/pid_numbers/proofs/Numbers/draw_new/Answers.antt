@@ -1,4 +1,5 @@
 -- The numbers were planned before the namespace was there: it takes a key that none had, so no plan on the path around it has moved
+use Rattle.std.proofs.lemmas.Grind.{common_steps}
 use Rattle.pid_numbers.proofs.Words.{◌≡◌, ◌∙◌, ◌∷◌, ◌-◌, sym, ap, subst, arith, length, take, drop, Some, IsSome, Option, true, false, option_map}
 use Rattle.pid_numbers.proofs.Words.{slice_get, option_map_or, grown, new_node, node_in, way, IsDistinct, Namespace, namespace_at, path_at, moved}
 use Rattle.pid_numbers.proofs.Words.{new_identifier, namespace_of, cursor_on, entry_on, touched, stepped, given_to, ArePlanned, AreReady, identifier_of}
@@ -43,8 +44,20 @@ prepare_path-requires c =
       len = p.len ∙ ap length (sym c.path_up.ensures);
     }
 
+pub invariant_of-self-in_err-ids : goal.invariant_of-self-in_err-ids
+invariant_of-self-in_err-ids c = grind arith
+
+pub returns-clause-key : goal.returns-clause-key
+returns-clause-key c = grind arith
+
 pub add-requires-clause-there : goal.add-requires-clause-there
 add-requires-clause-there c = views.there c.self.inside c.self.view_is c.args.parent (standing (namespace_at c.args.self.now c.args.parent) c.requires.stands).0
+
+pub from-requires : goal.from-requires
+from-requires c = grind (arith, common_steps)
+
+pub invariant_of-self : goal.invariant_of-self
+invariant_of-self c = grind arith
 
 pub add-requires-clause-shallow : goal.add-requires-clause-shallow
 add-requires-clause-shallow c =
@@ -76,6 +89,21 @@ invariant_of-self-2 c =
     c.laws.ensures.tree c.laws.ensures.some c.laws.ensures.listed
     (subst (λ l. seats.IsPut c.self.inside.idents c.insert_reserved.new.self c.in_ok-ident.ident (new_identifier c.in_ok-key.key l)) (begins.all-is c.args.numbers.now _ c.requires.planned) (put (goal.at.invariant_of-self-2 c).After-insert_reserved))
 
+pub returns-clause-pid_max : goal.returns-clause-pid_max
+returns-clause-pid_max c = grind arith
+
+pub invariant_of-self-in_err-prepare_path : goal.invariant_of-self-in_err-prepare_path
+invariant_of-self-in_err-prepare_path c = grind arith
+
+pub invariant_of-self-in_err-try_reserve : goal.invariant_of-self-in_err-try_reserve
+invariant_of-self-in_err-try_reserve c = grind arith
+
+pub returns-clause-order : goal.returns-clause-order
+returns-clause-order c = grind arith
+
+pub slice_bounds-around-start : goal.slice_bounds-around-start
+slice_bounds-around-start c = grind arith
+
 pub returns-clause-fresh : goal.returns-clause-fresh
 returns-clause-fresh c = (
   views.identifier_is c.self.inside c.self.view_is c.in_ok-ident.ident ∙ ap (option_map identifier_of) c.in_ok-ident.ensures.vacant,
@@ -83,14 +111,29 @@ returns-clause-fresh c = (
       ∙ ap (option_map (namespace_of (cursor_on c.self.inside.ids.items c.in_ok-key.key))) c.in_ok-key.ensures.vacant,
 )
 
+pub add-requires-clause-above : goal.add-requires-clause-above
+add-requires-clause-above c = grind arith
+
 pub returns-clause-named : goal.returns-clause-named
 returns-clause-named c =
     views.name_is c.self.inside.pid_max c.add.new.self c.give_path.new.ids.items c.insert_reserved.new.self c.in_ok-ident.ident ∙ (put (goal.at.returns-clause-named c).After-insert_reserved).now
+
+pub invariant_of-self-in_err-key : goal.invariant_of-self-in_err-key
+invariant_of-self-in_err-key c = grind arith
+
+pub slice_bounds-around-count : goal.slice_bounds-around-count
+slice_bounds-around-count c = grind arith
+
+pub invariant_of-self-in_err-stored : goal.invariant_of-self-in_err-stored
+invariant_of-self-in_err-stored c = grind arith
 
 pub returns-clause-others : goal.returns-clause-others
 returns-clause-others c j m =
     views.name_is c.self.inside.pid_max c.add.new.self c.give_path.new.ids.items c.insert_reserved.new.self j ∙ (put (goal.at.returns-clause-others c).After-insert_reserved).others j m
     ∙ sym (views.identifier_is c.self.inside c.self.view_is j)
+
+pub insert_reserved-requires-clause-some : goal.insert_reserved-requires-clause-some
+insert_reserved-requires-clause-some c = grind arith
 
 pub returns-clause-made : goal.returns-clause-made
 returns-clause-made c =
@@ -101,6 +144,9 @@ returns-clause-made c =
     views.namespace-at (cursor_on c.give_path.new.ids.items) c.add.new.self.nodes c.in_ok-key.key ∙ ap (option_map (namespace_of (cursor_on c.give_path.new.ids.items c.in_ok-key.key))) g.made
     ∙ ap (λ k. Some (namespace_of k (new_node c.args.id (c.in_ok-key.key ∷ way c.self.inside.tree.nodes c.args.parent)))) cursor
     ∙ ap (λ p. Some (namespace_of 2 (new_node c.args.id (c.in_ok-key.key ∷ p)))) (sym (views.path-of c.self.inside c.self.view_is c.args.parent))
+
+pub insert_reserved-requires-clause-room : goal.insert_reserved-requires-clause-room
+insert_reserved-requires-clause-room c = grind arith
 
 pub returns-clause-namespaces : goal.returns-clause-namespaces
 returns-clause-namespaces c s m =

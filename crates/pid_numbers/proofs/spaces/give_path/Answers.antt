@@ -1,7 +1,11 @@
+use Rattle.std.proofs.lemmas.Grind.{common_steps}
 use Rattle.pid_numbers.proofs.Words.{refl, ◌<◌, length, ◌∙◌, ap, arith, get_or, option_map, option_and_then, false, option_map_or, planned, entry_at}
 use Rattle.pid_numbers.proofs.Words.{is_prepared, everywhere, entry_on, given_to, bound_on, cursor_on}
 use Rattle.pid_numbers.proofs.Ties as ties
 use Rattle.pid_numbers.proofs.spaces.give_path.Goals as goal
+
+pub returns-clause-cursors : goal.returns-clause-cursors
+returns-clause-cursors c = grind (arith, common_steps)
 
 pub loop-k-preserved : goal.loop-k-preserved
 loop-k-preserved c =

@@ -1,4 +1,6 @@
 -- The path is read before its namespace goes: where one is dead only those on its path are, and the next one is around it
+use Rattle.std.proofs.Common.{arith}
+use Rattle.std.proofs.lemmas.Grind.{common_steps}
 use Rattle.pid_numbers.proofs.Words.{◌∙◌, refl, sym, ap, is_some, filter, node_in, way, id_in}
 use Rattle.ns_tree.proofs.Orders as orders
 use Rattle.pid_numbers.proofs.Climbs as climbs
@@ -17,8 +19,14 @@ loop-tree-init c =
       listed = c.laws.ensures.listed;
     }
 
+pub loop-tree-smaller : goal.loop-tree-smaller
+loop-tree-smaller c = grind (arith, common_steps)
+
 pub drop_space-requires-clause-bare : goal.drop_space-requires-clause-bare
 drop_space-requires-clause-bare c = climbs.bare c.loop-tree.tree.nodes c.args.ids.now.items c.loop-tree.key c.loop-tree.invariant.around c.loop-tree.invariant.tree (sym c.is_dead.ensures ∙ c.loop-tree-test.true)
+
+pub unreachable-requires : goal.unreachable-requires
+unreachable-requires c = grind (arith, common_steps)
 
 pub loop-tree-preserved : goal.loop-tree-preserved
 loop-tree-preserved c =

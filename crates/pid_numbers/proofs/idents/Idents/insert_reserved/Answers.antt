@@ -1,3 +1,4 @@
+use Rattle.std.proofs.lemmas.Grind.{common_steps}
 use Rattle.pid_numbers.proofs.Words.{◌∙◌, ◌<◌, length, map, set, Some, arith, sym, ap, subst, vec_capacity, length-map, length-set, AreVacant, get, shown}
 use Rattle.ns_tree.proofs.Filled as filled
 use Rattle.pid_numbers.proofs.Seats as seats
@@ -28,3 +29,9 @@ returns-in-Some-clause-updates c =
       changed = filled.slot-set_same seats.numbers_of (λ x. x) places key x lt ∙ filled.show-some seats.numbers_of (λ x. x) x c.requires.some;
       others = λ j differs. filled.slot-set_other seats.numbers_of (λ x. x) places key j x differs ∙ ap (λ t. get t j) c.self.view_is;
     }
+
+pub returns-in-None-clause-updates : goal.returns-in-None-clause-updates
+returns-in-None-clause-updates c = grind (arith, common_steps)
+
+pub invariant_of-self-in-None : goal.invariant_of-self-in-None
+invariant_of-self-in-None c = grind (arith, common_steps)

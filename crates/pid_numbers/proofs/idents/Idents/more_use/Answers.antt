@@ -1,3 +1,5 @@
+use Rattle.std.proofs.Common.{arith}
+use Rattle.std.proofs.lemmas.Grind.{common_steps}
 use Rattle.pid_numbers.proofs.Words.{◌≡◌, ◌∙◌, ◌<◌, length, map, get_or, None, Some, IsSome, sym, ap, subst, option_map, vec_capacity, more, identifier_of}
 use Rattle.pid_numbers.proofs.Words.{ident_at, shown}
 use Rattle.ns_tree.proofs.Filled as filled
@@ -29,3 +31,6 @@ returns-clause-others c j differs =
     let f = found c in
     ap (option_map identifier_of) (seats.others c.self.inside.places.items c.args.key c.index_mut.result.now c.raise.new.x f.0 f.1.0 f.1.1 c.raise.ensures.numbers j differs)
     ∙ ap (λ t. ident_at t j) c.self.view_is
+
+pub raise-requires : goal.raise-requires
+raise-requires c = grind (arith, common_steps)

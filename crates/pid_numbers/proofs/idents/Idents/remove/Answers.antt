@@ -1,4 +1,5 @@
 -- A place without numbers is how vacancy shows; its key was not vacant, so there is room for it in the list of vacant keys
+use Rattle.std.proofs.lemmas.Grind.{common_steps}
 use Rattle.pid_numbers.proofs.Words.{◌≡◌, ◌∙◌, ◌<◌, ◌++◌, ◌∷◌, ℕ, List, [], length, map, get_or, None, Some, IsSome, arith, sym, ap, subst, option_map}
 use Rattle.pid_numbers.proofs.Words.{vec_capacity, length-set, Ident, AreVacant, get, identifier_of, ident_at, shown}
 use Rattle.ns_tree.proofs.Filled as filled
@@ -43,3 +44,6 @@ returns-clause-updates c =
       changed = filled.slot-set_same seats.numbers_of (λ x. x) places key w f.0 ∙ none;
       others = λ j differs. filled.slot-set_other seats.numbers_of (λ x. x) places key j w differs ∙ ap (λ t. get t j) c.self.view_is;
     }
+
+pub returns-clause-value : goal.returns-clause-value
+returns-clause-value c = grind (arith, common_steps)
