@@ -10,3 +10,6 @@ sink-requires c = grind (arith, trees.same_member, trees.fits_behind)
 
 pub set_level-requires-clause-at : goal.set_level-requires-clause-at
 set_level-requires-clause-at c given = grind (arith, trees.within)
+
+pub returns : goal.returns
+returns c = grind arith

@@ -33,5 +33,8 @@ sink-requires-then-held-ne-NIL c =
     not_both : {b : Bool} → b ≡ false → b ≡ true → ⊥
     not_both f t = cc
 
+pub returns-then-held-ne-NIL : goal.returns-then-held-ne-NIL
+returns-then-held-ne-NIL c = grind arith
+
 pub returns-else-held-ne-NIL : goal.returns-else-held-ne-NIL
 returns-else-held-ne-NIL c = grind arith
