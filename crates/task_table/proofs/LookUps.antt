@@ -27,6 +27,10 @@ use Rattle.model_laws.proofs.Lists.{find-only, find-none}
 use Rattle.task_table.proofs.Collects.{collect-from, collect-in}
 use Rattle.task_table.proofs.Keys.{key-some, key-of, is_path, number-is_key, home-id}
 
+-- nothing is not something
+pub none_some : {X : Type 0} {x : X} → None ≡ Some x → ⊥
+none_some e = cc
+
 first_of_more : (xs ys : List ℕ) → 0 < length xs → slice_index (xs ++ ys) 0 ≡ slice_index xs 0
 first_of_more [] ys some = absurd (omega (arith, some))
 first_of_more (x ∷ xs) ys some = refl

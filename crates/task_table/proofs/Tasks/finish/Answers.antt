@@ -1,4 +1,5 @@
-use Rattle.std.proofs.Common.{is_some, Some, ◌+◌, ◌-◌, refl, sym, ap, ◌∙◌}
+use Rattle.std.proofs.Common.{is_some, Some, ◌+◌, ◌-◌, refl, sym, ap, ◌∙◌, arith}
+use Rattle.std.proofs.lemmas.Grind.{common_steps}
 use Rattle.pid_types.specs.declared.plain.Life.TheVariants.{Zombie}
 use Rattle.task_tree.specs.declared.Task.{Task}
 use Rattle.task_tree.specs.Tree.{rank_of}
@@ -8,6 +9,9 @@ use Rattle.task_table.proofs.Changes as changes
 use Rattle.task_table.proofs.HomeCounts as homes
 use Rattle.task_table.proofs.Housed as housed
 use Rattle.task_table.proofs.Tasks.finish.Goals as goal
+
+pub remove-requires-clause-key : goal.remove-requires-clause-key
+remove-requires-clause-key c = grind (arith, common_steps)
 
 pub finish-requires-clause-apart : goal.finish-requires-clause-apart
 finish-requires-clause-apart c k p child e =
@@ -19,6 +23,9 @@ finish-requires-clause-apart c k p child e =
     let others = c.self.invariant.agree.ranks k p c.rank_for-rank.result e u.0 u.1 in
     let same = c.laws.ensures.distinct k c.args.key u.0.space c.rank_for-rank.result others mine in
     changes.no_rank c.self.inside.tree c.args.key c.args.task there c.requires.live (c.laws-2.ensures.waiting c.args.key) (p, c.rank_for-rank.result) (sym (ap (rank_of c.self.inside.tree) same) ∙ e)
+
+pub rank_for-rank-requires-clause-key : goal.rank_for-rank-requires-clause-key
+rank_for-rank-requires-clause-key c = grind (arith, common_steps)
 
 pub invariant_of-self : goal.invariant_of-self
 invariant_of-self c = record {
@@ -38,3 +45,6 @@ invariant_of-self c = record {
       (changes.in_range c.self.inside.tree.tasks c.args.key (ap is_some there)) c.remove.ensures
       (housed.less-mapped c.self.inside.controls c.died.new.self c.args.task.home (λ (h : Home). record h { live = h.live - 1; zombies = h.zombies + 1 }) (λ h e. e) c.died.ensures.home);
 }
+
+pub died-requires : goal.died-requires
+died-requires c = grind (arith, common_steps)

@@ -9,6 +9,7 @@ use Rattle.pid_numbers.specs.Numbering.{Namespace, identifier_at, namespace_at, 
 use Rattle.task_tree.specs.Tree.{task_at}
 use Rattle.task_table.specs.Store.{Store}
 use Rattle.task_table.specs.Residents.{live_home}
+use Rattle.task_table.proofs.LookUps.{none_some}
 use Rattle.task_table.proofs.Less as less
 use Rattle.task_table.proofs.Groups as groups
 use Rattle.task_table.proofs.Changes as changes
@@ -42,13 +43,16 @@ settle-requires-clause-free c k e =
     let m = groups.in_group c.self.inside.members k c.in_ok-key.key e in
     let used = less.used c.self.inside.numbers Group m.0.group (groups.group_used old c.self.invariant.agree k m.0 m.1) in
     let at : identifier_at c.self.inside.numbers c.in_ok-draw.field-0 ≡ Some used.0 = ap (identifier_at c.self.inside.numbers) (key ∙ sym m.2) ∙ used.1 in
-    absurd (let z = sym c.in_ok-draw.ensures.fresh ∙ at in cc)
+    absurd (none_some (sym c.in_ok-draw.ensures.fresh ∙ at))
 
 pub settle-requires-clause-few : goal.settle-requires-clause-few
 settle-requires-clause-few c k i =
     let old : Store = record { numbering = c.self.inside.numbers; tree = c.self.inside.tree; members = c.self.inside.members; charges = c.self.inside.controls } in
     births.drawn-few c.self.inside.numbers c.draw.new.self c.in_ok-draw.field-0 c.args.space c.args.numbers.now c.in_ok-draw.ensures.fresh c.in_ok-draw.ensures.named c.in_ok-draw.ensures.others
     (groups.few_uses old c.self.invariant.agree c.laws-4.ensures.few) k i
+
+pub returns-clause-namespaces : goal.returns-clause-namespaces
+returns-clause-namespaces c = grind arith
 
 path_moved : (path numbers : List ℕ) (s : ℕ) (o : Option Namespace) → option_map_or (λ t. t.path) (option_map (cursor_moved path numbers s) o) [] ≡ option_map_or (λ t. t.path) o []
 path_moved path numbers s None = refl
@@ -86,6 +90,9 @@ invariant_of-self-2 c = record {
       (housed.less-mapped c.self.inside.controls c.settle.new.controls c.args.task.home (λ (h : Home). record h { live = h.live + 1 }) (λ h e. e) c.settle.ensures.charged);
 }
 
+pub settle-requires-clause-vacant : goal.settle-requires-clause-vacant
+settle-requires-clause-vacant c = grind arith
+
 pub settle-requires-clause-within : goal.settle-requires-clause-within
 settle-requires-clause-within c =
     let same = rw (← c.self.view_is) at c.make_room.ensures.same in
@@ -99,3 +106,6 @@ settle-requires-clause-nowhere c =
     let key : c.in_ok-draw.field-0 ≡ c.in_ok-key.key = c.in_ok-draw.ensures.key ∙ ap (λ (s : Store). s.numbering.next) c.self.view_is ∙ sym c.in_ok-key.ensures.key in
     let fresh : identifier_at c.self.inside.numbers c.in_ok-key.key ≡ None = subst (λ (k : ℕ). identifier_at c.self.inside.numbers k ≡ None) key c.in_ok-draw.ensures.fresh in
     c.self.invariant.housed.same c.in_ok-key.key ∙ ap live_home (births.no_task old c.self.invariant.agree c.in_ok-key.key fresh).0
+
+pub settle-requires-clause-room : goal.settle-requires-clause-room
+settle-requires-clause-room c = grind arith

@@ -10,24 +10,37 @@ use Rattle.task_table.specs.Store.{Store}
 use Rattle.task_table.specs.Residents.{live_home}
 use Rattle.task_tree.specs.Tree.{task_at}
 use Rattle.task_table.proofs.Changes as changes
+use Rattle.task_table.proofs.LookUps.{none_some}
 use Rattle.task_table.proofs.Less as less
 use Rattle.task_table.proofs.Groups as groups
 use Rattle.task_table.proofs.Births as births
 use Rattle.task_table.proofs.Housed as housed
 use Rattle.task_table.proofs.Tasks.fork_new.Goals as goal
 
+some_same : {x y : ℕ} → Some x ≡ Some y → x ≡ y
+some_same e = cc
+
 pub settle-requires-clause-from : goal.settle-requires-clause-from
 settle-requires-clause-from c p e =
     let same = rw (← c.self.view_is) at c.make_room.ensures.same in
-    let is : c.args.from ≡ p = cc in
+    let is : c.args.from ≡ p = some_same e in
     let from = subst (λ k. is_some (task_at c.args.self.now.tree k) ≡ true) is c.requires.from in
     let there : is_some (task_at c.self.inside.tree p) ≡ true = ap is_some (same.tasks p) ∙ from in
     (c.self.invariant.agree.members p ∙ there, changes.in_range c.self.inside.tree.tasks p there)
+
+pub draw_new-requires-clause-above : goal.draw_new-requires-clause-above
+draw_new-requires-clause-above c = grind arith
+
+pub returns-clause-fresh : goal.returns-clause-fresh
+returns-clause-fresh c = grind arith
 
 pub settle-requires-clause-all : goal.settle-requires-clause-all
 settle-requires-clause-all c =
     let all = c.self.invariant.agree.all in
     omega (arith, all, count_by-le-length is_some c.self.inside.tree.tasks, c.laws-3.ensures.few)
+
+pub returns-clause-order : goal.returns-clause-order
+returns-clause-order c = grind arith
 
 pub settle-requires-clause-named : goal.settle-requires-clause-named
 settle-requires-clause-named c k m is =
@@ -37,6 +50,12 @@ settle-requires-clause-named c k m is =
     let there = births.drawn-there c.self.inside.numbers c.draw_new.new.self c.in_ok-space.field-0-0 c.in_ok-space.space c.args.numbers.now c.in_ok-space.ensures.fresh.0 c.in_ok-space.ensures.named c.in_ok-space.ensures.others in
     (there m.group (ap is_some group.1), there m.session (ap is_some session.1))
 
+pub draw_new-requires-clause-shallow : goal.draw_new-requires-clause-shallow
+draw_new-requires-clause-shallow c = grind arith
+
+pub settle-requires-clause-vacant : goal.settle-requires-clause-vacant
+settle-requires-clause-vacant c = grind arith
+
 pub settle-requires-clause-free : goal.settle-requires-clause-free
 settle-requires-clause-free c k e =
     let old : Store = record { numbering = c.self.inside.numbers; tree = c.self.inside.tree; members = c.self.inside.members; charges = c.self.inside.controls } in
@@ -44,13 +63,16 @@ settle-requires-clause-free c k e =
     let m = groups.in_group c.self.inside.members k c.in_ok-key.key e in
     let used = less.used c.self.inside.numbers Group m.0.group (groups.group_used old c.self.invariant.agree k m.0 m.1) in
     let at : identifier_at c.self.inside.numbers c.in_ok-space.field-0-0 ≡ Some used.0 = ap (identifier_at c.self.inside.numbers) (key ∙ sym m.2) ∙ used.1 in
-    absurd (let z = sym c.in_ok-space.ensures.fresh.0 ∙ at in cc)
+    absurd (none_some (sym c.in_ok-space.ensures.fresh.0 ∙ at))
 
 pub settle-requires-clause-few : goal.settle-requires-clause-few
 settle-requires-clause-few c k i =
     let old : Store = record { numbering = c.self.inside.numbers; tree = c.self.inside.tree; members = c.self.inside.members; charges = c.self.inside.controls } in
     births.drawn-few c.self.inside.numbers c.draw_new.new.self c.in_ok-space.field-0-0 c.in_ok-space.space c.args.numbers.now c.in_ok-space.ensures.fresh.0 c.in_ok-space.ensures.named c.in_ok-space.ensures.others
     (groups.few_uses old c.self.invariant.agree c.laws-4.ensures.few) k i
+
+pub returns-clause-namespaces : goal.returns-clause-namespaces
+returns-clause-namespaces c = grind arith
 
 path_moved : (path numbers : List ℕ) (s : ℕ) (o : Option Namespace) → option_map_or (λ t. t.path) (option_map (cursor_moved path numbers s) o) [] ≡ option_map_or (λ t. t.path) o []
 path_moved path numbers s None = refl
@@ -103,3 +125,9 @@ settle-requires-clause-nowhere c =
     let key : c.in_ok-space.field-0-0 ≡ c.in_ok-key.key = c.in_ok-space.ensures.key ∙ ap (λ (s : Store). s.numbering.next) c.self.view_is ∙ sym c.in_ok-key.ensures.key in
     let fresh : identifier_at c.self.inside.numbers c.in_ok-key.key ≡ None = subst (λ (k : ℕ). identifier_at c.self.inside.numbers k ≡ None) key c.in_ok-space.ensures.fresh.0 in
     c.self.invariant.housed.same c.in_ok-key.key ∙ ap live_home (births.no_task old c.self.invariant.agree c.in_ok-key.key fresh).0
+
+pub returns-clause-made : goal.returns-clause-made
+returns-clause-made c = grind arith
+
+pub settle-requires-clause-room : goal.settle-requires-clause-room
+settle-requires-clause-room c = grind arith

@@ -1,4 +1,4 @@
-use Rattle.std.proofs.Common.{refl}
+use Rattle.std.proofs.Common.{refl, arith}
 use Rattle.task_table.specs.Store.{Store}
 use Rattle.task_table.proofs.Rest as rest
 use Rattle.task_table.proofs.Housed as housed
@@ -30,3 +30,6 @@ invariant_of-self-2 c = record {
   housed =
       housed.roomier c.self.inside.controls c.self.inside.tree.tasks c.room_for.new.tree.tasks c.self.inside.residents c.room_for.new.residents c.self.invariant.housed c.room_for.ensures.more c.room_for.ensures.within c.room_for.ensures.tasks;
 }
+
+pub returns-clause-same : goal.returns-clause-same
+returns-clause-same c = grind arith

@@ -1,4 +1,5 @@
-use Rattle.std.proofs.Common.{is_some, None, Some, if◌then◌else◌, refl, sym, ap, ◌∙◌}
+use Rattle.std.proofs.Common.{is_some, None, Some, if◌then◌else◌, refl, sym, ap, ◌∙◌, arith}
+use Rattle.std.proofs.lemmas.Grind.{common_steps}
 use Rattle.std.specs.Prelude.{slice_set, slice_index_or}
 use Rattle.task_tree.specs.declared.Task.{Task}
 use Rattle.task_table.specs.Store.{Store}
@@ -6,6 +7,12 @@ use Rattle.task_table.proofs.Changes as changes
 use Rattle.task_table.proofs.HomeCounts as homes
 use Rattle.task_table.proofs.Housed as housed
 use Rattle.task_table.proofs.Tasks.move_home.Goals as goal
+
+pub move_to-requires-clause-key : goal.move_to-requires-clause-key
+move_to-requires-clause-key c = grind (arith, common_steps)
+
+pub transfer-requires-clause-some : goal.transfer-requires-clause-some
+transfer-requires-clause-some c = grind (arith, common_steps)
 
 pub invariant_of-self : goal.invariant_of-self
 invariant_of-self c = record {

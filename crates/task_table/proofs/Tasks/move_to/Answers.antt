@@ -1,5 +1,6 @@
 -- The new uses come before the old ones go: so no identifier in use goes, and the counts of both kinds are the memberships' again
 use Rattle.std.proofs.Common.{◌==◌, ◌&&◌, ap, subst, arith}
+use Rattle.std.proofs.lemmas.Grind.{common_steps}
 use Rattle.pid_types.proofs.General.{held}
 use Rattle.pid_types.specs.declared.call.Kind.TheVariants.{Group, Session}
 use Rattle.groups_sessions.specs.Membership.{Membership, membership_at}
@@ -55,3 +56,6 @@ pub returns-clause-numbers : goal.returns-clause-numbers
 returns-clause-numbers c =
     subst (λ (s : Store). IsLess s.numbering c.take_uses.new.numbers) c.self.view_is
     (less.IsLess-from c.self.inside.numbers c.add_uses.new.numbers c.take_uses.new.numbers c.add_uses.ensures.namespaces c.add_uses.ensures.order c.add_uses.ensures.bare c.add_uses.ensures.pid_max c.take_uses.ensures.less)
+
+pub add_uses-requires-clause-few : goal.add_uses-requires-clause-few
+add_uses-requires-clause-few c = grind (arith, common_steps)

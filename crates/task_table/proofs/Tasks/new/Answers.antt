@@ -1,3 +1,5 @@
+use Rattle.std.proofs.Common.{arith}
+use Rattle.std.proofs.lemmas.Grind.{common_steps}
 use Rattle.task_table.proofs.Begun as begun
 use Rattle.task_table.proofs.Housed as housed
 use Rattle.task_table.proofs.Tasks.new.Goals as goal
@@ -10,3 +12,6 @@ invariant_of-result c = record {
   housed =
       housed.begun c.in_ok-new-2.field-0 c.new-2.result.tasks c.in_ok-no_residents.field-0 (begun.nothing c.new-2.result.tasks c.new-2.ensures) c.in_ok-new-2.ensures.key c.in_ok-no_residents.ensures.none c.in_ok-no_residents.ensures.root c.in_ok-no_residents.ensures.few;
 }
+
+pub returns-clause-tasks : goal.returns-clause-tasks
+returns-clause-tasks c = grind (arith, common_steps)

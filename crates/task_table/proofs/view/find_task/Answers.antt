@@ -1,7 +1,7 @@
 use Rattle.std.proofs.Common.{◌≡◌, ◌∙◌, sym, ap, Some, None}
 use Rattle.pid_numbers.specs.Numbering.{number_of}
 use Rattle.task_tree.specs.Tree.{task_at}
-use Rattle.task_table.proofs.LookUps.{task_at-key, task_at-none}
+use Rattle.task_table.proofs.LookUps.{none_some, task_at-key, task_at-none}
 use Rattle.task_table.proofs.view.find_task.Goals as goal
 
 pub returns-in_default-clause-row : goal.returns-in_default-clause-row
@@ -17,6 +17,5 @@ pub returns-in-None-clause-row : goal.returns-in-None-clause-row
 returns-in-None-clause-row c i at =
     let here : number_of c.args.store.now.numbering c.in-Some.key c.args.space ≡ Some c.args.number = ap (λ b. number_of b c.in-Some.key c.args.space) (sym c.numbers.ensures) ∙ c.in-Some.ensures in
     task_at-none c.args.store.now c.laws.ensures c.args.space i c.args.number at
-    (λ k t e on.
-    let z : None ≡ Some t = sym c.in-None.is ∙ c.task.ensures ∙ ap (λ t. task_at t c.in-Some.key) c.tree.ensures ∙ ap (task_at c.args.store.now.tree) (c.laws.ensures.numbering.distinct c.in-Some.key k c.args.space c.args.number here on) ∙ e in
-    cc)
+    (λ k t e on. none_some (sym c.in-None.is ∙ c.task.ensures ∙ ap (λ t. task_at t c.in-Some.key) c.tree.ensures
+    ∙ ap (task_at c.args.store.now.tree) (c.laws.ensures.numbering.distinct c.in-Some.key k c.args.space c.args.number here on) ∙ e))
