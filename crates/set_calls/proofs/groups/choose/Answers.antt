@@ -1,5 +1,5 @@
 -- The rules of setpgid are asked of keys: they ask the model's questions in the same order, so the first refusal is the same one
-use Rattle.std.proofs.Common.{◌≡◌, ◌∙◌, sym, ap, subst, ℤ, w32}
+use Rattle.std.proofs.Common.{◌≡◌, ◌∙◌, sym, ap, subst, ℤ, w32, arith}
 use Rattle.std.proofs.lemmas.Int.{to_z-of_z}
 use Rattle.std.specs.Prelude.{Ok}
 use Rattle.groups_sessions.specs.declared.ask.GroupAsk.{GroupAsk}
@@ -12,6 +12,9 @@ use Rattle.set_calls.proofs.groups.choose.Goals as goal
 
 pub returns-in_default-clause-outcome : goal.returns-in_default-clause-outcome
 returns-in_default-clause-outcome c = unknown-caller (state_of c.args.store.now) c.args.caller c.args.pid c.args.pgid c.in_default.ensures.row
+
+pub unreachable-requires : goal.unreachable-requires
+unreachable-requires c = grind arith
 
 pub returns-in-Err-clause-outcome : goal.returns-in-Err-clause-outcome
 returns-in-Err-clause-outcome c =
