@@ -28,6 +28,10 @@ use Rattle.fork_calls.proofs.Born.{state-born, reply-born}
 use Rattle.fork_calls.proofs.Cursors.{contains-ids, space-moved, gives}
 use Rattle.fork_calls.proofs.Inside as inside
 
+-- nothing is not something
+none_some : {X : Type 0} {x : X} → None ≡ Some x → ⊥
+none_some e = cc
+
 map-over : {X Y : Type 0} (f : X → Y) (xs ys : List X) → map f (xs ++ ys) ≡ map f xs ++ map f ys
 map-over f [] ys = refl
 map-over f (x ∷ xs) ys = ap (λ l. f x ∷ l) (map-over f xs ys)
@@ -46,7 +50,7 @@ module _ (s : Store) (l : IsLawful s) (w : IsWhole s) (stamp : ℕ) (below : IsB
   plan = with_space (state_of s) p stamp
 
   away : (q : ℕ) (n : Namespace) → namespace_at s.numbering q ≡ Some n → q ≢ space
-  away q n e same = let z : None ≡ Some n = sym fresh ∙ ap (namespace_at s.numbering) (sym same) ∙ e in cc
+  away q n e same = none_some (sym fresh ∙ ap (namespace_at s.numbering) (sym same) ∙ e)
 
   after : (q : ℕ) (n : Namespace) → namespace_at s.numbering q ≡ Some n → namespace_at s'.numbering q ≡ Some (moved (path_at s.numbering own) (drop 1 numbers) q n)
   after q n e = now q (away q n e) ∙ ap (option_map (moved (path_at s.numbering own) (drop 1 numbers) q)) e
@@ -58,7 +62,7 @@ module _ (s : Store) (l : IsLawful s) (w : IsWhole s) (stamp : ℕ) (below : IsB
   id-after q i e = go (namespace_at s.numbering q) refl e
     where
       go : (o : Option Namespace) → namespace_at s.numbering q ≡ o → option_map (λ t. t.id) o ≡ Some i → id_at s'.numbering q ≡ Some i
-      go None is e = absurd (cc)
+      go None is e = absurd (none_some e)
       go (Some n) is e = (keeps q n is).0 ∙ ap (option_map (λ t. t.id)) is ∙ e
 
   id_new : id_at s'.numbering space ≡ Some stamp
@@ -77,7 +81,7 @@ module _ (s : Store) (l : IsLawful s) (w : IsWhole s) (stamp : ℕ) (below : IsB
   old_space q e less = go (namespace_at s.numbering q.1) refl e
     where
       go : (o : Option Namespace) → namespace_at s.numbering q.1 ≡ o → option_map (λ t. t.id) o ≡ Some q.0 → moved_cursor plan (path_up plan.spaces stamp) (space_of s.numbering q) ≡ space_of s'.numbering q
-      go None is f = absurd (cc)
+      go None is f = absurd (none_some f)
       go (Some n) is f =
           space-moved s.numbering s'.numbering l.numbering keeps plan (path_at s.numbering own) (path_up plan.spaces stamp) (gives s.numbering) q e
           (now q.1 (away q.1 n is) ∙ ap (λ ns. option_map (moved (path_at s.numbering own) (drop 1 ns) q.1) (namespace_at s.numbering q.1)) planned)

@@ -1,5 +1,5 @@
 -- The model draws in a state that has the new namespace already, the code in one that lacks it: the path around it is one in both
-use Rattle.std.proofs.Common.{◌∙◌, sym, ap, refl}
+use Rattle.std.proofs.Common.{◌∙◌, sym, ap, refl, arith}
 use Rattle.pid_types.specs.Outcome.{Outcome, unless_found}
 use Rattle.pid_types.specs.Fork.{forked, with_space}
 use Rattle.pids_charge.specs.Charges.{stands}
@@ -67,3 +67,6 @@ fork_new-requires-clause-all c = c.requires.all
 
 pub fork_new-requires-clause-planned : goal.fork_new-requires-clause-planned
 fork_new-requires-clause-planned c = c.requires.planned
+
+pub returns-clause-parents : goal.returns-clause-parents
+returns-clause-parents c = grind arith

@@ -1,5 +1,5 @@
 -- No namespace on the path is full, so only a control group can refuse; else one more task by key is one more row by number
-use Rattle.std.proofs.Common.{◌∙◌, refl, sym, ap, rules}
+use Rattle.std.proofs.Common.{◌∙◌, refl, sym, ap, rules, arith}
 use Rattle.pid_types.specs.Outcome.{Outcome, unless_found}
 use Rattle.pid_types.specs.Fork.{forked}
 use Rattle.pids_charge.specs.Charges.{stands}
@@ -36,6 +36,9 @@ returns-clause-state c =
     into.into-state c.args.store.now c.fork.new.self c.laws.ensures c.laws-2.ensures c.requires.whole.parents c.in_ok-key.key c.args.found.now.key c.child_of-task.result c.args.found.now.task c.requires.caller.found.there
     c.args.space c.args.found.now.task.children_space c.args.numbers.now c.in_ok-key.ensures.begun c.in_ok-key.ensures.order c.in_ok-key.ensures.namespaces c.requires.id c.requires.planned
     c.child_of-task.ensures room
+
+pub returns-clause-parents : goal.returns-clause-parents
+returns-clause-parents c = grind arith
 
 pub returns-clause-reply : goal.returns-clause-reply
 returns-clause-reply c =

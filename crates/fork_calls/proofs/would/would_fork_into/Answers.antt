@@ -1,5 +1,6 @@
 -- The plan is that of a fork, and so are its refusals; the numbers are those that the model's child would have
-use Rattle.std.proofs.Common.{◌≡◌, ◌<◌, ◌∙◌, find, is_none, map, length, Some, None, sym, ap, subst}
+use Rattle.std.proofs.Common.{◌≡◌, ◌<◌, ◌∙◌, find, is_none, map, length, Some, None, sym, ap, subst, arith}
+use Rattle.std.proofs.lemmas.Grind.{common_steps}
 use Rattle.std.specs.Prelude.{unwrap_or}
 use Rattle.std.proofs.lemmas.List.{length-map}
 use Rattle.pid_types.specs.Outcome.{unless_found}
@@ -26,6 +27,9 @@ returns-in-Err c =
     ap (λ b. find (λ q. is_none (draw_in b q)) (path_at b c.args.space)) (sym c.numbers.ensures) ∙ c.in-Err.ensures.err in
     let room = room-full s c.laws.ensures c.args.space c.args.found.now.task.children_space c.requires.id row c.in-Err.full c.id_of.result full c.id_of.ensures in
     sym (ap (λ o. (unless_found (state_of s) o (λ r. r) (forked (state_of s) row c.args.found.now.task.children_space)).reply) room)
+
+pub would_get-requires-clause-some : goal.would_get-requires-clause-some
+would_get-requires-clause-some c = grind (arith, common_steps)
 
 pub returns-in-Ok : goal.returns-in-Ok
 returns-in-Ok c =
