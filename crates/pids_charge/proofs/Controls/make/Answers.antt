@@ -39,6 +39,9 @@ returns-in_err-key-clause-deep c = grind (arith, err_from_is_err_and)
 pub push-requires : goal.push-requires
 push-requires c = made.below-ids (tree_of c.self.inside.nodes) (limit_in c.self.inside.nodes) c.args.stamp c.self.inside.ids (subst (λ (v : Charges). AllByRecursion (λ (g : Control). g.id < c.args.stamp) v.controls) (sym c.self.view_is) c.requires.above)
 
+pub add-requires-clause-owner : goal.add-requires-clause-owner
+add-requires-clause-owner c = grind arith
+
 pub invariant_of-self-in_err-push : goal.invariant_of-self-in_err-push
 invariant_of-self-in_err-push c = rw c.in_err-push.ensures.err (made.IsKept-room c.self.inside.nodes c.make_room.new.nodes c.make_room.new.nodes.capacity c.in_ok-key.ensures.nodes c.self.inside.counters.items c.make_room.new.counters.items c.self.inside.children c.make_room.new.children c.self.inside.ids c.self.invariant c.in_ok-key.ensures.counters c.in_ok-key.ensures.children.same c.in_ok-key.ensures.longer c.in_ok-key.ensures.children.longer (c.in_ok-key.ensures.children.few c.self.invariant.small))
 

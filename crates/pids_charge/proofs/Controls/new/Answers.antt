@@ -1,3 +1,4 @@
+use Rattle.std.proofs.Common.{arith}
 use Rattle.pids_charge.proofs.Words.{◌∙◌, sym, rules}
 use Rattle.pids_charge.proofs.Views as views
 use Rattle.pids_charge.proofs.Begun as begun
@@ -20,3 +21,6 @@ returns c =
       key = λ k up. begun.only-root begins k (sym (views.stands-is c.insert.new.self c.push-2.new.self k) ∙ up);
       none = views.all-is c.insert.new.self c.push-2.new.self ∙ begun.no_task begins;
     }
+
+pub push-requires-2 : goal.push-requires-2
+push-requires-2 c = grind arith

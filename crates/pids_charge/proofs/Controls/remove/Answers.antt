@@ -41,6 +41,9 @@ returns-then-is_some-clause-refusal c =
 pub remove-requires-2-clause-owned : goal.remove-requires-2-clause-owned
 remove-requires-2-clause-owned c = grind (arith, views.stand_in, climbs.up-is)
 
+pub remove-requires-2-clause-key : goal.remove-requires-2-clause-key
+remove-requires-2-clause-key c = grind arith
+
 pub drop_empty-requires-clause-tree : goal.drop_empty-requires-clause-tree
 drop_empty-requires-clause-tree c =
     let r = removes (goal.at.drop_empty-requires-clause-tree c).After-set_node in

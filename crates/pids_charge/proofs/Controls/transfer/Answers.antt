@@ -8,6 +8,9 @@ use Rattle.pids_charge.proofs.Controls.transfer.Goals as goal
 pub take_live-requires-clause-some : goal.take_live-requires-clause-some
 take_live-requires-clause-some c = omega (arith, views.live-of c.self.inside c.self.view_is c.args.from, c.requires.some)
 
+pub invariant_of-self : goal.invariant_of-self
+invariant_of-self c = grind arith
+
 pub put_live-requires-clause-stands : goal.put_live-requires-clause-stands
 put_live-requires-clause-stands c =
     ap (λ (t : TreeOfNodes). t.stand c.args.to) c.take_live.ensures.changes.tree ∙ views.stand_in c.self.inside c.self.view_is c.args.to c.requires.stands
