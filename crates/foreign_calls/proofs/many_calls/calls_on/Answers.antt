@@ -11,7 +11,7 @@ loop-i-preserved c =
     let i = c.loop-i.i in
     let before = c.loop-i.replies in
     let told = c.turn_on-status.ensures in
-    let done : c.turn_on-status.result ≡ DONE = c.if-status-ne-DONE.false in
+    let done : c.turn_on-status.result ≡ DONE = assumption in
     let room : i < length before = omega (arith, c.loop-i-test.true, c.loop-i.auto.replies, c.if-replies-calls.false) in
     record {
       left = turns_next _ c.args.worker c.args.calls.now before _ _ i _ _ c.loop-i-test.true room c.loop-i.invariant.left (told.done done);
