@@ -1,5 +1,5 @@
 -- A head, read again.
-use Rattle.std.proofs.Common.{◌≡◌, ℕ, ◌≤◌, List, [], ◌∷◌, ◌++◌, length, take, drop, refl, ap, sym, ◌∙◌, arith}
+use Rattle.std.proofs.Common.{◌≡◌, ℕ, ◌≤◌, List, [], ◌∷◌, ◌++◌, length, take, drop, refl, ap, sym, ◌∙◌, arith, rules}
 use Rattle.std.proofs.lemmas.List.{append_assoc, take-append-drop, take_all, take_at, length-take}
 use Rattle.std.proofs.lemmas.Nat.{from_le_bytes-to_le_bytes_4, from_le_bytes-to_le_bytes_8}
 use Rattle.saved_form.specs.declared.numbers.Head.{Head}
@@ -7,7 +7,7 @@ use Rattle.saved_form.specs.Crc.{crc64}
 use Rattle.saved_form.specs.Form.{eight, magic, head_block, sealed, sum_behind}
 use Rattle.saved_form.specs.Places.{HeadFits}
 use Rattle.saved_form.specs.Reading.{four_in, head_in}
-use Rattle.saved_form.specs.Taking.{bodies, AreRight, MayBegin, BeginsHead, IsTakenHead}
+use Rattle.saved_form.specs.Taking.{bodies, AreRight, MayBegin, IsOtherVersion, BeginsHead, IsTakenHead}
 use Rattle.saved_form.proofs.Sealed.{sealed_one}
 
 length-head_block : (h : Head) → length (head_block h) ≡ 40
@@ -60,3 +60,7 @@ taken h sum bytes right is same = record {
   front = right.sums ∙ ap (λ block. sealed 0 (block ∷ [])) same;
   checksum = is ∙ ap (λ block. sum_behind 0 (block ∷ [])) same;
 }
+
+-- where the number is that of this version, the version is no other
+pub same_version : (bytes : List ℕ) → four_in bytes 8 ≡ 1 → IsOtherVersion bytes → ⊥
+same_version bytes is other = search (rules, other.other)

@@ -1,7 +1,7 @@
-use Rattle.std.proofs.Common.{◌≡◌, ℕ, ◌+◌, ◌<◌, List, true, ap, sym, subst, ◌∙◌, arith, rules}
+use Rattle.std.proofs.Common.{◌≡◌, ℕ, ◌+◌, ◌<◌, List, true, ap, sym, subst, ◌∙◌, arith}
 use Rattle.saved_form.specs.Form as form
 use Rattle.saved_form.specs.Taking.{AreRight}
-use Rattle.saved_form.proofs.Heads.{begins_there, begins_may, begins_version, begins_back, begins_block, begins_right, taken}
+use Rattle.saved_form.proofs.Heads.{begins_there, begins_may, begins_version, begins_back, begins_block, begins_right, taken, same_version}
 use Rattle.saved_form.proofs.head.take_head.Goals as goal
 
 pub returns-then-not-may_begin-clause-read_back : goal.returns-then-not-may_begin-clause-read_back
@@ -42,10 +42,19 @@ returns-in_default-2-clause-read_back c h fits begins =
     first_is_right _ c.args.bytes.now bad.0 bad.2 (begins_right h c.args.bytes.now begins)
 
 pub returns-in-Ok-clause-other_version : goal.returns-in-Ok-clause-other_version
-returns-in-Ok-clause-other_version c = search rules
+returns-in-Ok-clause-other_version c = (
+  λ is. cc,
+  λ other. absurd (same_version c.args.bytes.now (sym c.four_at.ensures ∙ c.if-four_at-ne-VERSION.false) other),
+)
 
 pub returns-in_default-clause-other_version : goal.returns-in_default-clause-other_version
-returns-in_default-clause-other_version c = search rules
+returns-in_default-clause-other_version c = (
+  λ is. cc,
+  λ other. absurd (same_version c.args.bytes.now (sym c.four_at.ensures ∙ c.if-four_at-ne-VERSION.false) other),
+)
 
 pub returns-in_default-2-clause-other_version : goal.returns-in_default-2-clause-other_version
-returns-in_default-2-clause-other_version c = search rules
+returns-in_default-2-clause-other_version c = (
+  λ is. cc,
+  λ other. absurd (same_version c.args.bytes.now (sym c.four_at.ensures ∙ c.if-four_at-ne-VERSION.false) other),
+)
