@@ -2,7 +2,10 @@
 use Rattle.std.proofs.Common.{◌≡◌, ℕ, List, [], ◌∷◌, ◌++◌, Option, Some, refl, sym, ap, ◌∙◌, subst, append_assoc, append-nil, Result, Ok, Err, OnErr, length, length-append, ◌<◌, take, drop, take-append-drop, ◌-◌, ◌≤◌, arith}
 use Rattle.std.proofs.lemmas.Slice.{between_to_end}
 use Rattle.std.proofs.lemmas.List.Concat.{flat_map-append}
-use Rattle.script_session.proofs.Names.{Event, Writing, said_by, IsWell, AreWell-more, no_readings, Sends, Stalls, SendsPart}
+use Rattle.std.specs.Prelude.{Bool}
+use Rattle.std.specs.Result.{IsErrAnd}
+use Rattle.script_session.proofs.Names.{Event, Writing, RunScriptFault, said_by, IsWell, AreWell-more, no_readings, with_newline}
+use Rattle.script_session.specs.Dialogue.{Sends, Stalls, Queues, SendsPart, Writes, Holds}
 
 -- what is done one after another
 abbrev pub Joins : (List Event → Type 0) → (List Event → Type 0) → (List Event → Type 0) → Type 0
@@ -72,6 +75,54 @@ stops_before did bytes more at = (
   ap (λ text. text ++ more) at.3 ∙ append_assoc at.0 at.1 more,
   omega (arith, at.4, length-append at.1 more),
 )
+
+-- where not all of the bytes were sent, the error is passed on
+pub writes_short : (result : Result Unit RunScriptFault) (e : RunScriptFault) (did : List Event → Type 0) (bytes waiting : List ℕ)
+    (failed full : Bool) → IsErrAnd result (λ f. f ≡ e) → bytes ≡ waiting → Writes {T = Unit} (Err e) did bytes failed full
+    → Writes result did waiting failed full
+writes_short (Ok x) e did bytes waiting failed full is same told = absurd is
+writes_short (Err f) e did bytes waiting failed full is same told = record {
+  ok = tt;
+  err = subst (SendsPart did) same told.err;
+  fault = is ∙ told.fault;
+  stopped = told.stopped;
+}
+
+-- where what waited was not all sent, neither is what follows it
+pub holds_short : (result : Result Unit RunScriptFault) (e : RunScriptFault) (did : List Event → Type 0) (before more held : List ℕ)
+    (failed full : Bool) → IsErrAnd result (λ f. f ≡ e) → Writes {T = Unit} (Err e) did before failed full
+    → Holds result did (before ++ more) held failed full
+holds_short (Ok x) e did before more held failed full is told = absurd is
+holds_short (Err f) e did before more held failed full is told = record {
+  ok = tt;
+  err = stops_before did before more told.err;
+  fault = is ∙ told.fault;
+  stopped = told.stopped;
+}
+
+-- what waited is sent, or it still waits
+pub queue_sent : (did : List Event → Type 0) (before kept : List ℕ) → Sends did before → kept ≡ [] → Queues did before kept
+queue_sent did before kept sent none = (before, sent, sym (append-nil before) ∙ ap (λ rest. before ++ rest) (sym none))
+
+pub queue_kept : (did : List Event → Type 0) (before kept : List ℕ) → did [] → kept ≡ before → Queues did before kept
+queue_kept did before kept nothing is = ([], Sends-nothing did nothing, sym is)
+
+-- a line that waits behind what waited
+pub holds_more : (did : List Event → Type 0) (before kept line now text held : List ℕ) (failed full : Bool) → Queues did before kept
+    → now ≡ kept → text ≡ now ++ line → held ≡ text ++ 10 ∷ []
+    → Holds {T = Unit} (Ok tt) did (before ++ with_newline line) held failed full
+holds_more did before kept line now text held failed full queue same longer ended = record {
+  ok = (
+    queue.0,
+    queue.1,
+    ap (λ front. front ++ with_newline line) queue.2 ∙ append_assoc queue.0 kept (with_newline line)
+    ∙ ap (λ rest. queue.0 ++ rest)
+    (sym (ended ∙ ap (λ front. front ++ 10 ∷ []) (longer ∙ ap (λ front. front ++ line) same) ∙ append_assoc kept line (10 ∷ []))),
+  );
+  err = tt;
+  fault = tt;
+  stopped = tt;
+}
 
 -- where the next write took none, the bytes that are left were not sent
 pub stops_after : {first second all : List Event → Type 0} → Joins first second all → (bytes sent left : List ℕ) → Sends first sent → Stalls second [] → bytes ≡ sent ++ left
