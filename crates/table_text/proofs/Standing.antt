@@ -28,7 +28,7 @@ name_kept old new p grown w =
     let same : take p.count (drop p.start new) ≡ take p.count (drop p.start old) = ap (λ xs. take p.count (drop p.start xs)) grown.1 ∙ part_kept old grown.0 p.start p.count w.fits in
     ap (λ (xs : List ℕ). let name : Name = record { space = p.space; numbers = record { items = xs } } in name) same
 
-parent_within : (old new : List ℕ) (o : Option Place) → IsGrown old new → IfSome o (IsWithin (length old)) → IfSome o (IsWithin (length new))
+pub parent_within : (old new : List ℕ) (o : Option Place) → IsGrown old new → IfSome o (IsWithin (length old)) → IfSome o (IsWithin (length new))
 parent_within old new None grown w = tt
 parent_within old new (Some p) grown w = within_kept old new p grown w
 

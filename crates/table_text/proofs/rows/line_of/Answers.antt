@@ -1,6 +1,23 @@
 use Rattle.std.proofs.Common.{◌∙◌}
-use Rattle.table_text.proofs.Standing.{grown_on, name_kept, parent_kept, row_told}
+use Rattle.table_text.proofs.Standing.{grown_on, within_kept, parent_within, name_kept, parent_kept, row_told}
 use Rattle.table_text.proofs.rows.line_of.Goals as goal
+
+pub returns-clause-grown : goal.returns-clause-grown
+returns-clause-grown c =
+    grown_on _ _ _ c.in_ok-name.ensures.grown
+    (grown_on _ _ _ c.in_ok-parent.ensures.grown (grown_on _ _ _ c.in_ok-group.ensures.grown c.in_ok-session.ensures.grown))
+
+pub returns-clause-within : goal.returns-clause-within
+returns-clause-within c =
+    let third-last = c.in_ok-session.ensures.grown in
+    let second-last = grown_on _ _ _ c.in_ok-group.ensures.grown third-last in
+    let first-last = grown_on _ _ _ c.in_ok-parent.ensures.grown second-last in
+    record {
+      name = within_kept _ _ c.in_ok-name.name first-last c.in_ok-name.ensures.within;
+      parent = parent_within _ _ c.in_ok-parent.parent second-last c.in_ok-parent.ensures.within;
+      group = within_kept _ _ c.in_ok-group.group third-last c.in_ok-group.ensures.within;
+      session = c.in_ok-session.ensures.within;
+    }
 
 pub returns-clause-row : goal.returns-clause-row
 returns-clause-row c =
