@@ -1,4 +1,5 @@
-use Rattle.std.proofs.Common.{◌++◌, ◌<◌, length, take, Some, None, rules, arith, refl, inl, inr}
+use Rattle.std.proofs.Common.{◌≡◌, ℕ, List, [], ◌∷◌, ◌++◌, ◌<◌, length, take, Some, None, rules, arith, refl, sym, subst, ◌∙◌, inl, inr, append-nil, eqb-true}
+use Rattle.script_session.proofs.Names.{Event, Sends}
 use Rattle.script_session.proofs.Sent.{Sends-more, Sends-write, Stalls-write, sent_more, stops_after}
 use Rattle.script_session.proofs.outbox.write_all.Goals as goal
 
@@ -35,3 +36,22 @@ returns-then-count-eq0 g c =
       fault = refl;
       stopped = inr (c.in-Ok.ensures.full c.if-count-eq0.true some_left);
     }
+
+-- where nothing is left, all was sent
+all_sent : (did : List Event → Type 0) (bytes sent left : List ℕ) → Sends did sent → bytes ≡ sent ++ left → length left ≡ 0 → Sends did bytes
+all_sent did bytes sent [] sends is none = subst (Sends did) (sym (is ∙ append-nil sent)) sends
+all_sent did bytes sent (b ∷ left) sends is none = absurd (omega (arith, none))
+
+pub returns : goal.returns
+returns g c =
+    let before = c.loop-left.invariant in
+    let none : length c.loop-left.left.now ≡ 0 = eqb-true _ _ (sym c.loop-left-test.ensures) in
+    record {
+      ok = all_sent _ c.args.bytes.now before.0 c.loop-left.left.now before.1 before.2 none;
+      err = tt;
+      fault = tt;
+      stopped = tt;
+    }
+
+pub loop-left-smaller : goal.loop-left-smaller
+loop-left-smaller g c = omega (arith, c.in-Ok.ensures.bound, c.if-count-eq0.false)

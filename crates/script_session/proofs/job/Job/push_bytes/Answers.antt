@@ -44,3 +44,8 @@ returns-clause-ok c =
     let before = c.loop-end.invariant in
     let none = no_end c.loop-end.self.part c.loop-end.rest.now (sym c.in_default.ensures) in
     subst (Adds _ _ _ _) (sym (append-nil before.lines) ∙ ap (λ lines. before.lines ++ lines) (sym none.0) ∙ before.said) before.added
+
+pub push-requires : goal.push-requires
+push-requires c =
+    let end = first_end c.loop-end.self.part c.loop-end.rest.now (c.in-Some.end.now, c.in-Some.after.now) (sym c.in-Some.ensures) in
+    omega (arith, c.loop-end.invariant.few, end.shorter)
