@@ -6,6 +6,12 @@ use Rattle.pid_types.specs.Names.{root_number}
 use Rattle.pid_types.specs.Membership.{IsIn}
 
 module _ {X : Type 0} where
+  pub none_some : {x : X} → None ≡ Some x → ⊥
+  none_some e = cc
+
+  pub some_same : {x y : X} → Some x ≡ Some y → x ≡ y
+  some_same e = cc
+
   pub place_of : (xs : List X) (x : X) → IsIn x xs → (j : ℕ) × (slice_get xs j ≡ Some x) × (j < length xs)
   place_of [] x i = absurd i
   place_of (y ∷ ys) x (inl same) = (zero, ap Some (sym same), omega arith)

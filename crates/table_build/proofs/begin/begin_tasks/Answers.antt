@@ -40,6 +40,9 @@ loop-index-preserved c =
       ];
     }
 
+pub returns-clause-sorted : goal.returns-clause-sorted
+returns-clause-sorted c = grind arith
+
 pub returns-in_err-key-clause-refused : goal.returns-in_err-key-clause-refused
 returns-in_err-key-clause-refused c =
     let rows = c.args.saved.now.rows in
@@ -55,5 +58,17 @@ returns-in_err-key-clause-refused c =
     let unborne = unborne-next c.loop-index.store c.loop-index.placed rows c.loop-index.index row i.lines i.keys i.placeholders here sound.coherent.rows_rise in
     c.in_err-key.ensures.refused not there (may-bear c.loop-index.store c.laws.ensures text sound part row.name (own_name_in_use rows row inside) i.keeps.ungrouped.borne unborne))
 
+pub write_next-requires-clause-index : goal.write_next-requires-clause-index
+write_next-requires-clause-index c = grind arith
+
+pub begin_task-requires : goal.begin_task-requires
+begin_task-requires c = grind arith
+
 pub returns-in_err-add_key-clause-refused : goal.returns-in_err-add_key-clause-refused
 returns-in_err-add_key-clause-refused c = if_err c.from_residual-in_err-add_key.result _ NoMemory c.from_residual-in_err-add_key.ensures.1 (λ not. absurd (not refl))
+
+pub returns-then-is_unsorted-clause-refused : goal.returns-then-is_unsorted-clause-refused
+returns-then-is_unsorted-clause-refused c = grind arith
+
+pub loop-index-init : goal.loop-index-init
+loop-index-init c = grind arith

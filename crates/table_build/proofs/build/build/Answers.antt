@@ -1,4 +1,4 @@
-use Rattle.std.proofs.Common.{map, ap, ◌∙◌}
+use Rattle.std.proofs.Common.{map, ap, ◌∙◌, arith}
 use Rattle.table_build.specs.Bare.{steady}
 use Rattle.table_build.proofs.SpaceFalls.{steady-bare, steady-same}
 use Rattle.task_table.proofs.Results.{if_err}
@@ -10,6 +10,9 @@ put_falls-requires c = record {
       steady-same c.in_ok-store.store.numbering c.put_tasks.new.store.numbering c.in_ok-put_tasks.ensures.places.spaces
       ∙ ap (map steady) c.in_ok-store.ensures.spaces ∙ steady-bare c.args.saved.now.spaces.items;
 }
+
+pub put_cursors-requires : goal.put_cursors-requires
+put_cursors-requires c = grind arith
 
 pub returns-clause-state : goal.returns-clause-state
 returns-clause-state c =
@@ -30,6 +33,9 @@ returns-in_err-put_tasks-clause-refused c =
 
 pub returns-in_err-store-clause-refused : goal.returns-in_err-store-clause-refused
 returns-in_err-store-clause-refused c = if_err c.from_residual.result _ c.in_err-store.field-0.0 c.from_residual.ensures.1 c.in_err-store.ensures.refused
+
+pub returns-clause-kin : goal.returns-clause-kin
+returns-clause-kin c = grind arith
 
 pub returns-in_err-put_falls-clause-refused : goal.returns-in_err-put_falls-clause-refused
 returns-in_err-put_falls-clause-refused c =

@@ -1,8 +1,9 @@
-use Rattle.std.proofs.Common.{◌≡◌, ◌∙◌, None, Some, slice_get, refl, sym}
+use Rattle.std.proofs.Common.{◌≡◌, ◌∙◌, None, Some, slice_get, refl, sym, arith}
 use Rattle.task_table.proofs.Results.{if_err}
 use Rattle.table_build.proofs.Gathered.{rows-are, rows-rise}
 use Rattle.table_build.proofs.LineSteps.{lines-same}
 use Rattle.table_build.proofs.Steps.{places-both}
+use Rattle.table_build.proofs.Places.{none_some}
 use Rattle.table_build.proofs.build.put_tasks.Goals as goal
 
 pub returns-clause-rows : goal.returns-clause-rows
@@ -13,6 +14,9 @@ returns-clause-rows c =
     let few = c.in_ok-enter_sessions.ensures.keys in
     let lines = lines-same c.settle_tasks.new.store s placed placed (slice_get rows) c.in_ok-settle_tasks.ensures.lines c.remove_placeholders.ensures.keeps.lines refl in
     rows-are s c.laws.ensures placed rows lines few c.remove_placeholders.ensures.gone (rows-rise s c.laws.ensures placed rows lines few c.in_ok-placed.ensures.sorted)
+
+pub settle_tasks-requires-clause-keys : goal.settle_tasks-requires-clause-keys
+settle_tasks-requires-clause-keys c = grind arith
 
 pub returns-in_err-placed-clause-refused : goal.returns-in_err-placed-clause-refused
 returns-in_err-placed-clause-refused c = if_err c.from_residual.result _ c.in_err-placed.field-0.0 c.from_residual.ensures.1 c.in_err-placed.ensures.refused
@@ -28,13 +32,22 @@ returns-in_err-settle_tasks-clause-refused c =
     if_err c.from_residual-in_err-settle_tasks.result _ c.in_err-settle_tasks.field-0.0 c.from_residual-in_err-settle_tasks.ensures.1 (λ not sound had.
     c.in_err-settle_tasks.ensures.refused sound (e.part (c.in_ok-placed.ensures.part had)) (e.seated sound.coherent.groups))
 
+pub remove_placeholders-requires-clause-settled : goal.remove_placeholders-requires-clause-settled
+remove_placeholders-requires-clause-settled c = grind arith
+
+pub settle_tasks-requires-clause-all : goal.settle_tasks-requires-clause-all
+settle_tasks-requires-clause-all c = grind arith
+
 pub settle_tasks-requires-clause-grouping : goal.settle_tasks-requires-clause-grouping
 settle_tasks-requires-clause-grouping c =
     let u = c.in_ok-enter_sessions.ensures.keeps.ungrouped in
-    record { kin = λ k p e. absurd (let z : None ≡ Some p = sym (u.orphans k) ∙ e in cc); borne = u.borne; standing = u.standing }
+    record { kin = λ k p e. absurd (none_some (sym (u.orphans k) ∙ e)); borne = u.borne; standing = u.standing }
 
 pub settle_tasks-requires-clause-real : goal.settle_tasks-requires-clause-real
-settle_tasks-requires-clause-real c = λ k q e. absurd (let z : None ≡ Some q = sym (c.in_ok-enter_sessions.ensures.keeps.ungrouped.orphans k) ∙ e in cc)
+settle_tasks-requires-clause-real c = λ k q e. absurd (none_some (sym (c.in_ok-enter_sessions.ensures.keeps.ungrouped.orphans k) ∙ e))
+
+pub remove_placeholders-requires-clause-few : goal.remove_placeholders-requires-clause-few
+remove_placeholders-requires-clause-few c = grind arith
 
 pub returns-clause-places : goal.returns-clause-places
 returns-clause-places c =

@@ -1,4 +1,4 @@
-use Rattle.std.proofs.Common.{◌≡◌, ◌∙◌, ap, subst, sym, map, ◌++◌, ◌∷◌, [], ◌≤◌, nat_lt, false, None, Some, is_some, if◌then◌else◌}
+use Rattle.std.proofs.Common.{◌≡◌, ◌∙◌, ap, subst, sym, map, ◌++◌, ◌∷◌, [], ◌≤◌, nat_lt, false, None, Some, is_some, if◌then◌else◌, arith}
 use Rattle.std.specs.Option.{option_map_or}
 use Rattle.std.specs.Result.{result_err}
 use Rattle.pid_types.specs.Bounds.{greatest_limit}
@@ -8,6 +8,8 @@ use Rattle.pids_charge.specs.Charges.{home_id, limit_refusal}
 use Rattle.std.specs.List.{AllByRecursion}
 use Rattle.pid_types.specs.Changes.{limited}
 use Rattle.table_build.proofs.ControlLists.{below-last, limit-good, limited-last, parent-last}
+use Rattle.table_build.proofs.Places.{none_some}
+use Rattle.std.proofs.lemmas.Grind.{elements}
 use Rattle.table_build.proofs.controls.put_control.Goals as goal
 
 put : (c : goal.In-Ok) → c.set_limit.new.self.charges.controls ≡ c.args.store.now.charges.controls ++ c.args.control.now ∷ []
@@ -25,6 +27,12 @@ returns-in-Ok-clause-below c =
 pub returns-in-Ok-clause-put : goal.returns-in-Ok-clause-put
 returns-in-Ok-clause-put c = put c
 
+pub returns-in-Err-clause-rest : goal.returns-in-Err-clause-rest
+returns-in-Err-clause-rest c = grind arith
+
+pub returns-in-Ok-clause-rest : goal.returns-in-Ok-clause-rest
+returns-in-Ok-clause-rest c = grind arith
+
 pub returns-in-Err-clause-refused : goal.returns-in-Err-clause-refused
 returns-in-Err-clause-refused c = λ _ may.
     let up : parent_control c.make_control.new.store.charges.controls (home_id c.make_control.new.store.charges c.in_ok-key.key) ≡ c.args.control.now.parent =
@@ -34,4 +42,7 @@ returns-in-Err-clause-refused c = λ _ may.
     ap (λ o. if is_some o then (if option_map_or (nat_lt greatest_limit) c.args.control.now.limit false then Some BadLimit else None) else Some RootControl) (up ∙ may.inside.1)
     ∙ ap (λ b. if b then Some BadLimit else None) (limit-good c.args.control.now may.good) in
     let some = sym (ap result_err c.in-Err.is) ∙ c.set_limit.ensures.refusal ∙ none in
-    absurd (cc)
+    absurd (none_some (sym some))
+
+pub returns-then-is_none-clause-below : goal.returns-then-is_none-clause-below
+returns-then-is_none-clause-below c = grind (arith, elements)

@@ -1,9 +1,13 @@
 use Rattle.std.proofs.Common.{◌≡◌, ◌-◌, Some, ap, sym, subst, ◌∙◌, arith, slice_get}
+use Rattle.std.proofs.lemmas.Grind.{common_steps, elements}
 use Rattle.table_build.specs.Follows.{MayFollow}
 use Rattle.table_build.proofs.LineSteps.{get-is}
 use Rattle.task_table.proofs.Results.{if_err-map, on_ok-map}
 use Rattle.table_build.proofs.ControlTrees.{follows-at, last-in}
 use Rattle.table_build.proofs.controls.put_next.Goals as goal
+
+pub returns-clause-put : goal.returns-clause-put
+returns-clause-put c = grind (arith, common_steps)
 
 pub returns-clause-below : goal.returns-clause-below
 returns-clause-below c =
@@ -20,3 +24,6 @@ returns-clause-refused c =
     if_err-map c.put_control.result _ _ (λ fault refuses memory good.
     refuses memory (subst (λ l. MayFollow l c.index.result.now.id c.index-2.result.now) (sym c.requires.put) (follows-at items c.args.index c.index-2.result.now c.index.result.now here last c.requires.index.0 good)))
     c.put_control.ensures.refused
+
+pub put_control-requires : goal.put_control-requires
+put_control-requires c = grind (arith, elements)

@@ -31,3 +31,6 @@ pub returns-clause-may : goal.returns-clause-may
 returns-clause-may c x i =
     let j = place_of c.args.saved.now.spaces.items x i in
     c.loop-index.invariant j.0 x (let lt = j.2 in let a = c.loop-index-test.false in let b = c.len-index-end.ensures in omega (arith, lt, a, b)) j.1
+
+pub loop-index-init : goal.loop-index-init
+loop-index-init c = grind arith

@@ -17,6 +17,9 @@ loop-index-preserved c =
       few = e.few c.loop-index.invariant.few;
     }
 
+pub loop-index-init : goal.loop-index-init
+loop-index-init c = grind arith
+
 pub returns-clause-flagged : goal.returns-clause-flagged
 returns-clause-flagged c =
     let a = c.loop-index-test.false in

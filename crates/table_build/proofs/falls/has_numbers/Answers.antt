@@ -1,7 +1,10 @@
-use Rattle.std.proofs.Common.{inl, inr}
+use Rattle.std.proofs.Common.{inl, inr, arith}
 use Rattle.task_table.proofs.Results.{never}
 use Rattle.table_build.proofs.Falling.{used-as}
 use Rattle.table_build.proofs.falls.has_numbers.Goals as goal
+
+pub returns-then-has_kind : goal.returns-then-has_kind
+returns-then-has_kind c = grind arith
 
 pub returns : goal.returns
 returns c = (
@@ -12,3 +15,6 @@ returns c = (
     | inr (inr session) ↦ c.has_kind-3.ensures.1 (held.1, session)
   ]),
 )
+
+pub returns-then-has_kind-2 : goal.returns-then-has_kind-2
+returns-then-has_kind-2 c = grind arith

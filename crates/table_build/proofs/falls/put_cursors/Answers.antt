@@ -17,6 +17,9 @@ loop-index-preserved c =
       put = next-cursor c.args.store.now.numbering c.laws.ensures.numbering c.loop-index.store.numbering c.put_cursor.new.store.numbering spaces c.loop-index.index c.index.result.now c.requires.listed i.put here p.here p.others;
     }
 
+pub loop-index-init : goal.loop-index-init
+loop-index-init c = grind arith
+
 pub returns-clause-put : goal.returns-clause-put
 returns-clause-put c =
     let i = c.loop-index.invariant in

@@ -1,4 +1,4 @@
-use Rattle.std.proofs.Common.{◌≡◌, ℕ, Bool, List, ap, ◌∙◌, option_map}
+use Rattle.std.proofs.Common.{◌≡◌, ℕ, Bool, List, ap, ◌∙◌, option_map, arith}
 use Rattle.pid_numbers.specs.Numbering.{namespace_at}
 use Rattle.pid_numbers.specs.Restore.{is_flagged, fallen_if}
 use Rattle.table_build.proofs.Steps.{row-same, state-rows}
@@ -18,6 +18,9 @@ pub returns-clause-listed : goal.returns-clause-listed
 returns-clause-listed c =
     spaces-fell c.args.store.now.numbering c.set_fallen.new.self.numbering c.laws.ensures.numbering c.args.saved.now.spaces.items c.in_ok-flags.flags.items c.requires.listed c.in_ok-flags.ensures.flagged
     c.set_fallen.ensures.order (fell c)
+
+pub returns-clause-rest : goal.returns-clause-rest
+returns-clause-rest c = grind arith
 
 pub returns-clause-rows : goal.returns-clause-rows
 returns-clause-rows c =

@@ -1,4 +1,4 @@
-use Rattle.std.proofs.Common.{◌≡◌, Some, None, true, false, not, ap, sym, ◌∙◌, slice_get}
+use Rattle.std.proofs.Common.{◌≡◌, Some, None, true, false, not, ap, sym, ◌∙◌, slice_get, arith, true≢false}
 use Rattle.std.specs.Option.{option_copied}
 use Rattle.pid_types.proofs.General.{held}
 use Rattle.pid_types.specs.Names.{root_number}
@@ -24,6 +24,21 @@ returns-in_default-find-clause-nobody c = λ _ k b.
     c.in_default-find.ensures k
     (ap (λ n. number_of n k 0) c.numbers.ensures ∙ root-number c.args.store.now c.laws.ensures k u.0 u.1 ∙ ap (λ n. Some (root_number n)) b.named ∙ ap Some first)
 
+pub returns-clause-recent : goal.returns-clause-recent
+returns-clause-recent c = grind arith
+
+pub write_name-requires : goal.write_name-requires
+write_name-requires c = grind arith
+
+pub returns-clause-nobody : goal.returns-clause-nobody
+returns-clause-nobody c = grind arith
+
+pub returns-in_default-find-clause-recent : goal.returns-in_default-find-clause-recent
+returns-in_default-find-clause-recent c = grind arith
+
+pub returns-then-eq-clause-nobody : goal.returns-then-eq-clause-nobody
+returns-then-eq-clause-nobody c = grind arith
+
 pub returns-then-ne-clause-refused : goal.returns-then-ne-clause-refused
 returns-then-ne-clause-refused c = λ text sound part used.
     let first : root_number c.args.name.now ≡ c.in-Some.root.now =
@@ -33,5 +48,4 @@ returns-then-ne-clause-refused c = λ text sound part used.
     let u = numbered c.args.store.now.numbering (identifier_at c.args.store.now.numbering c.in-Some-find.key) 0 (root_number c.args.name.now) found in
     let name = found-name c.args.store.now c.laws.ensures text sound part c.args.name.now used c.requires.borne c.in-Some-find.key u.0 u.1 found in
     let same = same_name-refl c.write_name.new.name c.args.name.now (c.write_name.ensures ∙ name) in
-    let z : false ≡ true = ap not (sym same) ∙ sym c.ne.ensures ∙ c.if-ne.true in
-    absurd (cc)
+    absurd (true≢false (sym (ap not (sym same) ∙ sym c.ne.ensures ∙ c.if-ne.true)))

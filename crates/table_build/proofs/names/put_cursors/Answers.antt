@@ -1,4 +1,4 @@
-use Rattle.std.proofs.Common.{◌≡◌, ℕ, length, Some, None, is_some, List, nat_lt, if◌then◌else◌, option_map, ap, sym, ◌∙◌, arith, slice_get}
+use Rattle.std.proofs.Common.{◌≡◌, ℕ, length, Some, None, is_some, List, nat_lt, if◌then◌else◌, option_map, ap, sym, ◌∙◌, arith, slice_get, true≢false}
 use Rattle.pid_numbers.specs.Numbering.{Namespace, id_at, namespace_at, path_at}
 use Rattle.std.specs.Prelude.{slice_index_or}
 use Rattle.table_build.proofs.Places.{at_place}
@@ -44,13 +44,16 @@ returns-in_default c =
       put = λ j s n lt on is. i.put j s n (none-past (path_at c.args.store.now.numbering c.args.space) c.loop-number.number-index j s (sym i.next ∙ c.in_default.is) on) on is;
     }
 
+pub put_cursor-requires : goal.put_cursor-requires
+put_cursor-requires c = grind arith
+
 pub returns-then-is_none : goal.returns-then-is_none
 returns-then-is_none c =
     let i = c.loop-number.invariant in
     let at : slice_get (path_at c.args.store.now.numbering c.args.space) c.loop-number.number-index ≡ Some c.in-Some.key = sym i.next ∙ c.in-Some.is in
     let there = path-there c.args.store.now.numbering c.laws.ensures.numbering c.args.space 0 c.in-Some.key (at_place (path_at c.args.store.now.numbering c.args.space) c.loop-number.number-index c.in-Some.key at) in
     let id = c.id.ensures ∙ ap (λ b. id_at b c.in-Some.key) c.numbers.ensures ∙ same_ids c.args.store.now.numbering c.loop-number.store.numbering i.moved.spaces c.in-Some.key ∙ there in
-    absurd (let z = sym c.if-is_none.ensures ∙ ap is_some id in cc)
+    absurd (true≢false (sym (sym c.if-is_none.ensures ∙ ap is_some id)))
 
 pub returns : goal.returns
 returns c =

@@ -1,4 +1,4 @@
-use Rattle.std.proofs.Common.{ℕ, find, is_none, is_some, unwrap_or, map, IsSome}
+use Rattle.std.proofs.Common.{ℕ, find, is_none, is_some, unwrap_or, map, IsSome, arith}
 use Rattle.std.proofs.Common.{◌≡◌, None, Some, ap, sym, subst, refl, ◌∙◌, reverse}
 use Rattle.std.proofs.lemmas.List.{reverse-reverse}
 use Rattle.pid_types.specs.declared.plain.Name.{Name}
@@ -12,6 +12,7 @@ use Rattle.table_build.proofs.Steps.{added, added-behind, bearers-both, bearers-
 use Rattle.table_build.proofs.Draws.{drawn-name, still-there}
 use Rattle.task_table.proofs.Results.{if_err}
 use Rattle.table_build.specs.declared.fault.BuildFault.TheVariants.{NoMemory}
+use Rattle.table_build.proofs.Places.{none_some}
 use Rattle.table_build.proofs.names.put_name.Goals as goal
 
 kept : (c : goal.After-laws-3) → KeepsSpaces c.put_cursors.new.store.numbering c.fork.new.self.numbering
@@ -26,7 +27,7 @@ comes : (c : goal.After-laws-3) → Comes c.put_cursors.new.store c.fork.new.sel
 comes c = record {
   before = c.laws-2.ensures;
   after = c.laws-3.ensures;
-  kin = λ k p f. let z = sym ((moved c).orphans k) ∙ f in absurd (cc);
+  kin = λ k p f. absurd (none_some (sym ((moved c).orphans k) ∙ f));
   begun = c.in_ok-key.ensures.begun;
   keeps = keeps-namespaces c.put_cursors.new.store.numbering c.fork.new.self.numbering (kept c);
 }
@@ -54,6 +55,9 @@ adds c =
 pub returns-in_default-clause-refused : goal.returns-in_default-clause-refused
 returns-in_default-clause-refused c = λ _ may. c.in_default.ensures may.space (ap (λ b. id_at b may.space) c.numbers.ensures ∙ may.named)
 
+pub fork-requires-clause-all : goal.fork-requires-clause-all
+fork-requires-clause-all c = grind arith
+
 pub returns-in-Err-clause-refused : goal.returns-in-Err-clause-refused
 returns-in-Err-clause-refused c = λ _ may.
     let s0 = c.args.store.now.numbering in
@@ -66,7 +70,10 @@ returns-in-Err-clause-refused c = λ _ may.
     let paths : path_at c.numbers-2.result.now c.in-Some.space ≡ path_at s0 c.in-Some.space = ap (λ n. path_at n c.in-Some.space) c.numbers-2.ensures ∙ same_paths s0 b m.spaces c.in-Some.space in
     let none : find (λ q. is_none (draw_in c.numbers-2.result.now q)) (path_at c.numbers-2.result.now c.in-Some.space) ≡ None =
     ap (find (λ q. is_none (draw_in c.numbers-2.result.now q))) paths ∙ ap (λ n. find (λ q. is_none (draw_in n q)) (path_at s0 c.in-Some.space)) c.numbers-2.ensures ∙ drawn.0 in
-    absurd (let z = sym none ∙ c.in-Err.ensures.err in cc)
+    absurd (none_some (sym none ∙ c.in-Err.ensures.err))
+
+pub fork-requires-clause-from : goal.fork-requires-clause-from
+fork-requires-clause-from c = grind arith
 
 pub returns-then-not-are_same-clause-refused : goal.returns-then-not-are_same-clause-refused
 returns-then-not-are_same-clause-refused c = λ _ may.
@@ -99,8 +106,21 @@ returns-clause-added c =
       adds = adds c;
     }
 
+pub fork-requires-clause-live : goal.fork-requires-clause-live
+fork-requires-clause-live c = grind arith
+
+pub fork-requires-clause-there : goal.fork-requires-clause-there
+fork-requires-clause-there c = grind arith
+
 pub fork-requires-clause-parents : goal.fork-requires-clause-parents
-fork-requires-clause-parents c = λ k p e. absurd (let z = sym ((ungrouped-moved c.args.store.now c.put_cursors.new.store c.put_cursors.ensures.moved c.requires.ungrouped).orphans k) ∙ e in cc)
+fork-requires-clause-parents c = λ k p e.
+    absurd (none_some (sym ((ungrouped-moved c.args.store.now c.put_cursors.new.store c.put_cursors.ensures.moved c.requires.ungrouped).orphans k) ∙ e))
+
+pub put_cursors-requires : goal.put_cursors-requires
+put_cursors-requires c = grind arith
+
+pub fork-requires-clause-planned : goal.fork-requires-clause-planned
+fork-requires-clause-planned c = grind arith
 
 -- the namespace is there still
 stays : (b c : Numbering) (space i : ℕ) → KeepsSpaces b c → id_at b space ≡ Some i → IsSome (namespace_at c space)
@@ -110,6 +130,9 @@ pub name_fault-requires : goal.name_fault-requires
 name_fault-requires c =
     stays c.args.store.now.numbering c.put_cursors.new.store.numbering c.in-Some.space c.args.name.now.space c.put_cursors.ensures.moved.spaces
     (ap (λ b. id_at b c.in-Some.space) (sym c.numbers.ensures) ∙ c.in-Some.ensures)
+
+pub fork-requires-clause-home : goal.fork-requires-clause-home
+fork-requires-clause-home c = grind arith
 
 pub name_fault-requires-then-not-are_same : goal.name_fault-requires-then-not-are_same
 name_fault-requires-then-not-are_same c =

@@ -1,4 +1,5 @@
-use Rattle.std.proofs.Common.{◌≡◌, ap, sym, subst, ◌∙◌, is_some, true}
+use Rattle.std.proofs.Common.{◌≡◌, ap, sym, subst, ◌∙◌, is_some, true, arith}
+use Rattle.std.proofs.lemmas.Grind.{common_steps}
 use Rattle.pid_types.specs.declared.plain.Name.{Name}
 use Rattle.pid_types.specs.declared.plain.Row.{Row}
 use Rattle.task_table.specs.View.{name_at}
@@ -15,6 +16,12 @@ use Rattle.table_build.proofs.sessions.enter_session.Goals as goal
 went : (c : goal.After-laws-2) → IsRegrouped c.args.store.now c.move_to.new.self c.args.key (record { group = c.args.key; session = c.args.session })
 went c = record { members = c.move_to.ensures.members; numbers = c.move_to.ensures.numbers; tree = c.move_to.ensures.rest.0; charges = c.move_to.ensures.rest.1 }
 
+pub move_to-requires-clause-session_room : goal.move_to-requires-clause-session_room
+move_to-requires-clause-session_room c = grind (arith, common_steps)
+
+pub move_to-requires-clause-group : goal.move_to-requires-clause-group
+move_to-requires-clause-group c = grind arith
+
 pub returns-clause-keeps : goal.returns-clause-keeps
 returns-clause-keeps c =
     let there : is_some (membership_at c.args.store.now.members c.args.key) ≡ true =
@@ -30,6 +37,18 @@ returns-clause-keeps c =
       places = places-less c.args.store.now c.move_to.new.self c.laws.ensures.numbering c.requires.ungrouped.standing c.move_to.ensures.numbers c.move_to.ensures.rest.1;
       names = bearers-stay c.args.store.now c.move_to.new.self c.laws.ensures c.laws-2.ensures c.move_to.ensures.rest.0 c.move_to.ensures.numbers;
     }
+
+pub move_to-requires-clause-together : goal.move_to-requires-clause-together
+move_to-requires-clause-together c = grind arith
+
+pub move_to-requires-clause-room : goal.move_to-requires-clause-room
+move_to-requires-clause-room c = grind (arith, common_steps)
+
+pub move_to-requires-clause-session : goal.move_to-requires-clause-session
+move_to-requires-clause-session c = grind arith
+
+pub move_to-requires-clause-there : goal.move_to-requires-clause-there
+move_to-requires-clause-there c = grind arith
 
 pub returns-clause-entered : goal.returns-clause-entered
 returns-clause-entered c = λ row e.

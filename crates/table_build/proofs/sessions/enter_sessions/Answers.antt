@@ -6,21 +6,21 @@ use Rattle.table_build.proofs.LineSteps.{get-found, groups-none, groups-push, li
 use Rattle.table_text.specs.Reading.{saved_state}
 use Rattle.task_table.proofs.Results.{if_err}
 use Rattle.table_build.proofs.PartSteps.{own-group, seats-next}
-use Rattle.table_build.proofs.Places.{at_place}
+use Rattle.table_build.proofs.Places.{at_place, none_some}
 use Rattle.table_build.proofs.sessions.enter_sessions.Goals as goal
 
 pub loop-index-init : goal.loop-index-init
 loop-index-init c = record {
   rowed = λ some. absurd (omega (arith, some));
   keeps = ungrouped-none c.args.store.now c.requires.ungrouped;
-  recent = record { session = λ k e. let z = sym c.none.ensures ∙ e in absurd (cc); group = λ k e. let z = sym c.none-2.ensures ∙ e in absurd (cc) };
+  recent = record { session = λ k e. absurd (none_some (sym c.none.ensures ∙ e)); group = λ k e. absurd (none_some (sym c.none-2.ensures ∙ e)) };
   lines = lines-shown c.args.store.now c.args.placed.now (λ j. option_map as_begun (slice_get c.args.saved.now.rows j)) (stage seated as_begun c.args.saved.now.rows 0) c.requires.lines
       (λ j k e. stage-begin seated as_begun c.args.saved.now.rows j);
   groups = groups-none c.args.store.now c.args.placed.now c.args.saved.now.rows c.requires.groups;
   count = ap length c.requires.groups;
   few = λ few. few;
   part = λ part. part;
-  seats = λ good j g x r at. let z = ap (λ (l : List ℕ). slice_get l j) (sym c.requires.groups) ∙ at in absurd (cc);
+  seats = λ good j g x r at. absurd (none_some (ap (λ (l : List ℕ). slice_get l j) (sym c.requires.groups) ∙ at));
   keys = refl;
 }
 
@@ -35,6 +35,9 @@ put_in_session-requires-clause-begun c =
     get-found c.loop-index.placed.keys.items c.deref.result.now c.loop-index.index c.in-Some.key.now c.deref.ensures.value c.in-Some.ensures.lookup.3.0 c.in-Some.ensures.lookup.1 in
     line-at c.loop-index.store c.loop-index.placed (stage seated as_begun c.args.saved.now.rows c.loop-index.index) c.loop-index.index c.in-Some.key.now (as_begun c.write_next.new.row) c.loop-index.invariant.lines key
     (stage-todo seated as_begun c.args.saved.now.rows c.loop-index.index c.write_next.new.row row)
+
+pub returns-in_default-clause-refused : goal.returns-in_default-clause-refused
+returns-in_default-clause-refused c = grind arith
 
 pub loop-index-preserved : goal.loop-index-preserved
 loop-index-preserved c =
@@ -76,6 +79,9 @@ returns c =
       seated = λ good. record { alone = λ k r held e. own-group c.loop-index.store c.laws.ensures i.keeps.ungrouped k r e; seats = i.seats good };
       refused = tt;
     }
+
+pub put_in_session-requires-clause-recent : goal.put_in_session-requires-clause-recent
+put_in_session-requires-clause-recent c = grind arith
 
 pub returns-in_err-put_in_session-clause-refused : goal.returns-in_err-put_in_session-clause-refused
 returns-in_err-put_in_session-clause-refused c =

@@ -1,4 +1,4 @@
-use Rattle.std.proofs.Common.{refl, ap, sym, subst, ◌∙◌, ◌++◌, ◌∷◌, []}
+use Rattle.std.proofs.Common.{refl, ap, sym, subst, ◌∙◌, ◌++◌, ◌∷◌, [], arith}
 use Rattle.pid_types.specs.declared.plain.Name.{Name}
 use Rattle.table_build.specs.Lines.{HasFew, SetsLine}
 use Rattle.table_build.specs.Stages.{SetsRow, as_begun, seated}
@@ -96,5 +96,14 @@ returns-in_err-group-clause-refused c =
     let entered = part-entered c.args.store.now c.bearer.new.store c.enter_session.new.store text c.args.placed.now c.bearer.new.placed c.args.key c.args.row.now _ part inside a.put.rows a.put.keeps.places (b.entered (as_begun c.args.row.now) line.shown) refl b.keeps.places in
     c.in_err-group.ensures.refused not text sound entered (group_in_use text.rows c.args.row.now inside))
 
+pub bearer-requires-2-clause-recent : goal.bearer-requires-2-clause-recent
+bearer-requires-2-clause-recent c = grind arith
+
+pub seat_placeholder-requires-clause-ungrouped : goal.seat_placeholder-requires-clause-ungrouped
+seat_placeholder-requires-clause-ungrouped c = grind arith
+
 pub returns-in_err-add_group-clause-refused : goal.returns-in_err-add_group-clause-refused
 returns-in_err-add_group-clause-refused c = if_err c.from_residual-in_err-add_group.result _ NoMemory c.from_residual-in_err-add_group.ensures.1 (λ not. absurd (not refl))
+
+pub seat_placeholder-requires-clause-there : goal.seat_placeholder-requires-clause-there
+seat_placeholder-requires-clause-there c = grind arith

@@ -1,18 +1,25 @@
-use Rattle.std.proofs.Common.{None, ap, sym, ◌∙◌, rules}
+use Rattle.std.proofs.Common.{None, ap, sym, ◌∙◌, rules, arith}
+use Rattle.std.proofs.lemmas.Grind.{common_steps}
 use Rattle.std.specs.Prelude.{slice_index_or}
 use Rattle.task_tree.specs.Tree.{task_at}
 use Rattle.table_build.proofs.Moves.{ended-row, homes-ended}
 use Rattle.table_build.proofs.Steps.{places-same}
 use Rattle.table_build.proofs.settle.end_task.Goals as goal
 
+pub returns-clause-rest : goal.returns-clause-rest
+returns-clause-rest c = grind arith
+
+pub finish-requires-clause-there : goal.finish-requires-clause-there
+finish-requires-clause-there c = grind arith
+
 pub returns-clause-ended : goal.returns-clause-ended
 returns-clause-ended c =
     let f = c.finish.ensures in
     record {
       keeps = record {
-        grouping = search rules;
+        grouping = grind arith;
         places = places-same c.args.store.now c.finish.new.self f.rest.0 f.home.controls;
-        names = search rules;
+        names = grind arith;
       };
       sets = λ row e. ended-row c.args.store.now c.finish.new.self c.laws.ensures c.laws-2.ensures c.args.key c.in-Some.task c.args.end (ap (λ t. task_at t c.args.key) (sym c.tree.ensures) ∙ sym c.task.ensures ∙ c.in-Some.is) (record {
         tasks = f.tasks;
@@ -23,3 +30,15 @@ returns-clause-ended c =
         homes = homes-ended c.args.store.now.charges c.finish.new.self.charges c.in-Some.task.home f.home;
       }) row e;
     }
+
+pub finish-requires-clause-visible : goal.finish-requires-clause-visible
+finish-requires-clause-visible c = grind arith
+
+pub finish-requires-clause-live : goal.finish-requires-clause-live
+finish-requires-clause-live c = grind arith
+
+pub returns-clause-parents : goal.returns-clause-parents
+returns-clause-parents c = grind arith
+
+pub is_seen_by_parent-requires : goal.is_seen_by_parent-requires
+is_seen_by_parent-requires c = grind (arith, common_steps)

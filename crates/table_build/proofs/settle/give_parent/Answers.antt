@@ -1,4 +1,4 @@
-use Rattle.std.proofs.Common.{◌≡◌, ◌∙◌, inl, inr, Some, false, ap, sym, subst}
+use Rattle.std.proofs.Common.{◌≡◌, ◌∙◌, inl, inr, Some, false, ap, sym, subst, arith}
 use Rattle.std.proofs.lemmas.Bool.{cases_eq}
 use Rattle.task_tree.specs.Tree.{parent_of}
 use Rattle.table_build.specs.Lines.{is_held}
@@ -8,7 +8,20 @@ use Rattle.pid_types.specs.Membership.{IsIn}
 use Rattle.pid_types.specs.Names.{names_in_use}
 use Rattle.model_laws.proofs.Names.{own_name_in_use}
 use Rattle.task_table.proofs.Results.{on_err}
+use Rattle.table_build.proofs.Places.{some_same}
 use Rattle.table_build.proofs.settle.give_parent.Goals as goal
+
+pub returns-then-eq-clause-keeps : goal.returns-then-eq-clause-keeps
+returns-then-eq-clause-keeps c = grind arith
+
+pub returns-in_default-clause-refused : goal.returns-in_default-clause-refused
+returns-in_default-clause-refused c = grind arith
+
+pub returns-then-eq-clause-given : goal.returns-then-eq-clause-given
+returns-then-eq-clause-given c = grind arith
+
+pub returns-clause-given : goal.returns-clause-given
+returns-clause-given c = grind arith
 
 pub returns-in_err-parent-clause-refused : goal.returns-in_err-parent-clause-refused
 returns-in_err-parent-clause-refused c =
@@ -28,7 +41,7 @@ returns-clause-keeps c =
       real = λ k q e. elim (cases_eq k c.args.key) [
         | inl same ↦
             let one : Some c.in_ok-parent.parent ≡ Some q = sym a.parent ∙ ap (parent_of c.adopt.new.store.tree) (sym same) ∙ e in
-            let is : c.in_ok-parent.parent ≡ q = cc in
+            let is : c.in_ok-parent.parent ≡ q = some_same one in
             subst (λ i. is_held c.args.placed.now i ≡ false) is p.real
         | inr not ↦ c.requires.real k q (sym (a.parents k not) ∙ e)
       ];

@@ -1,4 +1,5 @@
-use Rattle.std.proofs.Common.{◌≡◌, Some, ap, sym, subst, ◌∙◌, is_some, option_map}
+use Rattle.std.proofs.Common.{◌≡◌, Some, ap, sym, subst, ◌∙◌, is_some, option_map, arith}
+use Rattle.std.proofs.lemmas.Grind.{common_steps}
 use Rattle.pid_types.specs.declared.plain.Name.{Name}
 use Rattle.pid_types.specs.declared.plain.Row.{Row}
 use Rattle.std.specs.Prelude.{slice_set}
@@ -52,9 +53,27 @@ returns-clause-joined c = record {
   sets = λ row e. sets c row e;
 }
 
+pub set_group-requires-clause-room : goal.set_group-requires-clause-room
+set_group-requires-clause-room c = grind (arith, common_steps)
+
+pub set_group-requires-clause-together : goal.set_group-requires-clause-together
+set_group-requires-clause-together c = grind arith
+
+pub returns-clause-tree : goal.returns-clause-tree
+returns-clause-tree c = grind arith
+
 pub returns-in-Some-clause-refused : goal.returns-in-Some-clause-refused
 returns-in-Some-clause-refused c = λ row e there inside.
     let s = c.args.store.now in
     let own : session_of s.members c.args.key ≡ Some c.session-session.result = ap (λ ms. session_of ms c.args.key) (sym c.members.ensures) ∙ c.session-session.ensures in
     let of_group = subst (λ ms. IsSessionOf ms c.args.group (Some c.in-Some.found)) c.members-2.ensures c.in-Some.ensures in
     c.if-found-session.true (one-session s c.laws.ensures c.args.key row c.args.group c.in-Some.found c.session-session.result e own of_group inside)
+
+pub session-session-requires : goal.session-session-requires
+session-session-requires c = grind arith
+
+pub set_group-requires-clause-there : goal.set_group-requires-clause-there
+set_group-requires-clause-there c = grind arith
+
+pub set_group-requires-clause-group : goal.set_group-requires-clause-group
+set_group-requires-clause-group c = grind arith

@@ -1,4 +1,4 @@
-use Rattle.std.proofs.Common.{refl, sym, ◌∙◌}
+use Rattle.std.proofs.Common.{refl, sym, ◌∙◌, arith}
 use Rattle.table_build.proofs.Steps.{grouping-both, recent-kept}
 use Rattle.pid_types.specs.declared.plain.Life.TheVariants.{Live}
 use Rattle.pid_types.specs.declared.plain.Row.{Row}
@@ -16,6 +16,12 @@ returns-in_err-end_task-clause-refused c =
     c.in_err-end_task.ensures.refused row g.given.here refl
     (seen-by_parent c.give_parent.new.store c.laws.ensures g.keeps.keeps.grouping.kin text may.sound part c.args.key c.args.row.now row may.inside g.given.here refl refl))
 
+pub returns-clause-settled : goal.returns-clause-settled
+returns-clause-settled c = grind arith
+
+pub end_task-requires : goal.end_task-requires
+end_task-requires c = grind arith
+
 pub returns-clause-keeps : goal.returns-clause-keeps
 returns-clause-keeps c =
     let g = c.in_ok-give_parent.ensures in
@@ -25,3 +31,6 @@ returns-clause-keeps c =
       recent = recent-kept c.give_parent.new.store c.end_task.new.store c.give_parent.new.last e.ended.keeps.names g.keeps.recent;
       real = λ k q at. g.keeps.real k q (sym (e.parents k) ∙ at);
     }
+
+pub returns-in_default-clause-settled : goal.returns-in_default-clause-settled
+returns-in_default-clause-settled c = grind arith

@@ -1,4 +1,4 @@
-use Rattle.std.proofs.Common.{◌≡◌, ◌≢◌, ◌+◌, ◌≤◌, None, length, Some, ap, sym, ◌∙◌, arith, refl, Option, option_map, slice_get, ◌-◌, subst}
+use Rattle.std.proofs.Common.{◌≡◌, ◌≢◌, ◌+◌, ◌≤◌, None, length, Some, ap, sym, ◌∙◌, arith, refl, Option, option_map, slice_get, ◌-◌, subst, true≢false}
 use Rattle.pid_types.specs.declared.plain.Name.{Name}
 use Rattle.pid_types.specs.declared.plain.Row.{Row}
 use Rattle.table_build.specs.Lines.{IsRowAt, stage}
@@ -37,6 +37,9 @@ settle_task-requires c =
       real = λ k q e. i.real k q (ap (λ t. parent_of t k) (sym j.tree) ∙ e);
     }
 
+pub write_next-requires-clause-before : goal.write_next-requires-clause-before
+write_next-requires-clause-before c = grind arith
+
 pub loop-index-preserved : goal.loop-index-preserved
 loop-index-preserved c =
     let rows = c.args.saved.now.rows in
@@ -63,7 +66,7 @@ loop-index-preserved c =
           part-set c.loop-index.store c.settle_task.new.store (saved_state c.args.saved.now)
           (places-both c.loop-index.store c.join_group.new.store c.settle_task.new.store j.joined.keeps.places e.keeps.keeps.places) (i.part had) c.in-Some-Some.key.now c.write_next.new.row set name;
       held = λ k held.
-          let not : k ≢ c.in-Some-Some.key.now = (λ same. let z = sym held ∙ ap (is_held c.args.placed.now) same ∙ line.real in absurd (cc)) in
+          let not : k ≢ c.in-Some-Some.key.now = (λ same. true≢false (sym held ∙ ap (is_held c.args.placed.now) same ∙ line.real)) in
           set.others k not ∙ i.held k held;
       real = e.keeps.real;
     }
@@ -122,3 +125,15 @@ returns-in_err-settle_task-clause-refused c =
           let b = all-borne s p rows (stage (λ r. r) seated rows c.loop-index.index) i.lines c.requires.keys (stage-names rows c.loop-index.index) r on in
           (b.0, bears-kept s t b.0 r.name j.joined.keeps.names b.1, b.2);
     }))
+
+pub returns-in_default-clause-refused : goal.returns-in_default-clause-refused
+returns-in_default-clause-refused c = grind arith
+
+pub write_next-requires-clause-index : goal.write_next-requires-clause-index
+write_next-requires-clause-index c = grind arith
+
+pub loop-index-init : goal.loop-index-init
+loop-index-init c = grind arith
+
+pub join_group-requires : goal.join_group-requires
+join_group-requires c = grind arith

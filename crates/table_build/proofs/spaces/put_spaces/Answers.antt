@@ -1,4 +1,5 @@
 use Rattle.std.proofs.Common.{refl, arith}
+use Rattle.std.proofs.lemmas.Grind.{common_steps}
 use Rattle.table_build.proofs.SpaceTrees.{root-first}
 use Rattle.task_table.proofs.Results.{if_err}
 use Rattle.table_build.proofs.spaces.put_spaces.Goals as goal
@@ -11,6 +12,12 @@ loop-index-init c =
 
 pub returns-in_err-check_root-clause-refused : goal.returns-in_err-check_root-clause-refused
 returns-in_err-check_root-clause-refused c = if_err c.from_residual.result _ c.in_err-check_root.field-0.0 c.from_residual.ensures.1 c.in_err-check_root.ensures.refused
+
+pub loop-index-preserved : goal.loop-index-preserved
+loop-index-preserved c = grind arith
+
+pub returns-clause-put : goal.returns-clause-put
+returns-clause-put c = grind (arith, common_steps)
 
 pub returns-in_err-put_next-clause-refused : goal.returns-in_err-put_next-clause-refused
 returns-in_err-put_next-clause-refused c = if_err c.from_residual-in_err-put_next.result _ c.in_err-put_next.field-0.0 c.from_residual-in_err-put_next.ensures.1 c.in_err-put_next.ensures.refused
