@@ -1,3 +1,4 @@
+use Rattle.std.proofs.Common.{arith}
 use Rattle.table_text.specs.Texts.{head_line}
 use Rattle.table_text.proofs.Scanned.{IsRead-more, if_none}
 use Rattle.table_text.proofs.Missed.{no_head_word, no_head_settings, no_head_end}
@@ -11,6 +12,12 @@ returns-clause-read c = record {
       (IsRead-more c.args.text.now c.args.at.now _ _ _ _ c.in_ok-read_word.ensures.read c.in_ok-head.ensures.read.read) c.in_ok-read_word-2.ensures.read;
   words = c.in_ok-head.ensures.read.words;
 }
+
+pub returns-in_err-head-clause-read : goal.returns-in_err-head-clause-read
+returns-in_err-head-clause-read c = grind arith
+
+pub returns-in_err-read_word-2-clause-read : goal.returns-in_err-read_word-2-clause-read
+returns-in_err-read_word-2-clause-read c = grind arith
 
 pub returns-in_err-read_word-clause-missing : goal.returns-in_err-read_word-clause-missing
 returns-in_err-read_word-clause-missing c =

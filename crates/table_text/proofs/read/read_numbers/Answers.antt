@@ -22,6 +22,9 @@ loop-further-preserved c =
       stops = c.in_ok-read_small-2.ensures.read.stops;
     }
 
+pub returns-in_err-read_small-2-clause-whole : goal.returns-in_err-read_small-2-clause-whole
+returns-in_err-read_small-2-clause-whole c = grind arith
+
 pub returns-in_err-read_small-clause-missing : goal.returns-in_err-read_small-clause-missing
 returns-in_err-read_small-clause-missing c =
     if_none c.from_residual.result _ (no_first c.args.text.now c.args.at.now c.in_err-read_small.ensures.missing)
@@ -32,11 +35,29 @@ returns-then-not-read_mark-clause-whole c =
     c.if-not-read_mark.true c.read_mark.ensures.read in
     (λ below rest is. c.read_mark.ensures.missing c.if-not-read_mark.true rest (still ∙ is))
 
+pub returns-in_err-read_small-2-clause-some : goal.returns-in_err-read_small-2-clause-some
+returns-in_err-read_small-2-clause-some c = grind arith
+
+pub returns-then-not-read_mark-clause-some : goal.returns-then-not-read_mark-clause-some
+returns-then-not-read_mark-clause-some c = grind arith
+
+pub returns-in_err-read_small-clause-read : goal.returns-in_err-read_small-clause-read
+returns-in_err-read_small-clause-read c = grind arith
+
 pub returns-then-not-read_mark-clause-stops : goal.returns-then-not-read_mark-clause-stops
 returns-then-not-read_mark-clause-stops c =
     subst StopsDigits
     (nothing_read c.args.text.now c.loop-further.at c.read_mark.new.at c.read_mark.result (codes ",") c.loop-further.invariant.within c.read_mark.ensures.within
     c.if-not-read_mark.true c.read_mark.ensures.read) c.loop-further.invariant.stops
+
+pub returns-in_err-read_small-2-clause-read : goal.returns-in_err-read_small-2-clause-read
+returns-in_err-read_small-2-clause-read c = grind arith
+
+pub returns-in_err-read_small-2-clause-stops : goal.returns-in_err-read_small-2-clause-stops
+returns-in_err-read_small-2-clause-stops c = grind arith
+
+pub loop-further-init : goal.loop-further-init
+loop-further-init c = grind arith
 
 pub returns-in_err-read_small-2-clause-missing : goal.returns-in_err-read_small-2-clause-missing
 returns-in_err-read_small-2-clause-missing c =

@@ -1,5 +1,5 @@
 -- Where the reader of one part gives up, the name before it is read: so the line is of no task
-use Rattle.std.proofs.Common.{codes, ◌++◌, refl, sym, subst}
+use Rattle.std.proofs.Common.{codes, ◌++◌, refl, sym, subst, arith}
 use Rattle.pid_types.specs.declared.plain.Name.{Name}
 use Rattle.table_text.specs.Reading.{IsRead}
 use Rattle.table_text.specs.Texts.{name_word, rest_line}
@@ -13,6 +13,9 @@ returns-in_err-read_name-clause-missing c =
     if_none c.from_residual.result _ (λ r x held is.
     no_task_name c.args.text.now r held x c.args.at.now c.requires.at is
     c.in_err-read_name.ensures.missing)
+
+pub returns-in_err-read_name-clause-read : goal.returns-in_err-read_name-clause-read
+returns-in_err-read_name-clause-read c = grind arith
 
 pub returns-then-is_again-clause-read : goal.returns-then-is_again-clause-read
 returns-then-is_again-clause-read c =
@@ -50,3 +53,9 @@ returns-clause-last c = record {
   read = λ some. c.in_ok-read_rest.ensures.read.read;
   words = λ some. c.in_ok-read_rest.ensures.read.words c.in_ok-read_name.ensures.read.words;
 }
+
+pub returns-in_err-read_rest-clause-read : goal.returns-in_err-read_rest-clause-read
+returns-in_err-read_rest-clause-read c = grind arith
+
+pub returns-in_err-read_rest-clause-last : goal.returns-in_err-read_rest-clause-last
+returns-in_err-read_rest-clause-last c = grind arith

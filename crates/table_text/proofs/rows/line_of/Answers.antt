@@ -1,11 +1,27 @@
-use Rattle.std.proofs.Common.{◌∙◌}
+use Rattle.std.proofs.Common.{◌∙◌, arith}
+use Rattle.std.proofs.lemmas.Grind.{common_steps}
 use Rattle.table_text.proofs.Standing.{grown_on, within_kept, parent_within, name_kept, parent_kept, row_told}
 use Rattle.table_text.proofs.rows.line_of.Goals as goal
+
+pub returns-in_err-parent-clause-grown : goal.returns-in_err-parent-clause-grown
+returns-in_err-parent-clause-grown c = grind (arith, common_steps)
+
+pub parent_place-requires : goal.parent_place-requires
+parent_place-requires c = grind (arith, common_steps)
 
 pub returns-clause-grown : goal.returns-clause-grown
 returns-clause-grown c =
     grown_on _ _ _ c.in_ok-name.ensures.grown
     (grown_on _ _ _ c.in_ok-parent.ensures.grown (grown_on _ _ _ c.in_ok-group.ensures.grown c.in_ok-session.ensures.grown))
+
+pub returns-in_err-group-clause-grown : goal.returns-in_err-group-clause-grown
+returns-in_err-group-clause-grown c = grind (arith, common_steps)
+
+pub place_of-requires : goal.place_of-requires
+place_of-requires c = grind (arith, common_steps)
+
+pub returns-in_err-session-clause-grown : goal.returns-in_err-session-clause-grown
+returns-in_err-session-clause-grown c = grind (arith, common_steps)
 
 pub returns-clause-within : goal.returns-clause-within
 returns-clause-within c =
@@ -18,6 +34,9 @@ returns-clause-within c =
       group = within_kept _ _ c.in_ok-group.group third-last c.in_ok-group.ensures.within;
       session = c.in_ok-session.ensures.within;
     }
+
+pub place_of-requires-2 : goal.place_of-requires-2
+place_of-requires-2 c = grind (arith, common_steps)
 
 pub returns-clause-row : goal.returns-clause-row
 returns-clause-row c =

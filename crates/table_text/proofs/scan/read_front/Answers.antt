@@ -1,4 +1,5 @@
 use Rattle.std.proofs.Common.{◌≡◌, ◌+◌, ◌<◌, ◌-◌, ◌^◌, drop, get_or, arith, length-drop}
+use Rattle.std.proofs.lemmas.Grind.{common_steps}
 use Rattle.std.specs.Char.{digit_value}
 use Rattle.std.proofs.lemmas.Str.{digit_value_digit}
 use Rattle.std.proofs.lemmas.Str.Parse.{digit_from_value}
@@ -12,6 +13,9 @@ overflow_mul-number c =
     let long = length-drop c.args.at c.args.text.now in
     let small : loop.number < 10 ^ 8 = front_fits (drop c.args.at c.args.text.now) (loop.index - c.args.at) loop.number (omega arith) (omega (arith, long)) loop.invariant.digits loop.invariant.value in
     omega arith
+
+pub returns-clause-stops : goal.returns-clause-stops
+returns-clause-stops c = grind (arith, common_steps)
 
 pub overflow_add-number : goal.overflow_add-number
 overflow_add-number c =
@@ -29,3 +33,6 @@ loop-index-preserved c =
       digits = digits_more c.args.text.now c.args.at loop.index (omega arith) (omega arith) loop.invariant.digits c.if-not-is_ascii_digit.ensures.bound;
       value = omega (arith, value_more c.args.text.now c.args.at loop.index (omega arith) (omega arith), loop.invariant.value, digit, c.from.ensures);
     }
+
+pub returns-then-not-is_ascii_digit-clause-stops : goal.returns-then-not-is_ascii_digit-clause-stops
+returns-then-not-is_ascii_digit-clause-stops c = grind (arith, common_steps)

@@ -1,7 +1,13 @@
-use Rattle.std.proofs.Common.{◌^◌, None, codes, ◌∙◌}
+use Rattle.std.proofs.Common.{◌^◌, None, codes, ◌∙◌, arith}
 use Rattle.table_text.proofs.Scanned.{if_none, not_fitting, nothing_read}
 use Rattle.table_text.proofs.Missed.{no_life, large_status}
 use Rattle.table_text.proofs.scan.read_life.Goals as goal
+
+pub returns-in_err-read_field-clause-stops : goal.returns-in_err-read_field-clause-stops
+returns-in_err-read_field-clause-stops c = grind arith
+
+pub returns-in_err-status-clause-read : goal.returns-in_err-status-clause-read
+returns-in_err-status-clause-read c = grind arith
 
 pub returns-in_err-status-clause-missing : goal.returns-in_err-status-clause-missing
 returns-in_err-status-clause-missing c =
@@ -14,3 +20,9 @@ returns-in_err-status-clause-missing c =
     no_life text c.args.at.now c.read_mark.new.at c.read_mark-2.new.at one (one ∙ two) (c.read_mark.ensures.missing c.if-read_mark.false) (c.read_mark-2.ensures.missing c.if-read_mark-2.false)
     (large_status text (codes " exit ") c.read_mark-2.new.at c.read_field.new.at _ c.if-read_mark-2.ensures.within c.in_ok-read_field.ensures.read.within c.in_ok-read_field.ensures.read.read
     c.in_ok-read_field.ensures.read.words c.in_ok-read_field.ensures.read.stops large)))
+
+pub returns-in_err-status-clause-stops : goal.returns-in_err-status-clause-stops
+returns-in_err-status-clause-stops c = grind arith
+
+pub returns-in_err-read_field-clause-read : goal.returns-in_err-read_field-clause-read
+returns-in_err-read_field-clause-read c = grind arith

@@ -1,7 +1,13 @@
-use Rattle.std.proofs.Common.{◌^◌, codes, refl}
+use Rattle.std.proofs.Common.{◌^◌, codes, refl, arith}
 use Rattle.pid_script.specs.Lists.{limit_text}
 use Rattle.table_text.proofs.Scanned.{if_none, no_option, nothing_read}
 use Rattle.table_text.proofs.scan.read_limit.Goals as goal
+
+pub returns-in_err-read_small_field-clause-stops : goal.returns-in_err-read_small_field-clause-stops
+returns-in_err-read_small_field-clause-stops c = grind arith
+
+pub returns-in_err-read_small_field-clause-read : goal.returns-in_err-read_small_field-clause-read
+returns-in_err-read_small_field-clause-read c = grind arith
 
 pub returns-in_err-read_small_field-clause-missing : goal.returns-in_err-read_small_field-clause-missing
 returns-in_err-read_small_field-clause-missing c =

@@ -1,4 +1,5 @@
-use Rattle.std.proofs.Common.{◌≡◌, ◌∙◌, sym, subst, ap, length, slice_get}
+use Rattle.std.proofs.Common.{◌≡◌, ◌∙◌, sym, subst, ap, length, slice_get, arith}
+use Rattle.std.proofs.lemmas.Grind.{common_steps}
 use Rattle.table_text.specs.Rows.{IsWithin, name_in}
 use Rattle.table_text.proofs.Standing.{inside, line_at, row_at, some_at}
 use Rattle.table_text.proofs.rows.Rows.number.Goals as goal
@@ -16,3 +17,6 @@ returns c =
     let first = c.copied.ensures ∙ c.first.ensures.value
     ∙ ap (λ ns. slice_get ns 0) (c.numbers_at.ensures ∙ ap (λ ns. (name_in ns c.index.result.now.name).numbers.items) c.as_slice.ensures.value) in
     some_at c.args.self.now c.args.index _ (λ row. c.copied.result ≡ slice_get row.name.numbers.items 0) here first
+
+pub index-requires : goal.index-requires
+index-requires c = grind (arith, common_steps)

@@ -1,0 +1,8 @@
+use Rattle.std.proofs.Common.{arith}
+use Rattle.std.proofs.lemmas.Grind.{common_steps}
+use Rattle.table_text.specs.Texts.{bounds_text}
+use Rattle.table_text.proofs.dump.push_settings.Goals as goal
+
+pub returns : goal.returns
+unfolding bounds_text
+returns c = grind (arith, common_steps)
