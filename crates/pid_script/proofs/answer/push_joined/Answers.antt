@@ -1,4 +1,5 @@
 use Rattle.std.proofs.Common.{rules, ◌-◌, ◌++◌, ◌∷◌, length, decimal, arith, take, drop, sym, ap, ◌∙◌, append_assoc}
+use Rattle.std.proofs.lemmas.Grind.{common_steps}
 use Rattle.std.specs.List.{flat_map}
 use Rattle.pid_script.specs.Answers.{joined}
 use Rattle.pid_script.proofs.Room.{length_decimal_of_64, room}
@@ -19,6 +20,9 @@ returns-in-len1-up-clause-items g c =
 
 pub push_number-requires : goal.push_number-requires
 push_number-requires g c = (search rules, omega (arith, length_decimal_of_64 c.from.result c.from.type_inv))
+
+pub returns-in_default-clause-items : goal.returns-in_default-clause-items
+returns-in_default-clause-items c = grind (arith, common_steps)
 
 pub push_rest-requires : goal.push_rest-requires
 push_rest-requires g c = (search rules, grind (arith, room))

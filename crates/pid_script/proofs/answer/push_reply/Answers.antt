@@ -1,5 +1,7 @@
-use Rattle.std.proofs.Common.{◌++◌, decimal, append_assoc, ap, ◌∙◌}
+use Rattle.std.proofs.Common.{◌++◌, decimal, append_assoc, ap, ◌∙◌, arith}
 use Rattle.pid_script.specs.Answers.{reply_text}
+use Rattle.pid_script.proofs.Room.{room}
+use Rattle.std.proofs.lemmas.Grind.{common_steps}
 use Rattle.pid_script.proofs.answer.push_reply.Goals as goal
 
 pub returns-in-Done-clause-items : goal.returns-in-Done-clause-items
@@ -37,3 +39,23 @@ returns-in-End-clause-items g c = rw c.in-End.is c.push_bytes-in-End.ensures.ite
 pub returns-in-Refused-clause-items : goal.returns-in-Refused-clause-items
 unfolding reply_text
 returns-in-Refused-clause-items g c = rw c.in-Refused.is c.push_refusal.ensures.items
+
+pub push_number-requires : goal.push_number-requires
+unfolding reply_text
+push_number-requires c = grind (arith, room)
+
+pub push_number-requires-in-Counted : goal.push_number-requires-in-Counted
+unfolding reply_text
+push_number-requires-in-Counted c = grind (arith, room)
+
+pub returns-in-Counted-clause-len : goal.returns-in-Counted-clause-len
+unfolding reply_text
+returns-in-Counted-clause-len c = grind (arith, room)
+
+pub returns-in-Number-clause-len : goal.returns-in-Number-clause-len
+unfolding reply_text
+returns-in-Number-clause-len c = grind (arith, room)
+
+pub returns-in-Forked-clause-items : goal.returns-in-Forked-clause-items
+unfolding reply_text
+returns-in-Forked-clause-items c = grind (arith, common_steps)
