@@ -11,7 +11,6 @@ ghost use Rattle.{
   stamped_table.specs.Stamped.{reply_to},
 };
 
-use arrayvec::ArrayVec;
 use foreign_numbers::numbers::{CallNumbers, ReplyNumbers, put_short, put_told, read_call};
 use foreign_numbers::status::{DONE, OUT_OF_RANGE};
 use kept_table::Kept;
@@ -34,9 +33,8 @@ fn read_query(n: &CallNumbers) -> Option<Call>
 fn ask_table_for_list(held: &StampedTable, caller: u32, target: u32, reply: &mut ReplyNumbers)
     ensures { reply.new ≡ numbers_of (reply_to held.now (NsPid caller target)) }
 {
-    let mut numbers = ArrayVec::new();
-    let told = held.ns_pid(caller, target, &mut numbers);
-    put_told(told, numbers.as_slice(), reply);
+    let told = held.ns_pid(caller, target, &mut reply.levels);
+    put_told(told, reply);
 }
 
 /// Answers the query that the numbers say on the table. The result is the status.
@@ -61,9 +59,8 @@ pub fn ask_table(held: &StampedTable, call: &CallNumbers, reply: &mut ReplyNumbe
 fn ask_record_for_list(held: &Kept, caller: u32, target: u32, reply: &mut ReplyNumbers)
     ensures { reply.new ≡ numbers_of (outcome held.now (NsPid caller target)).reply }
 {
-    let mut numbers = ArrayVec::new();
-    let told = held.ns_pid(caller, target, &mut numbers);
-    put_told(told, numbers.as_slice(), reply);
+    let told = held.ns_pid(caller, target, &mut reply.levels);
+    put_told(told, reply);
 }
 
 /// Answers the query that the numbers say on the record, which is not recorded. The result is the status.

@@ -2,6 +2,7 @@
 ghost use Rattle.std.specs.Prelude.{◌≡◌, ◌≢◌, ◌+◌, ◌≤◌, Some, IfSome, IsSome, length, take, option_map};
 ghost use Rattle.{
   pid_script.specs.Answers.{reply_text},
+  pid_types.specs.declared.call.Call.TheVariants.{NsPid},
   kept_past.specs.Stored.{IsList},
   kept_table.specs.{Calls.{outcome}, Chronicle.{last_reply}},
   foreign_calls.specs.Made.{TellsReply, IsReplyToLast},
@@ -11,12 +12,15 @@ ghost use Rattle.{
 };
 
 use crate::texts::write_reply;
-use foreign_numbers::numbers::{CallNumbers, ReplyNumbers, put_list, put_short, read_call};
+use foreign_numbers::numbers::{
+    CallNumbers, ReplyNumbers, put_list, put_short, put_told, read_call,
+};
 use foreign_numbers::operations;
 use foreign_numbers::status::{DONE, OUT_OF_RANGE, status_of, unmade};
 use kept_table::Kept;
 use pid_script::answer::LONGEST_ANSWER;
 use pid_types::call::Call;
+use pid_types::keys::Pid;
 use pid_types::reply::ShortReply;
 
 /// Makes the worker's call on the record, and tells its place in the history, and its reply where that is no list. The
@@ -74,6 +78,31 @@ fn put_last_list(held: &Kept, reply: &mut ReplyNumbers)
     put_list(list, reply);
 }
 
+/// Makes the call `NSpid` as [`call_on`] does: the list is written where the reply has room for it.
+#[inline(never)]
+fn list_on(
+    held: &mut Kept,
+    worker: u32,
+    caller: Pid,
+    target: Pid,
+    reply: &mut ReplyNumbers,
+    ordinal: &mut u64,
+) -> u32
+    ensures records { RecordsCall held.old worker (NsPid caller target) ordinal.old ordinal.new result held.new }
+    ensures reply { TellsReply (outcome held.old (NsPid caller target)).reply reply.old reply.new result }
+{
+    if worker as usize >= held.workers() {
+        return unmade(OUT_OF_RANGE);
+    }
+    let here = held.total();
+    match held.make_ns_pid(worker as usize, caller, target, &mut reply.levels) {
+        Ok(told) => put_told(told, reply),
+        Err(fault) => return status_of(fault),
+    }
+    *ordinal = here;
+    DONE
+}
+
 /// Makes the call as [`make_on`] does, and tells its reply as numbers.
 #[inline(always)]
 pub fn call_on(
@@ -86,6 +115,9 @@ pub fn call_on(
     ensures records { RecordsCall held.old worker made ordinal.old ordinal.new result held.new }
     ensures reply { TellsReply (outcome held.old made).reply reply.old reply.new result }
 {
+    if let Call::NsPid { caller, target } = made {
+        return list_on(held, worker, caller, target, reply, ordinal);
+    }
     let mut told = None;
     let status = make_on(held, worker as usize, made, &mut told, ordinal);
     if status != DONE {

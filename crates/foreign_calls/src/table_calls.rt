@@ -9,7 +9,6 @@ ghost use Rattle.{
 };
 
 use crate::texts::write_reply;
-use arrayvec::ArrayVec;
 use foreign_numbers::numbers::{CallNumbers, ReplyNumbers, put_short, put_told, read_call};
 use foreign_numbers::operations;
 use foreign_numbers::status::{DONE, OUT_OF_RANGE, status_of, unmade};
@@ -83,10 +82,9 @@ fn call_for_list(held: &mut StampedTable, caller: u32, target: u32, reply: &mut 
     ensures reply { TellsReply (reply_to held.old (NsPid caller target)) reply.old reply.new result }
     ensures status { IsCallStatus held.old (NsPid caller target) result }
 {
-    let mut numbers = ArrayVec::new();
-    match held.make_ns_pid(caller, target, &mut numbers) {
+    match held.make_ns_pid(caller, target, &mut reply.levels) {
         Ok(told) => {
-            put_told(told, numbers.as_slice(), reply);
+            put_told(told, reply);
             DONE
         }
         Err(fault) => status_of(fault),

@@ -1,5 +1,5 @@
 -- A namespace as numbers.
-use Rattle.std.specs.Prelude.{ℕ, unwrap_or}
+use Rattle.std.specs.Prelude.{unwrap_or}
 use Rattle.translate.specs.declared.space.SpaceStat.{SpaceStat}
 use Rattle.foreign_numbers.specs.declared.space.SpaceNumbers.{SpaceNumbers}
 use Rattle.foreign_numbers.specs.CallNumbers.{switch_number}

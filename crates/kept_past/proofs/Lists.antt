@@ -1,9 +1,8 @@
 -- The lists of many numbers, which are in the order of their slots.
 use Rattle.std.specs.Prelude.{MatchOption, option_map}
-use Rattle.std.proofs.Common.{◌≡◌, ℕ, zero, suc, ◌+◌, ◌-◌, ◌<◌, ◌≤◌, List, [], ◌∷◌, ◌++◌, length, drop, get_or, slice_get, Option, Some, None, refl, sym, ap, ◌∙◌, subst, arith}
+use Rattle.std.proofs.Common.{◌≡◌, ℕ, zero, suc, ◌+◌, ◌-◌, ◌<◌, ◌≤◌, List, [], ◌∷◌, ◌++◌, length, take, drop, get_or, slice_get, Option, Some, None, refl, sym, ap, ◌∙◌, subst, arith}
 use Rattle.std.proofs.lemmas.List.{get_or_append_left, get_or_push, map-append}
 use Rattle.std.proofs.lemmas.Option.{same_Some, slice_get-map, slice_get_read}
-use Rattle.arrayvec.specs.ArrayVec.{ArrayVec}
 use Rattle.pid_types.specs.declared.entry.Entry.{Entry}
 use Rattle.pid_types.specs.declared.reply.Reply.{Reply}
 use Rattle.pid_types.specs.declared.reply.ShortReply.{ShortReply}
@@ -17,7 +16,7 @@ use Rattle.kept_past.specs.Stored.{ListsAreInOrder, IsListedNext, IsListedWithin
 behind-le : (next : ℕ) (reply : SlotReply) → next ≤ behind next reply
 behind-le next (Short short) = omega arith
 behind-le next (Few few) = omega arith
-behind-le next (Many place) = omega arith
+behind-le next (Many place size) = omega arith
 
 -- the end is not before the next place
 pub in-order : (next end : ℕ) (slots : List Slot) → ListsAreInOrder next end slots → next ≤ end
@@ -27,12 +26,12 @@ in-order next end (slot ∷ slots) are = omega (arith, behind-le next slot.reply
 first-within : (next end : ℕ) (reply : SlotReply) → IsListedNext next reply → behind next reply ≤ end → IsListedWithin next end reply
 first-within next end (Short short) at le = tt
 first-within next end (Few few) at le = tt
-first-within next end (Many place) at le = (omega (arith, at), omega (arith, at, le))
+first-within next end (Many place size) at le = (omega (arith, at), omega (arith, at, le))
 
 sooner : (first next end : ℕ) (reply : SlotReply) → first ≤ next → IsListedWithin next end reply → IsListedWithin first end reply
 sooner first next end (Short short) le is = tt
 sooner first next end (Few few) le is = tt
-sooner first next end (Many place) le is = (omega (arith, le, is.0), is.1)
+sooner first next end (Many place size) le is = (omega (arith, le, is.0), is.1)
 
 -- the list of each slot is between the next place and the end
 pub within : (next end : ℕ) (slots : List Slot) (k : ℕ) (slot : Slot) → ListsAreInOrder next end slots → slice_get slots k ≡ Some slot → IsListedWithin next end slot.reply
@@ -50,14 +49,14 @@ pub pushed : (next end : ℕ) (slots : List Slot) (slot : Slot) → ListsAreInOr
 pushed next end [] slot are at = pushed-last next end slot.reply are at
 pushed next end (s ∷ slots) slot are at = (are.0, pushed (behind next s.reply) end slots slot are.1 at)
 
-kept-more : (lists : Lists) (list : ArrayVec ℕ) (first end : ℕ) (reply : SlotReply) → IsListedWithin first end reply → end ≡ first + length lists → kept_reply (lists ++ list ∷ []) first reply ≡ kept_reply lists first reply
+kept-more : (lists : Lists) (list : List ℕ) (first end : ℕ) (reply : SlotReply) → IsListedWithin first end reply → end ≡ first + length lists → kept_reply (lists ++ list ∷ []) first reply ≡ kept_reply lists first reply
 kept-more lists list first end (Short short) is at = refl
 kept-more lists list first end (Few few) is at = refl
-kept-more lists list first end (Many place) is at =
-    ap (λ (l : ArrayVec ℕ). list_reply l.items) (get_or_append_left lists (list ∷ []) (record { items = [] }) (place - first) (omega (arith, is.0, is.1, at)))
+kept-more lists list first end (Many place size) is at =
+    ap (λ (l : List ℕ). list_reply (take size l)) (get_or_append_left lists (list ∷ []) [] (place - first) (omega (arith, is.0, is.1, at)))
 
 -- a list more at the end is none of theirs
-pub one-more : (lists : Lists) (list : ArrayVec ℕ) (first next end : ℕ) (slots : List Slot) → first ≤ next → ListsAreInOrder next end slots → end ≡ first + length lists
+pub one-more : (lists : Lists) (list : List ℕ) (first next end : ℕ) (slots : List Slot) → first ≤ next → ListsAreInOrder next end slots → end ≡ first + length lists
     → entries_in (lists ++ list ∷ []) first slots ≡ entries_in lists first slots
 one-more lists list first next end [] le are at = refl
 one-more lists list first next end (slot ∷ slots) le are at =
@@ -69,15 +68,15 @@ one-more lists list first next end (slot ∷ slots) le are at =
     ∙ ap (λ es. entry_in lists first slot ∷ es) rest
 
 -- the list at the end
-pub list-last : (lists : Lists) (list : ArrayVec ℕ) (first place : ℕ) → place ≡ first + length lists → list_at (lists ++ list ∷ []) first place ≡ list.items
-list-last lists list first place at = ap (λ (l : ArrayVec ℕ). l.items) (get_or_push lists list (record { items = [] }) (place - first) (omega (arith, at)))
+pub list-last : (lists : Lists) (list : List ℕ) (first place : ℕ) → place ≡ first + length lists → list_at (lists ++ list ∷ []) first place ≡ list
+list-last lists list first place at = get_or_push lists list [] (place - first) (omega (arith, at))
 
 -- an entry more, whose list is at the end
-pub with-list : (lists : Lists) (list : ArrayVec ℕ) (first place : ℕ) (slots : List Slot) (slot : Slot) → ListsAreInOrder first place slots → place ≡ first + length lists → slot.reply ≡ Many place
-    → entries_in (lists ++ list ∷ []) first (slots ++ slot ∷ []) ≡ entries_in lists first slots ++ record { worker = slot.worker; call = slot.call; reply = list_reply list.items } ∷ []
-with-list lists list first place slots slot are at many =
-    let told : kept_reply (lists ++ list ∷ []) first slot.reply ≡ list_reply list.items =
-    ap (kept_reply (lists ++ list ∷ []) first) many ∙ ap list_reply (list-last lists list first place at) in
+pub with-list : (lists : Lists) (list : List ℕ) (first place : ℕ) {size : ℕ} (slots : List Slot) (slot : Slot) → ListsAreInOrder first place slots → place ≡ first + length lists → slot.reply ≡ Many place size
+    → entries_in (lists ++ list ∷ []) first (slots ++ slot ∷ []) ≡ entries_in lists first slots ++ record { worker = slot.worker; call = slot.call; reply = list_reply (take size list) } ∷ []
+with-list lists list first place {size = size} slots slot are at many =
+    let told : kept_reply (lists ++ list ∷ []) first slot.reply ≡ list_reply (take size list) =
+    ap (kept_reply (lists ++ list ∷ []) first) many ∙ ap (λ l. list_reply (take size l)) (list-last lists list first place at) in
     map-append (entry_in (lists ++ list ∷ []) first) slots (slot ∷ [])
     ∙ (ap (λ es. es ++ entry_in (lists ++ list ∷ []) first slot ∷ []) (one-more lists list first first place slots (omega arith) are at)
     ∙ ap (λ (r : Reply). let e : Entry = record { worker = slot.worker; call = slot.call; reply = r } in entries_in lists first slots ++ e ∷ []) told)
@@ -86,12 +85,12 @@ shorter : (lists : Lists) (first place : ℕ) → first + 1 ≤ place → list_a
 shorter [] first place le = refl
 shorter (list ∷ lists) first place le =
     let k : place - first ≡ suc (place - (first + 1)) = omega (arith, le) in
-    ap (λ n. (get_or (list ∷ lists) n (record { items = [] })).items) k
+    ap (λ n. get_or (list ∷ lists) n []) k
 
 kept-less : (lists : Lists) (first next : ℕ) (reply : SlotReply) → first + 1 ≤ next → IsListedNext next reply → kept_reply lists first reply ≡ kept_reply (drop 1 lists) (first + 1) reply
 kept-less lists first next (Short short) le at = refl
 kept-less lists first next (Few few) le at = refl
-kept-less lists first next (Many place) le at = ap list_reply (shorter lists first place (omega (arith, le, at)))
+kept-less lists first next (Many place size) le at = ap (λ l. list_reply (take size l)) (shorter lists first place (omega (arith, le, at)))
 
 -- the first list is none of theirs
 pub one-less : (lists : Lists) (first next end : ℕ) (slots : List Slot) → first + 1 ≤ next → ListsAreInOrder next end slots → entries_in lists first slots ≡ entries_in (drop 1 lists) (first + 1) slots
@@ -122,7 +121,7 @@ listed-more lists dropped slots after slot are is at same =
     (subst (λ n. ListsAreInOrder dropped n (slots ++ slot ∷ [])) same (pushed dropped (dropped + lists) slots slot are at))
 
 -- a slot more, and its list
-pub listed-both : (lists more dropped place : ℕ) (slots after : List Slot) (slot : Slot) → ListsAreInOrder dropped (dropped + lists) slots → after ≡ slots ++ slot ∷ [] → slot.reply ≡ Many place → place ≡ dropped + lists
+pub listed-both : (lists more dropped place : ℕ) {size : ℕ} (slots after : List Slot) (slot : Slot) → ListsAreInOrder dropped (dropped + lists) slots → after ≡ slots ++ slot ∷ [] → slot.reply ≡ Many place size → place ≡ dropped + lists
     → more ≡ lists + 1 → ListsAreInOrder dropped (dropped + more) after
 listed-both lists more dropped place slots after slot are is many at one =
     subst (λ s. ListsAreInOrder dropped (dropped + more) s) (sym is)
@@ -130,13 +129,13 @@ listed-both lists more dropped place slots after slot are is many at one =
     (pushed dropped (dropped + lists) slots slot are (subst (IsListedNext (dropped + lists)) (sym many) at)))
 
 -- the places of the slots behind the first, which has a list
-pub rest-listed : (dropped end place : ℕ) (slots rest : List Slot) (first : Slot) → ListsAreInOrder dropped end slots → slots ≡ first ∷ rest → first.reply ≡ Many place → ListsAreInOrder (dropped + 1) end rest
+pub rest-listed : (dropped end place : ℕ) {size : ℕ} (slots rest : List Slot) (first : Slot) → ListsAreInOrder dropped end slots → slots ≡ first ∷ rest → first.reply ≡ Many place size → ListsAreInOrder (dropped + 1) end rest
 rest-listed dropped end place slots rest first are is many =
     let all : ListsAreInOrder dropped end (first ∷ rest) = subst (ListsAreInOrder dropped end) is are in
     subst (λ (r : SlotReply). ListsAreInOrder (behind dropped r) end rest) many all.1
 
 -- so there is a list to drop
-pub list-there : (lists dropped place : ℕ) (slots rest : List Slot) (first : Slot) → ListsAreInOrder dropped (dropped + lists) slots → slots ≡ first ∷ rest → first.reply ≡ Many place → 0 < lists
+pub list-there : (lists dropped place : ℕ) {size : ℕ} (slots rest : List Slot) (first : Slot) → ListsAreInOrder dropped (dropped + lists) slots → slots ≡ first ∷ rest → first.reply ≡ Many place size → 0 < lists
 list-there lists dropped place slots rest first are is many =
     omega (arith, in-order (dropped + 1) (dropped + lists) rest (rest-listed dropped (dropped + lists) place slots rest first are is many))
 
@@ -145,13 +144,13 @@ one-fewer None old new some is = absurd (omega (arith, some, is.0))
 one-fewer (Some x) old new some is = is
 
 -- the first slot is gone, and its list
-pub listed-less : (lists less dropped place : ℕ) (slots rest : List Slot) (first : Slot) → ListsAreInOrder dropped (dropped + lists) slots → slots ≡ first ∷ rest → first.reply ≡ Many place → less + 1 ≡ lists
+pub listed-less : (lists less dropped place : ℕ) {size : ℕ} (slots rest : List Slot) (first : Slot) → ListsAreInOrder dropped (dropped + lists) slots → slots ≡ first ∷ rest → first.reply ≡ Many place size → less + 1 ≡ lists
     → ListsAreInOrder (dropped + 1) (dropped + 1 + less) rest
 listed-less lists less dropped place slots rest first are is many one =
     subst (λ n. ListsAreInOrder (dropped + 1) n rest) (omega (arith, one)) (rest-listed dropped (dropped + lists) place slots rest first are is many)
 
 -- and their entries are those behind the first
-pub entries-less : (lists after : Lists) (dropped count place : ℕ) (slots rest : List Slot) (first : Slot) → ListsAreInOrder dropped (dropped + count) slots → slots ≡ first ∷ rest → first.reply ≡ Many place → after ≡ drop 1 lists
+pub entries-less : (lists after : Lists) (dropped count place : ℕ) {size : ℕ} (slots rest : List Slot) (first : Slot) → ListsAreInOrder dropped (dropped + count) slots → slots ≡ first ∷ rest → first.reply ≡ Many place size → after ≡ drop 1 lists
     → entries_in after (dropped + 1) rest ≡ drop 1 (entries_in lists dropped slots)
 entries-less lists after dropped count place slots rest first are is many gone =
     ap (λ (ls : Lists). entries_in ls (dropped + 1) rest) gone

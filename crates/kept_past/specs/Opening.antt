@@ -1,6 +1,5 @@
 -- An opening, as the record holds it.
 use Rattle.std.specs.Prelude.{Bool, true, false}
-use Rattle.pid_types.specs.declared.plain.Plain.{Plain}
 use Rattle.pid_types.specs.Shown.{Shows}
 pub use Rattle.pid_types.specs.Shown.{state_shown, control_shown}
 use Rattle.pid_types.specs.State.{State, root_state}

@@ -1,6 +1,5 @@
 -- The entries of a history, as they are kept.
-use Rattle.std.specs.Prelude.{ℕ, ◌+◌, ◌-◌, ◌^◌, ◌<◌, ◌≤◌, ⊤, List, [], ◌∷◌, map, ◌≡◌, Option, Result, IfOk, MatchOption, slice_index_or}
-use Rattle.arrayvec.specs.ArrayVec.{ArrayVec}
+use Rattle.std.specs.Prelude.{ℕ, ◌+◌, ◌-◌, ◌^◌, ◌<◌, ◌≤◌, ⊤, List, [], ◌∷◌, take, map, ◌≡◌, Option, Result, IfOk, MatchOption, slice_index_or}
 use Rattle.pid_types.specs.declared.entry.Entry.{Entry}
 use Rattle.pid_types.specs.declared.reply.Reply.{Reply}
 use Rattle.pid_types.specs.Short.{list_reply, reply_of}
@@ -14,19 +13,19 @@ pub record Stored : Type 0 where
   pub entries : List Entry
   pub room : ℕ
 
--- the lists of many numbers, which are beside the slots
+-- the rooms of the lists of many numbers, which are beside the slots
 abbrev pub Lists : Type 0
-Lists = List (ArrayVec ℕ)
+Lists = List (List ℕ)
 
--- the numbers of the list at a place, where the first list is at this one
+-- the room of the list at a place, where the first list is at this one
 abbrev pub list_at : Lists → ℕ → ℕ → List ℕ
-list_at lists first place = (slice_index_or lists (place - first) (record { items = [] })).items
+list_at lists first place = slice_index_or lists (place - first) []
 
--- the reply: all of it is in the slot, but for a list of many numbers
+-- the reply: all of it is in the slot, but for a list of many numbers, which are the first ones of their room
 abbrev pub kept_reply : Lists → ℕ → SlotReply → Reply
 kept_reply lists first (Short short) = reply_of short
 kept_reply lists first (Few numbers) = list_reply numbers
-kept_reply lists first (Many place) = list_reply (list_at lists first place)
+kept_reply lists first (Many place count) = list_reply (take count (list_at lists first place))
 
 -- the replies of the entries
 abbrev pub replies_of : List Entry → List Reply
@@ -41,12 +40,12 @@ entries_in lists first slots = map (entry_in lists first) slots
 
 -- a list of many numbers is at the place that is next
 abbrev pub IsListedNext : ℕ → SlotReply → Type 0
-IsListedNext next (Many place) = place ≡ next
+IsListedNext next (Many place count) = place ≡ next
 IsListedNext next _ = ⊤
 
 -- the place that is next behind it
 abbrev pub behind : ℕ → SlotReply → ℕ
-behind next (Many place) = next + 1
+behind next (Many place count) = next + 1
 behind next _ = next
 
 -- the lists are at the places from the next one to the end, in the order of their slots
@@ -61,7 +60,7 @@ pub record HasRoomFor (room capacity lists dropped : ℕ) : Type 0 where
 
 -- a list of many numbers is at a place from the first one to the end
 abbrev pub IsListedWithin : ℕ → ℕ → SlotReply → Type 0
-IsListedWithin first end (Many place) = (first ≤ place) × (place < end)
+IsListedWithin first end (Many place count) = (first ≤ place) × (place < end)
 IsListedWithin first end _ = ⊤
 
 -- the reply is a list of numbers

@@ -10,14 +10,13 @@ ghost use Rattle.std.specs.Option.{option_map};
 ghost use Rattle.{
   pid_types.specs.declared.{call.Call.TheVariants.{NsPid}, entry.Entry.{Entry}},
   pid_types.specs.{Replay.{state_after, calls_of}, Short.{list_reply}, Shown.{Shows}, Sound.{IsBelow}},
-  pid_types.specs.{State.{State, root_state}, Step.{step, may_grow}},
+  pid_types.specs.{State.{State, root_state}, Step.{step, may_grow}, Written.{IsWritten}},
   kept_past.specs.Stored.{replies_of, IsToldOf, TellsIfShort},
   kept_past.specs.Past.{held_fixed, moves_or, opening_of, IsCutOnce},
 };
 
 use crate::opening::Opening;
-use crate::ring::{FEW, Ring};
-use arrayvec::ArrayVec;
+use crate::ring::Ring;
 use model_laws::soundness::soundness_is_kept;
 use pid_table::PidTable;
 use pid_types::call::Call;
@@ -25,7 +24,7 @@ use pid_types::config::Config;
 use pid_types::entry::Entry;
 use pid_types::keys::Pid;
 use pid_types::plain::{LEVELS, Plain};
-use pid_types::reply::{Reply, ShortReply};
+use pid_types::reply::{Refusal, Reply, ShortReply};
 use std::alloc::{AllocError, Global};
 use std::marker::Model;
 
@@ -282,6 +281,40 @@ impl History {
         Ok(told)
     }
 
+    /// Makes the call `NSpid`, and enters it with its reply behind the others. It tells that as [`PidTable::ns_pid`]
+    /// does.
+    #[inline(always)]
+    pub fn enter_ns_pid(
+        &mut self,
+        table: &PidTable,
+        worker: usize,
+        caller: Pid,
+        target: Pid,
+        room: &mut [Pid; LEVELS],
+    ) -> Result<usize, Refusal>
+        requires room { 0 < self.old.room }
+        requires begun { self.old.opening ≢ None }
+        requires fits { self.old.stamp < 2 ^ 64 }
+        ensures reply { (stamp : ℕ) →
+            IsWritten result room.new (step table.now stamp (NsPid caller target)).reply }
+        ensures entry { (stamp : ℕ) → self.new ≡ record self.old {
+          entries = self.old.entries ++ record {
+            worker = worker;
+            call = NsPid caller target;
+            reply = (step table.now stamp (NsPid caller target)).reply;
+          } ∷ [];
+          lag = self.new.lag;
+          room = self.new.room;
+        } }
+        ensures room { self.old.room ≤ self.new.room + 1 }
+    {
+        let told = enter_list(table, &mut self.ring, worker, caller, target, room);
+        if self.lag > 0 {
+            self.catch_up(STEPS);
+        }
+        told
+    }
+
     /// Cuts the first kept entry away, and answers whose call it was; none where there is no entry, or no call can be
     /// made on what is held.
     pub fn cut_first(&mut self) -> Option<usize>
@@ -466,17 +499,17 @@ fn enter_call(
     ensures grows { OnErr result (IsTrue (may_grow call)) }
 {
     if let Call::NsPid { caller, target } = call {
-        return Ok(enter_list(table, ring, worker, caller, target));
+        return Ok(enter_unseen(table, ring, worker, caller, target));
     }
     let short = table.step_short(stamp, call)?;
     ring.push_short(worker, call, short);
     Ok(Some(short))
 }
 
-/// Makes the call `NSpid`, and enters it as [`enter_call`] does. It is not inlined, since the others need no room for a
-/// list.
+/// Makes the call `NSpid`, and enters it as [`enter_call`] does, which tells no list. It is not inlined, since the
+/// others need no room for one.
 #[inline(never)]
-fn enter_list(
+fn enter_unseen(
     table: &PidTable,
     ring: &mut Ring,
     worker: usize,
@@ -492,13 +525,39 @@ fn enter_list(
     } ∷ [] }
     ensures left { ring.old.room ≤ ring.new.room + 1 }
 {
+    let mut room = [0; LEVELS];
+    match enter_list(table, ring, worker, caller, target, &mut room) {
+        Ok(_) => None,
+        Err(refusal) => Some(ShortReply::Refused(refusal)),
+    }
+}
+
+/// Makes the call `NSpid`, and enters it with its reply behind the ring's entries, for which there is room. It tells
+/// the reply as [`PidTable::ns_pid`] does.
+#[inline(always)]
+fn enter_list(
+    table: &PidTable,
+    ring: &mut Ring,
+    worker: usize,
+    caller: Pid,
+    target: Pid,
+    room: &mut [Pid; LEVELS],
+) -> Result<usize, Refusal>
+    requires { 0 < ring.old.room }
+    ensures reply { (stamp : ℕ) →
+        IsWritten result room.new (step table.now stamp (NsPid caller target)).reply }
+    ensures ring { (stamp : ℕ) → ring.new.entries ≡ ring.old.entries ++ record {
+      worker = worker;
+      call = NsPid caller target;
+      reply = (step table.now stamp (NsPid caller target)).reply;
+    } ∷ [] }
+    ensures left { ring.old.room ≤ ring.new.room + 1 }
+{
     let call = Call::NsPid { caller, target };
-    let mut numbers = ArrayVec::new();
-    let told = table.ns_pid(caller, target, &mut numbers);
+    let told = table.ns_pid(caller, target, room);
     match told {
-        Some(short) => ring.push_short(worker, call, short),
-        None if numbers.len() <= FEW => ring.push_few(worker, call, numbers.as_slice()),
-        None => ring.push_many(worker, call, numbers),
+        Ok(count) => ring.push_list(worker, call, room, count),
+        Err(refusal) => ring.push_short(worker, call, ShortReply::Refused(refusal)),
     }
     told
 }

@@ -1,12 +1,12 @@
 //! The entries of a history, at 64 bytes each. Where a reply is a list of more than five numbers, these are in a queue
 //! beside the entries. There is room in both before a call is made.
-ghost use Rattle.std.specs.Prelude.{◌≡◌, ◌≢◌, ℕ, ◌+◌, ◌-◌, ◌<◌, ◌≤◌, List, [], ◌∷◌, ◌++◌, length, drop, slice_get};
-ghost use Rattle.std.specs.Prelude.{◌^◌, IfOk, OnOk, OnErr, IfSome, Some, None};
+ghost use Rattle.std.specs.Prelude.{◌≡◌, ◌≢◌, ℕ, ◌+◌, ◌-◌, ◌<◌, ◌≤◌, List, [], ◌∷◌, ◌++◌, length, take, drop};
+ghost use Rattle.std.specs.Prelude.{slice_get, ◌^◌, IfOk, OnOk, OnErr, IfSome, Some, None};
 ghost use Rattle.std.specs.{Option.{option_map}, VecDeque.{deque_capacity, deque_len}};
 ghost use Rattle.pid_types.specs.{declared.entry.Entry.{Entry}, Short.{list_reply, reply_of}};
 ghost use Rattle.kept_past.specs.Stored.{list_at, kept_reply, replies_of, HasRoomFor, IsListedWithin};
 
-use arrayvec::ArrayVec;
+use pid_table::listed;
 use pid_types::call::Call;
 use pid_types::entry::Entry;
 use pid_types::keys::Pid;
@@ -43,8 +43,8 @@ enum SlotReply {
     Short(ShortReply),
     /// It is a list, and these are its numbers.
     Few(Few),
-    /// It is a list of more, and this is its place among all such lists that there were.
-    Many(u64),
+    /// It is a list of more: so many first numbers of the room at a place, among all such rooms that there were.
+    Many { place: u64, count: u32 },
 }
 
 /// An entry, but for the numbers of a list of many.
@@ -59,8 +59,8 @@ struct Slot {
 #[derive(Drop)]
 pub(crate) struct Ring {
     slots: VecDeque<Slot>,
-    // The lists of many numbers, in the order of their entries.
-    lists: VecDeque<ArrayVec<Pid, LEVELS>>,
+    // The rooms of the lists of many numbers, in the order of their entries.
+    lists: VecDeque<[Pid; LEVELS]>,
     // How many such lists were dropped: the place of the first one.
     dropped: u64,
     // For so many more such lists there is room.
@@ -153,7 +153,9 @@ impl Ring {
         match &self.slots[all - 1].reply {
             SlotReply::Short(_) => None,
             SlotReply::Few(few) => Some(few.as_slice()),
-            SlotReply::Many(place) => Some(list_at(&self.lists, self.dropped, *place)),
+            SlotReply::Many { place, count } => {
+                Some(list_at(&self.lists, self.dropped, *place, *count))
+            }
         }
     }
 
@@ -172,36 +174,62 @@ impl Ring {
         Ok(())
     }
 
+    /// Puts an entry behind the others, whose reply is a list: so many first numbers of the room.
+    #[inline(always)]
+    pub(crate) fn push_list(
+        &mut self,
+        worker: usize,
+        call: Call,
+        room: &[Pid; LEVELS],
+        count: usize,
+    )
+        requires room { 0 < self.old.room }
+        requires fits { count ≤ LEVELS }
+        ensures entries { self.new.entries ≡ self.old.entries
+            ++ record { worker = worker; call = call; reply = list_reply (take count room.now) } ∷ [] }
+        ensures room { self.old.room ≤ self.new.room + 1 }
+    {
+        if count <= FEW {
+            self.push_few(worker, call, room, count);
+        } else {
+            self.push_many(worker, call, room, count);
+        }
+    }
+
     /// Puts an entry behind the others, whose reply is a list of few numbers.
     #[inline(always)]
-    pub(crate) fn push_few(&mut self, worker: usize, call: Call, numbers: &[Pid])
+    fn push_few(&mut self, worker: usize, call: Call, room: &[Pid; LEVELS], count: usize)
         requires room { 0 < self.old.room }
-        requires few { length numbers.now ≤ FEW }
-        ensures entries { self.new.entries
-            ≡ self.old.entries ++ record { worker = worker; call = call; reply = list_reply numbers.now } ∷ [] }
+        requires few { count ≤ FEW }
+        ensures entries { self.new.entries ≡ self.old.entries
+            ++ record { worker = worker; call = call; reply = list_reply (take count room.now) } ∷ [] }
         ensures room { self.old.room ≤ self.new.room + 1 }
     {
         self.slots.push_back_reserved(Slot {
             worker,
             call,
-            reply: SlotReply::Few(Few::of(numbers)),
+            reply: SlotReply::Few(Few::first_of(room, count)),
         });
     }
 
     /// Puts an entry behind the others, and its list behind theirs.
     #[inline(always)]
-    pub(crate) fn push_many(&mut self, worker: usize, call: Call, numbers: ArrayVec<Pid, LEVELS>)
-        requires { 0 < self.old.room }
-        ensures entries { self.new.entries
-            ≡ self.old.entries ++ record { worker = worker; call = call; reply = list_reply numbers.items } ∷ [] }
+    fn push_many(&mut self, worker: usize, call: Call, room: &[Pid; LEVELS], count: usize)
+        requires room { 0 < self.old.room }
+        requires fits { count ≤ LEVELS }
+        ensures entries { self.new.entries ≡ self.old.entries
+            ++ record { worker = worker; call = call; reply = list_reply (take count room.now) } ∷ [] }
         ensures room { self.old.room ≤ self.new.room + 1 }
     {
         let place = self.dropped + self.lists.len() as u64;
-        self.lists.push_back_reserved(numbers);
+        self.lists.push_back_reserved(*room);
         self.slots.push_back_reserved(Slot {
             worker,
             call,
-            reply: SlotReply::Many(place),
+            reply: SlotReply::Many {
+                place,
+                count: count as u32,
+            },
         });
         self.list_room -= 1;
     }
@@ -229,7 +257,7 @@ impl Ring {
         let Some(first) = self.slots.pop_front() else {
             return;
         };
-        if let SlotReply::Many(_) = first.reply {
+        if let SlotReply::Many { place: _, count: _ } = first.reply {
             let _list = self.lists.pop_front();
             self.dropped += 1;
         }
@@ -246,28 +274,16 @@ impl Ring {
 }
 
 impl Few {
-    /// A list of the numbers.
+    /// So many first numbers of the room.
     #[inline(always)]
-    fn of(numbers: &[Pid]) -> Few
-        requires { length numbers.now ≤ FEW }
-        ensures { result ≡ numbers.now }
+    fn first_of(room: &[Pid; LEVELS], count: usize) -> Few
+        requires { count ≤ FEW }
+        ensures { result ≡ take count room.now }
     {
-        let mut few = Few {
-            count: 0,
-            numbers: [0; FEW],
-        };
-        few.fill(numbers);
-        few
-    }
-
-    /// Writes the numbers over those that it has.
-    #[inline(always)]
-    fn fill(&mut self, numbers: &[Pid])
-        requires { length numbers.now ≤ FEW }
-        ensures { self.new ≡ numbers.now }
-    {
-        self.numbers[..numbers.len()].copy_from_slice(numbers);
-        self.count = numbers.len() as u32;
+        Few {
+            count: count as u32,
+            numbers: [room[0], room[1], room[2], room[3], room[4]],
+        }
     }
 
     /// The numbers.
@@ -279,13 +295,22 @@ impl Few {
     }
 }
 
-/// The numbers of the list at a place, where that of the first list is told.
-fn list_at(lists: &VecDeque<ArrayVec<Pid, LEVELS>>, first: u64, place: u64) -> &[Pid]
-    requires { (first ≤ place) × (place < first + deque_len lists.now) }
-    ensures list { result.now ≡ list_at lists.now.items first place }
+/// So many first numbers of the room, or all.
+#[inline(always)]
+fn first_of(room: &[Pid; LEVELS], count: u32) -> &[Pid]
+    ensures list { result.now ≡ take count room.now }
     ensures fits { length result.now ≤ LEVELS }
 {
-    lists[(place - first) as usize].as_slice()
+    &room[..LEVELS.min(count as usize)]
+}
+
+/// So many numbers of the list at a place, where that of the first list is told.
+fn list_at(lists: &VecDeque<[Pid; LEVELS]>, first: u64, place: u64, count: u32) -> &[Pid]
+    requires { (first ≤ place) × (place < first + deque_len lists.now) }
+    ensures list { result.now ≡ take count (list_at lists.now.items first place) }
+    ensures fits { length result.now ≤ LEVELS }
+{
+    first_of(&lists[(place - first) as usize], count)
 }
 
 /// Makes room for n more lists, and answers for how many there is room. It is not inlined, since a call rarely comes
@@ -293,7 +318,7 @@ fn list_at(lists: &VecDeque<ArrayVec<Pid, LEVELS>>, first: u64, place: u64) -> &
 #[cold]
 #[inline(never)]
 fn list_room_for(
-    lists: &mut VecDeque<ArrayVec<Pid, LEVELS>>,
+    lists: &mut VecDeque<[Pid; LEVELS]>,
     dropped: u64,
     n: usize,
 ) -> Result<usize, AllocError>
@@ -313,7 +338,7 @@ fn list_room_for(
 }
 
 /// The whole reply, where lists of many numbers are beside the slots.
-fn whole_reply(lists: &VecDeque<ArrayVec<Pid, LEVELS>>, first: u64, reply: &SlotReply) -> Reply
+fn whole_reply(lists: &VecDeque<[Pid; LEVELS]>, first: u64, reply: &SlotReply) -> Reply
     requires { IsListedWithin first (first + deque_len lists.now) reply.now }
     ensures { result ≡ kept_reply lists.now.items first reply.now }
 {
@@ -324,18 +349,8 @@ fn whole_reply(lists: &VecDeque<ArrayVec<Pid, LEVELS>>, first: u64, reply: &Slot
             reply
         }
         SlotReply::Few(few) => Reply::Levels(listed(few.as_slice())),
-        SlotReply::Many(place) => Reply::Levels(listed(list_at(lists, first, *place))),
-    }
-}
-
-/// The numbers as a list of their own.
-fn listed(numbers: &[Pid]) -> ArrayVec<Pid, LEVELS>
-    requires { length numbers.now ≤ LEVELS }
-    ensures { result.items ≡ numbers.now }
-{
-    let mut list = ArrayVec::new();
-    match list.try_extend_from_slice(numbers) {
-        Ok(()) => list,
-        Err(_) => unreachable!(),
+        SlotReply::Many { place, count } => {
+            Reply::Levels(listed(list_at(lists, first, *place, *count)))
+        }
     }
 }

@@ -6,7 +6,7 @@ ghost use Rattle.std.specs.Prelude.{slice_index, IfOk, OnOk, OnErr, IsOk, IfSome
 ghost use Rattle.std.specs.{Prelude.{false, List}, Option.{option_map}};
 ghost use Rattle.{
   pid_types.specs.{declared.plain.Control.{Control}, Membership.{IsIn}, declared.entry.Entry.{Entry}, Shown.{Shows}},
-  pid_types.specs.{Sound.{IsBelow}, Step.{step, may_grow}, Short.{list_reply, reply_of, told_of}},
+  pid_types.specs.{Sound.{IsBelow}, Step.{step, may_grow}, Short.{list_reply, reply_of}, Written.{IsWritten}},
   pid_types.specs.declared.call.Call.TheVariants.{NsPid},
   translate.specs.Stat.{stat_at, glimpse_in, IsSeen},
   call_effects.specs.Touched.{is_touching, most_in, most_of, Watches},
@@ -19,7 +19,6 @@ ghost use Rattle.{
   pid_table.specs.Lists.{answers_list},
 };
 
-use arrayvec::ArrayVec;
 use call_effects::Touched;
 use kept_past::History;
 use model_laws::laws::{forks_keep_limits, no_reuse, numbers_are_apart};
@@ -344,11 +343,11 @@ impl Kept {
         &self,
         caller: Pid,
         target: Pid,
-        numbers: &mut ArrayVec<Pid, LEVELS>,
-    ) -> Option<ShortReply>
-        ensures { told_of result numbers.new.items ≡ (outcome self.now (NsPid caller target)).reply }
+        room: &mut [Pid; LEVELS],
+    ) -> Result<usize, Refusal>
+        ensures { IsWritten result room.new (outcome self.now (NsPid caller target)).reply }
     {
-        self.table.ns_pid(caller, target, numbers)
+        self.table.ns_pid(caller, target, room)
     }
 
     /// Writes the reply that the call would get as the next one: [`PidTable::would`]. It is not recorded, and nothing
@@ -459,6 +458,43 @@ impl Kept {
         soundness_is_kept();
         let told = self.history.enter(&mut self.table, stamp, worker, call)?;
         count_call(&mut self.calls, worker);
+        Ok(told)
+    }
+
+    /// Makes the call `NSpid` of the worker as [`Kept::make_call`] does, and tells its reply as [`PidTable::ns_pid`]
+    /// does. Where it is not made, the room is as it was.
+    #[inline(always)]
+    pub fn make_ns_pid(
+        &mut self,
+        worker: usize,
+        caller: Pid,
+        target: Pid,
+        room: &mut [Pid; LEVELS],
+    ) -> Result<Result<usize, Refusal>, CallFault>
+        requires { worker < length self.old.cut }
+        ensures step { OnOk result (self.new.present ≡ (outcome self.old (NsPid caller target)).state) }
+        ensures reply { IfOk result (λ told.
+            IsWritten told room.new (outcome self.old (NsPid caller target)).reply) }
+        ensures history { OnOk result
+            (self.new.entries ≡ self.old.entries ++ entry_of self.old worker (NsPid caller target) ∷ []) }
+        ensures others { OnOk result (self.new ≡ counted self.old self.new.entries self.new.present self.new.room) }
+        ensures room { self.old.room ≤ self.new.room + 1 }
+
+        ensures spent { (result ≡ Err CallFault.Spent) ↔ (next_stamp self.old ≡ u64.MAX) }
+        ensures err { OnErr result (self.new ≡ record self.old { room = self.new.room }) }
+        ensures err_written { OnErr result (room.new ≡ room.old) }
+        ensures err_room { OnErr result (self.old.room ≤ self.new.room) }
+        ensures no_memory { result ≡ Err CallFault.NoMemory → self.old.room ≡ 0 }
+    {
+        let Some(_) = self.next_stamp() else {
+            return Err(CallFault::Spent);
+        };
+        self.reserve_calls(1)?;
+        let told = self
+            .history
+            .enter_ns_pid(&self.table, worker, caller, target, room);
+        let calls = &mut self.calls;
+        count_call(calls, worker);
         Ok(told)
     }
 

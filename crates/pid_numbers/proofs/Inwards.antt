@@ -1,6 +1,6 @@
 -- The numbers from a namespace inwards.
-use Rattle.std.proofs.Common.{◌≡◌, ℕ, zero, suc, ◌<◌, true, false, ◌==◌, List, [], ◌∷◌, ◌++◌, length, get_or, take, if◌then◌else◌, refl, sym, ap, ◌∙◌, arith}
-use Rattle.pid_numbers.proofs.Words.{reverse, eq-eqb, or_parts, false_from_ne_true, length-reverse, reverse-append, contains, beside_from, IsDistinct}
+use Rattle.std.proofs.Common.{◌≡◌, ℕ, zero, suc, ◌<◌, true, false, ◌==◌, List, [], ◌∷◌, ◌++◌, length, get_or, take, drop, ◌-◌, ◌+◌, ◌≤◌, take-suc, if◌then◌else◌, refl, sym, ap, ◌∙◌, arith}
+use Rattle.pid_numbers.proofs.Words.{reverse, slice_set, eq-eqb, or_parts, false_from_ne_true, length-reverse, reverse-append, contains, beside_from, IsDistinct}
 use Rattle.pid_numbers.proofs.Words.{contains_at, place_of}
 use Rattle.std.proofs.lemmas.List.Sorted.{list_any-IsPermutation, IsPermutation-reverse}
 
@@ -45,3 +45,25 @@ from-none s path numbers off = go (reverse path) (reverse numbers) (contains-rev
     go [] ns off = refl
     go (t ∷ ts) [] off = refl
     go (t ∷ ts) (n ∷ ns) off = grind (arith, or_parts, go ts ns)
+
+-- A room whose last numbers are written from the back: one more.
+set-last : (m x : ℕ) (xs rest : List ℕ) → m < length xs → slice_set (take (suc m) xs ++ rest) m x ≡ take m xs ++ x ∷ rest
+set-last m x [] rest lt = absurd (omega (arith, lt))
+set-last zero x (y ∷ ys) rest lt = refl
+set-last (suc m) x (y ∷ ys) rest lt = ap (λ l. y ∷ l) (set-last m x ys rest (omega (arith, lt)))
+
+pub one-more : (numbers room : List ℕ) (count k : ℕ) → k < count → count ≤ length numbers → count ≤ length room
+    → slice_set (take (count - k) room ++ (reverse (take k numbers) ++ drop count room)) (count - 1 - k) (get_or numbers k 0)
+    ≡ take (count - (k + 1)) room ++ (reverse (take (k + 1) numbers) ++ drop count room)
+one-more numbers room count k lt there fits =
+    let m = count - (k + 1) in
+    let left : count - k ≡ suc m = omega (arith, lt) in
+    let at : count - 1 - k ≡ m = omega (arith, lt) in
+    let next : k + 1 ≡ suc k = omega arith in
+    let more : reverse (take (suc k) numbers) ≡ get_or numbers k 0 ∷ reverse (take k numbers) =
+    ap reverse (take-suc numbers k 0 (omega (arith, lt, there))) ∙ reverse-append (take k numbers) (get_or numbers k 0 ∷ []) in
+    ap (λ n. slice_set (take n room ++ (reverse (take k numbers) ++ drop count room)) (count - 1 - k) (get_or numbers k 0)) left
+    ∙ ap (λ n. slice_set (take (suc m) room ++ (reverse (take k numbers) ++ drop count room)) n (get_or numbers k 0)) at
+    ∙ set-last m (get_or numbers k 0) room (reverse (take k numbers) ++ drop count room) (omega (arith, lt, fits))
+    ∙ ap (λ l. take m room ++ (l ++ drop count room)) (sym more)
+    ∙ ap (λ n. take m room ++ (reverse (take n numbers) ++ drop count room)) (sym next)

@@ -1,6 +1,7 @@
 //! The numbers of one identifier.
 
-ghost use Rattle.std.specs.Prelude.{◌≡◌, ◌<◌, ◌≤◌, length, reverse, take, IfOk, slice_index_or, ◌+◌, [], ◌==◌};
+ghost use Rattle.std.specs.Prelude.{◌≡◌, ◌<◌, ◌≤◌, length, reverse, take, IfOk, slice_index_or, ◌+◌};
+ghost use Rattle.std.specs.Prelude.{[], ◌==◌, ◌++◌, drop};
 ghost use Rattle.pid_types.specs.Bounds.{deepest_space};
 ghost use Rattle.pid_numbers.specs.Blocks.{numbers_in, IsFilled};
 
@@ -164,4 +165,16 @@ pub(crate) fn write_inwards(numbers: &[Pid], count: usize, into: &mut ArrayVec<P
         into.push(numbers[k]);
     }
     into.as_mut_slice().reverse();
+}
+
+/// Writes the innermost numbers, so many, over the first ones of the room, the outermost of them first.
+#[inline(always)]
+pub(crate) fn put_inwards(numbers: &[Pid], count: usize, room: &mut [Pid; LEVELS])
+    requires there { count ≤ length numbers.now }
+    requires few { count ≤ deepest_space + 1 }
+    ensures { room.new ≡ reverse (take count numbers.now) ++ drop count room.old }
+{
+    for k in 0..count {
+        room[count - 1 - k] = numbers[k];
+    }
 }

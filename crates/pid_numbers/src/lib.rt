@@ -35,7 +35,7 @@ use id_slab::Iter;
 use idents::{Ident, Idents};
 use levels::LevelNumbers;
 use names::{
-    count_at, has_use, has_use_at, home_of, in_use_at, mark_numbers, number_at,
+    count_at, has_use, has_use_at, home_of, in_use_at, mark_numbers, number_at, write_levels,
     write_numbers_inwards,
 };
 pub use ns_tree::InnerSpaces;
@@ -301,30 +301,33 @@ impl Numbers {
         number_at(&self.idents, ident, place)
     }
 
-    /// Writes the identifier's numbers over others, from the namespace inwards, the one there first: `NSpid` of
-    /// `proc_pid_status(5)`. There are none where it is not visible in the namespace.
+    /// Writes the identifier's numbers over the first ones of the room, from the namespace inwards, the one there
+    /// first: `NSpid` of `proc_pid_status(5)`. It answers how many: none where the identifier is not visible in the
+    /// namespace.
+    #[inline(always)]
     pub fn write_levels_from(
         &self,
         ident: IdentKey,
         space: SpaceKey,
-        numbers: &mut ArrayVec<Pid, LEVELS>,
-    )
-        ensures { numbers.new.items ≡ levels_of self.now ident space }
+        room: &mut [Pid; LEVELS],
+    ) -> usize
+        ensures count { result ≡ length (levels_of self.now ident space) }
+        ensures numbers { room.new ≡ levels_of self.now ident space ++ drop result room.old }
     {
-        numbers.clear();
         let Some(own) = home_of(&self.idents, ident) else {
-            return;
+            return 0;
         };
         // Most identifiers are asked for in their own namespace, from which on they have one number.
         if own == space {
-            write_numbers_inwards(&self.idents, ident, 1, numbers);
-            return;
+            write_levels(&self.idents, ident, 1, room);
+            return 1;
         }
         if !self.tree.is_within(own, space) {
-            return;
+            return 0;
         }
-        let above = self.tree.levels(own) - self.tree.levels(space);
-        write_numbers_inwards(&self.idents, ident, above + 1, numbers);
+        let count = self.tree.levels(own) - self.tree.levels(space) + 1;
+        write_levels(&self.idents, ident, count, room);
+        count
     }
 
     /// Writes the identifier's name over another: the id of its namespace, and its numbers, the root's first. It costs

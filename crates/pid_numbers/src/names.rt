@@ -1,7 +1,7 @@
 //! Identifiers and their uses.
 
 ghost use Rattle.std.specs.Prelude.{◌≡◌, ℕ, ◌+◌, ◌<◌, ◌≤◌, [], reverse, take, Some, IsSome, IfSome, length, option_map};
-ghost use Rattle.std.specs.{Prelude.{slice_index_or}, Option.{option_map_or}};
+ghost use Rattle.std.specs.{Prelude.{slice_index_or, ◌++◌, drop}, Option.{option_map_or}};
 ghost use Rattle.{
   pid_types.specs.{Bounds.{deepest_space}, declared.call.Kind.{Kind}},
   pid_numbers.specs.Numbering.{Identifier, uses, is_used, is_used_as},
@@ -11,7 +11,7 @@ ghost use Rattle.{
 };
 
 use crate::idents::{Idents, count};
-use crate::levels::write_inwards;
+use crate::levels::{put_inwards, write_inwards};
 use crate::spaces::mark_path;
 use arrayvec::ArrayVec;
 use cyclic_ids::CyclicIds;
@@ -57,6 +57,19 @@ pub(crate) fn write_numbers_inwards(
         Some(x) => write_inwards(x.numbers.as_slice(), count, numbers),
         None => numbers.clear(),
     }
+}
+
+/// Writes the innermost numbers of an identifier that is there, so many, over the first ones of the room, the outermost
+/// of them first.
+#[inline(always)]
+pub(crate) fn write_levels(idents: &Idents, ident: IdentKey, count: usize, room: &mut [Pid; LEVELS])
+    requires there { IsSome (ident_at idents.now ident) }
+    requires fits { IfSome (ident_at idents.now ident) (λ u. count ≤ length u.numbers) }
+    requires few { count ≤ deepest_space + 1 }
+    ensures { (u : Identifier) → ident_at idents.now ident ≡ Some u
+        → room.new ≡ reverse (take count u.numbers) ++ drop count room.old }
+{
+    put_inwards(idents.at(ident).numbers.as_slice(), count, room);
 }
 
 /// How many uses of the kind the identifier has.

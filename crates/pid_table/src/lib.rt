@@ -35,6 +35,7 @@ use translate::relations::{Relations, read_relations};
 use translate::residents::{ControlPage, read_control_tasks};
 use translate::shown;
 use translate::space::{SpaceStat, read_space};
+pub use translate::stat::listed;
 use translate::stat::{Stat, read_stat};
 
 /// The process table: what it holds, and that this is sound.

@@ -2,21 +2,20 @@
 ghost use Rattle.std.specs.Prelude.{◌≡◌, ℕ, IsTrue, OnOk, OnErr, IfOk, false};
 ghost use Rattle.{
   model_laws.specs.Refusals.{is_query},
-  pid_types.specs.{Short.{reply_of, told_of}, Sound.{IsBelow}, Step.{step, may_grow}},
+  pid_types.specs.{Short.{reply_of}, Sound.{IsBelow}, Step.{step, may_grow}, Written.{IsWritten}},
   pid_types.specs.declared.call.Call.TheVariants.{NsPid},
   pid_table.specs.Lists.{answers_list},
   task_table.specs.{View.{state_of}, Whole.{HasParents, IsWhole}},
 };
 
 use crate::PidTable;
-use arrayvec::ArrayVec;
 use fork_calls::{fork, would_fork};
 use model_laws::soundness::soundness_is_kept;
 use ns_teardown::{exit, would_exit};
 use pid_types::call::Call;
 use pid_types::keys::Pid;
 use pid_types::plain::LEVELS;
-use pid_types::reply::{Reply, ShortReply};
+use pid_types::reply::{Refusal, Reply, ShortReply};
 use set_calls::controls::{
     count, make_control, remove_control, set_limit, would_make_control, would_remove_control,
     would_set_limit,
@@ -28,6 +27,7 @@ use set_calls::tasks::{
 };
 use std::alloc::AllocError;
 use task_table::Tasks;
+use translate::stat::listed;
 use translate::{get_pgid, get_pid, get_ppid, get_sid, next, ns_pid};
 use wait_calls::{wait, would_wait};
 
@@ -97,10 +97,10 @@ fn put_ns_pid(store: &Tasks, caller: Pid, target: Pid, reply: &mut Reply)
     requires { IsWhole store.now }
     ensures { (stamp : ℕ) → reply.new ≡ (step (state_of store.now) stamp (NsPid caller target)).reply }
 {
-    let mut numbers = ArrayVec::new();
-    match ns_pid(store, caller, target, &mut numbers) {
-        Some(short) => short.tell(reply),
-        None => *reply = Reply::Levels(numbers),
+    let mut room = [0; LEVELS];
+    match ns_pid(store, caller, target, &mut room) {
+        Ok(count) => *reply = Reply::Levels(listed(&room[..count])),
+        Err(refusal) => *reply = Reply::Refused(refusal),
     }
 }
 
@@ -221,19 +221,19 @@ impl PidTable {
         answer_short(&self.store, call)
     }
 
-    /// Writes `NSpid` of `proc_pid_status(5)` over other numbers, the caller's namespace first. It answers `NoCaller`,
-    /// then `NoTask`, where it is refused, and the numbers are of no account. It costs two searches and a read a level.
+    /// Writes `NSpid` of `proc_pid_status(5)` over the first numbers of the room, the caller's namespace first. It
+    /// answers how many, or `NoCaller`, then `NoTask`. It costs two searches and a read a level.
     #[tactic(auto, unfolding(pid_types::specs::Step::step))]
     #[inline(always)]
     pub fn ns_pid(
         &self,
         caller: Pid,
         target: Pid,
-        numbers: &mut ArrayVec<Pid, LEVELS>,
-    ) -> Option<ShortReply>
-        ensures { (stamp : ℕ) → told_of result numbers.new.items ≡ (step self.now stamp (NsPid caller target)).reply }
+        room: &mut [Pid; LEVELS],
+    ) -> Result<usize, Refusal>
+        ensures { (stamp : ℕ) → IsWritten result room.new (step self.now stamp (NsPid caller target)).reply }
     {
-        ns_pid(&self.store, caller, target, numbers)
+        ns_pid(&self.store, caller, target, room)
     }
 
     /// Writes the reply that the call would get with this stamp, and changes nothing: of a fork the numbers of the

@@ -21,5 +21,6 @@ pub mod Sound
 pub mod Sight
 pub mod Shown
 pub mod Short
+pub mod Written
 pub mod Devices
 pub mod DeviceLaws

@@ -1,5 +1,5 @@
--- The reply that a short one stands for, and what is told of a call.
-use Rattle.std.specs.Prelude.{ℕ, List, Option, None, Some}
+-- The reply that a short one stands for, and that of a list of numbers.
+use Rattle.std.specs.Prelude.{ℕ, List}
 use Rattle.pid_types.specs.declared.reply.Reply.{Reply}
 use Rattle.pid_types.specs.declared.reply.ShortReply.{ShortReply}
 use Rattle.pid_types.specs.declared.reply.ShortReply.TheVariants as short
@@ -19,8 +19,3 @@ reply_of (short.Refused refusal) = Reply.Refused refusal
 -- the reply that is a list of these numbers
 abbrev pub list_reply : List ℕ → Reply
 list_reply numbers = Reply.Levels (record { items = numbers })
-
--- the reply: the short one, or where none is told the list of these numbers
-abbrev pub told_of : Option ShortReply → List ℕ → Reply
-told_of None numbers = list_reply numbers
-told_of (Some short) numbers = reply_of short

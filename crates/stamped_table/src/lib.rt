@@ -10,12 +10,12 @@ ghost use Rattle.{
   model_laws.specs.Refusals.{is_query},
   pid_table.specs.Lists.{answers_list},
   pid_types.specs.declared.call.Call.TheVariants.{NsPid},
-  pid_types.specs.{Short.{reply_of, told_of}, Sound.{IsSound, IsBelow}, State.{root_state}, Step.{may_grow}},
+  pid_types.specs.{Short.{reply_of}, Sound.{IsSound, IsBelow}, State.{root_state}, Step.{may_grow}},
+  pid_types.specs.Written.{IsWritten},
   stamped_table.specs.Stamped.{IsInOrder, after_call, reply_to},
   translate.specs.Stat.{stat_at},
 };
 
-use arrayvec::ArrayVec;
 use call_effects::Touched;
 use model_laws::laws::nothing_changes;
 use model_laws::soundness::{root_state_is_sound, soundness_is_kept};
@@ -139,26 +139,27 @@ impl StampedTable {
         Ok(reply)
     }
 
-    /// Makes the call `NSpid` as [`StampedTable::make`] does, and tells it as [`PidTable::ns_pid`] does: an answer is a
-    /// refusal. The error is `Spent` alone, and then the table and the numbers are as they were.
+    /// Makes the call `NSpid` as [`StampedTable::make`] does, and tells it as [`PidTable::ns_pid`] does. The error is
+    /// `Spent` alone, and then the table and the room are as they were.
     #[tactic(auto, unfolding(pid_types::specs::Step::step))]
     #[inline(always)]
     pub fn make_ns_pid(
         &mut self,
         caller: Pid,
         target: Pid,
-        numbers: &mut ArrayVec<Pid, LEVELS>,
-    ) -> Result<Option<ShortReply>, CallFault>
+        room: &mut [Pid; LEVELS],
+    ) -> Result<Result<usize, Refusal>, CallFault>
         ensures state { OnOk result (self.new ≡ after_call self.old (NsPid caller target)) }
         ensures reply { IfOk result (λ told.
-            told_of told numbers.new.items ≡ reply_to self.old (NsPid caller target)) }
+            IsWritten told room.new (reply_to self.old (NsPid caller target))) }
         ensures err { OnErr result (self.new ≡ self.old) }
+        ensures err_room { OnErr result (room.new ≡ room.old) }
         ensures spent { (result ≡ Err CallFault.Spent) ↔ (self.old.stamp ≡ u64.MAX) }
         ensures no_memory { result ≢ Err CallFault.NoMemory }
     {
         self.has_stamp()?;
         soundness_is_kept();
-        let told = self.table.ns_pid(caller, target, numbers);
+        let told = self.table.ns_pid(caller, target, room);
         self.stamp += 1;
         Ok(told)
     }
@@ -209,11 +210,11 @@ impl StampedTable {
         &self,
         caller: Pid,
         target: Pid,
-        numbers: &mut ArrayVec<Pid, LEVELS>,
-    ) -> Option<ShortReply>
-        ensures { told_of result numbers.new.items ≡ reply_to self.now (NsPid caller target) }
+        room: &mut [Pid; LEVELS],
+    ) -> Result<usize, Refusal>
+        ensures { IsWritten result room.new (reply_to self.now (NsPid caller target)) }
     {
-        self.table.ns_pid(caller, target, numbers)
+        self.table.ns_pid(caller, target, room)
     }
 
     /// Writes the reply that the call would get as the next one: [`PidTable::would`]. It uses no stamp, and changes

@@ -1,11 +1,11 @@
 //! The numbers of a task from the root namespace inwards (`NSpid`), as a table with stamps tells them, and a record
 //! with its history. Each namespace of the chain has one task fewer than the one around it, and the innermost has one.
 
-use arrayvec::ArrayVec;
 use kept_table::Kept;
 use pid_types::call::Call;
 use pid_types::config::Config;
 use pid_types::keys::Pid;
+use pid_types::plain::LEVELS;
 use pid_types::reply::{Refusal, Reply, ShortReply};
 use stamped_table::StampedTable;
 use std::process::Abort;
@@ -28,15 +28,15 @@ fn expect_list(rt: &impl Abort, reply: &Reply, count: Pid) {
 
 /// The table tells them to a query and to a call, and refuses a task that is not there.
 fn expect_of_table(rt: &impl Abort, table: &mut StampedTable, target: Pid, missing: Pid) {
-    let mut asked = ArrayVec::new();
-    assert!(rt; table.ns_pid(1, target, &mut asked).is_none());
-    expect_numbers(rt, asked.as_slice(), target);
+    let mut asked = [0; LEVELS];
+    assert!(rt; table.ns_pid(1, target, &mut asked) == Ok(target as usize));
+    expect_numbers(rt, &asked[..target as usize], target);
     expect_list(rt, &table.ask(Call::NsPid { caller: 1, target }), target);
-    let mut made = ArrayVec::new();
-    assert!(rt; table.make_ns_pid(1, target, &mut made) == Ok(None));
-    expect_numbers(rt, made.as_slice(), target);
-    let refused = ShortReply::Refused(Refusal::NoTask);
-    assert!(rt; table.make_ns_pid(1, missing, &mut made) == Ok(Some(refused)));
+    let mut made = [0; LEVELS];
+    assert!(rt; table.make_ns_pid(1, target, &mut made) == Ok(Ok(target as usize)));
+    expect_numbers(rt, &made[..target as usize], target);
+    let refused = Ok(Err(Refusal::NoTask));
+    assert!(rt; table.make_ns_pid(1, missing, &mut made) == refused);
 }
 
 /// What the record tells of a call.
@@ -45,19 +45,32 @@ fn expect_told(rt: &impl Abort, kept: &mut Kept, call: Call) -> Option<ShortRepl
     kept.make_call(0, call).expect(rt, "no memory")
 }
 
-/// The record tells them to a query, and has those of a call in its last entry, which then is another's.
-fn expect_of_record(rt: &impl Abort, kept: &mut Kept, target: Pid) {
-    let mut asked = ArrayVec::new();
-    assert!(rt; kept.ns_pid(1, target, &mut asked).is_none());
-    expect_numbers(rt, asked.as_slice(), target);
-    let mut reply = Reply::Done;
-    kept.ask(Call::NsPid { caller: 1, target }, &mut reply);
-    expect_list(rt, &reply, target);
-    assert!(rt; expect_told(rt, kept, Call::NsPid { caller: 1, target }).is_none());
+/// The last entry has them.
+fn expect_last_list(rt: &impl Abort, kept: &Kept, target: Pid) {
     let Some(list) = kept.last_list() else {
         rt.abort();
     };
     expect_numbers(rt, list, target);
+}
+
+/// The record tells them to a query, and has those of a call in its last entry, which then is another's.
+fn expect_of_record(rt: &impl Abort, kept: &mut Kept, target: Pid) {
+    let mut asked = [0; LEVELS];
+    assert!(rt; kept.ns_pid(1, target, &mut asked) == Ok(target as usize));
+    expect_numbers(rt, &asked[..target as usize], target);
+    let mut reply = Reply::Done;
+    kept.ask(Call::NsPid { caller: 1, target }, &mut reply);
+    expect_list(rt, &reply, target);
+    assert!(rt; expect_told(rt, kept, Call::NsPid { caller: 1, target }).is_none());
+    expect_last_list(rt, kept, target);
+    let mut made = [0; LEVELS];
+    assert!(rt; kept.workers() == 1);
+    assert!(rt; kept.make_ns_pid(0, 1, target, &mut made) == Ok(Ok(target as usize)));
+    expect_numbers(rt, &made[..target as usize], target);
+    expect_last_list(rt, kept, target);
+    assert!(rt; kept.workers() == 1);
+    assert!(rt; kept.make_ns_pid(0, 1, target + 1, &mut made) == Ok(Err(Refusal::NoTask)));
+    assert!(rt; kept.last_reply() == Some(Reply::Refused(Refusal::NoTask)));
     let number = Some(ShortReply::Number(1));
     assert!(rt; expect_told(rt, kept, Call::GetPid { caller: 1 }) == number);
     assert!(rt; kept.last_list().is_none());

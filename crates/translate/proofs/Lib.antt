@@ -10,3 +10,4 @@ pub mod Passed
 pub mod SeenMembers
 pub mod Inner
 pub mod InControl
+pub mod Written

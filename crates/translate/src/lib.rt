@@ -9,7 +9,7 @@ ghost use Rattle.std.specs.Prelude.{◌≡◌};
 ghost use Rattle.{
   pid_types.specs.Queries.{get_pid as get_pid_of, get_ppid as get_ppid_of, get_pgid as get_pgid_of},
   pid_types.specs.Queries.{get_sid as get_sid_of, ns_pid as ns_pid_of, next as next_of},
-  pid_types.specs.Short.{reply_of, told_of},
+  pid_types.specs.{Short.{reply_of}, Written.{IsWritten, told_of}},
   task_table.specs.{View.{state_of}, Whole.{IsWhole}},
   translate.specs.Seen.{IsSeenReply},
 };
@@ -25,12 +25,11 @@ pub mod shown;
 pub mod space;
 pub mod stat;
 
-use arrayvec::ArrayVec;
 use model_laws::sights::queries_answer_seen;
 use pid_types::call::Kind;
 use pid_types::keys::Pid;
 use pid_types::plain::LEVELS;
-use pid_types::reply::ShortReply;
+use pid_types::reply::{Refusal, ShortReply};
 use task_table::Tasks;
 
 /// `getpid(2)`.
@@ -73,22 +72,21 @@ pub fn get_sid(store: &Tasks, caller: Pid, pid: Pid) -> ShortReply
     queries::get_sid(store, caller, pid)
 }
 
-/// `NSpid` of `proc_pid_status(5)`: writes the target's numbers from the caller's namespace inwards over others. It
-/// answers the refusal where there is one; the numbers are then of no account.
+/// `NSpid` of `proc_pid_status(5)`: writes the target's numbers from the caller's namespace inwards over the first ones
+/// of the room. It answers how many, or the refusal.
 #[inline(always)]
 pub fn ns_pid(
     store: &Tasks,
     caller: Pid,
     target: Pid,
-    numbers: &mut ArrayVec<Pid, LEVELS>,
-) -> Option<ShortReply>
+    room: &mut [Pid; LEVELS],
+) -> Result<usize, Refusal>
     requires { IsWhole store.now }
-    ensures value { told_of result numbers.new.items ≡ ns_pid_of (state_of store.now) caller target }
-    ensures seen { IsSeenReply (state_of store.now) caller (λ n. calls.NsPid n target)
-        (told_of result numbers.new.items) }
+    ensures value { IsWritten result room.new (ns_pid_of (state_of store.now) caller target) }
+    ensures seen { IsSeenReply (state_of store.now) caller (λ n. calls.NsPid n target) (told_of result room.new) }
 {
     queries_answer_seen();
-    queries::ns_pid(store, caller, target, numbers)
+    queries::ns_pid(store, caller, target, room)
 }
 
 /// The least number from the given one on that is in use as the kind, in the caller's namespace. It costs one

@@ -3,14 +3,13 @@ ghost use Rattle.std.specs.{Prelude.{◌≡◌, ℕ, Some, IsSome, IfSome, optio
 ghost use Rattle.{
   pid_types.specs.{Names.{number_or_zero}, Queries.{get_pid as get_pid_of, get_ppid as get_ppid_of}},
   pid_types.specs.Queries.{get_pgid as get_pgid_of, get_sid as get_sid_of, ns_pid as ns_pid_of, next as next_of},
-  pid_types.specs.{Queries.{self_or_task}, Short.{reply_of, told_of}},
+  pid_types.specs.{Queries.{self_or_task}, Short.{reply_of}, Written.{IsWritten}},
   pid_numbers.specs.Numbering.{id_at, identifier_at},
   task_tree.specs.{declared.Task.{Task}, Tree.{task_at, parent_of}},
   task_table.specs.{declared.view.Found.{Found}, Found.{IsFound}, View.{name_at, row_of, state_of}},
   task_table.specs.Whole.{HasParents, IsWhole},
 };
 
-use arrayvec::ArrayVec;
 use pid_types::call::Kind;
 use pid_types::keys::{IdentKey, Pid, SpaceKey, TaskKey};
 use pid_types::plain::LEVELS;
@@ -156,30 +155,31 @@ pub(crate) fn get_sid(store: &Tasks, caller: Pid, pid: Pid) -> ShortReply
     ShortReply::Number(seen_session(store, found.space, &task))
 }
 
-/// `NSpid` of `proc_pid_status(5)`: writes the target's numbers from the caller's namespace inwards over others. It
-/// answers the refusal where there is one; the numbers are then of no account.
+/// `NSpid` of `proc_pid_status(5)`: writes the target's numbers from the caller's namespace inwards over the first ones
+/// of the room. It answers how many, or the refusal.
 #[tactic(auto, unfolding(pid_types::specs::Queries::ns_pid))]
 #[inline(always)]
 pub(crate) fn ns_pid(
     store: &Tasks,
     caller: Pid,
     target: Pid,
-    numbers: &mut ArrayVec<Pid, LEVELS>,
-) -> Option<ShortReply>
+    room: &mut [Pid; LEVELS],
+) -> Result<usize, Refusal>
     requires { IsWhole store.now }
-    ensures { told_of result numbers.new.items ≡ ns_pid_of (state_of store.now) caller target }
+    ensures { IsWritten result room.new (ns_pid_of (state_of store.now) caller target) }
 {
     laws(store);
     let Some(found) = find_live(store, caller) else {
-        return Some(ShortReply::Refused(Refusal::NoCaller));
+        return Err(Refusal::NoCaller);
     };
     let Some(task) = find_task(store, found.space, target) else {
-        return Some(ShortReply::Refused(Refusal::NoTask));
+        return Err(Refusal::NoTask);
     };
-    store
-        .numbers()
-        .write_levels_from(task.key, found.space, numbers);
-    None
+    Ok(
+        store
+            .numbers()
+            .write_levels_from(task.key, found.space, room),
+    )
 }
 
 /// The least number from the given one on that is in use as the kind, in the caller's namespace. It costs one

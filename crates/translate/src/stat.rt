@@ -1,6 +1,6 @@
 //! One read of a task as the caller's namespace sees it: what `status` and `stat` of `proc(5)` tell of a process.
 
-ghost use Rattle.std.specs.Prelude.{◌≡◌, ℕ, Some, IfOk, IsSome};
+ghost use Rattle.std.specs.Prelude.{◌≡◌, ◌≤◌, ℕ, Some, IfOk, IsSome, length};
 ghost use Rattle.{
   pid_types.specs.Names.{root_number},
   pid_numbers.specs.Numbering.{id_at, identifier_at},
@@ -58,6 +58,18 @@ pub(crate) fn root_of(store: &Tasks, key: TaskKey) -> Pid
     root_of_name(store, key)
 }
 
+/// The numbers as a list of their own.
+pub fn listed(numbers: &[Pid]) -> ArrayVec<Pid, LEVELS>
+    requires { length numbers.now ≤ LEVELS }
+    ensures { result.items ≡ numbers.now }
+{
+    let mut list = ArrayVec::new();
+    match list.try_extend_from_slice(numbers) {
+        Ok(()) => list,
+        Err(_) => unreachable!(),
+    }
+}
+
 /// Reads a task as the namespace sees it.
 fn read_task(store: &Tasks, space: SpaceKey, found: &Found) -> Stat
     requires parents { HasParents store.now }
@@ -66,12 +78,12 @@ fn read_task(store: &Tasks, space: SpaceKey, found: &Found) -> Stat
         → result ≡ stat_of (state_of store.now) i (row_of store.now found.now.key found.now.task) }
 {
     laws(store);
-    let mut numbers = ArrayVec::new();
-    store
+    let mut room = [0; LEVELS];
+    let count = store
         .numbers()
-        .write_levels_from(found.key, space, &mut numbers);
+        .write_levels_from(found.key, space, &mut room);
     Stat {
-        numbers,
+        numbers: listed(&room[..count]),
         root: root_of(store, found.key),
         space: own_id(store, found),
         parent: seen_parent(store, space, found.key),

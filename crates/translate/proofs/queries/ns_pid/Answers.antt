@@ -1,4 +1,4 @@
-use Rattle.std.proofs.Common.{◌∙◌, List, ℕ, sym, ap}
+use Rattle.std.proofs.Common.{◌∙◌, List, ℕ, drop, sym, ap}
 use Rattle.std.specs.Option.{option_map_or}
 use Rattle.pid_types.specs.declared.plain.Row.{Row}
 use Rattle.pid_types.specs.declared.reply.Reply.{Reply}
@@ -10,6 +10,7 @@ use Rattle.pid_numbers.specs.Numbering.{levels_of}
 use Rattle.task_table.specs.View.{name_at, state_of}
 use Rattle.task_table.proofs.Keys.{levels-are}
 use Rattle.task_table.proofs.LookUps.{named}
+use Rattle.translate.proofs.Written.{first_of}
 use Rattle.translate.proofs.queries.ns_pid.Goals as goal
 
 pub returns : goal.returns
@@ -21,8 +22,12 @@ returns c =
     let u = named s c.laws.ensures task.key task.task c.in-Some-find_task.ensures.there.0 in
     let levels : Row → Reply = λ row. Levels (record { items = numbers_from (state_of s).spaces row.name space }) in
     let told : List ℕ → Reply = λ ns. Levels (record { items = ns }) in
-    sym (ap (λ o. option_map_or (λ (caller : Row). option_map_or (λ (row : Row). Levels (record { items = numbers_from (state_of s).spaces row.name caller.name.space })) (task_numbered (state_of s) caller.name.space c.args.target) (Refused NoTask)) o (Refused NoCaller))
-    c.in-Some.ensures.row
-    ∙ ap (λ o. option_map_or levels o (Refused NoTask)) (c.in-Some-find_task.ensures.row space c.in-Some.ensures.id)
-    ∙ ap told (levels-are s.numbering c.laws.ensures.numbering c.in-Some.found.space space task.key u.0 c.in-Some.ensures.id u.1
-    ∙ ap (λ b. levels_of b task.key c.in-Some.found.space) (sym c.numbers.ensures) ∙ sym c.write_levels_from.ensures))
+    let wrote = first_of c.write_levels_from.result c.write_levels_from.new.room (levels_of c.numbers.result.now task.key c.in-Some.found.space)
+    (drop c.write_levels_from.result c.args.room.now) c.write_levels_from.ensures.count c.write_levels_from.ensures.numbers in record {
+      tells = sym (ap (λ o. option_map_or (λ (caller : Row). option_map_or (λ (row : Row). Levels (record { items = numbers_from (state_of s).spaces row.name caller.name.space })) (task_numbered (state_of s) caller.name.space c.args.target) (Refused NoTask)) o (Refused NoCaller))
+          c.in-Some.ensures.row
+          ∙ ap (λ o. option_map_or levels o (Refused NoTask)) (c.in-Some-find_task.ensures.row space c.in-Some.ensures.id)
+          ∙ ap told (levels-are s.numbering c.laws.ensures.numbering c.in-Some.found.space space task.key u.0 c.in-Some.ensures.id u.1
+          ∙ ap (λ b. levels_of b task.key c.in-Some.found.space) (sym c.numbers.ensures) ∙ sym wrote.0));
+      fits = wrote.1;
+    }

@@ -1,4 +1,4 @@
-use Rattle.std.proofs.Common.{◌+◌, ◌++◌, [], ◌∷◌, refl, sym, ap, ◌∙◌, subst, arith}
+use Rattle.std.proofs.Common.{◌+◌, ◌++◌, [], ◌∷◌, take, refl, sym, ap, ◌∙◌, subst, arith}
 use Rattle.pid_types.specs.declared.entry.Entry.{Entry}
 use Rattle.pid_types.specs.Short.{list_reply}
 use Rattle.kept_past.specs.Stored.{ListsAreInOrder, Lists, Stored, entries_in}
@@ -19,10 +19,11 @@ invariant_of-self c =
 pub returns-clause-entries : goal.returns-clause-entries
 returns-clause-entries c =
     let slots = c.self.inside.slots.items in
-    let entry : Entry = record { worker = c.args.worker; call = c.args.call; reply = list_reply c.args.numbers.items } in
+    let room = c.args.room.now in
+    let entry : Entry = record { worker = c.args.worker; call = c.args.call; reply = list_reply (take c.args.count room) } in
     ap (λ (ls : Lists). entries_in ls c.self.inside.dropped c.push_back_reserved-2.new.self.items) c.push_back_reserved.ensures.items
-    ∙ (ap (entries_in (c.self.inside.lists.items ++ c.args.numbers ∷ []) c.self.inside.dropped) c.push_back_reserved-2.ensures.items
-    ∙ (with-list c.self.inside.lists.items c.args.numbers c.self.inside.dropped (c.self.inside.dropped + c.len.result) slots _
+    ∙ (ap (entries_in (c.self.inside.lists.items ++ room ∷ []) c.self.inside.dropped) c.push_back_reserved-2.ensures.items
+    ∙ (with-list c.self.inside.lists.items room c.self.inside.dropped (c.self.inside.dropped + c.len.result) slots _
     (subst (λ n. ListsAreInOrder c.self.inside.dropped (c.self.inside.dropped + n) slots) (sym c.len.ensures) c.self.invariant.0)
     (ap (λ n. c.self.inside.dropped + n) (c.len.ensures ∙ c.self.inside.lists.ok.0)) refl
     ∙ ap (λ (t : Stored). t.entries ++ entry ∷ []) c.self.view_is))

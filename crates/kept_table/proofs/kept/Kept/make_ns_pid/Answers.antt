@@ -1,0 +1,67 @@
+use Rattle.std.proofs.Common.{◌≡◌, ◌+◌, ◌≤◌, ℕ, List, ◌++◌, ◌∷◌, [], Option, None, Some, sum, arith, rules, refl, ap, sym, subst, ◌∙◌}
+use Rattle.pid_types.specs.declared.call.Call.TheVariants.{NsPid}
+use Rattle.pid_types.specs.declared.entry.Entry.{Entry}
+use Rattle.pid_types.specs.Outcome.{Outcome}
+use Rattle.pid_types.specs.State.{State}
+use Rattle.pid_types.specs.Step.{step}
+use Rattle.pid_types.specs.Written.{IsWritten}
+use Rattle.kept_past.specs.Past.{Past}
+use Rattle.kept_table.specs.Calls.{counted}
+use Rattle.kept_table.specs.Chronicle.{Chronicle, next_stamp}
+use Rattle.kept_table.specs.Whole.{room_of, told}
+use Rattle.kept_table.proofs.Counts.{some_of_room, whole-push}
+use Rattle.kept_table.proofs.kept.Kept.make_ns_pid.Goals as goal
+
+-- a query leaves the state, whatever its stamp
+stays : (present : State) (stamp caller target : ℕ) → (let o : Outcome = record { state = present; reply = (step present stamp (NsPid caller target)).reply } in o) ≡ step present stamp (NsPid caller target)
+unfolding step
+stays present stamp caller target = refl
+
+-- the history is one entry longer
+pub invariant_of-self : goal.invariant_of-self
+invariant_of-self c =
+    let call = NsPid c.args.caller c.args.target in
+    let stamp = next_stamp c.args.self.now in
+    let table = c.self.inside.table in
+    let e : Entry = record { worker = c.args.worker; call = call; reply = (step table stamp call).reply } in
+    let some = some_of_room c.self.inside.history.opening c.self.inside.history.room (omega (arith, c.in_ok-reserve_calls.ensures.ok, ap (λ (t : Chronicle). t.room) c.self.view_is)) in
+    whole-push c.self.inside.history c.enter_ns_pid-told.new.self _ _ _ _ _ _ _ _ table table e some.0 c.self.invariant (c.enter_ns_pid-told.ensures.entry stamp)
+    (search rules)
+    (search rules)
+    (stays table stamp c.args.caller c.args.target ∙ ap (λ n. step table n call) (sym (ap next_stamp (c.self.view_is ∙ c.in_ok-reserve_calls.ensures.others))))
+    c.count_call.ensures.each
+    c.count_call.ensures.all
+    c.count_call.ensures.len
+
+pub returns-clause-step : goal.returns-clause-step
+unfolding step
+returns-clause-step c = ap (λ (t : Chronicle). t.present) (c.self.view_is ∙ c.in_ok-reserve_calls.ensures.others)
+
+pub returns-clause-reply : goal.returns-clause-reply
+returns-clause-reply c =
+    let stamp = next_stamp c.args.self.now in
+    subst (λ (t : Chronicle). IsWritten c.enter_ns_pid-told.result c.enter_ns_pid-told.new.room (step t.present stamp (NsPid c.args.caller c.args.target)).reply)
+    (c.self.view_is ∙ c.in_ok-reserve_calls.ensures.others) (c.enter_ns_pid-told.ensures.reply stamp)
+
+pub returns-clause-others : goal.returns-clause-others
+returns-clause-others c =
+    let x = c.self.inside in
+    let stamp = next_stamp c.args.self.now in
+    let call = NsPid c.args.caller c.args.target in
+    let now : Chronicle = told x.config x.is_resumed x.history x.first_kept x.cut.items x.table x.calls.items in
+    let entries : List Entry = x.history.entries ++ record { worker = c.args.worker; call = call; reply = (step x.table stamp call).reply } ∷ [] in
+    let room = room_of x.history.opening c.enter_ns_pid-told.new.self.room in
+    let seen : Past → ℕ → Chronicle = λ p n. record (told x.config x.is_resumed p x.first_kept x.cut.items x.table x.calls.items) { booked = n } in
+    let booked : ℕ → Chronicle = λ n. record now { entries = entries; booked = n; room = room } in
+    subst (λ (p : Past). seen p (sum c.count_call.new.calls.items) ≡ counted c.args.self.now p.entries x.table (room_of p.opening p.room))
+    (sym (c.enter_ns_pid-told.ensures.entry stamp))
+    (ap booked c.count_call.ensures.all ∙ ap (λ (t : Chronicle). counted t entries x.table room) (c.self.view_is ∙ c.in_ok-reserve_calls.ensures.others))
+
+room-stays : (o o' : Option State) (r r' : ℕ) → o' ≡ o → r ≤ r' + 1 → room_of o r ≤ room_of o' r' + 1
+room-stays None o' r r' is le = omega arith
+room-stays (Some state) o' r r' is le = subst (λ (z : Option State). r ≤ room_of z r' + 1) (sym is) le
+
+pub returns-clause-room : goal.returns-clause-room
+returns-clause-room c =
+    let less = room-stays _ _ _ _ (ap (λ (p : Past). p.opening) (c.enter_ns_pid-told.ensures.entry 0)) c.enter_ns_pid-told.ensures.room in
+    omega (arith, less, ap (λ (t : Chronicle). t.room) c.self.view_is, c.in_ok-reserve_calls.ensures.room)

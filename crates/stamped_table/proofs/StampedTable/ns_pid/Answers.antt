@@ -1,0 +1,11 @@
+use Rattle.std.proofs.Common.{subst}
+use Rattle.pid_types.specs.declared.call.Call.TheVariants.{NsPid}
+use Rattle.pid_types.specs.Step.{step}
+use Rattle.pid_types.specs.Written.{IsWritten}
+use Rattle.stamped_table.specs.Stamped.{Stamped}
+use Rattle.stamped_table.proofs.StampedTable.ns_pid.Goals as goal
+
+pub returns : goal.returns
+returns c =
+    subst (λ (s : Stamped). IsWritten c.ns_pid.result c.ns_pid.new.room (step s.state s.stamp (NsPid c.args.caller c.args.target)).reply)
+    c.self.view_is (c.ns_pid.ensures c.self.inside.stamp)

@@ -1,0 +1,6 @@
+-- Numbers that were written over the first ones of a room.
+use Rattle.std.proofs.Common.{◌≡◌, ◌≤◌, ◌++◌, ℕ, List, length, take, sym, ap, ◌∙◌, arith, take_at, length-append}
+
+pub first_of : (n : ℕ) (room numbers rest : List ℕ) → n ≡ length numbers → room ≡ numbers ++ rest → (take n room ≡ numbers) × (n ≤ length room)
+first_of n room numbers rest count is =
+    (ap (take n) is ∙ take_at numbers rest n (sym count), omega (arith, count, ap length is, length-append numbers rest))
