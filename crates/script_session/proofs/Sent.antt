@@ -116,8 +116,8 @@ holds_more did before kept line now text held failed full queue same longer ende
     queue.0,
     queue.1,
     ap (λ front. front ++ with_newline line) queue.2 ∙ append_assoc queue.0 kept (with_newline line)
-    ∙ ap (λ rest. queue.0 ++ rest)
-    (sym (ended ∙ ap (λ front. front ++ 10 ∷ []) (longer ∙ ap (λ front. front ++ line) same) ∙ append_assoc kept line (10 ∷ []))),
+        ∙ ap (λ rest. queue.0 ++ rest)
+        (sym (ended ∙ ap (λ front. front ++ 10 ∷ []) (longer ∙ ap (λ front. front ++ line) same) ∙ append_assoc kept line (10 ∷ []))),
   );
   err = tt;
   fault = tt;

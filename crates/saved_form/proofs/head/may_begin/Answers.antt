@@ -13,4 +13,4 @@ returns c =
     let front : take count bytes ≡ take 8 bytes = ap (λ n. take n bytes) least ∙ take_min 8 bytes in
     let there : take count magic ≡ take (length bytes) magic = ap (λ n. take n magic) c.min-count.ensures ∙ take_min (length bytes) magic in
     let same = bytes_eq-Decides (take count bytes) (take count magic) in
-    ( λ yes. sym front ∙ same.0 (sym c.eq.ensures ∙ yes) ∙ there, λ may. c.eq.ensures ∙ same.1 (front ∙ may ∙ sym there) )
+    (λ yes. sym front ∙ same.0 (sym c.eq.ensures ∙ yes) ∙ there, λ may. c.eq.ensures ∙ same.1 (front ∙ may ∙ sym there))

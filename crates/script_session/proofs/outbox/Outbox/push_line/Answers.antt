@@ -14,9 +14,9 @@ returns g c =
     let room = c.if-remaining_capacity-line in
     let waits : Queues (g.K.Sink.did c.args.sink.now room.sink) c.args.self.now room.self =
     elim room.branch [
-      then-remaining_capacity-line+in_ok-flush w ↦
+      | then-remaining_capacity-line+in_ok-flush w ↦
           rw (w.self-is, w.sink-is) (queue_sent _ _ _ w.in_ok-flush.ensures.written.ok w.in_ok-flush.ensures.empty)
-    | else-remaining_capacity-line w ↦
+      | else-remaining_capacity-line w ↦
           rw (w.self-is, w.sink-is) (queue_kept _ _ _ (g.met.K.Sink.nothing c.args.sink.now) refl)
     ] in
     holds_more _ _ _ _ _ _ _ _ _ waits c.self-2.view_is (rw c.unwrap.ensures at c.try_extend_from_slice.ensures.ok) c.push.ensures.items
