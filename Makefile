@@ -315,6 +315,7 @@ bindings-c:
 		$(SAME_EVERYWHERE) && $(MAKE) -s $(OUT)/proved.a && \
 		$(CC) $(CHECKED) $(HELD) -c -o $(OUT)/test_heap.o bindings/c/heap.c && \
 		$(CC) $(CHECKED) -o $(OUT)/test bindings/c/test.c bindings/c/guard.c $(OUT)/test_heap.o $(OUT)/proved.a && $(RUN) $(OUT)/test && \
+		$(CC) $(TESTED) -o $(OUT)/test_fields bindings/c/test_fields.c bindings/c/heap.c $(LIBRARY) && $(RUN) $(OUT)/test_fields && \
 		$(CC) $(CHECKED) -o $(OUT)/test_cases $(CASES_TEST:%=bindings/c/%.c) $(OUT)/proved.a && $(RUN) $(OUT)/test_cases interface/cases/*.cases && \
 		$(CC) $(CHECKED) -o $(OUT)/test_record $(RECORD_TEST:%=bindings/c/%.c) $(OUT)/test_heap.o $(OUT)/proved.a && $(RUN) $(OUT)/test_record && \
 		$(CC) $(CHECKED) -o $(OUT)/test_replica $(REPLICA_TEST:%=bindings/c/%.c) $(OUT)/test_heap.o $(OUT)/proved.a && $(RUN) $(OUT)/test_replica && \

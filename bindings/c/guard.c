@@ -32,33 +32,36 @@ uint32_t proved_call_told(struct pidtab *table, const struct pidtab_call *call, 
 #define PIDTAB_MOST_QUERIES (ALONE - 1)
 #endif
 
-/* What the proved function works on is taken out: it may write each byte of that, and would clear the mark. */
+/* Marks the table for a call. */
+static bool enter(struct pidtab *table)
+{
+	uint8_t unused = 0;
+
+	return __atomic_compare_exchange_n(&table->in_use, &unused, ALONE, false, __ATOMIC_ACQUIRE, __ATOMIC_RELAXED);
+}
+
+/* Takes the mark away. */
+static uint32_t leave(struct pidtab *table, uint32_t status)
+{
+	__atomic_store_n(&table->in_use, 0, __ATOMIC_RELEASE);
+	return status;
+}
+
+/* What opens or closes assigns the whole struct, and may clear the mark with it, so it works on a copy. No other proved function writes any of it. */
 static struct pidtab held_by(const struct pidtab *table)
 {
 	return (struct pidtab){ table->at, table->is_open, 0 };
 }
 
-/* Marks the table for a call. */
-static bool enter(struct pidtab *table, struct pidtab *held)
-{
-	uint8_t unused = 0;
-
-	if (!__atomic_compare_exchange_n(&table->in_use, &unused, ALONE, false, __ATOMIC_ACQUIRE, __ATOMIC_RELAXED))
-		return false;
-	*held = held_by(table);
-	return true;
-}
-
-/* Puts it back, and takes the mark away. */
-static uint32_t leave(struct pidtab *table, const struct pidtab *held, uint32_t status)
+/* Puts the copy back, and takes the mark away. */
+static uint32_t put_back(struct pidtab *table, const struct pidtab *held, uint32_t status)
 {
 	table->at = held->at;
 	table->is_open = held->is_open;
-	__atomic_store_n(&table->in_use, 0, __ATOMIC_RELEASE);
-	return status;
+	return leave(table, status);
 }
 
-/* Counts one query more. The mark is all that a query changes. */
+/* Counts one query more. The mark is all that a query changes; each has a copy of what leads to the table. */
 static bool enter_query(const struct pidtab *table, struct pidtab *held)
 {
 	uint8_t *in_use = (uint8_t *)&table->in_use, count;
@@ -82,28 +85,28 @@ uint32_t pidtab_open(struct pidtab *table, uint32_t pid_max)
 {
 	struct pidtab held;
 
-	if (!enter(table, &held))
+	if (!enter(table))
 		return PIDTAB_BUSY;
-	return leave(table, &held, proved_open(&held, pid_max));
+	held = held_by(table);
+	return put_back(table, &held, proved_open(&held, pid_max));
 }
 
 uint32_t pidtab_close(struct pidtab *table)
 {
 	struct pidtab held;
 
-	if (!enter(table, &held))
+	if (!enter(table))
 		return PIDTAB_BUSY;
+	held = held_by(table);
 	proved_close(&held);
-	return leave(table, &held, PIDTAB_DONE);
+	return put_back(table, &held, PIDTAB_DONE);
 }
 
 uint32_t pidtab_line(struct pidtab *table, const void *line, size_t length, void *answer, size_t room, size_t *size)
 {
-	struct pidtab held;
-
-	if (!enter(table, &held))
+	if (!enter(table))
 		return PIDTAB_BUSY;
-	return leave(table, &held, proved_line(&held, line, length, answer, room, size));
+	return leave(table, proved_line(table, line, length, answer, room, size));
 }
 
 uint32_t pidtab_list(const struct pidtab *table, void *bytes, size_t room, size_t *size)
@@ -129,72 +132,59 @@ uint32_t pidtab_load(struct pidtab *table, const void *text, size_t length, stru
 	struct pidtab held;
 
 	*fault = (struct pidtab_fault){ 0, 0 };
-	if (!enter(table, &held))
+	if (!enter(table))
 		return PIDTAB_BUSY;
-	return leave(table, &held, proved_load(&held, text, length, fault));
+	held = held_by(table);
+	return put_back(table, &held, proved_load(&held, text, length, fault));
 }
 
 uint32_t pidtab_call(struct pidtab *table, const struct pidtab_call *call, struct pidtab_reply *reply)
 {
-	struct pidtab held;
-
-	if (!enter(table, &held))
+	if (!enter(table))
 		return PIDTAB_BUSY;
-	return leave(table, &held, proved_call(&held, call, reply));
+	return leave(table, proved_call(table, call, reply));
 }
 
 uint32_t pidtab_getpid_of(struct pidtab *table, uint32_t caller, uint64_t *number)
 {
-	struct pidtab held;
-
-	if (!enter(table, &held))
+	if (!enter(table))
 		return PIDTAB_BUSY;
-	return leave(table, &held, proved_getpid_of(&held, caller, number));
+	return leave(table, proved_getpid_of(table, caller, number));
 }
 
 uint32_t pidtab_getppid_of(struct pidtab *table, uint32_t caller, uint64_t *number)
 {
-	struct pidtab held;
-
-	if (!enter(table, &held))
+	if (!enter(table))
 		return PIDTAB_BUSY;
-	return leave(table, &held, proved_getppid_of(&held, caller, number));
+	return leave(table, proved_getppid_of(table, caller, number));
 }
 
 uint32_t pidtab_getpgid_of(struct pidtab *table, uint32_t caller, uint32_t pid, uint64_t *number)
 {
-	struct pidtab held;
-
-	if (!enter(table, &held))
+	if (!enter(table))
 		return PIDTAB_BUSY;
-	return leave(table, &held, proved_getpgid_of(&held, caller, pid, number));
+	return leave(table, proved_getpgid_of(table, caller, pid, number));
 }
 
 uint32_t pidtab_getsid_of(struct pidtab *table, uint32_t caller, uint32_t pid, uint64_t *number)
 {
-	struct pidtab held;
-
-	if (!enter(table, &held))
+	if (!enter(table))
 		return PIDTAB_BUSY;
-	return leave(table, &held, proved_getsid_of(&held, caller, pid, number));
+	return leave(table, proved_getsid_of(table, caller, pid, number));
 }
 
 uint32_t pidtab_next_of(struct pidtab *table, uint32_t caller, uint32_t kind, uint32_t from, uint64_t *number)
 {
-	struct pidtab held;
-
-	if (!enter(table, &held))
+	if (!enter(table))
 		return PIDTAB_BUSY;
-	return leave(table, &held, proved_next_of(&held, caller, kind, from, number));
+	return leave(table, proved_next_of(table, caller, kind, from, number));
 }
 
 uint32_t pidtab_count_of(struct pidtab *table, uint64_t id, uint64_t *number)
 {
-	struct pidtab held;
-
-	if (!enter(table, &held))
+	if (!enter(table))
 		return PIDTAB_BUSY;
-	return leave(table, &held, proved_count_of(&held, id, number));
+	return leave(table, proved_count_of(table, id, number));
 }
 
 uint32_t pidtab_ask(const struct pidtab *table, const struct pidtab_call *call, struct pidtab_reply *reply)
@@ -262,18 +252,14 @@ uint32_t pidtab_would(const struct pidtab *table, const struct pidtab_call *call
 
 uint32_t pidtab_fork_at(struct pidtab *table, uint32_t caller, uint32_t new_space, uint32_t child, uint32_t root, struct pidtab_reply *reply)
 {
-	struct pidtab held;
-
-	if (!enter(table, &held))
+	if (!enter(table))
 		return PIDTAB_BUSY;
-	return leave(table, &held, proved_fork_at(&held, caller, new_space, child, root, reply));
+	return leave(table, proved_fork_at(table, caller, new_space, child, root, reply));
 }
 
 uint32_t pidtab_call_told(struct pidtab *table, const struct pidtab_call *call, struct pidtab_reply *reply, struct pidtab_effect *effects, size_t room, uint64_t *count)
 {
-	struct pidtab held;
-
-	if (!enter(table, &held))
+	if (!enter(table))
 		return PIDTAB_BUSY;
-	return leave(table, &held, proved_call_told(&held, call, reply, effects, room, count));
+	return leave(table, proved_call_told(table, call, reply, effects, room, count));
 }

@@ -35,33 +35,36 @@ uint32_t proved_record_load(struct pidtab_record *record, const void *text, size
 #define PIDTAB_MOST_QUERIES (ALONE - 1)
 #endif
 
-/* What the proved function works on is taken out: it may write each byte of that, and would clear the mark. */
+/* Marks the record for a call. */
+static bool enter(struct pidtab_record *record)
+{
+	uint8_t unused = 0;
+
+	return __atomic_compare_exchange_n(&record->in_use, &unused, ALONE, false, __ATOMIC_ACQUIRE, __ATOMIC_RELAXED);
+}
+
+/* Takes the mark away. */
+static uint32_t leave(struct pidtab_record *record, uint32_t status)
+{
+	__atomic_store_n(&record->in_use, 0, __ATOMIC_RELEASE);
+	return status;
+}
+
+/* What opens or closes assigns the whole struct, and may clear the mark with it, so it works on a copy. No other proved function writes any of it. */
 static struct pidtab_record held_by(const struct pidtab_record *record)
 {
 	return (struct pidtab_record){ record->at, record->is_open, 0 };
 }
 
-/* Marks the record for a call. */
-static bool enter(struct pidtab_record *record, struct pidtab_record *held)
-{
-	uint8_t unused = 0;
-
-	if (!__atomic_compare_exchange_n(&record->in_use, &unused, ALONE, false, __ATOMIC_ACQUIRE, __ATOMIC_RELAXED))
-		return false;
-	*held = held_by(record);
-	return true;
-}
-
-/* Puts it back, and takes the mark away. */
-static uint32_t leave(struct pidtab_record *record, const struct pidtab_record *held, uint32_t status)
+/* Puts the copy back, and takes the mark away. */
+static uint32_t put_back(struct pidtab_record *record, const struct pidtab_record *held, uint32_t status)
 {
 	record->at = held->at;
 	record->is_open = held->is_open;
-	__atomic_store_n(&record->in_use, 0, __ATOMIC_RELEASE);
-	return status;
+	return leave(record, status);
 }
 
-/* Counts one query more. The mark is all that a query changes. */
+/* Counts one query more. The mark is all that a query changes; each has a copy of what leads to the record. */
 static bool enter_query(const struct pidtab_record *record, struct pidtab_record *held)
 {
 	uint8_t *in_use = (uint8_t *)&record->in_use, count;
@@ -85,56 +88,50 @@ uint32_t pidtab_record_open(struct pidtab_record *record, uint32_t pid_max, uint
 {
 	struct pidtab_record held;
 
-	if (!enter(record, &held))
+	if (!enter(record))
 		return PIDTAB_BUSY;
-	return leave(record, &held, proved_record_open(&held, pid_max, first_stamp, workers));
+	held = held_by(record);
+	return put_back(record, &held, proved_record_open(&held, pid_max, first_stamp, workers));
 }
 
 uint32_t pidtab_record_close(struct pidtab_record *record)
 {
 	struct pidtab_record held;
 
-	if (!enter(record, &held))
+	if (!enter(record))
 		return PIDTAB_BUSY;
+	held = held_by(record);
 	proved_record_close(&held);
-	return leave(record, &held, PIDTAB_DONE);
+	return put_back(record, &held, PIDTAB_DONE);
 }
 
 uint32_t pidtab_record_call(struct pidtab_record *record, uint32_t worker, const struct pidtab_call *call, struct pidtab_reply *reply, uint64_t *ordinal)
 {
-	struct pidtab_record held;
-
-	if (!enter(record, &held))
+	if (!enter(record))
 		return PIDTAB_BUSY;
-	return leave(record, &held, proved_record_call(&held, worker, call, reply, ordinal));
+	return leave(record, proved_record_call(record, worker, call, reply, ordinal));
 }
 
 uint32_t pidtab_record_call_keeping(struct pidtab_record *record, uint32_t worker, const struct pidtab_call *call, uint64_t keep, struct pidtab_reply *reply, uint64_t *ordinal)
 {
-	struct pidtab_record held;
-
-	if (!enter(record, &held))
+	if (!enter(record))
 		return PIDTAB_BUSY;
-	return leave(record, &held, proved_record_call_keeping(&held, worker, call, keep, reply, ordinal));
+	return leave(record, proved_record_call_keeping(record, worker, call, keep, reply, ordinal));
 }
 
 uint32_t pidtab_record_calls(struct pidtab_record *record, uint32_t worker, const struct pidtab_call *calls, size_t count, struct pidtab_reply *replies, size_t room, size_t *made, uint64_t *ordinal)
 {
-	struct pidtab_record held;
-
 	*made = 0;
-	if (!enter(record, &held))
+	if (!enter(record))
 		return PIDTAB_BUSY;
-	return leave(record, &held, proved_record_calls(&held, worker, calls, count, replies, room, made, ordinal));
+	return leave(record, proved_record_calls(record, worker, calls, count, replies, room, made, ordinal));
 }
 
 uint32_t pidtab_record_line(struct pidtab_record *record, uint32_t worker, const void *line, size_t length, void *answer, size_t room, size_t *size, uint64_t *ordinal)
 {
-	struct pidtab_record held;
-
-	if (!enter(record, &held))
+	if (!enter(record))
 		return PIDTAB_BUSY;
-	return leave(record, &held, proved_record_line(&held, worker, line, length, answer, room, size, ordinal));
+	return leave(record, proved_record_line(record, worker, line, length, answer, room, size, ordinal));
 }
 
 uint32_t pidtab_record_ask(const struct pidtab_record *record, const struct pidtab_call *call, struct pidtab_reply *reply)
@@ -202,20 +199,16 @@ uint32_t pidtab_record_would(const struct pidtab_record *record, const struct pi
 
 uint32_t pidtab_record_fork_at(struct pidtab_record *record, uint32_t worker, uint32_t caller, uint32_t new_space, uint32_t child, uint32_t root, struct pidtab_reply *reply, uint64_t *ordinal)
 {
-	struct pidtab_record held;
-
-	if (!enter(record, &held))
+	if (!enter(record))
 		return PIDTAB_BUSY;
-	return leave(record, &held, proved_record_fork_at(&held, worker, caller, new_space, child, root, reply, ordinal));
+	return leave(record, proved_record_fork_at(record, worker, caller, new_space, child, root, reply, ordinal));
 }
 
 uint32_t pidtab_record_call_told(struct pidtab_record *record, uint32_t worker, const struct pidtab_call *call, struct pidtab_reply *reply, uint64_t *ordinal, struct pidtab_effect *effects, size_t room, uint64_t *count)
 {
-	struct pidtab_record held;
-
-	if (!enter(record, &held))
+	if (!enter(record))
 		return PIDTAB_BUSY;
-	return leave(record, &held, proved_record_call_told(&held, worker, call, reply, ordinal, effects, room, count));
+	return leave(record, proved_record_call_told(record, worker, call, reply, ordinal, effects, room, count));
 }
 
 uint32_t pidtab_record_counts(const struct pidtab_record *record, uint64_t *first_kept, uint64_t *recorded)
@@ -256,38 +249,30 @@ uint32_t pidtab_record_read(const struct pidtab_record *record, uint64_t from, s
 
 uint32_t pidtab_record_replay(struct pidtab_record *record, const struct pidtab_entry *saved, size_t count, size_t *place)
 {
-	struct pidtab_record held;
-
-	if (!enter(record, &held))
+	if (!enter(record))
 		return PIDTAB_BUSY;
-	return leave(record, &held, proved_record_replay(&held, saved, count, place));
+	return leave(record, proved_record_replay(record, saved, count, place));
 }
 
 uint32_t pidtab_record_keep(struct pidtab_record *record, uint64_t keep)
 {
-	struct pidtab_record held;
-
-	if (!enter(record, &held))
+	if (!enter(record))
 		return PIDTAB_BUSY;
-	return leave(record, &held, proved_record_keep(&held, keep));
+	return leave(record, proved_record_keep(record, keep));
 }
 
 uint32_t pidtab_record_checkpoint(struct pidtab_record *record)
 {
-	struct pidtab_record held;
-
-	if (!enter(record, &held))
+	if (!enter(record))
 		return PIDTAB_BUSY;
-	return leave(record, &held, proved_record_checkpoint(&held));
+	return leave(record, proved_record_checkpoint(record));
 }
 
 uint32_t pidtab_record_checkpoint_at(struct pidtab_record *record, uint64_t seen)
 {
-	struct pidtab_record held;
-
-	if (!enter(record, &held))
+	if (!enter(record))
 		return PIDTAB_BUSY;
-	return leave(record, &held, proved_record_checkpoint_at(&held, seen));
+	return leave(record, proved_record_checkpoint_at(record, seen));
 }
 
 uint32_t pidtab_record_list(const struct pidtab_record *record, void *bytes, size_t room, size_t *size)
@@ -322,7 +307,8 @@ uint32_t pidtab_record_load(struct pidtab_record *record, const void *text, size
 	struct pidtab_record held;
 
 	*fault = (struct pidtab_fault){ 0, 0 };
-	if (!enter(record, &held))
+	if (!enter(record))
 		return PIDTAB_BUSY;
-	return leave(record, &held, proved_record_load(&held, text, length, counts, workers, fault));
+	held = held_by(record);
+	return put_back(record, &held, proved_record_load(&held, text, length, counts, workers, fault));
 }

@@ -17,59 +17,51 @@ uint32_t proved_replica_read(struct pidtab_replica *replica, const void *text, s
 #define PIDTAB_MOST_QUERIES (ALONE - 1)
 #endif
 
-/* What the proved function works on is taken out: it may write each byte of that, and would clear the mark. */
+/* Marks the replica for a call. */
+static bool enter(struct pidtab_replica *replica)
+{
+	uint8_t unused = 0;
+
+	return __atomic_compare_exchange_n(&replica->in_use, &unused, ALONE, false, __ATOMIC_ACQUIRE, __ATOMIC_RELAXED);
+}
+
+/* Takes the mark away. */
+static uint32_t leave(struct pidtab_replica *replica, uint32_t status)
+{
+	__atomic_store_n(&replica->in_use, 0, __ATOMIC_RELEASE);
+	return status;
+}
+
+/* Marks the table for a call. */
+static bool enter_table(struct pidtab *table)
+{
+	uint8_t unused = 0;
+
+	return __atomic_compare_exchange_n(&table->in_use, &unused, ALONE, false, __ATOMIC_ACQUIRE, __ATOMIC_RELAXED);
+}
+
+/* Takes the mark away. */
+static uint32_t leave_table(struct pidtab *table, uint32_t status)
+{
+	__atomic_store_n(&table->in_use, 0, __ATOMIC_RELEASE);
+	return status;
+}
+
+/* What opens or closes assigns the whole struct, and may clear the mark with it, so it works on a copy. No other proved function writes any of it. */
 static struct pidtab_replica held_by(const struct pidtab_replica *replica)
 {
 	return (struct pidtab_replica){ replica->at, replica->is_open, 0 };
 }
 
-/* Marks the replica for a call. */
-static bool enter(struct pidtab_replica *replica, struct pidtab_replica *held)
-{
-	uint8_t unused = 0;
-
-	if (!__atomic_compare_exchange_n(&replica->in_use, &unused, ALONE, false, __ATOMIC_ACQUIRE, __ATOMIC_RELAXED))
-		return false;
-	*held = held_by(replica);
-	return true;
-}
-
-/* Puts it back, and takes the mark away. */
-static uint32_t leave(struct pidtab_replica *replica, const struct pidtab_replica *held, uint32_t status)
+/* Puts the copy back, and takes the mark away. */
+static uint32_t put_back(struct pidtab_replica *replica, const struct pidtab_replica *held, uint32_t status)
 {
 	replica->at = held->at;
 	replica->is_open = held->is_open;
-	__atomic_store_n(&replica->in_use, 0, __ATOMIC_RELEASE);
-	return status;
+	return leave(replica, status);
 }
 
-/* What the proved function works on is taken out: it may write each byte of that, and would clear the mark. */
-static struct pidtab held_by_table(const struct pidtab *table)
-{
-	return (struct pidtab){ table->at, table->is_open, 0 };
-}
-
-/* Marks the table for a call. */
-static bool enter_table(struct pidtab *table, struct pidtab *held)
-{
-	uint8_t unused = 0;
-
-	if (!__atomic_compare_exchange_n(&table->in_use, &unused, ALONE, false, __ATOMIC_ACQUIRE, __ATOMIC_RELAXED))
-		return false;
-	*held = held_by_table(table);
-	return true;
-}
-
-/* Puts it back, and takes the mark away. */
-static uint32_t leave_table(struct pidtab *table, const struct pidtab *held, uint32_t status)
-{
-	table->at = held->at;
-	table->is_open = held->is_open;
-	__atomic_store_n(&table->in_use, 0, __ATOMIC_RELEASE);
-	return status;
-}
-
-/* Counts one query more. The mark is all that a query changes. */
+/* Counts one query more. The mark is all that a query changes; each has a copy of what leads to the replica. */
 static bool enter_query(const struct pidtab_replica *replica, struct pidtab_replica *held)
 {
 	uint8_t *in_use = (uint8_t *)&replica->in_use, count;
@@ -93,33 +85,33 @@ uint32_t pidtab_replica_open(struct pidtab_replica *replica, uint64_t pid_max, u
 {
 	struct pidtab_replica held;
 
-	if (!enter(replica, &held))
+	if (!enter(replica))
 		return PIDTAB_BUSY;
-	return leave(replica, &held, proved_replica_open(&held, pid_max, model));
+	held = held_by(replica);
+	return put_back(replica, &held, proved_replica_open(&held, pid_max, model));
 }
 
 uint32_t pidtab_replica_close(struct pidtab_replica *replica)
 {
 	struct pidtab_replica held;
 
-	if (!enter(replica, &held))
+	if (!enter(replica))
 		return PIDTAB_BUSY;
+	held = held_by(replica);
 	proved_replica_close(&held);
-	return leave(replica, &held, PIDTAB_DONE);
+	return put_back(replica, &held, PIDTAB_DONE);
 }
 
 uint32_t pidtab_replica_apply(struct pidtab_replica *replica, struct pidtab *table, uint64_t position, const void *entry, size_t length, struct pidtab_applied *applied)
 {
-	struct pidtab_replica held;
-	struct pidtab held_table;
 	uint32_t status;
 
-	if (!enter(replica, &held))
+	if (!enter(replica))
 		return PIDTAB_BUSY;
-	if (!enter_table(table, &held_table))
-		return leave(replica, &held, PIDTAB_BUSY);
-	status = leave_table(table, &held_table, proved_replica_apply(&held, &held_table, position, entry, length, applied));
-	return leave(replica, &held, status);
+	if (!enter_table(table))
+		return leave(replica, PIDTAB_BUSY);
+	status = leave_table(table, proved_replica_apply(replica, table, position, entry, length, applied));
+	return leave(replica, status);
 }
 
 uint32_t pidtab_replica_answers(const struct pidtab_replica *replica, void *bytes, size_t room, size_t *size)
@@ -169,9 +161,7 @@ uint32_t pidtab_replica_write(const struct pidtab_replica *replica, void *bytes,
 
 uint32_t pidtab_replica_read(struct pidtab_replica *replica, const void *text, size_t length, size_t *used)
 {
-	struct pidtab_replica held;
-
-	if (!enter(replica, &held))
+	if (!enter(replica))
 		return PIDTAB_BUSY;
-	return leave(replica, &held, proved_replica_read(&held, text, length, used));
+	return leave(replica, proved_replica_read(replica, text, length, used));
 }

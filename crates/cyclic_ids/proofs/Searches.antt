@@ -1,5 +1,5 @@
 -- Searches of a tree with a leaf beside it.
-use Rattle.std.proofs.Common.{ℕ, ◌≡◌, ◌≢◌, ◌+◌, ◌-◌, ◌*◌, ◌/◌, ◌%◌, ◌<◌, ◌≤◌, min, sym, ap, ◌∙◌, arith, inl, inr, Bool, true, false, Option, Some, None}
+use Rattle.std.proofs.Common.{ℕ, ◌≡◌, ◌≢◌, ◌+◌, ◌-◌, ◌*◌, ◌/◌, ◌%◌, ◌<◌, ◌≤◌, min, sym, ap, ◌∙◌, arith, inl, inr, Bool, true, false, Option, Some, None, IfSome, refl}
 use Rattle.std.specs.Option.{option_map}
 use Rattle.std.proofs.lemmas.Bool.{cases_eq, cases_lt, false≢true}
 use Rattle.index_array.specs.Place.{IsLeastIndex}
@@ -24,6 +24,16 @@ module _ (p own tree : ℕ → Bool) (block : ℕ) (here : (k : ℕ) → k / 64 
         λ k low high.
             here k (omega (arith, start, low, high, below)) ∙ found.3 (k % 64) (omega (arith, start, low, high, below)) (omega (arith, start, low, high, below)),
       )
+
+  -- what the tree finds below the block comes before all that the leaf has
+  pub found_below : (from end : ℕ) (r : Option ℕ) → IfSome r (λ a. a / 64 < block) × (r ≢ None) → IsLeastIndex tree from end r → IsLeastIndex p from end r
+  found_below from end None below _ = absurd (below.1 refl)
+  found_below from end (Some a) below found = (
+    found.0,
+    found.1,
+    there a (λ same. absurd (omega (arith, same, below.0))) ∙ found.2,
+    λ k low high. there k (λ same. absurd (omega (arith, same, high, below.0))) ∙ found.3 k low high,
+  )
 
   -- where the tree passes the test in the whole block: what it finds is outside, or leads to the leaf
   module _ (all : (k : ℕ) → k / 64 ≡ block → tree k ≡ true) where

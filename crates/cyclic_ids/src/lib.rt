@@ -9,8 +9,8 @@
 //! it, and `commit` gives it. Only `prepare` takes memory that it cannot do without.
 #![tactic(auto)]
 
-ghost use Rattle.std.specs.Prelude.{◌≡◌, ℕ, ◌+◌, ◌*◌, ◌/◌, ◌<◌, ◌≤◌, Option, Some, None, OnOk, IfSome, MatchBool, true};
-ghost use Rattle.std.specs.{Prelude.{false, not, is_some, [], ◌∷◌}, Option.{option_copied, option_map}};
+ghost use Rattle.std.specs.Prelude.{◌≡◌, ◌≢◌, ℕ, ◌+◌, ◌*◌, ◌/◌, ◌<◌, ◌≤◌, Option, Some, None, OnOk, IfSome, true};
+ghost use Rattle.std.specs.{Prelude.{MatchBool, false, not, is_some, [], ◌∷◌}, Option.{option_copied, option_map}};
 ghost use Rattle.{
   index_array.specs.Place.{index_count, entry_at, is_prepared, value_at, is_marked, with_mark, IsLeastIndex},
   index_array.specs.Place.{WritesEntry, KeepsEntries, KeepsPrepared},
@@ -114,6 +114,17 @@ fn lesser_of(found: Option<Pid>, block: u32, slot: Option<u32>) -> Option<Pid>
                 Some(found) => Some(found.min(n)),
             }
         }
+    }
+}
+
+/// Whether a number was found, and is below all of a block.
+#[inline(always)]
+fn is_below(found: Option<Pid>, block: u32) -> bool
+    ensures { result ≡ true → IfSome found (λ n. n / 64 < block) × (found ≢ None) }
+{
+    match found {
+        Some(n) => n / 64 < block,
+        None => false,
     }
 }
 
@@ -494,6 +505,9 @@ impl CyclicIds {
         if from / 64 > self.block {
             return found;
         }
+        if is_below(found, self.block) {
+            return found;
+        }
         let start = from.saturating_sub(self.block * 64);
         lesser_of(found, self.block, self.leaf.next_marked(start, m))
     }
@@ -504,6 +518,9 @@ impl CyclicIds {
     {
         let found = self.ids.next(from);
         if from / 64 > self.block {
+            return found;
+        }
+        if is_below(found, self.block) {
             return found;
         }
         let start = from.saturating_sub(self.block * 64);

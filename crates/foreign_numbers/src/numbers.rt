@@ -1,8 +1,9 @@
 //! Calls and replies as numbers, for callers who would rather not read text. The numbers stay the same from release to
 //! release.
-ghost use Rattle.std.specs.Prelude.{◌≡◌, ◌≤◌, length, take};
+ghost use Rattle.std.specs.Prelude.{◌≡◌, ◌≤◌, length};
 ghost use Rattle.{
   pid_types.specs.{Short.{reply_of}, Written.{told_of, written}},
+  translate.specs.Zeroes.{HasZeroesBehind},
   foreign_numbers.specs.Numbers.{switch_of, which_of, kind_of, limit_of, status_of, call_of, control_call_of},
   foreign_numbers.specs.Numbers.{later_call_of, blank_reply, with_zeroes, levels_numbers, refusal_numbers, numbers_of},
   foreign_numbers.specs.Numbers.{errno_of, number_or},
@@ -272,20 +273,11 @@ pub fn put_number(told: ShortReply, number: &mut u64) -> u32
     DONE
 }
 
-/// Writes zeroes behind so many first numbers.
-#[inline(always)]
-fn clear_behind(levels: &mut [u32; LEVELS], count: usize)
-    requires { count ≤ LEVELS }
-    ensures levels { levels.new ≡ with_zeroes (take count levels.old) }
-    ensures first { length (take count levels.old) ≡ count }
-{
-    levels[count..].fill(0);
-}
-
 /// Writes what is told of an `NSpid` whose numbers are in the reply already, and zeroes behind them.
 #[inline(always)]
 pub fn put_told(told: Result<usize, Refusal>, reply: &mut ReplyNumbers)
-    requires { written told ≤ LEVELS }
+    requires fits { written told ≤ LEVELS }
+    requires zeroes { HasZeroesBehind told reply.old.levels }
     ensures { reply.new ≡ numbers_of (told_of told reply.old.levels) }
 {
     match told {
@@ -296,7 +288,6 @@ pub fn put_told(told: Result<usize, Refusal>, reply: &mut ReplyNumbers)
             reply.count = count as u32;
             reply.first = 0;
             reply.second = 0;
-            clear_behind(&mut reply.levels, count);
         }
         Err(refusal) => put_refusal(reply, refusal),
     }

@@ -13,6 +13,7 @@ ghost use Rattle.{
   pid_types.specs.{State.{State, root_state}, Step.{step, may_grow}, Written.{IsWritten}},
   kept_past.specs.Stored.{replies_of, IsToldOf, TellsIfShort},
   kept_past.specs.Past.{held_fixed, moves_or, opening_of, IsCutOnce},
+  translate.specs.Zeroes.{HasZeroesBehind},
 };
 
 use crate::opening::Opening;
@@ -297,6 +298,7 @@ impl History {
         requires fits { self.old.stamp < 2 ^ 64 }
         ensures reply { (stamp : ℕ) →
             IsWritten result room.new (step table.now stamp (NsPid caller target)).reply }
+        ensures zeroes { HasZeroesBehind result room.new }
         ensures entry { (stamp : ℕ) → self.new ≡ record self.old {
           entries = self.old.entries ++ record {
             worker = worker;
@@ -546,6 +548,7 @@ fn enter_list(
     requires { 0 < ring.old.room }
     ensures reply { (stamp : ℕ) →
         IsWritten result room.new (step table.now stamp (NsPid caller target)).reply }
+    ensures zeroes { HasZeroesBehind result room.new }
     ensures ring { (stamp : ℕ) → ring.new.entries ≡ ring.old.entries ++ record {
       worker = worker;
       call = NsPid caller target;

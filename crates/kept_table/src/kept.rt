@@ -8,7 +8,7 @@ ghost use Rattle.{
   pid_types.specs.{declared.plain.Control.{Control}, Membership.{IsIn}, declared.entry.Entry.{Entry}, Shown.{Shows}},
   pid_types.specs.{Sound.{IsBelow}, Step.{step, may_grow}, Short.{list_reply, reply_of}, Written.{IsWritten}},
   pid_types.specs.declared.call.Call.TheVariants.{NsPid},
-  translate.specs.Stat.{stat_at, glimpse_in, IsSeen},
+  translate.specs.{Zeroes.{HasZeroesBehind}, Stat.{stat_at, glimpse_in, IsSeen}},
   call_effects.specs.Touched.{is_touching, most_in, most_of, Watches},
   kept_past.specs.Stored.{TellsIfShort},
   kept_table.specs.Calls.{begun, resumed, outcome, entry_of, after_recorded, counted, cut_at, IsWithoutFirst, to_cut},
@@ -345,7 +345,8 @@ impl Kept {
         target: Pid,
         room: &mut [Pid; LEVELS],
     ) -> Result<usize, Refusal>
-        ensures { IsWritten result room.new (outcome self.now (NsPid caller target)).reply }
+        ensures reply { IsWritten result room.new (outcome self.now (NsPid caller target)).reply }
+        ensures zeroes { HasZeroesBehind result room.new }
     {
         self.table.ns_pid(caller, target, room)
     }
@@ -475,6 +476,7 @@ impl Kept {
         ensures step { OnOk result (self.new.present ≡ (outcome self.old (NsPid caller target)).state) }
         ensures reply { IfOk result (λ told.
             IsWritten told room.new (outcome self.old (NsPid caller target)).reply) }
+        ensures zeroes { IfOk result (λ told. HasZeroesBehind told room.new) }
         ensures history { OnOk result
             (self.new.entries ≡ self.old.entries ++ entry_of self.old worker (NsPid caller target) ∷ []) }
         ensures others { OnOk result (self.new ≡ counted self.old self.new.entries self.new.present self.new.room) }

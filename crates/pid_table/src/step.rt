@@ -6,6 +6,7 @@ ghost use Rattle.{
   pid_types.specs.declared.call.Call.TheVariants.{NsPid},
   pid_table.specs.Lists.{answers_list},
   task_table.specs.{View.{state_of}, Whole.{HasParents, IsWhole}},
+  translate.specs.Zeroes.{HasZeroesBehind},
 };
 
 use crate::PidTable;
@@ -222,7 +223,8 @@ impl PidTable {
     }
 
     /// Writes `NSpid` of `proc_pid_status(5)` over the first numbers of the room, the caller's namespace first. It
-    /// answers how many, or `NoCaller`, then `NoTask`. It costs two searches and a read a level.
+    /// answers how many, or `NoCaller`, then `NoTask`. Behind them are zeroes. It costs two searches and a read a
+    /// level.
     #[tactic(auto, unfolding(pid_types::specs::Step::step))]
     #[inline(always)]
     pub fn ns_pid(
@@ -231,7 +233,8 @@ impl PidTable {
         target: Pid,
         room: &mut [Pid; LEVELS],
     ) -> Result<usize, Refusal>
-        ensures { (stamp : ℕ) → IsWritten result room.new (step self.now stamp (NsPid caller target)).reply }
+        ensures reply { (stamp : ℕ) → IsWritten result room.new (step self.now stamp (NsPid caller target)).reply }
+        ensures zeroes { HasZeroesBehind result room.new }
     {
         ns_pid(&self.store, caller, target, room)
     }

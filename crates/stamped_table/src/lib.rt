@@ -13,7 +13,7 @@ ghost use Rattle.{
   pid_types.specs.{Short.{reply_of}, Sound.{IsSound, IsBelow}, State.{root_state}, Step.{may_grow}},
   pid_types.specs.Written.{IsWritten},
   stamped_table.specs.Stamped.{IsInOrder, after_call, reply_to},
-  translate.specs.Stat.{stat_at},
+  translate.specs.{Zeroes.{HasZeroesBehind}, Stat.{stat_at}},
 };
 
 use call_effects::Touched;
@@ -152,6 +152,7 @@ impl StampedTable {
         ensures state { OnOk result (self.new ≡ after_call self.old (NsPid caller target)) }
         ensures reply { IfOk result (λ told.
             IsWritten told room.new (reply_to self.old (NsPid caller target))) }
+        ensures zeroes { IfOk result (λ told. HasZeroesBehind told room.new) }
         ensures err { OnErr result (self.new ≡ self.old) }
         ensures err_room { OnErr result (room.new ≡ room.old) }
         ensures spent { (result ≡ Err CallFault.Spent) ↔ (self.old.stamp ≡ u64.MAX) }
@@ -212,7 +213,8 @@ impl StampedTable {
         target: Pid,
         room: &mut [Pid; LEVELS],
     ) -> Result<usize, Refusal>
-        ensures { IsWritten result room.new (reply_to self.now (NsPid caller target)) }
+        ensures reply { IsWritten result room.new (reply_to self.now (NsPid caller target)) }
+        ensures zeroes { HasZeroesBehind result room.new }
     {
         self.table.ns_pid(caller, target, room)
     }

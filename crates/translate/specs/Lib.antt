@@ -11,3 +11,4 @@ pub mod Passed
 pub mod Inside
 pub mod Relations
 pub mod Residents
+pub mod Zeroes

@@ -11,7 +11,7 @@ ghost use Rattle.{
   pid_types.specs.Queries.{get_sid as get_sid_of, ns_pid as ns_pid_of, next as next_of},
   pid_types.specs.{Short.{reply_of}, Written.{IsWritten, told_of}},
   task_table.specs.{View.{state_of}, Whole.{IsWhole}},
-  translate.specs.Seen.{IsSeenReply},
+  translate.specs.{Zeroes.{HasZeroesBehind}, Seen.{IsSeenReply}},
 };
 ghost use Rattle.pid_types.specs.declared.call.Call.TheVariants as calls;
 
@@ -73,7 +73,7 @@ pub fn get_sid(store: &Tasks, caller: Pid, pid: Pid) -> ShortReply
 }
 
 /// `NSpid` of `proc_pid_status(5)`: writes the target's numbers from the caller's namespace inwards over the first ones
-/// of the room. It answers how many, or the refusal.
+/// of the room. It answers how many, or the refusal. Behind them are zeroes.
 #[inline(always)]
 pub fn ns_pid(
     store: &Tasks,
@@ -83,6 +83,7 @@ pub fn ns_pid(
 ) -> Result<usize, Refusal>
     requires { IsWhole store.now }
     ensures value { IsWritten result room.new (ns_pid_of (state_of store.now) caller target) }
+    ensures zeroes { HasZeroesBehind result room.new }
     ensures seen { IsSeenReply (state_of store.now) caller (λ n. calls.NsPid n target) (told_of result room.new) }
 {
     queries_answer_seen();

@@ -8,6 +8,7 @@ ghost use Rattle.{
   task_tree.specs.{declared.Task.{Task}, Tree.{task_at, parent_of}},
   task_table.specs.{declared.view.Found.{Found}, Found.{IsFound}, View.{name_at, row_of, state_of}},
   task_table.specs.Whole.{HasParents, IsWhole},
+  translate.specs.Zeroes.{HasZeroesBehind},
 };
 
 use pid_types::call::Kind;
@@ -156,7 +157,7 @@ pub(crate) fn get_sid(store: &Tasks, caller: Pid, pid: Pid) -> ShortReply
 }
 
 /// `NSpid` of `proc_pid_status(5)`: writes the target's numbers from the caller's namespace inwards over the first ones
-/// of the room. It answers how many, or the refusal.
+/// of the room. It answers how many, or the refusal. Behind them are zeroes.
 #[tactic(auto, unfolding(pid_types::specs::Queries::ns_pid))]
 #[inline(always)]
 pub(crate) fn ns_pid(
@@ -166,7 +167,8 @@ pub(crate) fn ns_pid(
     room: &mut [Pid; LEVELS],
 ) -> Result<usize, Refusal>
     requires { IsWhole store.now }
-    ensures { IsWritten result room.new (ns_pid_of (state_of store.now) caller target) }
+    ensures value { IsWritten result room.new (ns_pid_of (state_of store.now) caller target) }
+    ensures zeroes { HasZeroesBehind result room.new }
 {
     laws(store);
     let Some(found) = find_live(store, caller) else {
@@ -175,6 +177,7 @@ pub(crate) fn ns_pid(
     let Some(task) = find_task(store, found.space, target) else {
         return Err(Refusal::NoTask);
     };
+    *room = [0; LEVELS];
     Ok(
         store
             .numbers()

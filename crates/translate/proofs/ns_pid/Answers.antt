@@ -8,4 +8,4 @@ use Rattle.translate.proofs.ns_pid.Goals as goal
 pub returns-clause-seen : goal.returns-clause-seen
 unfolding step
 returns-clause-seen c caller n is =
-    c.ns_pid.ensures.tells ∙ c.queries_answer_seen.ensures (state_of c.args.store.now) 0 c.args.caller caller n (λ n. NsPid n c.args.target) is (numbers_of c.args.target)
+    c.ns_pid.ensures.value.tells ∙ c.queries_answer_seen.ensures (state_of c.args.store.now) 0 c.args.caller caller n (λ n. NsPid n c.args.target) is (numbers_of c.args.target)

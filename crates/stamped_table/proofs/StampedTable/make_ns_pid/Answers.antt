@@ -8,4 +8,4 @@ use Rattle.stamped_table.proofs.StampedTable.make_ns_pid.Goals as goal
 pub returns-clause-reply : goal.returns-clause-reply
 returns-clause-reply c =
     subst (λ (s : Stamped). IsWritten c.ns_pid-told.result c.ns_pid-told.new.room (step s.state s.stamp (NsPid c.args.caller c.args.target)).reply)
-    c.self.view_is (c.ns_pid-told.ensures c.self.inside.stamp)
+    c.self.view_is (c.ns_pid-told.ensures.reply c.self.inside.stamp)

@@ -1,0 +1,134 @@
+/* Tests that the proved functions write nothing of the struct that they work on, but those that open, load or close. So a call's mark stays in it. The
+ * structs are in memory that is read-only meanwhile, and the archive is linked without the guards. */
+#include "pidtab_replica.h"
+
+#include "test.h"
+
+#include <signal.h>
+#include <sys/mman.h>
+#include <sys/wait.h>
+#include <unistd.h>
+
+#define ROUNDS 20000
+#define SETTINGS "pidtab-log 2 pid_max 4194304 model 1"
+#define ENTRY "calls 4 1 2 4 a23d48e1e3a92dc8\nfork 1\ngetpid 2"
+
+struct held {
+	struct pidtab table, followed;
+	struct pidtab_record record, replayed;
+	struct pidtab_replica replica;
+};
+static struct held *held;
+
+static void protect(int how)
+{
+	CHECK(mprotect(held, sizeof *held, how) == 0);
+}
+
+static struct pidtab_call random_call(void)
+{
+	return (struct pidtab_call){ .operation = random_below(PIDTAB_SUBREAPER + 1), .caller = random_below(12), .id = random_below(6), .number = random_below(12),
+		.choice = random_below(4), .pid = (int32_t)random_below(9), .pgid = (int32_t)random_below(9) };
+}
+
+static void on_table(void)
+{
+	struct pidtab_effect effects[8];
+	struct pidtab_reply reply;
+	uint64_t number, count;
+
+	for (int i = 0; i < ROUNDS; i++) {
+		struct pidtab_call call = random_call();
+		char line[PIDTAB_LONGEST_CALL], answer[PIDTAB_LONGEST_ANSWER];
+		size_t size;
+
+		pidtab_call(&held->table, &call, &reply);
+		pidtab_call_told(&held->table, &call, &reply, effects, 8, &count);
+		if (pidtab_call_line(&call, line, sizeof line, &size) == PIDTAB_DONE)
+			pidtab_line(&held->table, line, size, answer, sizeof answer, &size);
+		pidtab_getpid_of(&held->table, call.caller, &number);
+		pidtab_getppid_of(&held->table, call.caller, &number);
+		pidtab_getpgid_of(&held->table, call.caller, call.number, &number);
+		pidtab_getsid_of(&held->table, call.caller, call.number, &number);
+		pidtab_next_of(&held->table, call.caller, call.choice, call.number, &number);
+		pidtab_count_of(&held->table, call.id, &number);
+		pidtab_fork_at(&held->table, call.caller, random_below(2), random_below(99), random_below(99), &reply);
+	}
+}
+
+static void on_record(void)
+{
+	struct pidtab_effect effects[8];
+	struct pidtab_reply reply, replies[2];
+	uint64_t ordinal, count;
+	size_t made;
+
+	for (int i = 0; i < ROUNDS; i++) {
+		struct pidtab_call calls[2] = { random_call(), random_call() };
+		char line[PIDTAB_LONGEST_CALL], answer[PIDTAB_LONGEST_ANSWER];
+		size_t size;
+
+		pidtab_record_call(&held->record, 0, calls, &reply, &ordinal);
+		pidtab_record_call_keeping(&held->record, 1, calls, 64, &reply, &ordinal);
+		pidtab_record_calls(&held->record, 1, calls, 2, replies, 2, &made, &ordinal);
+		pidtab_record_call_told(&held->record, 0, calls, &reply, &ordinal, effects, 8, &count);
+		if (pidtab_call_line(calls, line, sizeof line, &size) == PIDTAB_DONE)
+			pidtab_record_line(&held->record, 0, line, size, answer, sizeof answer, &size, &ordinal);
+		pidtab_record_fork_at(&held->record, 0, calls->caller, random_below(2), random_below(99), random_below(99), &reply, &ordinal);
+	}
+	CHECK(pidtab_record_keep(&held->record, 5) == PIDTAB_DONE && pidtab_record_checkpoint(&held->record) == PIDTAB_DONE);
+	CHECK(pidtab_record_call(&held->record, 0, &(struct pidtab_call){ .operation = PIDTAB_GETPID, .caller = 1 }, &reply, &ordinal) == PIDTAB_DONE);
+	CHECK(pidtab_record_checkpoint_at(&held->record, ordinal + 1) == PIDTAB_DONE);
+}
+
+static void on_replayed(void)
+{
+	struct pidtab_entry saved = { .worker = 0, .call = { .operation = PIDTAB_GETPID, .caller = 1 }, .reply = { .kind = PIDTAB_NUMBER, .first = 1 } };
+	size_t place;
+
+	CHECK(pidtab_record_replay(&held->replayed, &saved, 1, &place) == PIDTAB_DONE);
+}
+
+static void on_replica(void)
+{
+	static char text[1 << 16];
+	struct pidtab_applied applied;
+	size_t size = 0, used = 0;
+
+	CHECK(pidtab_replica_apply(&held->replica, &held->followed, 1, SETTINGS, strlen(SETTINGS), &applied) == PIDTAB_DONE);
+	CHECK(pidtab_replica_apply(&held->replica, &held->followed, 2, ENTRY, strlen(ENTRY), &applied) == PIDTAB_DONE);
+	CHECK(pidtab_replica_write(&held->replica, text, sizeof text, &size) == PIDTAB_DONE);
+	CHECK(pidtab_replica_read(&held->replica, text, size, &used) == PIDTAB_DONE);
+}
+
+/* What closes writes the struct, so here it is stopped: else the memory would be no test. */
+static void closing_is_stopped(void)
+{
+	int status;
+	pid_t child = fork();
+
+	if (child == 0) {
+		pidtab_record_close(&held->record);
+		_exit(0);
+	}
+	CHECK(child > 0 && waitpid(child, &status, 0) == child && WIFSIGNALED(status) && WTERMSIG(status) == SIGSEGV);
+}
+
+int main(void)
+{
+	held = mmap(NULL, sizeof *held, PROT_READ | PROT_WRITE, MAP_PRIVATE | MAP_ANONYMOUS, -1, 0);
+	CHECK(held != MAP_FAILED && pidtab_open(&held->table, 32768) == PIDTAB_DONE && pidtab_open(&held->followed, 4194304) == PIDTAB_DONE);
+	CHECK(pidtab_record_open(&held->record, 32768, 1, 2) == PIDTAB_DONE && pidtab_record_open(&held->replayed, 32768, 1, 1) == PIDTAB_DONE);
+	CHECK(pidtab_replica_open(&held->replica, 4194304, 1) == PIDTAB_DONE);
+	protect(PROT_READ);
+	on_table();
+	on_record();
+	on_replayed();
+	on_replica();
+	closing_is_stopped();
+	protect(PROT_READ | PROT_WRITE);
+	pidtab_close(&held->table), pidtab_close(&held->followed);
+	pidtab_record_close(&held->record), pidtab_record_close(&held->replayed);
+	pidtab_replica_close(&held->replica);
+	return 0;
+}
