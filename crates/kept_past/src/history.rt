@@ -94,6 +94,15 @@ impl History {
         self.ring.len() - self.lag
     }
 
+    /// The stamp that is behind those of the kept entries. It costs two reads.
+    #[inline(always)]
+    pub fn next(&self) -> u64
+        requires { self.now.stamp + length self.now.entries < 2 ^ 64 }
+        ensures { result ≡ self.now.stamp + length self.now.entries }
+    {
+        self.stamp + self.ring.len() as u64
+    }
+
     /// Whether the opening is the present state as it is.
     #[inline(always)]
     pub fn is_bare(&self) -> bool

@@ -177,7 +177,7 @@ impl Kept {
         no_reuse();
         count_is_of_subtree();
         numbers_are_apart();
-        self.first_kept + self.history.len() as u64
+        self.history.next() - self.config.first_stamp()
     }
 
     /// How many calls were recorded before the kept ones: the ordinal of the first kept entry.
@@ -194,7 +194,7 @@ impl Kept {
         ensures some { IfSome result (λ stamp. stamp ≡ next_stamp self.now) }
         ensures recorded { (ordinal : ℕ) → ordinal < total self.now → self.now.config.first_stamp + ordinal < u64.MAX }
     {
-        let stamp = self.config.first_stamp() + self.first_kept + self.history.len() as u64;
+        let stamp = self.history.next();
         if stamp == u64::MAX { None } else { Some(stamp) }
     }
 

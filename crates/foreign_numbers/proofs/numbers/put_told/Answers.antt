@@ -22,8 +22,8 @@ returns-in-Ok c =
     let listed : ℕ → List ℕ → ReplyNumbers = λ n l. record { kind = 3; errno = 0; refusal = 0; count = n; first = 0; second = 0; levels = l } in
     let fits = subst (λ (told : Result ℕ Refusal). written told ≤ 33) c.in-Ok.is c.requires.fits in
     let zeroes = subst (λ (told : Result ℕ Refusal). HasZeroesBehind told levels) c.in-Ok.is c.requires.zeroes in
-    ap (listed count) (whole count levels (replicate 33 0) (omega (arith, fits, c.told-reply.levels)) zeroes)
-    ∙ ap (λ n. listed n (with_zeroes (take count levels))) {x = count} {y = length (take count levels)} (omega (arith, fits, c.told-reply.levels, length-take count levels))
+    ap (listed count) (whole count levels (replicate 33 0) (omega (arith, fits, c.told-reply)) zeroes)
+    ∙ ap (λ n. listed n (with_zeroes (take count levels))) {x = count} {y = length (take count levels)} (omega (arith, fits, c.told-reply, length-take count levels))
     ∙ ap (λ (told : Result ℕ Refusal). numbers_of (told_of told levels)) (sym c.in-Ok.is)
 
 pub returns-in-Err : goal.returns-in-Err

@@ -1,4 +1,4 @@
-use Rattle.std.proofs.Common.{arith, subst, ◌≡◌, ◌+◌, length}
+use Rattle.std.proofs.Common.{arith, subst, ◌≡◌, ◌-◌, length}
 use Rattle.kept_table.specs.Chronicle.{Chronicle, recorded_by_all}
 use Rattle.kept_table.specs.Promise.{KeepsPromise}
 use Rattle.kept_table.proofs.Totals.{total_of_all}
@@ -7,8 +7,8 @@ use Rattle.kept_table.proofs.kept.Kept.total.Goals as goal
 
 pub returns-clause-workers : goal.returns-clause-workers
 returns-clause-workers c =
-    subst (λ (t : Chronicle). c.self.inside.first_kept + c.len.result ≡ recorded_by_all (length t.cut) t) c.self.view_is
-    (omega (arith, total_of_all _ _ c.self.invariant.counted.kept.counted, c.len.ensures))
+    subst (λ (t : Chronicle). c.next.result - c.first_stamp.result ≡ recorded_by_all (length t.cut) t) c.self.view_is
+    (omega (arith, total_of_all _ _ c.self.invariant.counted.kept.counted, c.self.invariant.at, c.next.ensures, c.first_stamp.ensures))
 
 pub returns-clause-promise : goal.returns-clause-promise
 returns-clause-promise c =
