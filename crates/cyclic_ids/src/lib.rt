@@ -430,7 +430,6 @@ impl CyclicIds {
     }
 
     /// The value of a number; none where it is not in use.
-    #[inline(always)]
     pub fn find(&self, n: Pid) -> Option<&u32>
         ensures { option_copied result ≡ value_at self.now.places n }
     {
@@ -484,7 +483,6 @@ impl CyclicIds {
     }
 
     /// The least number at or above `from` that is in use and has mark `m`; none where there is none.
-    #[inline(always)]
     pub fn next_marked(&self, from: Pid, m: usize) -> Option<Pid>
         requires { m < 3 }
         ensures { IsLeastIndex (λ k. is_marked m (entry_at self.now.places k)) from index_count result }
@@ -499,7 +497,6 @@ impl CyclicIds {
     }
 
     /// The same by a search of the tree and one of the leaf.
-    #[inline(always)]
     fn search_marked(&self, from: Pid, m: usize) -> Option<Pid>
         requires { m < 3 }
         ensures { IsLeastIndex (λ k. is_marked m (entry_at self.now.places k)) from index_count result }

@@ -155,7 +155,6 @@ fn read_later_call(n: &CallNumbers) -> Option<Call>
 }
 
 /// Writes a reply of the kind that tells one value or two.
-#[inline(always)]
 fn put_values(reply: &mut ReplyNumbers, kind: u32, first: u64, second: u64)
     ensures { reply.new ≡ record (blank_reply kind) { first = first; second = second } }
 {

@@ -286,7 +286,6 @@ impl Numbers {
 
     /// The identifier's number in the namespace; none where it is not visible there. It costs a few
     /// reads at any level.
-    #[inline(always)]
     pub fn number_in(&self, ident: IdentKey, space: SpaceKey) -> Option<Pid>
         ensures { result ≡ number_of self.now ident space }
     {
@@ -352,7 +351,6 @@ impl Numbers {
 
     /// The least number at or above `from` whose identifier has a use of the kind, in the namespace. It
     /// costs one search in the namespace's tree of numbers.
-    #[inline(always)]
     pub fn next_used(&self, space: SpaceKey, kind: Kind, from: Pid) -> Option<Pid>
         ensures { IsNextUsed self.now kind space from result }
     {

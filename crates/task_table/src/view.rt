@@ -49,7 +49,6 @@ pub fn laws(store: &Tasks)
 }
 
 /// Whether a task has not ended.
-#[inline(always)]
 pub fn is_live(task: &Task) -> bool
     ensures { result ≡ lives task.now }
 {
@@ -60,7 +59,6 @@ pub fn is_live(task: &Task) -> bool
 }
 
 /// The key of a task's own namespace.
-#[inline(always)]
 fn own_space(store: &Tasks, key: TaskKey) -> SpaceKey
     requires { IsSome (task_at store.now.tree key) }
     ensures own { (u : Identifier) → identifier_at store.now.numbering key ≡ Some u → result ≡ u.space }
@@ -72,7 +70,6 @@ fn own_space(store: &Tasks, key: TaskKey) -> SpaceKey
 
 /// The task with the number in the namespace, zombies among them. It costs one search in the namespace's
 /// tree of numbers.
-#[inline(always)]
 pub fn find_task(store: &Tasks, space: SpaceKey, number: Pid) -> Option<Found>
     ensures there { IfSome result (λ f. (task_at store.now.tree f.key ≡ Some f.task)
         × (number_of store.now.numbering f.key space ≡ Some number)) }
@@ -100,7 +97,6 @@ pub fn find_task(store: &Tasks, space: SpaceKey, number: Pid) -> Option<Found>
 }
 
 /// The live task with the number in the root namespace. It costs one search in the root's tree of numbers.
-#[inline(always)]
 pub fn find_live(store: &Tasks, number: Pid) -> Option<Found>
     ensures there { IfSome result (λ f. (task_at store.now.tree f.key ≡ Some f.task) × (lives f.task ≡ true)) }
     ensures own { IfSome result (λ f. HasOwnSpace store.now f) }
