@@ -16,7 +16,7 @@
 struct held {
 	struct pidtab table, followed;
 	struct pidtab_record record, replayed;
-	struct pidtab_replica replica;
+	struct pidtab_replica replica, late;
 };
 static struct held *held;
 
@@ -95,10 +95,11 @@ static void on_replica(void)
 	struct pidtab_applied applied;
 	size_t size = 0, used = 0;
 
-	CHECK(pidtab_replica_apply(&held->replica, &held->followed, 1, SETTINGS, strlen(SETTINGS), &applied) == PIDTAB_DONE);
-	CHECK(pidtab_replica_apply(&held->replica, &held->followed, 2, ENTRY, strlen(ENTRY), &applied) == PIDTAB_DONE);
+	CHECK(pidtab_replica_apply(&held->replica, &held->followed, 3, SETTINGS, strlen(SETTINGS), &applied) == PIDTAB_DONE);
+	CHECK(pidtab_replica_apply(&held->replica, &held->followed, 4, "open", 4, &applied) == PIDTAB_DONE);
+	CHECK(pidtab_replica_apply(&held->replica, &held->followed, 6, ENTRY, strlen(ENTRY), &applied) == PIDTAB_DONE);
 	CHECK(pidtab_replica_write(&held->replica, text, sizeof text, &size) == PIDTAB_DONE);
-	CHECK(pidtab_replica_read(&held->replica, text, size, &used) == PIDTAB_DONE);
+	CHECK(pidtab_replica_read(&held->late, text, size, &used) == PIDTAB_DONE);
 }
 
 /* What closes writes the struct, so here it is stopped: else the memory would be no test. */
@@ -119,7 +120,7 @@ int main(void)
 	held = mmap(NULL, sizeof *held, PROT_READ | PROT_WRITE, MAP_PRIVATE | MAP_ANONYMOUS, -1, 0);
 	CHECK(held != MAP_FAILED && pidtab_open(&held->table, 32768) == PIDTAB_DONE && pidtab_open(&held->followed, 4194304) == PIDTAB_DONE);
 	CHECK(pidtab_record_open(&held->record, 32768, 1, 2) == PIDTAB_DONE && pidtab_record_open(&held->replayed, 32768, 1, 1) == PIDTAB_DONE);
-	CHECK(pidtab_replica_open(&held->replica, 4194304, 1) == PIDTAB_DONE);
+	CHECK(pidtab_replica_open(&held->replica, 4194304, 1) == PIDTAB_DONE && pidtab_replica_open(&held->late, 4194304, 1) == PIDTAB_DONE);
 	protect(PROT_READ);
 	on_table();
 	on_record();
@@ -129,6 +130,6 @@ int main(void)
 	protect(PROT_READ | PROT_WRITE);
 	pidtab_close(&held->table), pidtab_close(&held->followed);
 	pidtab_record_close(&held->record), pidtab_record_close(&held->replayed);
-	pidtab_replica_close(&held->replica);
+	pidtab_replica_close(&held->replica), pidtab_replica_close(&held->late);
 	return 0;
 }
