@@ -210,7 +210,8 @@ class Service(Histories):
         path = self.serve(self.bulk(text), self.bulk(b"%016x" % 7), self.bulk(self.path.read_bytes()))
         followed = follow_service(path)
         self.addCleanup(followed.table.close)
-        self.assertEqual([entry.answer for entry in next(followed.calls)], ["child 2 root 2"])
+        # What has not come yet is an empty list.
+        self.assertEqual([entry.answer for entry in next(filter(None, followed.calls))], ["child 2 root 2"])
         followed.calls.close()  # type: ignore[attr-defined]
 
     def test_one_that_refuses(self) -> None:
