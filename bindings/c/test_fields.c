@@ -9,7 +9,7 @@
 #include <sys/wait.h>
 #include <unistd.h>
 
-#define ROUNDS 20000
+#define ROUNDS 5000
 #define SETTINGS "pidtab-log 2 pid_max 4194304 model 1"
 #define ENTRY "calls 4 1 2 4 a23d48e1e3a92dc8\nfork 1\ngetpid 2"
 
@@ -20,16 +20,43 @@ struct held {
 };
 static struct held *held;
 
+/* The function that is called, and whether each of those of a round was once done. */
+static const char *volatile called = "";
+static bool is_done[16];
+#define TRY(place, call) (called = #call, is_done[place] |= (call) == PIDTAB_DONE)
+
+static void tell(int signal)
+{
+	(void)signal;
+	fprintf(stderr, "bindings/c/test_fields.c: it writes the struct: %s\n", called);
+	_exit(1);
+}
+
+/* Calls that are refused before they work on anything would test nothing. */
+static void each_was_done(int count)
+{
+	for (int i = 0; i < count; i++)
+		CHECK(is_done[i]);
+	memset(is_done, 0, sizeof is_done);
+}
+
 static void protect(int how)
 {
 	CHECK(mprotect(held, sizeof *held, how) == 0);
 }
 
+/* Process 1 does not end, since nothing could be called behind it. */
 static struct pidtab_call random_call(void)
 {
-	return (struct pidtab_call){ .operation = random_below(PIDTAB_SUBREAPER + 1), .caller = random_below(12), .id = random_below(6), .number = random_below(12),
+	struct pidtab_call call = { .operation = random_below(PIDTAB_SUBREAPER + 1), .caller = random_below(12), .id = random_below(6), .number = random_below(12),
 		.choice = random_below(4), .pid = (int32_t)random_below(9), .pgid = (int32_t)random_below(9) };
+
+	if (call.operation == PIDTAB_EXIT && call.caller == 1)
+		call.caller = 2;
+	return call;
 }
+
+static const struct pidtab_call a_fork = { .operation = PIDTAB_FORK, .caller = 1 };
 
 static void on_table(void)
 {
@@ -42,18 +69,20 @@ static void on_table(void)
 		char line[PIDTAB_LONGEST_CALL], answer[PIDTAB_LONGEST_ANSWER];
 		size_t size;
 
-		pidtab_call(&held->table, &call, &reply);
-		pidtab_call_told(&held->table, &call, &reply, effects, 8, &count);
+		TRY(0, pidtab_call(&held->table, &call, &reply));
+		TRY(1, pidtab_call_told(&held->table, &call, &reply, effects, 8, &count));
 		if (pidtab_call_line(&call, line, sizeof line, &size) == PIDTAB_DONE)
-			pidtab_line(&held->table, line, size, answer, sizeof answer, &size);
-		pidtab_getpid_of(&held->table, call.caller, &number);
-		pidtab_getppid_of(&held->table, call.caller, &number);
-		pidtab_getpgid_of(&held->table, call.caller, call.number, &number);
-		pidtab_getsid_of(&held->table, call.caller, call.number, &number);
-		pidtab_next_of(&held->table, call.caller, call.choice, call.number, &number);
-		pidtab_count_of(&held->table, call.id, &number);
-		pidtab_fork_at(&held->table, call.caller, random_below(2), random_below(99), random_below(99), &reply);
+			TRY(2, pidtab_line(&held->table, line, size, answer, sizeof answer, &size));
+		TRY(3, pidtab_getpid_of(&held->table, call.caller, &number));
+		TRY(4, pidtab_getppid_of(&held->table, call.caller, &number));
+		TRY(5, pidtab_getpgid_of(&held->table, call.caller, call.number, &number));
+		TRY(6, pidtab_getsid_of(&held->table, call.caller, call.number, &number));
+		TRY(7, pidtab_next_of(&held->table, call.caller, call.choice, call.number, &number));
+		TRY(8, pidtab_count_of(&held->table, call.id, &number));
+		CHECK(pidtab_would(&held->table, &a_fork, &reply) == PIDTAB_DONE);
+		TRY(9, pidtab_fork_at(&held->table, 1, false, (uint32_t)reply.first, (uint32_t)reply.second, &reply));
 	}
+	each_was_done(10);
 }
 
 static void on_record(void)
@@ -68,14 +97,16 @@ static void on_record(void)
 		char line[PIDTAB_LONGEST_CALL], answer[PIDTAB_LONGEST_ANSWER];
 		size_t size;
 
-		pidtab_record_call(&held->record, 0, calls, &reply, &ordinal);
-		pidtab_record_call_keeping(&held->record, 1, calls, 64, &reply, &ordinal);
-		pidtab_record_calls(&held->record, 1, calls, 2, replies, 2, &made, &ordinal);
-		pidtab_record_call_told(&held->record, 0, calls, &reply, &ordinal, effects, 8, &count);
+		TRY(0, pidtab_record_call(&held->record, 0, calls, &reply, &ordinal));
+		TRY(1, pidtab_record_call_keeping(&held->record, 1, calls, 64, &reply, &ordinal));
+		TRY(2, pidtab_record_calls(&held->record, 1, calls, 2, replies, 2, &made, &ordinal));
+		TRY(3, pidtab_record_call_told(&held->record, 0, calls, &reply, &ordinal, effects, 8, &count));
 		if (pidtab_call_line(calls, line, sizeof line, &size) == PIDTAB_DONE)
-			pidtab_record_line(&held->record, 0, line, size, answer, sizeof answer, &size, &ordinal);
-		pidtab_record_fork_at(&held->record, 0, calls->caller, random_below(2), random_below(99), random_below(99), &reply, &ordinal);
+			TRY(4, pidtab_record_line(&held->record, 0, line, size, answer, sizeof answer, &size, &ordinal));
+		CHECK(pidtab_record_would(&held->record, &a_fork, &reply) == PIDTAB_DONE);
+		TRY(5, pidtab_record_fork_at(&held->record, 0, 1, false, (uint32_t)reply.first, (uint32_t)reply.second, &reply, &ordinal));
 	}
+	each_was_done(6);
 	CHECK(pidtab_record_keep(&held->record, 5) == PIDTAB_DONE && pidtab_record_checkpoint(&held->record) == PIDTAB_DONE);
 	CHECK(pidtab_record_call(&held->record, 0, &(struct pidtab_call){ .operation = PIDTAB_GETPID, .caller = 1 }, &reply, &ordinal) == PIDTAB_DONE);
 	CHECK(pidtab_record_checkpoint_at(&held->record, ordinal + 1) == PIDTAB_DONE);
@@ -109,6 +140,7 @@ static void closing_is_stopped(void)
 	pid_t child = fork();
 
 	if (child == 0) {
+		signal(SIGSEGV, SIG_DFL);
 		pidtab_record_close(&held->record);
 		_exit(0);
 	}
@@ -121,6 +153,7 @@ int main(void)
 	CHECK(held != MAP_FAILED && pidtab_open(&held->table, 32768) == PIDTAB_DONE && pidtab_open(&held->followed, 4194304) == PIDTAB_DONE);
 	CHECK(pidtab_record_open(&held->record, 32768, 1, 2) == PIDTAB_DONE && pidtab_record_open(&held->replayed, 32768, 1, 1) == PIDTAB_DONE);
 	CHECK(pidtab_replica_open(&held->replica, 4194304, 1) == PIDTAB_DONE && pidtab_replica_open(&held->late, 4194304, 1) == PIDTAB_DONE);
+	signal(SIGSEGV, tell);
 	protect(PROT_READ);
 	on_table();
 	on_record();
