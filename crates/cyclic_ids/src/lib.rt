@@ -120,7 +120,8 @@ fn lesser_of(found: Option<Pid>, block: u32, slot: Option<u32>) -> Option<Pid>
 /// Whether a number was found, and is below all of a block.
 #[inline(always)]
 fn is_below(found: Option<Pid>, block: u32) -> bool
-    ensures { result ≡ true → IfSome found (λ n. n / 64 < block) × (found ≢ None) }
+    ensures below { result ≡ true → IfSome found (λ n. n / 64 < block) × (found ≢ None) }
+    ensures not_below { result ≡ false → IfSome found (λ n. block ≤ n / 64) }
 {
     match found {
         Some(n) => n / 64 < block,
@@ -430,6 +431,7 @@ impl CyclicIds {
     }
 
     /// The value of a number; none where it is not in use.
+    #[inline(always)]
     pub fn find(&self, n: Pid) -> Option<&u32>
         ensures { option_copied result ≡ value_at self.now.places n }
     {

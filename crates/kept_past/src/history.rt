@@ -96,7 +96,7 @@ impl History {
 
     /// The stamp that is behind those of the kept entries. It costs two reads.
     #[inline(always)]
-    pub fn next(&self) -> u64
+    pub fn next_stamp(&self) -> u64
         requires { self.now.stamp + length self.now.entries < 2 ^ 64 }
         ensures { result ≡ self.now.stamp + length self.now.entries }
     {
@@ -300,14 +300,14 @@ impl History {
         worker: usize,
         caller: Pid,
         target: Pid,
-        room: &mut [Pid; LEVELS],
+        numbers: &mut [Pid; LEVELS],
     ) -> Result<usize, Refusal>
         requires room { 0 < self.old.room }
         requires begun { self.old.opening ≢ None }
         requires fits { self.old.stamp < 2 ^ 64 }
         ensures reply { (stamp : ℕ) →
-            IsWritten result room.new (step table.now stamp (NsPid caller target)).reply }
-        ensures zeroes { HasZeroesBehind result room.new }
+            IsWritten result numbers.new (step table.now stamp (NsPid caller target)).reply }
+        ensures zeroes { HasZeroesBehind result numbers.new }
         ensures entry { (stamp : ℕ) → self.new ≡ record self.old {
           entries = self.old.entries ++ record {
             worker = worker;
@@ -319,7 +319,7 @@ impl History {
         } }
         ensures room { self.old.room ≤ self.new.room + 1 }
     {
-        let told = enter_list(table, &mut self.ring, worker, caller, target, room);
+        let told = enter_list(table, &mut self.ring, worker, caller, target, numbers);
         if self.lag > 0 {
             self.catch_up(STEPS);
         }
@@ -536,8 +536,8 @@ fn enter_unseen(
     } ∷ [] }
     ensures left { ring.old.room ≤ ring.new.room + 1 }
 {
-    let mut room = [0; LEVELS];
-    match enter_list(table, ring, worker, caller, target, &mut room) {
+    let mut numbers = [0; LEVELS];
+    match enter_list(table, ring, worker, caller, target, &mut numbers) {
         Ok(_) => None,
         Err(refusal) => Some(ShortReply::Refused(refusal)),
     }
@@ -552,12 +552,12 @@ fn enter_list(
     worker: usize,
     caller: Pid,
     target: Pid,
-    room: &mut [Pid; LEVELS],
+    numbers: &mut [Pid; LEVELS],
 ) -> Result<usize, Refusal>
     requires { 0 < ring.old.room }
     ensures reply { (stamp : ℕ) →
-        IsWritten result room.new (step table.now stamp (NsPid caller target)).reply }
-    ensures zeroes { HasZeroesBehind result room.new }
+        IsWritten result numbers.new (step table.now stamp (NsPid caller target)).reply }
+    ensures zeroes { HasZeroesBehind result numbers.new }
     ensures ring { (stamp : ℕ) → ring.new.entries ≡ ring.old.entries ++ record {
       worker = worker;
       call = NsPid caller target;
@@ -566,9 +566,9 @@ fn enter_list(
     ensures left { ring.old.room ≤ ring.new.room + 1 }
 {
     let call = Call::NsPid { caller, target };
-    let told = table.ns_pid(caller, target, room);
+    let told = table.ns_pid(caller, target, numbers);
     match told {
-        Ok(count) => ring.push_list(worker, call, room, count),
+        Ok(count) => ring.push_list(worker, call, numbers, count),
         Err(refusal) => ring.push_short(worker, call, ShortReply::Refused(refusal)),
     }
     told

@@ -177,7 +177,7 @@ impl Kept {
         no_reuse();
         count_is_of_subtree();
         numbers_are_apart();
-        self.history.next() - self.config.first_stamp()
+        self.history.next_stamp() - self.config.first_stamp()
     }
 
     /// How many calls were recorded before the kept ones: the ordinal of the first kept entry.
@@ -194,7 +194,7 @@ impl Kept {
         ensures some { IfSome result (λ stamp. stamp ≡ next_stamp self.now) }
         ensures recorded { (ordinal : ℕ) → ordinal < total self.now → self.now.config.first_stamp + ordinal < u64.MAX }
     {
-        let stamp = self.history.next();
+        let stamp = self.history.next_stamp();
         if stamp == u64::MAX { None } else { Some(stamp) }
     }
 
@@ -343,12 +343,12 @@ impl Kept {
         &self,
         caller: Pid,
         target: Pid,
-        room: &mut [Pid; LEVELS],
+        numbers: &mut [Pid; LEVELS],
     ) -> Result<usize, Refusal>
-        ensures reply { IsWritten result room.new (outcome self.now (NsPid caller target)).reply }
-        ensures zeroes { HasZeroesBehind result room.new }
+        ensures reply { IsWritten result numbers.new (outcome self.now (NsPid caller target)).reply }
+        ensures zeroes { HasZeroesBehind result numbers.new }
     {
-        self.table.ns_pid(caller, target, room)
+        self.table.ns_pid(caller, target, numbers)
     }
 
     /// Writes the reply that the call would get as the next one: [`PidTable::would`]. It is not recorded, and nothing
@@ -405,7 +405,8 @@ impl Kept {
     fn is_fresh(&self) -> bool
         ensures { result ≡ is_fresh self.now.is_resumed self.now.first_kept }
     {
-        !self.is_resumed && self.first_kept == 0
+        // Both are read, and so the answer is made only where it is asked for.
+        !self.is_resumed & (self.first_kept == 0)
     }
 
     /// Makes the present state the opening, and empties the history. Stamps and ordinals go on, and the room for
@@ -463,20 +464,20 @@ impl Kept {
     }
 
     /// Makes the call `NSpid` of the worker as [`Kept::make_call`] does, and tells its reply as [`PidTable::ns_pid`]
-    /// does. Where it is not made, the room is as it was.
+    /// does. Where it is not made, the numbers are as they were.
     #[inline(always)]
     pub fn make_ns_pid(
         &mut self,
         worker: usize,
         caller: Pid,
         target: Pid,
-        room: &mut [Pid; LEVELS],
+        numbers: &mut [Pid; LEVELS],
     ) -> Result<Result<usize, Refusal>, CallFault>
         requires { worker < length self.old.cut }
         ensures step { OnOk result (self.new.present ≡ (outcome self.old (NsPid caller target)).state) }
         ensures reply { IfOk result (λ told.
-            IsWritten told room.new (outcome self.old (NsPid caller target)).reply) }
-        ensures zeroes { IfOk result (λ told. HasZeroesBehind told room.new) }
+            IsWritten told numbers.new (outcome self.old (NsPid caller target)).reply) }
+        ensures zeroes { IfOk result (λ told. HasZeroesBehind told numbers.new) }
         ensures history { OnOk result
             (self.new.entries ≡ self.old.entries ++ entry_of self.old worker (NsPid caller target) ∷ []) }
         ensures others { OnOk result (self.new ≡ counted self.old self.new.entries self.new.present self.new.room) }
@@ -484,7 +485,7 @@ impl Kept {
 
         ensures spent { (result ≡ Err CallFault.Spent) ↔ (next_stamp self.old ≡ u64.MAX) }
         ensures err { OnErr result (self.new ≡ record self.old { room = self.new.room }) }
-        ensures err_written { OnErr result (room.new ≡ room.old) }
+        ensures err_written { OnErr result (numbers.new ≡ numbers.old) }
         ensures err_room { OnErr result (self.old.room ≤ self.new.room) }
         ensures no_memory { result ≡ Err CallFault.NoMemory → self.old.room ≡ 0 }
     {
@@ -494,7 +495,7 @@ impl Kept {
         self.reserve_calls(1)?;
         let told = self
             .history
-            .enter_ns_pid(&self.table, worker, caller, target, room);
+            .enter_ns_pid(&self.table, worker, caller, target, numbers);
         let calls = &mut self.calls;
         count_call(calls, worker);
         Ok(told)

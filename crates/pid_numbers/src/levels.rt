@@ -135,6 +135,10 @@ impl LevelNumbers {
     pub(crate) fn as_slice(&self) -> &[Pid]
         ensures { result.now ≡ self.now }
     {
+        // Most identifiers have one number.
+        if let Place::Here(number) = &self.place {
+            return number;
+        }
         match &self.place {
             Place::Here(number) => number,
             Place::Nowhere => &[],

@@ -286,19 +286,30 @@ impl Numbers {
 
     /// The identifier's number in the namespace; none where it is not visible there. It costs a few
     /// reads at any level.
+    #[inline(always)]
     pub fn number_in(&self, ident: IdentKey, space: SpaceKey) -> Option<Pid>
         ensures { result ≡ number_of self.now ident space }
     {
         let own = home_of(&self.idents, ident)?;
         // Most identifiers are asked for in their own namespace.
         if own == space {
-            return number_at(&self.idents, ident, 0);
+            return Some(self.own_number(ident));
         }
         if !self.tree.is_within(own, space) {
             return None;
         }
         let place = self.tree.levels(own) - self.tree.levels(space);
         number_at(&self.idents, ident, place)
+    }
+
+    /// The number of an identifier that is there in its own namespace: `getpid(2)`. It costs one read, and no test
+    /// whether it is there.
+    #[inline(always)]
+    pub fn own_number(&self, ident: IdentKey) -> Pid
+        requires { IsSome (identifier_at self.now ident) }
+        ensures { IfSome (identifier_at self.now ident) (λ u. number_of self.now ident u.space ≡ Some result) }
+    {
+        self.idents.at(ident).numbers.as_slice()[0]
     }
 
     /// Writes the identifier's numbers over the first ones of the room, from the namespace inwards, the one there
@@ -351,6 +362,7 @@ impl Numbers {
 
     /// The least number at or above `from` whose identifier has a use of the kind, in the namespace. It
     /// costs one search in the namespace's tree of numbers.
+    #[inline(always)]
     pub fn next_used(&self, space: SpaceKey, kind: Kind, from: Pid) -> Option<Pid>
         ensures { IsNextUsed self.now kind space from result }
     {

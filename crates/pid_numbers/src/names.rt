@@ -21,6 +21,7 @@ use pid_types::keys::{IdentKey, Pid, SpaceKey};
 use pid_types::plain::LEVELS;
 
 /// The namespace of the identifier.
+#[inline(always)]
 pub(crate) fn home_of(idents: &Idents, ident: IdentKey) -> Option<SpaceKey>
     ensures { result ≡ option_map (λ u. u.space) (ident_at idents.now ident) }
 {
@@ -31,6 +32,7 @@ pub(crate) fn home_of(idents: &Idents, ident: IdentKey) -> Option<SpaceKey>
 }
 
 /// The identifier's number at a place of its path.
+#[inline(always)]
 pub(crate) fn number_at(idents: &Idents, ident: IdentKey, place: usize) -> Option<Pid>
     requires { IfSome (ident_at idents.now ident) (λ u. place < length u.numbers) }
     ensures { result ≡ option_map (λ u. slice_index_or u.numbers place 0) (ident_at idents.now ident) }

@@ -236,6 +236,7 @@ pub(crate) fn release_path(ids: &mut Vec<CyclicIds>, path: &[SpaceKey], numbers:
 }
 
 /// The least number from one on that has the mark of a kind.
+#[inline(always)]
 pub(crate) fn next_at(ids: &Vec<CyclicIds>, key: SpaceKey, kind: Kind, from: Pid) -> Option<Pid>
     ensures { IsLeastIndex (λ n. is_marked (mark_of kind) (entry_on ids.now.items key n)) from index_count result }
 {

@@ -11,6 +11,7 @@ ghost use Rattle.{
 
 use crate::PidTable;
 use fork_calls::{fork, would_fork};
+use model_laws::laws::nothing_changes;
 use model_laws::soundness::soundness_is_kept;
 use ns_teardown::{exit, would_exit};
 use pid_types::call::Call;
@@ -55,13 +56,13 @@ pub fn is_query(call: &Call) -> bool
     }
 }
 
-/// Makes a call on a store that is answered by no list.
+/// Makes a call on a store that is no query.
 #[tactic(auto, unfolding(pid_types::specs::Step::step))]
 #[inline(always)]
-fn make_short(store: &mut Tasks, stamp: u64, call: Call) -> Result<ShortReply, AllocError>
+fn make_change(store: &mut Tasks, stamp: u64, call: Call) -> Result<ShortReply, AllocError>
     requires whole { IsWhole store.old }
     requires below { IsBelow stamp (state_of store.old) }
-    requires short { answers_list call ≡ false }
+    requires changes { is_query call ≡ false }
     ensures state { OnOk result (state_of store.new ≡ (step (state_of store.old) stamp call).state) }
     ensures reply { IfOk result (λ reply. reply_of reply ≡ (step (state_of store.old) stamp call).reply) }
     ensures err { OnErr result (state_of store.new ≡ state_of store.old) }
@@ -81,15 +82,34 @@ fn make_short(store: &mut Tasks, stamp: u64, call: Call) -> Result<ShortReply, A
         Call::SetSid { caller } => set_sid(store, caller),
         Call::Join { caller, target } => join(store, caller, target),
         Call::SetSubreaper { caller, on } => set_subreaper(store, caller, on),
-        Call::GetPid { caller } => get_pid(store, caller),
-        Call::GetPpid { caller } => get_ppid(store, caller),
-        Call::GetPgid { caller, pid } => get_pgid(store, caller, pid),
-        Call::GetSid { caller, pid } => get_sid(store, caller, pid),
-        Call::NsPid { .. } => unreachable!(),
-        Call::Next { caller, kind, from } => next(store, caller, kind, from),
-        Call::Count { id } => count(store, id),
+        Call::GetPid { .. }
+        | Call::GetPpid { .. }
+        | Call::GetPgid { .. }
+        | Call::GetSid { .. }
+        | Call::NsPid { .. }
+        | Call::Next { .. }
+        | Call::Count { .. } => unreachable!(),
     };
     Ok(short)
+}
+
+/// Makes a call on a store that is answered by no list.
+#[inline(always)]
+fn make_short(store: &mut Tasks, stamp: u64, call: Call) -> Result<ShortReply, AllocError>
+    requires whole { IsWhole store.old }
+    requires below { IsBelow stamp (state_of store.old) }
+    requires short { answers_list call ≡ false }
+    ensures state { OnOk result (state_of store.new ≡ (step (state_of store.old) stamp call).state) }
+    ensures reply { IfOk result (λ reply. reply_of reply ≡ (step (state_of store.old) stamp call).reply) }
+    ensures err { OnErr result (state_of store.new ≡ state_of store.old) }
+    ensures grows { OnErr result (IsTrue (may_grow call)) }
+    ensures parents { HasParents store.new }
+{
+    nothing_changes();
+    if is_query(&call) {
+        return Ok(answer_short(store, call));
+    }
+    make_change(store, stamp, call)
 }
 
 /// Writes the reply to `NSpid` in place.

@@ -33,6 +33,7 @@ use pid_types::reply::{Refusal, ShortReply};
 use task_table::Tasks;
 
 /// `getpid(2)`.
+#[inline(always)]
 pub fn get_pid(store: &Tasks, caller: Pid) -> ShortReply
     requires { IsWhole store.now }
     ensures value { reply_of result ≡ get_pid_of (state_of store.now) caller }
@@ -43,6 +44,7 @@ pub fn get_pid(store: &Tasks, caller: Pid) -> ShortReply
 }
 
 /// `getppid(2)`: 0 for a parent that the caller cannot see, and for the root init.
+#[inline(always)]
 pub fn get_ppid(store: &Tasks, caller: Pid) -> ShortReply
     requires { IsWhole store.now }
     ensures value { reply_of result ≡ get_ppid_of (state_of store.now) caller }
@@ -53,6 +55,7 @@ pub fn get_ppid(store: &Tasks, caller: Pid) -> ShortReply
 }
 
 /// `getpgid(2)`: 0 for a group that the caller cannot see.
+#[inline(always)]
 pub fn get_pgid(store: &Tasks, caller: Pid, pid: Pid) -> ShortReply
     requires { IsWhole store.now }
     ensures value { reply_of result ≡ get_pgid_of (state_of store.now) caller pid }
@@ -63,6 +66,7 @@ pub fn get_pgid(store: &Tasks, caller: Pid, pid: Pid) -> ShortReply
 }
 
 /// `getsid(2)`: 0 for a session that the caller cannot see.
+#[inline(always)]
 pub fn get_sid(store: &Tasks, caller: Pid, pid: Pid) -> ShortReply
     requires { IsWhole store.now }
     ensures value { reply_of result ≡ get_sid_of (state_of store.now) caller pid }
@@ -92,6 +96,7 @@ pub fn ns_pid(
 
 /// The least number from the given one on that is in use as the kind, in the caller's namespace. It costs one
 /// search by marks.
+#[inline(always)]
 pub fn next(store: &Tasks, caller: Pid, kind: Kind, from: Pid) -> ShortReply
     requires { IsWhole store.now }
     ensures value { reply_of result ≡ next_of (state_of store.now) caller kind from }

@@ -40,6 +40,17 @@ fn seen_task(store: &Tasks, space: SpaceKey, key: IdentKey) -> Pid
     seen(store, space, key)
 }
 
+/// The number of a task in its own namespace.
+#[inline(always)]
+fn own_number(store: &Tasks, key: TaskKey) -> Pid
+    requires { IsSome (task_at store.now.tree key) }
+    ensures { result ≡ number_or_zero (state_of store.now).spaces (name_at store.now.numbering key)
+        (name_at store.now.numbering key).space }
+{
+    laws(store);
+    store.numbers().own_number(key)
+}
+
 /// The number of a task's group in a namespace.
 #[inline(always)]
 pub(crate) fn seen_group(store: &Tasks, space: SpaceKey, found: &Found) -> Pid
@@ -91,7 +102,7 @@ pub(crate) fn get_pid(store: &Tasks, caller: Pid) -> ShortReply
     let Some(found) = find_live(store, caller) else {
         return ShortReply::Refused(Refusal::NoCaller);
     };
-    ShortReply::Number(seen_task(store, found.space, found.key))
+    ShortReply::Number(own_number(store, found.key))
 }
 
 /// `getppid(2)`: 0 for a parent that the caller cannot see, and for the root init.

@@ -11,7 +11,7 @@ returns-then-from-self c =
 
 pub returns-then-is_below : goal.returns-then-is_below
 returns-then-is_below c =
-    rw (← c.self.view_is) (found_below (λ k. is_marked c.args.m (entry_at (places_beside c.self.inside.is_ready c.self.inside.block c.self.inside.leaf.places c.self.inside.ids) k)) (λ k. is_marked c.args.m (entry_at c.self.inside.leaf.places k)) (λ k. is_marked c.args.m (entry_at c.self.inside.ids k)) c.self.inside.block (λ k e. ap (is_marked c.args.m) (entry_in_leaf c.self.inside.is_ready c.self.inside.block c.self.inside.leaf.places c.self.inside.ids k e)) (λ k e. ap (is_marked c.args.m) (entry_in_tree c.self.inside.is_ready c.self.inside.block c.self.inside.leaf.places c.self.inside.ids k e)) c.args.from _ _ (c.is_below.ensures c.if-is_below.true) c.next_marked-found.ensures)
+    rw (← c.self.view_is) (found_below (λ k. is_marked c.args.m (entry_at (places_beside c.self.inside.is_ready c.self.inside.block c.self.inside.leaf.places c.self.inside.ids) k)) (λ k. is_marked c.args.m (entry_at c.self.inside.leaf.places k)) (λ k. is_marked c.args.m (entry_at c.self.inside.ids k)) c.self.inside.block (λ k e. ap (is_marked c.args.m) (entry_in_leaf c.self.inside.is_ready c.self.inside.block c.self.inside.leaf.places c.self.inside.ids k e)) (λ k e. ap (is_marked c.args.m) (entry_in_tree c.self.inside.is_ready c.self.inside.block c.self.inside.leaf.places c.self.inside.ids k e)) c.args.from _ _ (c.is_below.ensures.below c.if-is_below.true) c.next_marked-found.ensures)
 
 pub returns : goal.returns
 returns c =

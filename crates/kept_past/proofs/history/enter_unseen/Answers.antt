@@ -5,6 +5,6 @@ use Rattle.kept_past.proofs.history.enter_unseen.Goals as goal
 
 pub returns-in-Ok-clause-reply : goal.returns-in-Ok-clause-reply
 returns-in-Ok-clause-reply c stamp = (
-  take c.in-Ok.field-0 c.enter_list.new.room,
-  sym (c.enter_list.ensures.reply stamp).tells ∙ ap (λ (told : Result ℕ Refusal). told_of told c.enter_list.new.room) c.in-Ok.is,
+  take c.in-Ok.field-0 c.enter_list.new.numbers,
+  sym (c.enter_list.ensures.reply stamp).tells ∙ ap (λ (told : Result ℕ Refusal). told_of told c.enter_list.new.numbers) c.in-Ok.is,
 )

@@ -1,31 +1,24 @@
 -- The path of an outer namespace is the end of the inner one's: so the difference of their lengths is the place of the number
-use Rattle.pid_numbers.proofs.Words.{◌≡◌, ◌∙◌, sym, ap, subst, arith, ◌<◌, ◌-◌, length, get_or, IfSome, Some, option_map, beside, Identifier, way, ident_at, ℕ, List, IsPathTree}
+use Rattle.pid_numbers.proofs.Words.{◌≡◌, ◌∙◌, sym, ap, subst, arith, ◌<◌, ◌-◌, length, get_or, IfSome, IsSome, Option, Some, option_map, beside, Identifier, way, ident_at, identifier_at, number_of, refl}
 use Rattle.ns_tree.proofs.Paths as paths
 use Rattle.pid_numbers.proofs.Views as views
 use Rattle.pid_numbers.proofs.Sweeps as sweeps
 use Rattle.pid_numbers.proofs.Numbers.number_in.Goals as goal
 use Rattle.pid_numbers.proofs.Numbers.number_in.Goals.{After-levels-2}
 
--- in its own namespace it is the first one
-pub number_at-requires : goal.number_at-requires
-number_at-requires c =
+-- there it is
+pub own_number-requires : goal.own_number-requires
+own_number-requires c =
     let h = views.home (ident_at c.self.inside.idents c.args.ident) c.in_ok-own.own c.in_ok-own.ensures in
-    subst (λ o. IfSome o (λ u. 0 < length u.numbers)) (sym h.1) (c.self.invariant.whole.numbering.tied.some c.args.ident h.0 h.1)
+    subst (λ (o : Option Identifier). IsSome o) (sym (views.identifier_is c.self.inside c.self.view_is c.args.ident ∙ h.1)) refl
 
-own-number : (ways : ℕ → List ℕ) → IsPathTree ways → (own s : ℕ) → own ≡ s → (numbers : List ℕ) → length numbers ≡ length (ways own) → 0 < length numbers
-    → beside s (ways own) numbers ≡ Some (get_or numbers 0 0)
-own-number ways tree own s same numbers len some =
-    subst (λ (t : ℕ). beside t (ways own) numbers ≡ Some (get_or numbers 0 0)) same
-    (sweeps.beside-within ways tree own own numbers len (paths.own-in ways tree own (omega (arith, len, some))) 0 (omega arith)).1
-
+-- in its own namespace it has the first one
 pub returns-then-own-space : goal.returns-then-own-space
 returns-then-own-space c =
     let h = views.home (ident_at c.self.inside.idents c.args.ident) c.in_ok-own.own c.in_ok-own.ensures in
-    let b = c.self.invariant.whole.numbering in
-    let ways = way c.self.inside.tree.nodes in
-    c.number_at.ensures ∙ ap (option_map (λ u. get_or u.numbers 0 0)) h.1
-    ∙ sym (views.number-of c.self.inside c.self.view_is c.args.ident c.args.space c.in_ok-own.own h.0 h.1 h.2
-    ∙ own-number ways b.tree c.in_ok-own.own c.args.space c.if-own-space.true h.0.numbers (b.tied.full c.args.ident h.0 h.1 ∙ ap (λ s. length (ways s)) h.2) (b.tied.some c.args.ident h.0 h.1))
+    sym (subst (λ s. number_of c.args.self.now c.args.ident s ≡ Some c.own_number.result) (h.2 ∙ c.if-own-space.true)
+    (views.at-some (λ u. number_of c.args.self.now c.args.ident u.space ≡ Some c.own_number.result) (identifier_at c.args.self.now c.args.ident) h.0 c.own_number.ensures
+    (views.identifier_is c.self.inside c.self.view_is c.args.ident ∙ h.1)))
 
 pub returns-then-not-is_within : goal.returns-then-not-is_within
 returns-then-not-is_within c =
@@ -49,14 +42,14 @@ placed c u is at =
     sweeps.beside-within ways b.tree c.in_ok-own.own c.args.space u.numbers (b.tied.full c.args.ident u is ∙ ap (λ s. length (ways s)) at) (sym c.if-not-is_within.ensures) (c.levels.result - c.levels-2.result)
     (ap (λ n. n - c.levels-2.result) c.levels.ensures.value ∙ ap (λ n. length (ways c.in_ok-own.own) - n) c.levels-2.ensures.value)
 
-pub number_at-requires-2 : goal.number_at-requires-2
-number_at-requires-2 c =
+pub number_at-requires : goal.number_at-requires
+number_at-requires c =
     let h = views.home (ident_at c.self.inside.idents c.args.ident) c.in_ok-own.own c.in_ok-own.ensures in
-    subst (λ o. IfSome o (λ u. c.levels.result - c.levels-2.result < length u.numbers)) (sym h.1) (placed (goal.at.number_at-requires-2 c).After-levels-2 h.0 h.1 h.2).0
+    subst (λ o. IfSome o (λ u. c.levels.result - c.levels-2.result < length u.numbers)) (sym h.1) (placed (goal.at.number_at-requires c).After-levels-2 h.0 h.1 h.2).0
 
 pub returns : goal.returns
 returns c =
     let h = views.home (ident_at c.self.inside.idents c.args.ident) c.in_ok-own.own c.in_ok-own.ensures in
-    c.number_at-2.ensures ∙ ap (option_map (λ u. get_or u.numbers (c.levels.result - c.levels-2.result) 0)) h.1
+    c.number_at.ensures ∙ ap (option_map (λ u. get_or u.numbers (c.levels.result - c.levels-2.result) 0)) h.1
     ∙ sym (views.number-of c.self.inside c.self.view_is c.args.ident c.args.space c.in_ok-own.own h.0 h.1 h.2
     ∙ (placed (goal.at.returns c).After-levels-2 h.0 h.1 h.2).1)

@@ -40,7 +40,7 @@ returns-clause-step c = ap (λ (t : Chronicle). t.present) (c.self.view_is ∙ c
 pub returns-clause-reply : goal.returns-clause-reply
 returns-clause-reply c =
     let stamp = next_stamp c.args.self.now in
-    subst (λ (t : Chronicle). IsWritten c.enter_ns_pid-told.result c.enter_ns_pid-told.new.room (step t.present stamp (NsPid c.args.caller c.args.target)).reply)
+    subst (λ (t : Chronicle). IsWritten c.enter_ns_pid-told.result c.enter_ns_pid-told.new.numbers (step t.present stamp (NsPid c.args.caller c.args.target)).reply)
     (c.self.view_is ∙ c.in_ok-reserve_calls.ensures.others) (c.enter_ns_pid-told.ensures.reply stamp)
 
 pub returns-clause-others : goal.returns-clause-others

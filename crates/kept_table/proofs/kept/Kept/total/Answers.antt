@@ -7,8 +7,8 @@ use Rattle.kept_table.proofs.kept.Kept.total.Goals as goal
 
 pub returns-clause-workers : goal.returns-clause-workers
 returns-clause-workers c =
-    subst (λ (t : Chronicle). c.next.result - c.first_stamp.result ≡ recorded_by_all (length t.cut) t) c.self.view_is
-    (omega (arith, total_of_all _ _ c.self.invariant.counted.kept.counted, c.self.invariant.at, c.next.ensures, c.first_stamp.ensures))
+    subst (λ (t : Chronicle). c.next_stamp.result - c.first_stamp.result ≡ recorded_by_all (length t.cut) t) c.self.view_is
+    (omega (arith, total_of_all _ _ c.self.invariant.counted.kept.counted, c.self.invariant.at, c.next_stamp.ensures, c.first_stamp.ensures))
 
 pub returns-clause-promise : goal.returns-clause-promise
 returns-clause-promise c =
