@@ -135,10 +135,6 @@ impl LevelNumbers {
     pub(crate) fn as_slice(&self) -> &[Pid]
         ensures { result.now ≡ self.now }
     {
-        // Most identifiers have one number.
-        if let Place::Here(number) = &self.place {
-            return number;
-        }
         match &self.place {
             Place::Here(number) => number,
             Place::Nowhere => &[],
@@ -146,6 +142,27 @@ impl LevelNumbers {
             Place::Middle(block) => block.as_slice(),
             Place::Large(block) => block.as_slice(),
         }
+    }
+
+    /// The innermost number.
+    #[inline(always)]
+    pub(crate) fn first(&self) -> Pid
+        requires { 0 < length self.now }
+        ensures { result ≡ slice_index_or self.now 0 0 }
+    {
+        if let Place::Here([number]) = &self.place {
+            return *number;
+        }
+        self.first_of_block()
+    }
+
+    /// The same of more numbers. It is not inlined, since most identifiers have one.
+    #[inline(never)]
+    fn first_of_block(&self) -> Pid
+        requires { 0 < length self.now }
+        ensures { result ≡ slice_index_or self.now 0 0 }
+    {
+        self.as_slice()[0]
     }
 
     /// Whether there are none.

@@ -309,7 +309,7 @@ impl Numbers {
         requires { IsSome (identifier_at self.now ident) }
         ensures { IfSome (identifier_at self.now ident) (λ u. number_of self.now ident u.space ≡ Some result) }
     {
-        self.idents.at(ident).numbers.as_slice()[0]
+        self.idents.at(ident).numbers.first()
     }
 
     /// Writes the identifier's numbers over the first ones of the room, from the namespace inwards, the one there

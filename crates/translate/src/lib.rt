@@ -96,7 +96,6 @@ pub fn ns_pid(
 
 /// The least number from the given one on that is in use as the kind, in the caller's namespace. It costs one
 /// search by marks.
-#[inline(always)]
 pub fn next(store: &Tasks, caller: Pid, kind: Kind, from: Pid) -> ShortReply
     requires { IsWhole store.now }
     ensures value { reply_of result ≡ next_of (state_of store.now) caller kind from }

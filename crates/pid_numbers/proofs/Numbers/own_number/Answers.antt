@@ -12,19 +12,16 @@ own-number ways tree own numbers len some =
     (sweeps.beside-within ways tree own own numbers len (paths.own-in ways tree own (omega (arith, len, some))) 0 (omega arith)).1
 
 -- whom the read finds
-pub bounds-as_slice-0 : goal.bounds-as_slice-0
-bounds-as_slice-0 c =
-    let at = ap (option_map identifier_of) c.at.ensures in
-    subst (λ (ns : List ℕ). 0 < length ns) (sym c.as_slice.ensures) (c.self.invariant.whole.numbering.tied.some c.args.ident _ at)
+pub first-requires : goal.first-requires
+first-requires c = c.self.invariant.whole.numbering.tied.some c.args.ident _ (ap (option_map identifier_of) c.at.ensures)
 
 pub returns : goal.returns
 returns c =
     let u = identifier_of c.at.result.now in
     let at = ap (option_map identifier_of) c.at.ensures in
     let b = c.self.invariant.whole.numbering in
-    let ways = way c.self.inside.tree.nodes in
-    subst (λ o. IfSome o (λ (v : Identifier). number_of c.args.self.now c.args.ident v.space ≡ Some (get_or c.as_slice.result.now 0 0)))
+    subst (λ o. IfSome o (λ (v : Identifier). number_of c.args.self.now c.args.ident v.space ≡ Some c.first.result))
     (sym (views.identifier_is c.self.inside c.self.view_is c.args.ident ∙ at))
     (views.number-of c.self.inside c.self.view_is c.args.ident u.space u.space u at refl
-    ∙ own-number ways b.tree u.space u.numbers (b.tied.full c.args.ident u at) (b.tied.some c.args.ident u at)
-    ∙ ap (λ ns. Some (get_or ns 0 0)) (sym c.as_slice.ensures))
+    ∙ own-number (way c.self.inside.tree.nodes) b.tree u.space u.numbers (b.tied.full c.args.ident u at) (b.tied.some c.args.ident u at)
+    ∙ ap Some (sym c.first.ensures))
