@@ -1,13 +1,14 @@
 //! Calls on a record, as numbers and as lines.
-ghost use Rattle.std.specs.Prelude.{◌≡◌, ◌≢◌, ◌+◌, ◌≤◌, Some, IfSome, IsSome, length, take, option_map};
+ghost use Rattle.std.specs.Prelude.{◌≡◌, ◌≢◌, ◌+◌, ◌≤◌, Some, IfSome, IsSome, IsTrue, false, length, take, option_map};
 ghost use Rattle.{
   pid_script.specs.Answers.{reply_text},
   pid_types.specs.declared.call.Call.TheVariants.{NsPid},
+  model_laws.specs.Refusals.{is_query},
+  pid_table.specs.Lists.{answers_list},
   kept_past.specs.Stored.{IsList},
   kept_table.specs.{Calls.{outcome}, Chronicle.{last_reply}},
-  foreign_calls.specs.Made.{TellsReply, IsReplyToLast},
+  foreign_calls.specs.{Made.{TellsReply, IsReplyToLast}, Rooms.{KeepsRoom}},
   foreign_calls.specs.Records.{roomless, IsRecordedKeeping, IsSaidStatus, RecordsCall, RecordsSaid},
-  foreign_calls.specs.Rooms.{KeepsRoom},
   foreign_numbers.specs.Numbers.{call_of, numbers_of},
 };
 
@@ -19,6 +20,7 @@ use foreign_numbers::operations;
 use foreign_numbers::status::{DONE, OUT_OF_RANGE, status_of, unmade};
 use kept_table::Kept;
 use pid_script::answer::LONGEST_ANSWER;
+use pid_table::is_query;
 use pid_types::call::Call;
 use pid_types::keys::Pid;
 use pid_types::reply::ShortReply;
@@ -103,8 +105,57 @@ fn list_on(
     DONE
 }
 
-/// Makes the call as [`make_on`] does, and tells its reply as numbers.
+/// Makes a query but `NSpid` as [`call_on`] does. Nothing is done between its answer and the reply but the entry.
 #[inline(always)]
+fn query_on(
+    held: &mut Kept,
+    worker: u32,
+    query: Call,
+    reply: &mut ReplyNumbers,
+    ordinal: &mut u64,
+) -> u32
+    requires asks { IsTrue (is_query query) }
+    requires short { answers_list query ≡ false }
+    ensures records { RecordsCall held.old worker query ordinal.old ordinal.new result held.new }
+    ensures reply { TellsReply (outcome held.old query).reply reply.old reply.new result }
+{
+    if worker as usize >= held.workers() {
+        return unmade(OUT_OF_RANGE);
+    }
+    let here = held.total();
+    match held.make_query(worker as usize, query) {
+        Ok(told) => put_short(told, reply),
+        Err(fault) => return status_of(fault),
+    }
+    *ordinal = here;
+    DONE
+}
+
+/// Makes the call as [`make_on`] does, and tells its reply as numbers. It is for changes: a query is made faster by
+/// [`query_on`].
+#[inline(always)]
+fn change_on(
+    held: &mut Kept,
+    worker: u32,
+    made: Call,
+    reply: &mut ReplyNumbers,
+    ordinal: &mut u64,
+) -> u32
+    ensures records { RecordsCall held.old worker made ordinal.old ordinal.new result held.new }
+    ensures reply { TellsReply (outcome held.old made).reply reply.old reply.new result }
+{
+    let mut told = None;
+    let status = make_on(held, worker as usize, made, &mut told, ordinal);
+    if status != DONE {
+        return status;
+    }
+    put_last(held, told, reply);
+    DONE
+}
+
+/// Makes the call as [`make_on`] does, and tells its reply as numbers. It is not inlined: each way that comes often has
+/// a copy of its own.
+#[inline(never)]
 pub fn call_on(
     held: &mut Kept,
     worker: u32,
@@ -118,13 +169,10 @@ pub fn call_on(
     if let Call::NsPid { caller, target } = made {
         return list_on(held, worker, caller, target, reply, ordinal);
     }
-    let mut told = None;
-    let status = make_on(held, worker as usize, made, &mut told, ordinal);
-    if status != DONE {
-        return status;
+    if is_query(&made) {
+        return query_on(held, worker, made, reply, ordinal);
     }
-    put_last(held, told, reply);
-    DONE
+    change_on(held, worker, made, reply, ordinal)
 }
 
 /// Makes the call that is said as [`call_on`] does. The status is `OUT_OF_RANGE` too where none is.
@@ -144,6 +192,69 @@ fn said_on(
     call_on(held, worker, made, reply, ordinal)
 }
 
+/// The same, with a copy of the way of a query.
+#[inline(always)]
+fn said_query_on(
+    held: &mut Kept,
+    worker: u32,
+    said: Option<Call>,
+    reply: &mut ReplyNumbers,
+    ordinal: &mut u64,
+) -> u32
+    ensures { RecordsSaid held.old worker said reply.old reply.new ordinal.old ordinal.new result held.new }
+{
+    let Some(made) = said else {
+        return unmade(OUT_OF_RANGE);
+    };
+    if let Call::NsPid { caller, target } = made {
+        return list_on(held, worker, caller, target, reply, ordinal);
+    }
+    if is_query(&made) {
+        return query_on(held, worker, made, reply, ordinal);
+    }
+    call_on(held, worker, made, reply, ordinal)
+}
+
+/// The same, with a copy of the way of a change.
+#[inline(always)]
+fn said_change_on(
+    held: &mut Kept,
+    worker: u32,
+    said: Option<Call>,
+    reply: &mut ReplyNumbers,
+    ordinal: &mut u64,
+) -> u32
+    ensures { RecordsSaid held.old worker said reply.old reply.new ordinal.old ordinal.new result held.new }
+{
+    let Some(made) = said else {
+        return unmade(OUT_OF_RANGE);
+    };
+    if is_query(&made) {
+        return call_on(held, worker, made, reply, ordinal);
+    }
+    change_on(held, worker, made, reply, ordinal)
+}
+
+/// The same by the way of a change, which each call but `NSpid` can take: one copy serves all operations.
+#[inline(always)]
+fn said_any_on(
+    held: &mut Kept,
+    worker: u32,
+    said: Option<Call>,
+    reply: &mut ReplyNumbers,
+    ordinal: &mut u64,
+) -> u32
+    ensures { RecordsSaid held.old worker said reply.old reply.new ordinal.old ordinal.new result held.new }
+{
+    let Some(made) = said else {
+        return unmade(OUT_OF_RANGE);
+    };
+    if let Call::NsPid { caller, target } = made {
+        return list_on(held, worker, caller, target, reply, ordinal);
+    }
+    change_on(held, worker, made, reply, ordinal)
+}
+
 /// Makes the call that the numbers say, and tells its reply and its place. Each operation that comes often has a copy
 /// of the whole way: in it the compiler knows the operation, and leaves out what only others need.
 #[inline(always)]
@@ -158,17 +269,17 @@ pub fn said_by_operation(
         result held.new }
 {
     match said.operation {
-        operations::FORK => said_on(held, worker, read_call(said), reply, ordinal),
-        operations::EXEC => said_on(held, worker, read_call(said), reply, ordinal),
-        operations::EXIT => said_on(held, worker, read_call(said), reply, ordinal),
-        operations::WAIT => said_on(held, worker, read_call(said), reply, ordinal),
-        operations::SETPGID => said_on(held, worker, read_call(said), reply, ordinal),
-        operations::GETPID => said_on(held, worker, read_call(said), reply, ordinal),
-        operations::GETPPID => said_on(held, worker, read_call(said), reply, ordinal),
-        operations::GETPGID => said_on(held, worker, read_call(said), reply, ordinal),
-        operations::NSPID => said_on(held, worker, read_call(said), reply, ordinal),
-        operations::NEXT => said_on(held, worker, read_call(said), reply, ordinal),
-        operations::COUNT => said_on(held, worker, read_call(said), reply, ordinal),
+        operations::FORK => said_change_on(held, worker, read_call(said), reply, ordinal),
+        operations::EXEC => said_change_on(held, worker, read_call(said), reply, ordinal),
+        operations::EXIT => said_change_on(held, worker, read_call(said), reply, ordinal),
+        operations::WAIT => said_change_on(held, worker, read_call(said), reply, ordinal),
+        operations::SETPGID => said_change_on(held, worker, read_call(said), reply, ordinal),
+        operations::GETPID => said_query_on(held, worker, read_call(said), reply, ordinal),
+        operations::GETPPID => said_query_on(held, worker, read_call(said), reply, ordinal),
+        operations::GETPGID => said_query_on(held, worker, read_call(said), reply, ordinal),
+        operations::NSPID => said_query_on(held, worker, read_call(said), reply, ordinal),
+        operations::NEXT => said_query_on(held, worker, read_call(said), reply, ordinal),
+        operations::COUNT => said_query_on(held, worker, read_call(said), reply, ordinal),
         _ => said_on(held, worker, read_call(said), reply, ordinal),
     }
 }
@@ -190,7 +301,7 @@ pub fn said_keeping(
         → (roomless held.new ≡ roomless held.old) × (reply.new ≡ reply.old) × (ordinal.new ≡ ordinal.old) }
     ensures status { IsSaidStatus (Some held.old) worker (call_of said.now) result }
 {
-    let status = said_on(held, worker, read_call(said), reply, ordinal);
+    let status = said_any_on(held, worker, read_call(said), reply, ordinal);
     if status == DONE {
         held.keep_at_most(keep);
     }

@@ -103,9 +103,19 @@ impl IndexArray {
         let _root = &self.root;
     }
 
-    /// The value at an index; none at 2^24 and above.
+    /// The value at an index, lent from there; none at 2^24 and above.
     pub fn get(&self, i: u32) -> Option<&u32>
         ensures { option_copied result ≡ value_at self.now i }
+    {
+        match self.leaf(i) {
+            None => None,
+            Some((leaf, slot)) => leaf.get(slot),
+        }
+    }
+
+    /// The value at an index, as [`IndexArray::get`] has it. It costs less than a copy of what that lends.
+    pub fn value(&self, i: u32) -> Option<u32>
+        ensures { result ≡ value_at self.now i }
     {
         match self.leaf(i) {
             None => None,

@@ -8,11 +8,12 @@ ghost use Rattle.std.specs.Prelude.{◌≡◌, ◌≢◌, ◌+◌, ◌-◌, ◌<
 ghost use Rattle.std.specs.Prelude.{ℕ, true, false, not, List, [], ◌∷◌, ◌++◌, length, slice_get, Some, None};
 ghost use Rattle.std.specs.Option.{option_map};
 ghost use Rattle.{
-  pid_types.specs.declared.{call.Call.TheVariants.{NsPid}, entry.Entry.{Entry}},
-  pid_types.specs.{Replay.{state_after, calls_of}, Short.{list_reply}, Shown.{Shows}, Sound.{IsBelow}},
+  pid_types.specs.declared.{call.Call.TheVariants.{NsPid}, entry.Entry.{Entry}, reply.ShortReply.TheVariants.{Refused}},
+  pid_types.specs.{Replay.{state_after, calls_of}, Short.{list_reply, reply_of}, Shown.{Shows}, Sound.{IsBelow}},
   pid_types.specs.{State.{State, root_state}, Step.{step, may_grow}, Written.{IsWritten}},
-  kept_past.specs.Stored.{replies_of, IsToldOf, TellsIfShort},
-  kept_past.specs.Past.{held_fixed, moves_or, opening_of, IsCutOnce},
+  kept_past.specs.{Stored.{replies_of, IsToldOf, TellsIfShort}, Past.{held_fixed, moves_or, opening_of, IsCutOnce}},
+  model_laws.specs.Refusals.{is_query},
+  pid_table.specs.Lists.{answers_list},
   translate.specs.Zeroes.{HasZeroesBehind},
 };
 
@@ -285,10 +286,30 @@ impl History {
         ensures grows { OnErr result (IsTrue (may_grow call)) }
     {
         let told = enter_call(table, &mut self.ring, stamp, worker, call)?;
-        if self.lag > 0 {
-            self.catch_up(STEPS);
-        }
+        self.catch_up_some();
         Ok(told)
+    }
+
+    /// Makes a query but `NSpid`, and enters it with its reply behind the others. The calls that wait are made first:
+    /// so nothing stands between the answer and its entry.
+    #[inline(always)]
+    pub fn enter_query(&mut self, table: &PidTable, worker: usize, query: Call) -> ShortReply
+        requires asks { IsTrue (is_query query) }
+        requires short { answers_list query ≡ false }
+        requires room { 0 < self.old.room }
+        requires begun { self.old.opening ≢ None }
+        requires fits { self.old.stamp < 2 ^ 64 }
+        ensures reply { (stamp : ℕ) → reply_of result ≡ (step table.now stamp query).reply }
+        ensures entry { (stamp : ℕ) → self.new ≡ record self.old {
+          entries = self.old.entries
+              ++ record { worker = worker; call = query; reply = (step table.now stamp query).reply } ∷ [];
+          lag = self.new.lag;
+          room = self.new.room;
+        } }
+        ensures room { self.old.room ≤ self.new.room + 1 }
+    {
+        self.catch_up_some();
+        enter_answer(table, &mut self.ring, worker, query)
     }
 
     /// Makes the call `NSpid`, and enters it with its reply behind the others. It tells that as [`PidTable::ns_pid`]
@@ -320,9 +341,7 @@ impl History {
         ensures room { self.old.room ≤ self.new.room + 1 }
     {
         let told = enter_list(table, &mut self.ring, worker, caller, target, numbers);
-        if self.lag > 0 {
-            self.catch_up(STEPS);
-        }
+        self.catch_up_some();
         told
     }
 
@@ -386,6 +405,18 @@ impl History {
     {
         empty(&mut self.held, &mut self.ring, &mut self.lag);
         self.stamp = stamp;
+    }
+
+    /// Makes some of the calls that wait, where there are any.
+    #[inline(always)]
+    fn catch_up_some(&mut self)
+        requires { self.old.stamp < 2 ^ 64 }
+        ensures same { self.new ≡ record self.old { lag = self.new.lag; room = self.new.room } }
+        ensures room { self.old.room ≤ self.new.room }
+    {
+        if self.lag > 0 {
+            self.catch_up(STEPS);
+        }
     }
 
     /// Makes at most so many calls that wait. It stops where there is no memory.
@@ -515,6 +546,41 @@ fn enter_call(
     let short = table.step_short(stamp, call)?;
     ring.push_short(worker, call, short);
     Ok(Some(short))
+}
+
+/// Makes a query but `NSpid`, and enters it with its reply behind the ring's entries, for which there is room.
+#[inline(always)]
+fn enter_answer(table: &PidTable, ring: &mut Ring, worker: usize, query: Call) -> ShortReply
+    requires asks { IsTrue (is_query query) }
+    requires short { answers_list query ≡ false }
+    requires room { 0 < ring.old.room }
+    ensures reply { (stamp : ℕ) → reply_of result ≡ (step table.now stamp query).reply }
+    ensures ring { (stamp : ℕ) → ring.new.entries ≡ ring.old.entries
+        ++ record { worker = worker; call = query; reply = (step table.now stamp query).reply } ∷ [] }
+    ensures left { ring.old.room ≤ ring.new.room + 1 }
+{
+    let told = table.ask_short(query);
+    if let ShortReply::Refused(refusal) = told {
+        return enter_refusal(ring, worker, query, refusal);
+    }
+    ring.push_short(worker, query, told);
+    told
+}
+
+/// Enters a call that was refused behind the ring's entries, for which there is room, and answers the refusal. It is
+/// not inlined: so the compiler need not keep in mind whether a call was refused.
+#[cold]
+#[inline(never)]
+fn enter_refusal(ring: &mut Ring, worker: usize, call: Call, refusal: Refusal) -> ShortReply
+    requires { 0 < ring.old.room }
+    ensures reply { result ≡ Refused refusal }
+    ensures ring { ring.new.entries ≡ ring.old.entries
+        ++ record { worker = worker; call = call; reply = reply_of (Refused refusal) } ∷ [] }
+    ensures left { ring.old.room ≤ ring.new.room + 1 }
+{
+    let told = ShortReply::Refused(refusal);
+    ring.push_short(worker, call, told);
+    told
 }
 
 /// Makes the call `NSpid`, and enters it as [`enter_call`] does, which tells no list. It is not inlined, since the

@@ -1,5 +1,5 @@
 -- Counts of workers, of which one rises.
-use Rattle.std.proofs.Common.{◌≡◌, ◌≢◌, ℕ, ◌+◌, ◌^◌, ◌<◌, List, [], ◌∷◌, ◌++◌, length, length-set, set, replicate, Option, Some, None, sum, cond, Bool, true, false, eqb, refl, sym, ap, ◌∙◌, subst, arith, inl, inr}
+use Rattle.std.proofs.Common.{◌≡◌, ◌≢◌, ℕ, ◌+◌, ◌^◌, ◌<◌, ◌≤◌, List, [], ◌∷◌, ◌++◌, length, length-set, set, replicate, Option, Some, None, sum, cond, Bool, true, false, eqb, refl, sym, ap, ◌∙◌, subst, arith, inl, inr}
 use Rattle.std.proofs.lemmas.Bool.Decides.{eqb_tells}
 use Rattle.std.proofs.lemmas.List.Sums.{sum_by-set, sum_by_push}
 use Rattle.std.proofs.lemmas.List.{get_or-set_same, get_or-set_other}
@@ -11,7 +11,7 @@ use Rattle.pid_types.specs.Outcome.{Outcome}
 use Rattle.pid_types.specs.Step.{step}
 use Rattle.model_laws.specs.StepLaws.{BoundStays, RootStateIsSound, RunsKeepSoundness}
 use Rattle.pid_types.specs.Sound.{IsSound, IsBelow}
-use Rattle.kept_table.specs.Calls.{resumed}
+use Rattle.kept_table.specs.Calls.{counted, resumed}
 use Rattle.kept_table.specs.Chronicle.{Chronicle, IsKept, by_worker, next_stamp, total, recorded}
 use Rattle.kept_past.specs.Past.{Past, opening_of}
 use Rattle.kept_table.specs.Whole.{IsKeptCounted, IsKeptWhole, one_of, room_of, told}
@@ -149,3 +149,18 @@ whole-push past next config resumed first lag room cut calls calls' old present 
       bare = λ none. absurd (some none);
       at = k.at;
     })
+
+-- an entry more uses up one of the room
+pub room-stays : (held held' : Option State) (room room' : ℕ) → held' ≡ held → room ≤ room' + 1 → room_of held room ≤ room_of held' room' + 1
+room-stays None held' room room' is le = omega arith
+room-stays (Some state) held' room room' is le = subst (λ (z : Option State). room ≤ room_of z room' + 1) (sym is) le
+
+-- the record with one call more, which leaves the state
+pub counted-query : (past next : Past) (config : Settings) (resumed : Bool) (first lag room : ℕ) (cut calls calls' : List ℕ) (present : State) (entries : List Entry) (c : Chronicle) (before : ℕ)
+    → next ≡ record past { entries = entries; lag = lag; room = room } → sum calls' ≡ sum calls + 1
+    → told config resumed past first cut present calls ≡ record c { room = before }
+    → told config resumed next first cut present calls' ≡ counted c next.entries present (room_of next.opening next.room)
+counted-query past next config resumed first lag room cut calls calls' present entries c before are all seen =
+    subst (λ (p : Past). told config resumed p first cut present calls' ≡ counted c p.entries present (room_of p.opening p.room)) (sym are)
+    (ap (λ n. record (told config resumed past first cut present calls) { entries = entries; booked = n; room = room_of past.opening room }) all
+    ∙ ap (λ (t : Chronicle). counted t entries present (room_of past.opening room)) seen)

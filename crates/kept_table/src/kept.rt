@@ -21,7 +21,7 @@ ghost use Rattle.{
 
 use call_effects::Touched;
 use kept_past::History;
-use model_laws::laws::{forks_keep_limits, no_reuse, numbers_are_apart};
+use model_laws::laws::{forks_keep_limits, no_reuse, nothing_changes, numbers_are_apart};
 use model_laws::meanings::count_is_of_subtree;
 use model_laws::soundness::{bound_stays, root_state_is_sound, soundness_is_kept};
 use pid_table::PidTable;
@@ -461,6 +461,34 @@ impl Kept {
         let told = self.history.enter(&mut self.table, stamp, worker, call)?;
         count_call(&mut self.calls, worker);
         Ok(told)
+    }
+
+    /// Makes a query of the worker but `NSpid` as [`Kept::make_call`] does. It is counted first, as nothing can fail
+    /// behind the room for its entry.
+    #[inline(always)]
+    pub fn make_query(&mut self, worker: usize, query: Call) -> Result<ShortReply, CallFault>
+        requires known { worker < length self.old.cut }
+        requires asks { IsTrue (is_query query) }
+        requires short { answers_list query ≡ false }
+        ensures step { OnOk result (self.new.present ≡ (outcome self.old query).state) }
+        ensures reply { IfOk result (λ told. reply_of told ≡ (outcome self.old query).reply) }
+        ensures history { OnOk result (self.new.entries ≡ self.old.entries ++ entry_of self.old worker query ∷ []) }
+        ensures others { OnOk result (self.new ≡ counted self.old self.new.entries self.new.present self.new.room) }
+        ensures room { self.old.room ≤ self.new.room + 1 }
+
+        ensures spent { (result ≡ Err CallFault.Spent) ↔ (next_stamp self.old ≡ u64.MAX) }
+        ensures err { OnErr result (self.new ≡ record self.old { room = self.new.room }) }
+        ensures err_room { OnErr result (self.old.room ≤ self.new.room) }
+        ensures no_memory { result ≡ Err CallFault.NoMemory → self.old.room ≡ 0 }
+    {
+        let Some(_) = self.next_stamp() else {
+            return Err(CallFault::Spent);
+        };
+        self.reserve_calls(1)?;
+        nothing_changes();
+        let calls = &mut self.calls;
+        count_call(calls, worker);
+        Ok(self.history.enter_query(&self.table, worker, query))
     }
 
     /// Makes the call `NSpid` of the worker as [`Kept::make_call`] does, and tells its reply as [`PidTable::ns_pid`]

@@ -1,7 +1,7 @@
 -- What a numbering shows of the slabs.
 use Rattle.std.proofs.Common.{rules, zero, suc, ◌∷◌, ◌≡◌, ◌≢◌, ℕ, ◌<◌, arith, if◌then◌else◌, Bool, true, false, List, [], length, map, get_or, Option, Some, None, IsSome, IfSome, not, ◌==◌, ◌+◌, subst, is_some, is_none, refl, sym, ap, ◌∙◌, option_map, option_and_then, unwrap_or, find}
 use Rattle.pid_numbers.proofs.Words.{cases_lt, cond_both, false_from_ne_true, ne_eqb, not_from_false, length-map, option_and_then_some, slice_get_within}
-use Rattle.pid_numbers.proofs.Words.{option_map_or, nat_lt, reverse, slice_get, cyclic_draw-same, Ids, planned, contains_indexes, Entry, IsLeastIndex, entry_at}
+use Rattle.pid_numbers.proofs.Words.{MatchOption, option_map_or, nat_lt, reverse, slice_get, cyclic_draw-same, Ids, planned, contains_indexes, Entry, IsLeastIndex, entry_at}
 use Rattle.pid_numbers.proofs.Words.{indexes, is_marked, with_mark, distinct-path, Node, TreeOfSpaces, fell, id_in, node_in, way, IsDistinct, draw-Some, contains}
 use Rattle.pid_numbers.proofs.Words.{cyclic_draw, beside, beside_from, Kind, Identifier, IsNextUsed, IsNumberUsedAs, Numbering, draw_in, has_fallen_at, id_at}
 use Rattle.pid_numbers.proofs.Words.{identifier_at, is_there, is_used, is_used_as, levels_of, more, moved, namespace_at, number_in, number_of, path_at, uses}
@@ -81,6 +81,11 @@ module _ (pid_max : ℕ) (tree : TreeOfSpaces) (ids : List (Ids ℕ)) (idents : 
 
     pub one_found : (s n k : ℕ) → leads (entry_on ids) s n ≡ Some k → number_of numbering k s ≡ Some n
     one_found s n k e = number_is k s ∙ t.tied.found s n k e
+
+    -- so a look-up answers whose the number is
+    pub looked_up : (s n : ℕ) (o : Option ℕ) → o ≡ leads (entry_on ids) s n → MatchOption o ((k : ℕ) → number_of numbering k s ≢ Some n) (λ k. number_of numbering k s ≡ Some n)
+    looked_up s n None e = none_found s n (sym e)
+    looked_up s n (Some k) e = one_found s n k (sym e)
 
     -- the numbers with an entry are those taken
     pub taken_same : (s n : ℕ) → is_some (entry_on ids s n) ≡ contains (taken_in numbering s) n

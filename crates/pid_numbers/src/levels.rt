@@ -65,14 +65,14 @@ impl<const N: usize> Block<N> {
 }
 
 /// Where the numbers are: one in place, and more of them in a block of memory that they about fill, with what the
-/// allocator adds: 32, 64 or 144 bytes.
+/// allocator adds: 32, 64 or 144 bytes. The first of these is in place too, where any place has it: so it is one read.
 #[derive(Drop)]
 enum Place {
     Nowhere,
     Here([Pid; 1]),
-    Small(Box<Block<5>>),
-    Middle(Box<Block<13>>),
-    Large(Box<Block<LEVELS>>),
+    Small(Pid, Box<Block<5>>),
+    Middle(Pid, Box<Block<13>>),
+    Large(Pid, Box<Block<LEVELS>>),
 }
 
 /// The numbers of one identifier, one for each level, innermost first.
@@ -104,9 +104,9 @@ fn place_for(alloc: Global, numbers: &[Pid]) -> Result<Place, AllocError>
     Ok(match numbers {
         [] => Place::Nowhere,
         [number] => Place::Here([*number]),
-        _ if numbers.len() <= 5 => Place::Small(Block::new(alloc, numbers)?),
-        _ if numbers.len() <= 13 => Place::Middle(Block::new(alloc, numbers)?),
-        _ => Place::Large(Block::new(alloc, numbers)?),
+        _ if numbers.len() <= 5 => Place::Small(numbers[0], Block::new(alloc, numbers)?),
+        _ if numbers.len() <= 13 => Place::Middle(numbers[0], Block::new(alloc, numbers)?),
+        _ => Place::Large(numbers[0], Block::new(alloc, numbers)?),
     })
 }
 
@@ -138,9 +138,9 @@ impl LevelNumbers {
         match &self.place {
             Place::Here(number) => number,
             Place::Nowhere => &[],
-            Place::Small(block) => block.as_slice(),
-            Place::Middle(block) => block.as_slice(),
-            Place::Large(block) => block.as_slice(),
+            Place::Small(_, block) => block.as_slice(),
+            Place::Middle(_, block) => block.as_slice(),
+            Place::Large(_, block) => block.as_slice(),
         }
     }
 
@@ -150,19 +150,13 @@ impl LevelNumbers {
         requires { 0 < length self.now }
         ensures { result ≡ slice_index_or self.now 0 0 }
     {
-        if let Place::Here([number]) = &self.place {
-            return *number;
+        match &self.place {
+            Place::Here([number]) => *number,
+            Place::Nowhere => unreachable!(),
+            Place::Small(first, _) => *first,
+            Place::Middle(first, _) => *first,
+            Place::Large(first, _) => *first,
         }
-        self.first_of_block()
-    }
-
-    /// The same of more numbers. It is not inlined, since most identifiers have one.
-    #[inline(never)]
-    fn first_of_block(&self) -> Pid
-        requires { 0 < length self.now }
-        ensures { result ≡ slice_index_or self.now 0 0 }
-    {
-        self.as_slice()[0]
     }
 
     /// Whether there are none.

@@ -46,8 +46,8 @@ use pid_types::plain::{DEEPEST_SPACE, LEVELS, Name};
 pub use plan::PlanFault;
 use restore::mark_all;
 use spaces::{
-    first_ids, give_path, look, next_at, plan_at, plan_path, prepare_path, put_cursor, put_ids,
-    release_path, sweep,
+    first_ids, give_path, look, look_in_root, next_at, plan_at, plan_path, prepare_path,
+    put_cursor, put_ids, release_path, sweep,
 };
 use std::alloc::{AllocError, Global};
 use std::marker::Model;
@@ -129,6 +129,15 @@ impl Numbers {
             (λ i. number_of self.now i space ≡ Some n) }
     {
         look(&self.ids, space, n)
+    }
+
+    /// The identifier that has the number in the root namespace, as [`Numbers::find`] has it.
+    #[inline(always)]
+    pub fn find_in_root(&self, n: Pid) -> Option<IdentKey>
+        ensures { MatchOption result ((i : ℕ) → number_of self.now i 0 ≢ Some n)
+            (λ i. number_of self.now i 0 ≡ Some n) }
+    {
+        look_in_root(&self.ids, n)
     }
 
     /// What is true of all identifiers and namespaces at any time; the call does nothing. No number of a

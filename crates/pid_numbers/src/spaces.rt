@@ -38,9 +38,18 @@ pub(crate) fn look(ids: &Vec<CyclicIds>, key: SpaceKey, n: Pid) -> Option<IdentK
     ensures { result ≡ leads (entry_on ids.now.items) key n }
 {
     match ids.get(key as usize) {
-        Some(t) => t.find(n).copied(),
+        Some(t) => t.value(n),
         None => None,
     }
+}
+
+/// What a number of the root namespace leads to. It costs no test whether that is there.
+#[inline(always)]
+pub(crate) fn look_in_root(ids: &Vec<CyclicIds>, n: Pid) -> Option<IdentKey>
+    requires { 0 < length ids.now.items }
+    ensures { result ≡ leads (entry_on ids.now.items) 0 n }
+{
+    ids[0].value(n)
 }
 
 /// The number that the namespace gives next.

@@ -56,7 +56,7 @@ pub fn is_query(call: &Call) -> bool
     }
 }
 
-/// Makes a call on a store that is no query.
+/// Makes a call that is no query on a store. It is apart from the queries: so they are no part of a large function.
 #[tactic(auto, unfolding(pid_types::specs::Step::step))]
 #[inline(always)]
 fn make_change(store: &mut Tasks, stamp: u64, call: Call) -> Result<ShortReply, AllocError>

@@ -106,8 +106,15 @@ pub fn find_live(store: &Tasks, number: Pid) -> Option<Found>
         ≡ option_map (λ (f : Found). row_of store.now f.key f.task) result }
 {
     laws(store);
-    match find_task(store, 0, number) {
-        Some(found) if is_live(&found.task) => Some(found),
+    let Some(key) = store.numbers().find_in_root(number) else {
+        return None;
+    };
+    match store.tree().task(key) {
+        Some(task) if is_live(&task) => Some(Found {
+            key,
+            space: own_space(store, key),
+            task,
+        }),
         _ => None,
     }
 }

@@ -1,5 +1,5 @@
 -- A walk over all ended children ends with the choice among those of them in the group.
-use Rattle.std.proofs.Common.{◌≡◌, ◌≢◌, ℕ, ◌+◌, ◌<◌, ◌≤◌, ◌==◌, ◌&&◌, Bool, true, false, List, [], ◌∷◌, Option, Some, None, option_map, cond, refl, sym, ap, ◌∙◌, arith}
+use Rattle.std.proofs.Common.{◌≡◌, ◌≢◌, ℕ, ◌+◌, ◌<◌, ◌≤◌, ◌==◌, Bool, true, false, List, [], ◌∷◌, Option, Some, None, option_map, cond, refl, sym, ap, ◌∙◌, arith}
 use Rattle.std.specs.Option.{option_eq}
 use Rattle.std.specs.Prelude.{nat_lt, if◌then◌else◌}
 use Rattle.std.proofs.lemmas.Bool.{eq-eqb, eqb-true}
@@ -14,7 +14,7 @@ use Rattle.groups_sessions.specs.Membership.{group_of}
 use Rattle.wait_calls.specs.declared.selection.Selected.TheVariants.{Group}
 use Rattle.wait_calls.specs.declared.selection.Choice.{Choice}
 use Rattle.wait_calls.specs.declared.selection.Choice.TheVariants.{NoChild, NoneEnded, Ended}
-use Rattle.wait_calls.specs.Choice.{IsMatch, IsChoice, IsEndedChoice}
+use Rattle.wait_calls.specs.Choice.{IsMatch, IsEndedChoice}
 use Rattle.wait_calls.specs.Walk.{is_group_match, rank_alone, choice_with, looked_at, walked}
 
 -- what is 1 is not 0

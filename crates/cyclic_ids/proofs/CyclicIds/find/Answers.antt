@@ -2,7 +2,7 @@ use Rattle.cyclic_ids.proofs.Beside.{entry_in_leaf, entry_in_tree}
 use Rattle.cyclic_ids.proofs.CyclicIds.find.Goals as goal
 
 pub returns-then-n-self : goal.returns-then-n-self
-returns-then-n-self c = rw (← c.self.view_is, entry_in_leaf c.self.inside.is_ready c.self.inside.block c.self.inside.leaf.places c.self.inside.ids c.args.n c.if-n-self.true) c.value.ensures
+returns-then-n-self c = rw (← c.self.view_is, entry_in_leaf c.self.inside.is_ready c.self.inside.block c.self.inside.leaf.places c.self.inside.ids c.args.n c.if-n-self.true) c.get.ensures
 
 pub returns : goal.returns
-returns c = rw (← c.self.view_is, entry_in_tree c.self.inside.is_ready c.self.inside.block c.self.inside.leaf.places c.self.inside.ids c.args.n c.if-n-self.false) c.get.ensures
+returns c = rw (← c.self.view_is, entry_in_tree c.self.inside.is_ready c.self.inside.block c.self.inside.leaf.places c.self.inside.ids c.args.n c.if-n-self.false) c.get-2.ensures

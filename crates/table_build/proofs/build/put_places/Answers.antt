@@ -1,4 +1,4 @@
-use Rattle.std.proofs.Common.{◌≡◌, ◌∙◌, None, Some, refl, sym, ap, option_map, arith}
+use Rattle.std.proofs.Common.{◌∙◌, refl, sym, ap, option_map, arith}
 use Rattle.table_build.specs.declared.fault.BuildFault.TheVariants.{NoMemory}
 use Rattle.task_table.proofs.Results.{if_err}
 use Rattle.task_tree.specs.Tree.{task_at}

@@ -1,4 +1,4 @@
-use Rattle.std.proofs.Common.{◌≡◌, ◌∙◌, None, Some, slice_get, refl, sym, arith}
+use Rattle.std.proofs.Common.{◌∙◌, slice_get, refl, sym, arith}
 use Rattle.task_table.proofs.Results.{if_err}
 use Rattle.table_build.proofs.Gathered.{rows-are, rows-rise}
 use Rattle.table_build.proofs.LineSteps.{lines-same}

@@ -1,4 +1,4 @@
-use Rattle.std.proofs.Common.{◌≡◌, Some, None, true, false, not, ap, sym, ◌∙◌, slice_get, arith, true≢false}
+use Rattle.std.proofs.Common.{◌≡◌, Some, None, not, ap, sym, ◌∙◌, slice_get, arith, true≢false}
 use Rattle.std.specs.Option.{option_copied}
 use Rattle.pid_types.proofs.General.{held}
 use Rattle.pid_types.specs.Names.{root_number}

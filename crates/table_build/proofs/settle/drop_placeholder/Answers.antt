@@ -1,4 +1,4 @@
-use Rattle.std.proofs.Common.{◌≡◌, ◌≢◌, inl, inr, ℕ, true, false, None, Some, ap, sym, ◌∙◌, option_map, true≢false}
+use Rattle.std.proofs.Common.{◌≡◌, ◌≢◌, inl, inr, ℕ, true, Some, ap, sym, ◌∙◌, option_map, true≢false}
 use Rattle.std.proofs.lemmas.Bool.{cases_eq}
 use Rattle.task_tree.specs.Tree.{task_at, parent_of}
 use Rattle.task_table.specs.View.{row_of, row_with}

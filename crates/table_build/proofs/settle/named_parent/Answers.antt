@@ -1,4 +1,4 @@
-use Rattle.std.proofs.Common.{◌≡◌, true, false, ap, subst, ◌∙◌, arith, true≢false}
+use Rattle.std.proofs.Common.{ap, subst, ◌∙◌, arith, true≢false}
 use Rattle.std.specs.Prelude.{IfSome}
 use Rattle.table_build.specs.Lines.{is_held}
 use Rattle.table_build.specs.Recent.{Bears}

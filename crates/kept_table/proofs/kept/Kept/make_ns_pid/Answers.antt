@@ -1,4 +1,4 @@
-use Rattle.std.proofs.Common.{◌≡◌, ◌+◌, ◌≤◌, ℕ, List, ◌++◌, ◌∷◌, [], Option, None, Some, sum, arith, rules, refl, ap, sym, subst, ◌∙◌}
+use Rattle.std.proofs.Common.{◌≡◌, ℕ, arith, rules, refl, ap, sym, subst, ◌∙◌}
 use Rattle.pid_types.specs.declared.call.Call.TheVariants.{NsPid}
 use Rattle.pid_types.specs.declared.entry.Entry.{Entry}
 use Rattle.pid_types.specs.Outcome.{Outcome}
@@ -6,10 +6,8 @@ use Rattle.pid_types.specs.State.{State}
 use Rattle.pid_types.specs.Step.{step}
 use Rattle.pid_types.specs.Written.{IsWritten}
 use Rattle.kept_past.specs.Past.{Past}
-use Rattle.kept_table.specs.Calls.{counted}
 use Rattle.kept_table.specs.Chronicle.{Chronicle, next_stamp}
-use Rattle.kept_table.specs.Whole.{room_of, told}
-use Rattle.kept_table.proofs.Counts.{some_of_room, whole-push}
+use Rattle.kept_table.proofs.Counts.{counted-query, room-stays, some_of_room, whole-push}
 use Rattle.kept_table.proofs.kept.Kept.make_ns_pid.Goals as goal
 
 -- a query leaves the state, whatever its stamp
@@ -45,21 +43,8 @@ returns-clause-reply c =
 
 pub returns-clause-others : goal.returns-clause-others
 returns-clause-others c =
-    let x = c.self.inside in
-    let stamp = next_stamp c.args.self.now in
-    let call = NsPid c.args.caller c.args.target in
-    let now : Chronicle = told x.config x.is_resumed x.history x.first_kept x.cut.items x.table x.calls.items in
-    let entries : List Entry = x.history.entries ++ record { worker = c.args.worker; call = call; reply = (step x.table stamp call).reply } ∷ [] in
-    let room = room_of x.history.opening c.enter_ns_pid-told.new.self.room in
-    let seen : Past → ℕ → Chronicle = λ p n. record (told x.config x.is_resumed p x.first_kept x.cut.items x.table x.calls.items) { booked = n } in
-    let booked : ℕ → Chronicle = λ n. record now { entries = entries; booked = n; room = room } in
-    subst (λ (p : Past). seen p (sum c.count_call.new.calls.items) ≡ counted c.args.self.now p.entries x.table (room_of p.opening p.room))
-    (sym (c.enter_ns_pid-told.ensures.entry stamp))
-    (ap booked c.count_call.ensures.all ∙ ap (λ (t : Chronicle). counted t entries x.table room) (c.self.view_is ∙ c.in_ok-reserve_calls.ensures.others))
-
-room-stays : (o o' : Option State) (r r' : ℕ) → o' ≡ o → r ≤ r' + 1 → room_of o r ≤ room_of o' r' + 1
-room-stays None o' r r' is le = omega arith
-room-stays (Some state) o' r r' is le = subst (λ (z : Option State). r ≤ room_of z r' + 1) (sym is) le
+    counted-query c.self.inside.history c.enter_ns_pid-told.new.self _ _ _ _ _ _ c.self.inside.calls.items c.count_call.new.calls.items _ _ c.args.self.now _ (c.enter_ns_pid-told.ensures.entry (next_stamp c.args.self.now)) c.count_call.ensures.all
+    (c.self.view_is ∙ c.in_ok-reserve_calls.ensures.others)
 
 pub returns-clause-room : goal.returns-clause-room
 returns-clause-room c =
