@@ -46,7 +46,9 @@ fn give_marked(ids: &mut CyclicIds, entry: u32, marks: [bool; 3]) -> bool {
 /// Whether the ids show what the step says.
 fn is_shown(ids: &CyclicIds, step: &Step) -> bool {
     match step {
-        Step::Entry(n, entry) => ids.find(*n).copied() == Some(*entry),
+        Step::Entry(n, entry) => {
+            ids.find(*n).copied() == Some(*entry) && ids.value(*n) == Some(*entry)
+        }
         Step::HasMark(n, mark, told) => *mark < 3 && ids.has_mark(*n, *mark) == *told,
         Step::Marked(mark, told) => *mark < 3 && ids.next_marked(0, *mark) == *told,
         Step::Next(from, told) => ids.next(*from) == *told,

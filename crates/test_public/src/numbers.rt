@@ -53,6 +53,13 @@ fn expect_last_list(rt: &impl Abort, kept: &Kept, target: Pid) {
     expect_numbers(rt, list, target);
 }
 
+/// A `getpid` of the record, made as a query that is recorded: its reply is told, and is that of the last entry.
+fn expect_query(rt: &impl Abort, kept: &mut Kept, caller: Pid, told: ShortReply, reply: &Reply) {
+    assert!(rt; kept.workers() == 1);
+    assert!(rt; kept.make_query(0, Call::GetPid { caller }) == Ok(told));
+    assert!(rt; kept.last_reply().as_ref() == Some(reply));
+}
+
 /// The record tells them to a query, and has those of a call in its last entry, which then is another's.
 fn expect_of_record(rt: &impl Abort, kept: &mut Kept, target: Pid) {
     let mut asked = [0; LEVELS];
@@ -74,6 +81,15 @@ fn expect_of_record(rt: &impl Abort, kept: &mut Kept, target: Pid) {
     let number = Some(ShortReply::Number(1));
     assert!(rt; expect_told(rt, kept, Call::GetPid { caller: 1 }) == number);
     assert!(rt; kept.last_list().is_none());
+    let nobody = Refusal::NoCaller;
+    expect_query(rt, kept, 1, ShortReply::Number(1), &Reply::Number(1));
+    expect_query(
+        rt,
+        kept,
+        target + 1,
+        ShortReply::Refused(nobody),
+        &Reply::Refused(nobody),
+    );
 }
 
 #[test]
