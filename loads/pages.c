@@ -45,6 +45,12 @@ static uint32_t whom_of(const char *list)
 	     : UINT32_MAX;
 }
 
+/* Whether the word names a list. */
+static bool is_list(const char *list)
+{
+	return whom_of(list) != UINT32_MAX || is_word(list, "inside") || is_word(list, "control");
+}
+
 /* Asks for the whole list, and answers how many it has; 0 where that fails. */
 static uint64_t ask_once(const char *list)
 {
@@ -62,7 +68,7 @@ int main(int count, char **words)
 {
 	const long live = count == 4 ? atol(words[2]) : 0;
 
-	if (live < 1 || live > MOST || pidtab_open(&table, 32768) != PIDTAB_DONE || !fork_children(live, is_word(words[1], "inside"))) {
+	if (live < 1 || live > MOST || !is_list(words[1]) || pidtab_open(&table, 32768) != PIDTAB_DONE || !fork_children(live, is_word(words[1], "inside"))) {
 		fprintf(stderr, "pages children|group|session|space|inside|control LIVE N, with LIVE from 1 to %d\n", MOST);
 		return 2;
 	}
