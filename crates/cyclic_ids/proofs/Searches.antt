@@ -25,6 +25,10 @@ module _ (p own tree : ℕ → Bool) (block : ℕ) (here : (k : ℕ) → k / 64 
             here k (omega (arith, start, low, high, below)) ∙ found.3 (k % 64) (omega (arith, start, low, high, below)) (omega (arith, start, low, high, below)),
       )
 
+  -- a number of the tree that passes the test is the first from itself on
+  pub found_at_once : (from end : ℕ) → from / 64 ≢ block → from < end → tree from ≡ true → IsLeastIndex p from end (Some from)
+  found_at_once from end off fits on = (omega arith, fits, there from off ∙ on, λ k low high. absurd (omega (arith, low, high)))
+
   -- what the tree finds below the block comes before all that the leaf has
   pub found_below : (from end : ℕ) (r : Option ℕ) → IfSome r (λ a. a / 64 < block) × (r ≢ None) → IsLeastIndex tree from end r → IsLeastIndex p from end r
   found_below from end None below _ = absurd (below.1 refl)

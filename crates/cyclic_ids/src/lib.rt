@@ -504,11 +504,16 @@ impl CyclicIds {
             if let Some(slot) = self.leaf.next_marked(from % 64, m) {
                 return Some(self.block * 64 + slot);
             }
+        } else if self.ids.has_mark(from, m) {
+            // A walk over numbers that were given in turn mostly comes here.
+            return Some(from);
         }
         self.search_marked(from, m)
     }
 
-    /// The same by a search of the tree and one of the leaf.
+    /// The same by a search of the tree and one of the leaf. It is not inlined: so a number that is found at once costs
+    /// nothing of it.
+    #[inline(never)]
     fn search_marked(&self, from: Pid, m: usize) -> Option<Pid>
         requires { m < 3 }
         ensures { IsLeastIndex (λ k. is_marked m (entry_at self.now.places k)) from index_count result }

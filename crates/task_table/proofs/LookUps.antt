@@ -15,7 +15,7 @@ use Rattle.model_laws.proofs.Names.{same_name-true, same_name-refl}
 use Rattle.pid_numbers.specs.Numbering.{Identifier, id_at, identifier_at, number_in, number_of, path_at}
 use Rattle.pid_numbers.specs.Slabs.{IsPath}
 use Rattle.task_tree.specs.declared.Task.{Task}
-use Rattle.task_tree.specs.Tree.{task_at, lives}
+use Rattle.task_tree.specs.Tree.{task_at, lives, has_live}
 use Rattle.groups_sessions.specs.Membership.{Membership, membership_at}
 use Rattle.task_table.specs.Store.{Store}
 use Rattle.task_table.proofs.Births.{task_named}
@@ -30,6 +30,11 @@ use Rattle.task_table.proofs.Keys.{key-some, key-of, is_path, number-is_key, hom
 -- nothing is not something
 pub none_some : {X : Type 0} {x : X} → None ≡ Some x → ⊥
 none_some e = cc
+
+-- who lives is there
+pub live-there : (o : Option Task) → has_live o ≡ true → (t : Task) × (o ≡ Some t) × (lives t ≡ true)
+live-there None e = absurd (cc)
+live-there (Some t) e = (t, refl, e)
 
 first_of_more : (xs ys : List ℕ) → 0 < length xs → slice_index (xs ++ ys) 0 ≡ slice_index xs 0
 first_of_more [] ys some = absurd (omega (arith, some))

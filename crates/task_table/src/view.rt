@@ -4,13 +4,13 @@
 //! goes by names, numbers and ids. Here is what the one says of the other, for the calls that are written
 //! over the store and told in the model's words.
 
-ghost use Rattle.std.specs.Prelude.{◌≡◌, ◌≢◌, ℕ, Some, None, true, IsSome, IfSome, option_map};
+ghost use Rattle.std.specs.Prelude.{◌≡◌, ◌≢◌, ℕ, Some, None, true, IsSome, IfSome, MatchOption, option_map};
 ghost use Rattle.{
   pid_types.specs.Names.{live_row, task_numbered},
   pid_numbers.specs.Numbering.{Identifier, id_at, identifier_at, number_of},
   task_tree.specs.{Tree.{task_at, lives}, declared.Task.{Task}},
   task_table.specs.{declared.view.Found.{Found}, View.{name_at, row_of, state_of}, Lawful.{HasLaws, IsLawful}},
-  task_table.specs.Found.{HasOwnSpace},
+  task_table.specs.Found.{HasOwnSpace, IsCalling},
 };
 
 use crate::Tasks;
@@ -28,6 +28,15 @@ pub struct Found {
     pub space: SpaceKey,
     /// What the store has at the key: its home is a control group's key, and its life says whether it has ended.
     pub task: Task,
+}
+
+/// A live task that was found by its number in the root namespace, and is not copied.
+#[derive(Clone, Copy, Debug)]
+pub struct Caller {
+    /// Its key in the store.
+    pub key: TaskKey,
+    /// The key of its own namespace, the innermost in which it has a number.
+    pub space: SpaceKey,
 }
 
 /// What is true of the identifiers and namespaces of a store; the call does nothing.
@@ -96,7 +105,26 @@ pub fn find_task(store: &Tasks, space: SpaceKey, number: Pid) -> Option<Found>
     }
 }
 
-/// The live task with the number in the root namespace. It costs one search in the root's tree of numbers.
+/// Who calls with the number: the live task that has it in the root namespace. It costs one search in the root's tree
+/// of numbers, and two reads.
+#[inline(always)]
+pub fn find_caller(store: &Tasks, number: Pid) -> Option<Caller>
+    ensures { MatchOption result (live_row (state_of store.now).rows number ≡ None) (IsCalling store.now number) }
+{
+    laws(store);
+    let Some(key) = store.numbers().find_in_root(number) else {
+        return None;
+    };
+    if !store.tree().is_live_at(key) {
+        return None;
+    }
+    Some(Caller {
+        key,
+        space: own_space(store, key),
+    })
+}
+
+/// The live task with the number in the root namespace, as [`find_caller`] has it, with what it is.
 pub fn find_live(store: &Tasks, number: Pid) -> Option<Found>
     ensures there { IfSome result (λ f. (task_at store.now.tree f.key ≡ Some f.task) × (lives f.task ≡ true)) }
     ensures own { IfSome result (λ f. HasOwnSpace store.now f) }
@@ -105,18 +133,13 @@ pub fn find_live(store: &Tasks, number: Pid) -> Option<Found>
     ensures row { live_row (state_of store.now).rows number
         ≡ option_map (λ (f : Found). row_of store.now f.key f.task) result }
 {
-    laws(store);
-    let Some(key) = store.numbers().find_in_root(number) else {
+    let Some(Caller { key, space }) = find_caller(store, number) else {
         return None;
     };
-    match store.tree().task(key) {
-        Some(task) if is_live(&task) => Some(Found {
-            key,
-            space: own_space(store, key),
-            task,
-        }),
-        _ => None,
-    }
+    let Some(task) = store.tree().task(key) else {
+        unreachable!()
+    };
+    Some(Found { key, space, task })
 }
 
 /// The id of the own namespace of a task that was found. It costs one read.

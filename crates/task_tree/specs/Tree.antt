@@ -34,6 +34,10 @@ lives task = elim task.life [ Live ↦ true | Zombie ended ↦ false ]
 abbrev pub is_zombie : Option Task → Bool
 is_zombie task = option_map_or (λ t. not (lives t)) task false
 
+-- whether there is a task that has not ended
+abbrev pub has_live : Option Task → Bool
+has_live task = option_map_or lives task false
+
 -- whether there is a task that is a subreaper
 abbrev pub is_subreaper : Option Task → Bool
 is_subreaper task = option_map_or (λ t. t.subreaper) task false

@@ -1,7 +1,7 @@
 //! Tasks by key, and how many of them are subreapers.
 ghost use Rattle.std.specs.Prelude.{◌≡◌, ℕ, ◌+◌, ◌<◌, ◌≤◌, ◌^◌, length, Some, None, true, false, OnOk, OnErr, []};
 ghost use Rattle.std.specs.Prelude.{slice_set, slice_index_or, IsSome, ◌++◌, replicate};
-ghost use Rattle.task_tree.specs.Tree.{is_subreaper};
+ghost use Rattle.task_tree.specs.Tree.{has_live, is_subreaper};
 
 use crate::Task;
 use crate::places::Places;
@@ -69,6 +69,14 @@ impl Cells {
         ensures { result ≡ slice_index_or self.now key None }
     {
         self.cells.task(key)
+    }
+
+    /// Whether the key has a task that has not ended.
+    #[inline(always)]
+    pub(crate) fn is_live_at(&self, key: TaskKey) -> bool
+        ensures { result ≡ has_live (slice_index_or self.now key None) }
+    {
+        self.cells.is_live_at(key)
     }
 
     /// A task comes to a key that has none. What the key had is not read.

@@ -13,7 +13,7 @@ ghost use Rattle.{
   pid_types.specs.declared.plain.Life.{Life},
   member_lists.specs.Owners.{AreMembers},
   member_queues.specs.Ranks.{IsLeast, AreRankedMembers},
-  task_tree.specs.Tree.{task_at, parent_of, rank_of, lives, is_zombie, is_subreaper, waits_for, handed},
+  task_tree.specs.Tree.{task_at, parent_of, rank_of, lives, has_live, is_zombie, is_subreaper, waits_for, handed},
 };
 
 mod cells;
@@ -113,6 +113,14 @@ impl TaskTree {
         ensures { result ≡ task_at self.now key }
     {
         self.tasks.task(key)
+    }
+
+    /// Whether there is a task with the key, and it has not ended. It costs one read, and the task is not copied.
+    #[inline(always)]
+    pub fn is_live_at(&self, key: TaskKey) -> bool
+        ensures { result ≡ has_live (task_at self.now key) }
+    {
+        self.tasks.is_live_at(key)
     }
 
     /// The key of the task's parent; none of a task that began without one.

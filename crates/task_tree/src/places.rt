@@ -1,7 +1,7 @@
 //! Tasks by key, as they lie in memory.
 ghost use Rattle.std.specs.Prelude.{◌≡◌, ◌+◌, ◌<◌, ◌≤◌, ◌^◌, length, None, Some, OnOk, OnErr, [], ◌++◌, replicate};
 ghost use Rattle.std.specs.Prelude.{slice_set, slice_index_or, IsSome};
-ghost use Rattle.task_tree.specs.{Places.{task_in, life_in}, Tree.{is_subreaper}};
+ghost use Rattle.task_tree.specs.{Places.{task_in, life_in}, Tree.{has_live, is_subreaper}};
 
 use crate::Task;
 use pid_types::keys::{ControlKey, TaskKey};
@@ -81,6 +81,17 @@ fn life_of(standing: Standing) -> Option<Life>
     }
 }
 
+/// Whether a place has a task that has not ended.
+#[inline(always)]
+fn is_live(place: &Place) -> bool
+    ensures { result ≡ has_live (task_in place.now) }
+{
+    match place.standing {
+        Standing::Alive => true,
+        Standing::Vacant | Standing::Exited(_) | Standing::Killed => false,
+    }
+}
+
 /// What a key with the task has.
 #[inline(always)]
 fn place_of(task: Option<Task>) -> Place
@@ -147,6 +158,17 @@ impl Places {
         ensures { result ≡ slice_index_or self.now key None }
     {
         read_task(*self.places.get(key as usize)?)
+    }
+
+    /// Whether the key has a task that has not ended.
+    #[inline(always)]
+    pub(crate) fn is_live_at(&self, key: TaskKey) -> bool
+        ensures { result ≡ has_live (slice_index_or self.now key None) }
+    {
+        match self.places.get(key as usize) {
+            Some(place) => is_live(place),
+            None => false,
+        }
     }
 
     /// Whether the task with the key, which is there, is a subreaper.

@@ -16,7 +16,8 @@ enum Step {
     Clear(u32, usize),
     Entry(u32, u32),
     HasMark(u32, usize, bool),
-    Marked(usize, Option<u32>),
+    /// The least number from one on that has the mark.
+    Marked(u32, usize, Option<u32>),
     Next(u32, Option<u32>),
     Cursor(u32),
     IsEmpty(bool),
@@ -50,7 +51,7 @@ fn is_shown(ids: &CyclicIds, step: &Step) -> bool {
             ids.find(*n).copied() == Some(*entry) && ids.value(*n) == Some(*entry)
         }
         Step::HasMark(n, mark, told) => *mark < 3 && ids.has_mark(*n, *mark) == *told,
-        Step::Marked(mark, told) => *mark < 3 && ids.next_marked(0, *mark) == *told,
+        Step::Marked(from, mark, told) => *mark < 3 && ids.next_marked(*from, *mark) == *told,
         Step::Next(from, told) => ids.next(*from) == *told,
         Step::Cursor(told) => ids.cursor() == *told,
         Step::IsEmpty(told) => ids.is_empty() == *told,
@@ -143,7 +144,7 @@ static CASES: [(u32, u32, &[Step]); 6] = [
         &[
             Step::Give(9, [true, false, true]),
             Step::Entry(1, 9),
-            Step::Marked(TASK_MARK, Some(1)),
+            Step::Marked(0, TASK_MARK, Some(1)),
             Step::HasMark(1, GROUP_MARK, false),
             Step::HasMark(1, SESSION_MARK, true),
             Step::Cursor(2),
@@ -154,13 +155,13 @@ static CASES: [(u32, u32, &[Step]); 6] = [
         301,
         2,
         &[
-            Step::Marked(TASK_MARK, None),
+            Step::Marked(0, TASK_MARK, None),
             Step::Set(2, GROUP_MARK, true),
             Step::Set(3, GROUP_MARK, false),
-            Step::Marked(GROUP_MARK, Some(2)),
+            Step::Marked(0, GROUP_MARK, Some(2)),
             Step::HasMark(2, SESSION_MARK, false),
             Step::Clear(2, GROUP_MARK),
-            Step::Marked(GROUP_MARK, None),
+            Step::Marked(0, GROUP_MARK, None),
         ],
     ),
     // 130 numbers are in three blocks of 64, of which one at a time stands beside the tree.
@@ -170,9 +171,13 @@ static CASES: [(u32, u32, &[Step]); 6] = [
         &[
             Step::Set(70, TASK_MARK, true),
             Step::Set(129, TASK_MARK, true),
-            Step::Marked(TASK_MARK, Some(70)),
+            Step::Marked(0, TASK_MARK, Some(70)),
+            Step::Marked(70, TASK_MARK, Some(70)),
+            Step::Marked(71, TASK_MARK, Some(129)),
+            Step::Marked(129, TASK_MARK, Some(129)),
+            Step::Marked(130, TASK_MARK, None),
             Step::Release(70),
-            Step::Marked(TASK_MARK, Some(129)),
+            Step::Marked(0, TASK_MARK, Some(129)),
             Step::Entry(5, 5),
             Step::Entry(130, 130),
             Step::Next(70, Some(71)),

@@ -66,12 +66,12 @@ pub fn get_pgid(store: &Tasks, caller: Pid, pid: Pid) -> ShortReply
 }
 
 /// `getsid(2)`: 0 for a session that the caller cannot see.
-#[inline(always)]
 pub fn get_sid(store: &Tasks, caller: Pid, pid: Pid) -> ShortReply
     requires { IsWhole store.now }
     ensures value { reply_of result ≡ get_sid_of (state_of store.now) caller pid }
     ensures seen { IsSeenReply (state_of store.now) caller (λ n. calls.GetSid n pid) (reply_of result) }
 {
+    // It is not inlined: what the way of a query can take in is limited, and the others come more often.
     queries_answer_seen();
     queries::get_sid(store, caller, pid)
 }
@@ -96,6 +96,7 @@ pub fn ns_pid(
 
 /// The least number from the given one on that is in use as the kind, in the caller's namespace. It costs one
 /// search by marks.
+#[inline(always)]
 pub fn next(store: &Tasks, caller: Pid, kind: Kind, from: Pid) -> ShortReply
     requires { IsWhole store.now }
     ensures value { reply_of result ≡ next_of (state_of store.now) caller kind from }

@@ -16,7 +16,7 @@ use pid_types::keys::{IdentKey, Pid, SpaceKey, TaskKey};
 use pid_types::plain::LEVELS;
 use pid_types::reply::{Refusal, ShortReply};
 use task_table::Tasks;
-use task_table::view::{Found, find_live, find_task, laws};
+use task_table::view::{Found, find_caller, find_live, find_task, laws};
 
 /// The number of an identifier in a namespace, 0 where it is not visible there.
 #[inline(always)]
@@ -99,7 +99,7 @@ pub(crate) fn get_pid(store: &Tasks, caller: Pid) -> ShortReply
     requires { IsWhole store.now }
     ensures { reply_of result ≡ get_pid_of (state_of store.now) caller }
 {
-    let Some(found) = find_live(store, caller) else {
+    let Some(found) = find_caller(store, caller) else {
         return ShortReply::Refused(Refusal::NoCaller);
     };
     ShortReply::Number(own_number(store, found.key))
@@ -112,7 +112,7 @@ pub(crate) fn get_ppid(store: &Tasks, caller: Pid) -> ShortReply
     requires { IsWhole store.now }
     ensures { reply_of result ≡ get_ppid_of (state_of store.now) caller }
 {
-    let Some(found) = find_live(store, caller) else {
+    let Some(found) = find_caller(store, caller) else {
         return ShortReply::Refused(Refusal::NoCaller);
     };
     ShortReply::Number(seen_parent(store, found.space, found.key))
@@ -182,7 +182,7 @@ pub(crate) fn ns_pid(
     ensures zeroes { HasZeroesBehind result room.new }
 {
     laws(store);
-    let Some(found) = find_live(store, caller) else {
+    let Some(found) = find_caller(store, caller) else {
         return Err(Refusal::NoCaller);
     };
     let Some(task) = find_task(store, found.space, target) else {
@@ -205,7 +205,7 @@ pub(crate) fn next(store: &Tasks, caller: Pid, kind: Kind, from: Pid) -> ShortRe
     ensures { reply_of result ≡ next_of (state_of store.now) caller kind from }
 {
     laws(store);
-    let Some(found) = find_live(store, caller) else {
+    let Some(found) = find_caller(store, caller) else {
         return ShortReply::Refused(Refusal::NoCaller);
     };
     match store.numbers().next_used(found.space, kind, from) {
