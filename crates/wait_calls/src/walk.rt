@@ -14,6 +14,7 @@ ghost use Rattle.{
 
 use crate::selection::{Choice, Selected, counted, parent_in};
 use member_lists::Members;
+use pid_types::call::Kind;
 use pid_types::keys::{IdentKey, TaskKey};
 use task_table::Tasks;
 
@@ -118,7 +119,7 @@ fn any_member_is_child(store: &Tasks, caller: TaskKey, group: IdentKey) -> bool
 }
 
 /// Whether some child is in the group. Each of the two lists alone has all such children. The walk is over the
-/// children, and passes a member for each few of them; it is over the members instead where these end first.
+/// children, so many for each member of the group; where more are left, the members are fewer, and it is over these.
 fn has_match(store: &Tasks, caller: TaskKey, group: IdentKey) -> bool
     requires caller { IsSome (task_at store.now.tree caller) }
     requires group { group < length store.now.members }
@@ -127,7 +128,7 @@ fn has_match(store: &Tasks, caller: TaskKey, group: IdentKey) -> bool
 {
     store.tree().laws();
     let mut children = store.tree().children(caller);
-    for _ in store.members().group_members(group) {
+    for _ in 0..store.numbers().count(group, Kind::Group) {
         match look_at_children(store, caller, group, &mut children) {
             Looked::Match => return true,
             Looked::End => return false,
