@@ -120,6 +120,8 @@ fn any_member_is_child(store: &Tasks, caller: TaskKey, group: IdentKey) -> bool
 
 /// Whether some child is in the group. Each of the two lists alone has all such children. The walk is over the
 /// children, so many for each member of the group; where more are left, the members are fewer, and it is over these.
+/// It is not inlined: so the walk has all registers.
+#[inline(never)]
 fn has_match(store: &Tasks, caller: TaskKey, group: IdentKey) -> bool
     requires caller { IsSome (task_at store.now.tree caller) }
     requires group { group < length store.now.members }
