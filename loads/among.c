@@ -8,35 +8,13 @@
  *   cc -O2 -Iout loads/among.c out/libpidtab.a -pthread -o out/among
  *   valgrind --tool=callgrind --callgrind-out-file=/dev/null out/among record getpid 0 12000
  */
-#include "pidtab.h"
+#include "tables.h"
 
 #include <stdio.h>
 #include <stdlib.h>
-#include <string.h>
 
 #define LIVE 1000
 #define DEEPEST 32
-
-static struct pidtab plain;
-static struct pidtab_record record;
-
-typedef uint32_t make_call(const struct pidtab_call *call, struct pidtab_reply *reply);
-
-static uint32_t on_plain(const struct pidtab_call *call, struct pidtab_reply *reply)
-{
-	return pidtab_call(&plain, call, reply);
-}
-
-static uint32_t on_record(const struct pidtab_call *call, struct pidtab_reply *reply)
-{
-	uint64_t ordinal;
-	return pidtab_record_call(&record, 0, call, reply, &ordinal);
-}
-
-static bool is_word(const char *word, const char *other)
-{
-	return strcmp(word, other) == 0;
-}
 
 static make_call *opened(const char *table)
 {
@@ -53,10 +31,10 @@ static uint32_t forked(make_call *make, uint32_t parent, bool in_space)
 	const struct pidtab_call fork = { .operation = PIDTAB_FORK, .caller = parent, .choice = in_space };
 	struct pidtab_reply reply = { .second = 0 };
 
-	return make(&fork, &reply) == PIDTAB_DONE ? (uint32_t)reply.second : 0;
+	return make(&fork, &reply) == PIDTAB_DONE && reply.kind == PIDTAB_FORKED ? (uint32_t)reply.second : 0;
 }
 
-/* Makes the tasks, and answers the root number of the last one. */
+/* Makes the tasks, and answers the root number of the last one; 0 where that is not made. */
 static uint32_t live_task(make_call *make, long level)
 {
 	uint32_t parent = 1, last = 0;
@@ -119,7 +97,7 @@ static uint32_t shell_once(make_call *make, uint32_t parent)
 	return status | reap(make, parent, child);
 }
 
-/* Makes the calls so many times. */
+/* Makes the calls so many times, or once where that is refused. */
 static uint32_t repeat(make_call *make, const char *word, uint32_t task, long left)
 {
 	const struct pidtab_call call = named(word, task);
@@ -127,6 +105,8 @@ static uint32_t repeat(make_call *make, const char *word, uint32_t task, long le
 	struct pidtab_reply reply;
 	uint32_t status = PIDTAB_DONE;
 
+	if (!once && (make(&call, &reply) != PIDTAB_DONE || reply.kind == PIDTAB_REFUSED))
+		return PIDTAB_OUT_OF_RANGE;
 	for (; once && left > 0; left--)
 		status |= once(make, task);
 	for (; left > 0; left--)
@@ -148,5 +128,12 @@ int main(int count, char **words)
 		fprintf(stderr, "among plain|record getpid|getppid|getpgid|nspid|next|count|wait|cycle|shell LEVEL N\n");
 		return 2;
 	}
-	return repeat(make, words[2], live_task(make, level), atol(words[4])) != PIDTAB_DONE;
+
+	const uint32_t task = live_task(make, level);
+
+	if (task == 0 || repeat(make, words[2], task, atol(words[4])) != PIDTAB_DONE) {
+		fprintf(stderr, "among: a call was refused, or there is no memory\n");
+		return 1;
+	}
+	return 0;
 }

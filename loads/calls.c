@@ -9,13 +9,11 @@
  *   valgrind --tool=callgrind --callgrind-out-file=/dev/null out/calls record getpid 12000
  */
 #include "pidtab_shared.h"
+#include "tables.h"
 
 #include <stdio.h>
 #include <stdlib.h>
-#include <string.h>
 
-static struct pidtab plain;
-static struct pidtab_record record;
 static struct pidtab_shared shared;
 
 /* So many calls are made in a turn. */
@@ -23,19 +21,6 @@ static struct pidtab_shared shared;
 
 /* So many entries are kept of a bounded record. */
 #define KEPT 1000
-
-typedef uint32_t make_call(const struct pidtab_call *call, struct pidtab_reply *reply);
-
-static uint32_t on_plain(const struct pidtab_call *call, struct pidtab_reply *reply)
-{
-	return pidtab_call(&plain, call, reply);
-}
-
-static uint32_t on_record(const struct pidtab_call *call, struct pidtab_reply *reply)
-{
-	uint64_t ordinal;
-	return pidtab_record_call(&record, 0, call, reply, &ordinal);
-}
 
 static uint32_t on_bounded(const struct pidtab_call *call, struct pidtab_reply *reply)
 {
@@ -76,11 +61,6 @@ static uint32_t ask_record(const struct pidtab_call *call, struct pidtab_reply *
 static uint32_t ask_shared(const struct pidtab_call *call, struct pidtab_reply *reply)
 {
 	return pidtab_shared_ask(&shared, call, reply);
-}
-
-static bool is_word(const char *word, const char *other)
-{
-	return strcmp(word, other) == 0;
 }
 
 static uint32_t number_of_plain(const struct pidtab_call *call, struct pidtab_reply *reply)

@@ -1,0 +1,30 @@
+/* What programs of this folder share: the tables that their calls are made on, and words. */
+#ifndef LOADS_TABLES_H
+#define LOADS_TABLES_H
+
+#include "pidtab.h"
+
+#include <string.h>
+
+typedef uint32_t make_call(const struct pidtab_call *call, struct pidtab_reply *reply);
+
+static struct pidtab plain;
+static struct pidtab_record record;
+
+static inline uint32_t on_plain(const struct pidtab_call *call, struct pidtab_reply *reply)
+{
+	return pidtab_call(&plain, call, reply);
+}
+
+static inline uint32_t on_record(const struct pidtab_call *call, struct pidtab_reply *reply)
+{
+	uint64_t ordinal;
+	return pidtab_record_call(&record, 0, call, reply, &ordinal);
+}
+
+static inline bool is_word(const char *word, const char *other)
+{
+	return strcmp(word, other) == 0;
+}
+
+#endif
