@@ -7,10 +7,10 @@ use Rattle.pid_types.specs.declared.reply.Refusal.TheVariants.{NoCaller, NoTask}
 use Rattle.pid_types.specs.State.{root_state, root_init, root_name}
 use Rattle.model_laws.specs.Script.{AnswersScript, SeesAlike, EndsSound, name_with}
 
--- a fork, and the number of the new task
+-- the caller's own number, a fork, and the number of the new task
 abbrev pub ForkAndGetPid : Type 0
-ForkAndGetPid = AnswersScript 32768 ((Fork 1 false, Forked 2 2) ∷
-    (GetPid 1, Number 1) ∷
+ForkAndGetPid = AnswersScript 32768 ((GetPid 1, Number 1) ∷
+    (Fork 1 false, Forked 2 2) ∷
     (GetPid 2, Number 2) ∷
     (GetPid 3, Refused NoCaller) ∷ [])
 

@@ -17,7 +17,7 @@ pub record State : Type 0 where
 abbrev pub root_name : Name
 root_name = record { space = 0; numbers = record { items = 1 ∷ [] } }
 
--- the root init leads its own group and session, as the first process of a machine does
+-- the root init leads its own group and session, as the init of a machine does once it has called setsid(2)
 abbrev pub root_init : Row
 root_init = record {
   name = root_name;
