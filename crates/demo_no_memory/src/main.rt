@@ -7,6 +7,7 @@
 //! a line of the first two kinds and the next write.
 #![tactic(auto)]
 
+mod alone;
 mod arrays;
 mod script;
 mod seated;
@@ -17,6 +18,7 @@ use anyhow::{Context, Result};
 use pid_types::config::Config;
 use script::play_script;
 use std::io;
+use std::thread::Threads;
 use tell::tell;
 
 fn main(rt: HostRuntime) -> Result<()> {
@@ -28,7 +30,7 @@ fn main(rt: HostRuntime) -> Result<()> {
 }
 
 /// Plays a script below its name.
-fn play_part<R: Print + AllocGlobal>(rt: &R, script: &str) -> Result<()> {
+fn play_part<R: Print + Threads + AllocGlobal>(rt: &R, script: &str) -> Result<()> {
     let (head, lines) = script.split_once('\n').context("no script below a name")?;
     tell(rt, &[b"# ", head.as_bytes(), b"\n"])?;
     play_script(rt, &read_config(head)?, lines)

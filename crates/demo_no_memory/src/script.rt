@@ -2,23 +2,33 @@
 
 ghost use Rattle.std.specs.Prelude.{◌≡◌};
 
+use crate::alone::play as play_alone;
 use crate::seated::Seated;
-use crate::step::parse_step;
-use crate::tell::{MOST_TRIES, tell};
+use crate::step::{parse_alone, parse_step};
+use crate::tell::{MOST_TRIES, tell, tell_none};
 use anyhow::{Result, bail};
 use locked_table::Record;
 use pid_types::config::Config;
 use std::marker::Brand;
 use std::sync::ledger::{Blank, Ledger};
+use std::thread::Threads;
 
 /// Plays the lines of a script, in a text of their own.
-pub fn play_script<R: Print + AllocGlobal>(rt: &R, config: &Config, lines: &str) -> Result<()> {
+pub fn play_script<R: Print + Threads + AllocGlobal>(
+    rt: &R,
+    config: &Config,
+    lines: &str,
+) -> Result<()> {
     let lines = lines.to_string(rt.alloc())?;
     play_all(rt, config, &lines)
 }
 
 /// Opens a table, as often as that takes, and plays the lines on it.
-fn play_all<R: Print + AllocGlobal>(rt: &R, config: &Config, lines: &String) -> Result<()> {
+fn play_all<R: Print + Threads + AllocGlobal>(
+    rt: &R,
+    config: &Config,
+    lines: &String,
+) -> Result<()> {
     for _ in 0..MOST_TRIES {
         if play_once(rt, config, lines)? {
             return Ok(());
@@ -28,11 +38,15 @@ fn play_all<R: Print + AllocGlobal>(rt: &R, config: &Config, lines: &String) -> 
 }
 
 /// Opens a table and plays the lines on it. It answers false where there was no memory for a table.
-fn play_once<R: Print + AllocGlobal>(rt: &R, config: &Config, lines: &String) -> Result<bool> {
+fn play_once<R: Print + Threads + AllocGlobal>(
+    rt: &R,
+    config: &Config,
+    lines: &String,
+) -> Result<bool> {
     play_on_new::<Brand, R>(rt, Blank::new(1), config, lines)
 }
 
-fn play_on_new<L: Ledger, R: Print + AllocGlobal>(
+fn play_on_new<L: Ledger, R: Print + Threads + AllocGlobal>(
     rt: &R,
     blank: Blank,
     config: &Config,
@@ -44,15 +58,12 @@ fn play_on_new<L: Ledger, R: Print + AllocGlobal>(
     tell(rt, &[b"? new\n"])?;
     match Record::<L, 1>::new(rt.alloc(), blank, config) {
         Ok((record, seats)) => play_lines(rt, Seated { record, seats }, lines.as_str()),
-        Err(_) => {
-            tell(rt, &[b"- no memory\n"])?;
-            Ok(false)
-        }
+        Err(_) => tell_none(rt),
     }
 }
 
 /// Plays the lines on a table that is open.
-fn play_lines<L: Ledger, R: Print + AllocGlobal>(
+fn play_lines<L: Ledger, R: Print + Threads + AllocGlobal>(
     rt: &R,
     mut seated: Seated<L>,
     lines: &str,
@@ -64,14 +75,21 @@ fn play_lines<L: Ledger, R: Print + AllocGlobal>(
     Ok(true)
 }
 
-/// Plays the step of a line.
-fn play_line<L: Ledger, R: Print + AllocGlobal>(
+/// Plays the step of a line, on the table or on one of its own.
+fn play_line<L: Ledger, R: Print + Threads + AllocGlobal>(
     rt: &R,
     seated: &mut Seated<L>,
     line: &str,
 ) -> Result<()> {
-    match line.strip_prefix("! ") {
-        Some(words) => seated.play(rt, b"! ", words, parse_step(words)?),
-        None => seated.play(rt, b"? ", line, parse_step(line)?),
+    let (sign, words): (&[u8], &str) = match line.strip_prefix("! ") {
+        Some(words) => (b"! ", words),
+        None => (b"? ", line),
+    };
+    match parse_alone(rt.alloc(), words)? {
+        Some(step) => {
+            let heading = [sign, words.as_bytes(), b"\n"];
+            play_alone(rt, &heading, &seated.record.config(), &step)
+        }
+        None => seated.play(rt, sign, words, parse_step(words)?),
     }
 }

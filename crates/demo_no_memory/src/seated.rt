@@ -3,7 +3,7 @@
 
 use crate::arrays::fill;
 use crate::step::Step;
-use crate::tell::{MOST_TRIES, tell};
+use crate::tell::{MOST_TRIES, tell, tell_none};
 use anyhow::{Result, bail};
 use locked_table::{Record, Seat};
 use pid_script::answer::answer_text;
@@ -64,7 +64,7 @@ impl<L: Ledger> Seated<L> {
             if self.try_once(rt, step)? {
                 return Ok(());
             }
-            tell(rt, &[b"- no memory\n"])?;
+            tell_none(rt)?;
             self.expect_same(rt.alloc(), before)?;
         }
         bail!("no memory after {MOST_TRIES} tries")

@@ -3,6 +3,7 @@
 use anyhow::{Result, bail};
 use pid_script::line::{Line, parse_line};
 use pid_types::call::Call;
+use std::alloc::{AllocError, Global};
 
 /// A step on the script's table, or on an array.
 #[derive(Clone, Copy)]
@@ -25,6 +26,38 @@ pub enum Step {
     Dump,
     /// `array`: an array by index is filled.
     Array,
+}
+
+/// A step on a table of its own. In a line the script has `;` in the place of a newline.
+#[derive(Drop)]
+pub struct AloneStep {
+    pub kind: AloneKind,
+    /// What follows the word, with newlines.
+    pub script: String,
+}
+
+/// What a step on a table of its own does.
+#[derive(Clone, Copy)]
+pub enum AloneKind {
+    /// `job SCRIPT`: the calls of a job.
+    Job,
+    /// `run SCRIPT`.
+    Run,
+    /// `state SCRIPT`: a run that hands back its record, and the record's list.
+    State,
+}
+
+/// The step on a table of its own, if the line asks for one.
+pub fn parse_alone(alloc: Global, line: &str) -> Result<Option<AloneStep>, AllocError> {
+    let (word, rest) = line.split_once(' ').unwrap_or((line, ""));
+    let kind = match word {
+        "job" => AloneKind::Job,
+        "run" => AloneKind::Run,
+        "state" => AloneKind::State,
+        _ => return Ok(None),
+    };
+    let script = rest.replace(alloc, ";", "\n")?;
+    Ok(Some(AloneStep { kind, script }))
 }
 
 /// The step of a line.

@@ -134,7 +134,7 @@ fn run_script<I: Read + Drop, O: Write>(
 {
     let mut source = FromReader::new(input);
     let mut sink = ToWriter::new(output);
-    match run(alloc, &mut source, &mut sink, config, MOST_READS) {
+    match run(alloc, &mut source, &mut sink, config) {
         Ok(_) => Ok(()),
         Err(fault) => Err(Fault::from(fault)),
     }

@@ -24,13 +24,13 @@ use std::sync::ledger::{Blank, Ledger};
 pub const MOST_READS: u32 = 1_000_000_000;
 
 /// Runs a script on a new table: reads the source to its end, and writes the answer to each line to
-/// the sink, as [`run_script`] says. There are at most `turns` reads: [`MOST_READS`], where nothing else bounds them.
+/// the sink, as [`run_script`] says. There are at most `turns` reads.
 ///
 /// `NoMemory` comes where no table could be made, and then nothing is read or written. A call that
 /// finds no memory later is answered `no memory`, and the script goes on: only `fork` and `mk` take any.
 ///
 /// No history is kept. So a run takes the memory of its greatest table, whatever its length.
-pub fn run<S: Source, K: Sink>(
+pub fn run_limited<S: Source, K: Sink>(
     alloc: Global,
     source: &mut S,
     sink: &mut K,
@@ -57,7 +57,30 @@ pub fn run<S: Source, K: Sink>(
     run_script(&mut table, source, sink, turns)
 }
 
-/// Runs a script on a new table, as [`run`] does with [`MOST_READS`], and hands back the record that the lines leave,
+/// Runs a script on a new table, as [`run_limited`] does, with at most [`MOST_READS`] reads.
+pub fn run<S: Source, K: Sink>(
+    alloc: Global,
+    source: &mut S,
+    sink: &mut K,
+    config: &Config,
+) -> Result<Tally, RunScriptFault>
+    ensures ok { IfOk result (λ tally. (present : State) × (stamp : ℕ) × (text : List ℕ) × (calls : List (Call × Reply))
+        × Finishes may_grow (start_of config.now)
+        (ended_at present stamp tally text calls)
+        (S.remaining source.old) (S.remaining source.new) (K.contents sink.old) (K.contents sink.new)) }
+    ensures err { IfErr result (Leaves may_grow MOST_READS (start_of config.now)
+        (S.remaining source.old) (S.remaining source.new) (K.contents sink.old) (K.contents sink.new)
+        (S.has_failed source.new)) }
+    ensures talk { Converses may_grow MOST_READS (start_of config.now) (DidBoth (S.did source.old source.new)
+        (K.did sink.old sink.new)) result }
+    ensures whole { OnOk result ((S.has_failed source.new ≡ S.has_failed source.old)
+        × (K.has_failed sink.new ≡ K.has_failed sink.old) × (K.is_full sink.new ≡ K.is_full sink.old)) }
+    ensures stopped { result ≡ Err Write → HasStopped (K.has_failed sink.new) (K.is_full sink.new) }
+{
+    run_limited(alloc, source, sink, config, MOST_READS)
+}
+
+/// Runs a script on a new table, as [`run`] does, and hands back the record that the lines leave,
 /// with the whole history: the calls of the script that were recorded, in their order, each with its reply. An entry
 /// takes 64 bytes.
 pub fn run_state<L: Ledger, S: Source, K: Sink>(
@@ -97,8 +120,8 @@ pub fn run_state<L: Ledger, S: Source, K: Sink>(
     Ok((tally, record))
 }
 
-/// Runs a script on a new table, as [`run`] does with [`MOST_READS`], and hands back the table that the lines leave.
-/// It has no history. /// [`Tally::starved`] says how many calls found no memory, and so are not in it.
+/// Runs a script on a new table, as [`run`] does, and hands back the table that the lines leave.
+/// It has no history. [`Tally::starved`] says how many calls found no memory, and so are not in it.
 pub fn run_for_table<S: Source, K: Sink>(
     alloc: Global,
     source: &mut S,

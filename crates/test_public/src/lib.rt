@@ -63,6 +63,8 @@ mod seeds;
 #[cfg(test)]
 mod snapshots;
 #[cfg(test)]
+mod states;
+#[cfg(test)]
 mod texts;
 #[cfg(test)]
 mod tree;

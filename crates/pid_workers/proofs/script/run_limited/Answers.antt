@@ -1,5 +1,5 @@
 use Rattle.std.proofs.Common.{rules}
-use Rattle.pid_workers.proofs.script.run.Goals as goal
+use Rattle.pid_workers.proofs.script.run_limited.Goals as goal
 
 pub returns-clause-err : goal.returns-clause-err
 returns-clause-err g c = search rules
