@@ -30,9 +30,20 @@ sys.exit(int(os.environ.get("STATUS", "0")))
 
 TABLE = "# cores: 2\n# wall: 120\n# processor: 180\n# closing: 3 passed, 0 failed\ncrate\tproofs\ttests\tedits\tnumber\nlow\t5\t1\t7\t1\ntop\t60\t\t\t0\n"
 
-PAGE = "# Gate\n\n<!-- This table is written by tools/gate. -->\n<!-- The end of the table. -->\n\nMore.\n"
+# A test and an edit, which a wrong body keeps.
+BODIES = """\
+<!-- The wrong bodies: tools/gate looks for each name. -->
 
-WRITTEN = """\
+| Wrong body | Edits and tests |
+|---|---|
+| One is two | `low/one`, `tests/test_one.py::test_one` |
+
+<!-- The end of the wrong bodies. -->
+"""
+
+PAGE = f"# Gate\n\n<!-- This table is written by tools/gate. -->\n<!-- The end of the table. -->\n\n{BODIES}"
+
+WRITTEN = f"""\
 # Gate
 
 <!-- This table is written by tools/gate. -->
@@ -49,8 +60,7 @@ Its last line was `3 passed, 0 failed`.
 
 <!-- The end of the table. -->
 
-More.
-"""
+{BODIES}"""
 
 # The words of a command, its folder, and what it is about.
 COMMANDS = [
@@ -105,9 +115,10 @@ class Checkout(unittest.TestCase):
         folder = tempfile.TemporaryDirectory()
         self.addCleanup(folder.cleanup)
         self.top = Path(folder.name)
-        for name in ("tools", "docs", "bin", "crates/low/src", "crates/low/must-fail", "crates/top/src"):
+        for name in ("tools", "docs", "bin", "tests", "crates/low/src", "crates/low/must-fail", "crates/top/src"):
             (self.top / name).mkdir(parents=True)
         (self.top / "crates/low/must-fail/one.edit").touch()
+        (self.top / "tests/test_one.py").write_text("def test_one():\n")
         shutil.copy(REPOSITORY / "tools" / "gate", self.top / "tools")
         tool = self.top / "bin" / "rt"
         tool.write_text(TOOLCHAIN)
@@ -157,6 +168,19 @@ class Checkout(unittest.TestCase):
         for text, said in (("old: first\n", "old: has no file:"), ("new: second\n", "new: has no file:"), ("file: src/lib.rt\nnew: second\n", "new: has no old:")):
             edit.write_text(text)
             self.assertEqual(self.run_gate("--check"), (1, "", f"crates/low/must-fail/one.edit: {said} before it\n"))
+
+    def test_what_wrong_bodies_keep(self) -> None:
+        self.run_gate("write")
+        whole = self.page.read_text()
+        for old, new, said in (
+            ("`low/one`", "`low/gone`", "low/gone is gone: One is two"),
+            ("::test_one", "::test_other", "tests/test_one.py::test_other is gone: One is two"),
+            ("tests/test_one.py", "tests/none.py", "tests/none.py::test_one is gone: One is two"),
+            ("`low/one`, `tests/test_one.py::test_one`", "none", "`One is two` has neither an edit nor a test"),
+            ("| One is two | `low/one`, `tests/test_one.py::test_one` |\n", "", "no wrong body is named"),
+        ):
+            self.page.write_text(whole.replace(old, new))
+            self.assertEqual(self.run_gate("--check"), (1, "", f"docs/GATE.md: {said}\n"))
 
     def test_measure(self) -> None:
         self.assertEqual(self.run_gate("measure"), (0, "3 passed, 0 failed\n", ""))

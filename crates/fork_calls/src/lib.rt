@@ -143,7 +143,7 @@ fn fork_into(store: &mut Tasks, found: &Found, space: SpaceKey) -> Result<ShortR
     laws(store);
     let mut numbers = ArrayVec::<Pid, LEVELS>::new();
     match store.numbers().plan_into(space, &mut numbers) {
-        Err(full) => Ok(ShortReply::Refused(Refusal::NoNumber(id_of(store, full)))),
+        Err(exhausted) => Ok(ShortReply::Refused(Refusal::NoNumber(id_of(store, exhausted)))),
         Ok(()) => fork_planned(store, found, space, numbers.as_slice()),
     }
 }
