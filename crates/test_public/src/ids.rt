@@ -1,6 +1,7 @@
-//! `CyclicIds`: worked draws.
+//! `CyclicIds`: worked draws; and the numbers of a new namespace's init.
 
 use cyclic_ids::{CyclicIds, GROUP_MARK, SESSION_MARK, TASK_MARK};
+use pid_numbers::Numbers;
 use std::process::Abort;
 
 /// A call on the ids, and what it answers.
@@ -193,4 +194,12 @@ fn draws_numbers(rt: HostRuntime) {
     for (pid_max, drawn, steps) in &CASES {
         play(&rt, *pid_max, *drawn, steps);
     }
+}
+
+/// The init of a new namespace is number 1 there, and has the first number of a root where no number is in use.
+#[test]
+fn plans_a_namespace(rt: HostRuntime) {
+    let numbers = Numbers::new(rt.alloc(), 301).expect(&rt, "no memory");
+    let planned = numbers.plan_new(0).expect(&rt, "no number");
+    assert!(rt; planned.as_slice() == [1, 1].as_slice());
 }

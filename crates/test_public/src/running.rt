@@ -9,6 +9,7 @@ use pid_types::plain::Plain;
 use pid_types::reply::{Reply, ShortReply};
 use std::marker::Model;
 use std::process::Abort;
+use table_load::laws::what_is_dumped_is_loaded;
 use table_load::load::load;
 use table_text::dump::dump_text;
 use translate::residents::ControlPage;
@@ -93,9 +94,13 @@ impl Running {
 
     /// The table saved and loaded, which is to be as it was.
     pub fn reloaded(&self, rt: &(impl AllocGlobal + Abort)) -> Running {
-        let text = self.text(rt);
-        let loaded = Running::from_text(rt, text.as_slice());
-        assert!(rt; loaded.text(rt).as_slice() == text.as_slice());
-        loaded
+        let told = what_is_dumped_is_loaded(rt.alloc(), &self.table, self.stamp);
+        let loaded = told.expect(rt, "no memory");
+        let again = Running {
+            table: loaded.table,
+            stamp: loaded.stamp,
+        };
+        assert!(rt; again.text(rt).as_slice() == self.text(rt).as_slice());
+        again
     }
 }
