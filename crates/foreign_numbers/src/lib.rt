@@ -8,6 +8,7 @@ pub mod call_numbers;
 pub mod choices;
 pub mod effects;
 pub mod kinds;
+pub mod literals;
 pub mod numbers;
 pub mod operations;
 pub mod replicas;

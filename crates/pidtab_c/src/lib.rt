@@ -44,6 +44,7 @@ mod task;
 mod texts;
 mod would;
 
+use foreign_calls::record::MOST_WORKERS;
 use foreign_calls::table::{Pidtab, new_table};
 use foreign_calls::table_calls::{line_table, said_table_by_operation};
 use foreign_calls::table_texts::list_of;
@@ -53,7 +54,11 @@ use foreign_numbers::status::{
     BAD_LINE, BUSY, CLOSED, DONE, EMPTY_LINE, NO_MEMORY, NO_ROOM, OUT_OF_RANGE, SPENT, unmade,
 };
 use pid_script::answer::LONGEST_ANSWER;
+use pid_script::call::LONGEST_CALL;
 use pid_script::line::{Line, parse_line};
+use pid_script::part::LONGEST_LINE;
+use pid_types::config::{GREATEST_PID_MAX, LEAST_PID_MAX};
+use pid_types::plain::LEVELS;
 use std::alloc::Global;
 
 /// The number of this interface. It changes where a program that was compiled for another one would go wrong.
@@ -62,10 +67,17 @@ pub const VERSION: u32 = 1;
 /// The number of this interface, which is 1.
 #[unsafe(no_mangle)]
 pub extern "C" fn pidtab_version() -> u32
-    ensures { result ≡ VERSION }
+    ensures { result ≡ 1 }
 {
     VERSION
 }
+
+/// The bounds that the headers have, each as a literal; the call does nothing. A bound may only rise in a later
+/// release.
+pub fn bounds_are_literal()
+    ensures texts { (LONGEST_LINE ≡ 200) × (LONGEST_ANSWER ≡ 362) × (LONGEST_CALL ≡ 42) }
+    ensures tables { (LEAST_PID_MAX ≡ 301) × (GREATEST_PID_MAX ≡ 4194304) × (LEVELS ≡ 33) × (MOST_WORKERS ≡ 16) }
+{}
 
 /// Opens a table with the root init alone, whose numbers are below `pid_max`.
 ///
