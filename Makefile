@@ -68,7 +68,7 @@ test: ## * the gate: proves every crate from nothing, tries the edits that must 
 	@tools/report out/gate.txt crates/pidtab/out/pidtab -- $(MAKE) --no-print-directory gate
 
 # What the gate may cost, in processor minutes: tools/gate says on which machine. It is to come to 160.
-GATE_MINUTES = 195
+GATE_MINUTES = 205
 
 # The steps of the gate. Two look at the C around the library, which is not proved. The last is hostile to the programs that were built.
 # `rt ci` takes no links.
@@ -151,6 +151,7 @@ install: built $(if $(BUILT_LIBRARY),install-library) ## installs what is built 
 
 install-library: ## installs the library alone, with its headers and its manual pages
 	@test -n '$(BUILT_LIBRARY)' || { echo 'no library out/libpidtab.so.1: build it with `make lib`' >&2; exit 1; }
+	@test -n '$(UNPROVED)' || ! grep -qs '^not proved' out/library.txt || { echo 'the library in out/ is not proved: build it with `make lib`, or install it with UNPROVED=1' >&2; exit 1; }
 	$(INSTALL) -d '$(DESTDIR)$(LIBDIR)/pkgconfig' '$(DESTDIR)$(INCLUDEDIR)' '$(DESTDIR)$(MANDIR)/man3'
 	$(INSTALL) -m 644 out/libpidtab.a out/libpidtab.so.1 '$(DESTDIR)$(LIBDIR)'
 	ln -sf libpidtab.so.1 '$(DESTDIR)$(LIBDIR)/libpidtab.so'
@@ -198,7 +199,7 @@ dist: ## makes a release in out/dist of what `make test` and `make lib` have pro
 dist-test: ## installs each part of out/dist without a network, uses it, and makes the release again (some 2 minutes); what is missing is skipped
 	@packaging/dist-test $(DIST)
 
-.PHONY: lib
+.PHONY: lib try-lib
 
 # The library is made of the archive that the checker proves and builds; its parts are in bindings/c. What the tools say is in out/lib.log and out/link.log.
 LIBRARY = crates/pidtab_c/out/libpidtab_c.a
@@ -210,12 +211,32 @@ THREADED = $(TESTED) -fsanitize=thread
 lib: ## * proves and builds the library for C, with its header, in out/ (some 40 minutes from nothing, 18 behind `make build`)
 	$(need_rt)
 	@mkdir -p out
+	@if grep -qs '^not proved' out/library.txt; then rm -f out/library.txt out/libpidtab.*; fi
 	@tools/prove pidtab_c out/lib.log rt lib || { echo 'make lib failed: see out/lib.log' >&2; exit 1; }
 	@$(MAKE) -s out/libpidtab.a out/libpidtab.so.1 > out/link.log 2>&1 || { echo 'make lib failed: see out/link.log' >&2; exit 1; }
-	@rm -f out/libpidtab.so && cp out/libpidtab.so.1 out/libpidtab.so
-	@cp $(HEADERS:%=bindings/c/%) out
-	@$(describe) > out/pidtab.pc
+	$(put_beside)
 	@tools/report out/library.txt out/libpidtab.a out/libpidtab.so.1
+
+# What is beside the library in out/.
+define put_beside
+@rm -f out/libpidtab.so && cp out/libpidtab.so.1 out/libpidtab.so
+@cp $(HEADERS:%=bindings/c/%) out
+@$(describe) > out/pidtab.pc
+endef
+
+# Its parts are in a folder of their own, so that `make lib` takes none of them. What the tools say is in out/try-lib.log.
+UNPROVED_OUT = out/unproved
+try-lib: ## * compiles the library for C without proofs, in out/: do not rely on it (some 4 minutes)
+	$(need_rt)
+	@echo 'this library is not proved, `make lib` proves it: compiling takes some four minutes' >&2
+	@rm -rf out/library.txt out/libpidtab.* $(UNPROVED_OUT) && mkdir -p $(UNPROVED_OUT)
+	@{ tools/unproved pidtab_c $(UNPROVED_OUT)/libpidtab_c.a && \
+		$(MAKE) -s OUT=$(UNPROVED_OUT) LIBRARY=$(UNPROVED_OUT)/libpidtab_c.a $(UNPROVED_OUT)/libpidtab.a $(UNPROVED_OUT)/libpidtab.so.1; } > out/try-lib.log 2>&1 \
+		|| { echo 'make try-lib failed: see out/try-lib.log' >&2; exit 1; }
+	@cp $(UNPROVED_OUT)/libpidtab.a $(UNPROVED_OUT)/libpidtab.so.1 out
+	$(put_beside)
+	@echo 'not proved: `make try-lib` has compiled it' > out/library.txt
+	@echo out/libpidtab.a
 
 # The proved functions by other names, under which guard.c, guard_record.c and guard_replica.c call them.
 $(OUT)/proved.a: $(LIBRARY) bindings/c/renamed.syms

@@ -111,7 +111,7 @@ class Toolchain(Checkouts):
     """What needs the toolchain."""
 
     def test_without_it(self) -> None:
-        for target in ("run", "list", "try", "build", "lib", "page", "check", "test"):
+        for target in ("run", "list", "try", "try-lib", "build", "lib", "page", "check", "test"):
             with self.subTest(target):
                 self.assert_fault(self.make(target), NO_TOOLCHAIN)
 
@@ -162,6 +162,19 @@ class Proofs(Checkouts):
             done = self.make(target, STATUS="1")
             self.assertEqual((done.returncode, done.stdout), (2, ""))
             self.assertIn(f"make {target} failed: see {log}\n", done.stderr)
+
+    def test_a_library_that_is_not_proved(self) -> None:
+        out, prefix = self.top / "out", self.top / "prefix"
+        out.mkdir()
+        for name, text in (("libpidtab.a", ""), ("libpidtab.so.1", ""), ("library.txt", "not proved: `make try-lib` has compiled it\n")):
+            (out / name).write_text(text)
+        said = "the library in out/ is not proved: build it with `make lib`, or install it with UNPROVED=1"
+        self.assert_fault(self.make("install-library", f"PREFIX={prefix}"), said)
+        self.assertFalse(prefix.exists())
+        self.assertNotIn(said, self.make("install-library", f"PREFIX={prefix}", "UNPROVED=1").stderr)
+        # The proved one is made anew: here its proof is refused.
+        self.make("lib", STATUS="1")
+        self.assertEqual(sorted(it.name for it in out.iterdir()), ["lib.log"])
 
     def test_an_interrupt(self) -> None:
         command = [sys.executable, "tools/prove", "pidtab", "log", "sleep", "60"]
