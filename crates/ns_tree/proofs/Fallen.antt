@@ -24,6 +24,11 @@ pub so_far-path : (outer : ℕ) (inner : List ℕ) (s : ℕ) (o : Option Node) �
 so_far-path outer inner s None = refl
 so_far-path outer inner s (Some t) = refl
 
+-- and it was there
+pub was-there : (outer : ℕ) (inner : List ℕ) (s : ℕ) (o : Option Node) → IsSome (fallen_so_far outer inner s o) → IsSome o
+was-there outer inner s None some = some
+was-there outer inner s (Some t) some = refl
+
 -- the one itself
 pub begun : (outer : ℕ) (first new : ℕ → Option Node) → new outer ≡ option_map felled (first outer) → ((s : ℕ) → s ≢ outer → new s ≡ first s) → (s : ℕ) → new s ≡ fallen_so_far outer [] s (first s)
 begun outer first new here others s = elim (cases_eq s outer) [

@@ -1,8 +1,7 @@
-pub mod Vacancy
-pub mod Filled
 pub mod Paths
 pub mod Growth
 pub mod Orders
 mod Nodes
+mod Placed
 mod Inner
 mod Fallen

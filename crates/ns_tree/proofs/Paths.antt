@@ -3,8 +3,7 @@ use Rattle.std.proofs.Common.{◌≡◌, ◌≢◌, inl, inr, ℕ, zero, suc, �
 use Rattle.std.proofs.lemmas.List.{get_or-drop}
 use Rattle.std.proofs.lemmas.Bool.{cases_eq, eq-eqb, ne_eqb, or_right, false_from_ne_true}
 use Rattle.pid_types.specs.Chains.{contains}
-use Rattle.ns_tree.specs.Tree.{IsPath, IsPathTree}
-use Rattle.ns_tree.specs.Vacancy.{IsDistinct}
+use Rattle.ns_tree.specs.Tree.{IsDistinct, IsPath, IsPathTree}
 pub use Rattle.std.proofs.lemmas.Bool.{cases_Bool as cases}
 
 -- a list holds what stands in a place of it

@@ -1,3 +1,2 @@
-pub mod Vacancy
 pub mod Tree
 pub mod Places

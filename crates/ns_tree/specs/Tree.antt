@@ -1,5 +1,5 @@
 -- What a contract sees of `SpaceTree`: the namespaces by key, and the order of their ids.
-use Rattle.std.specs.Prelude.{◌≡◌, ◌⊎◌, ℕ, ◌<◌, ◌≤◌, ◌+◌, ◌||◌, Bool, true, false, List, [], ◌∷◌, length, Option, Some, None, option_map, nat_lt, if◌then◌else◌, slice_get, slice_index_or}
+use Rattle.std.specs.Prelude.{◌≡◌, ◌≢◌, ◌⊎◌, ℕ, ◌<◌, ◌≤◌, ◌+◌, ◌||◌, Bool, true, false, List, [], ◌∷◌, length, Option, Some, None, option_map, nat_lt, if◌then◌else◌, slice_get, slice_index_or}
 use Rattle.std.specs.Option.{option_map_or}
 use Rattle.std.specs.List.{AllByRecursion}
 use Rattle.id_slab.specs.Ids.{key_of}
@@ -67,6 +67,10 @@ outer_of ways s = slice_get (ways s) 1
 pub record AreInside (ways : ℕ → List ℕ) (outer : ℕ) (keys : List ℕ) : Type 0 where
   pub once : (s : ℕ) → outer_of ways s ≡ Some outer → times s keys ≡ 1
   pub each : AllByRecursion (λ s. outer_of ways s ≡ Some outer) keys
+
+-- each key is another than those before
+abbrev pub IsDistinct : List ℕ → Type 0
+IsDistinct path = (i j : ℕ) → i < j → j < length path → slice_index_or path i 0 ≢ slice_index_or path j 0
 
 -- the paths are those of a tree below the namespace with key 0
 pub record IsPathTree (ways : ℕ → List ℕ) : Type 0 where

@@ -18,23 +18,19 @@ mod fall;
 mod places;
 
 use arrayvec::ArrayVec;
-use fall::{fall_within, mark_at};
+use fall::fall_within;
 use id_slab::{Iter, RisingIds};
 use member_lists::MemberLists;
 pub use member_lists::Members as InnerSpaces;
 use pid_types::keys::SpaceKey;
 use pid_types::plain::LEVELS;
-use places::{
-    Place, fill_place, find_place, is_inside, key_at, levels_at, path_below, path_of, reserve_place,
-};
+use places::{Place, Places, grow_lists, is_inside, levels_at, path_below, path_of};
 use std::alloc::{AllocError, Global};
 use std::marker::Model;
 
 /// Namespaces by key: the id of each, whether it has fallen, the path from it to the root, and those directly inside.
 pub struct SpaceTree {
-    places: Vec<Place>,
-    /// The keys of vacant places.
-    vacant: Vec<SpaceKey>,
+    places: Places,
     order: RisingIds,
     /// Under each key the namespaces directly inside.
     children: MemberLists,
@@ -45,7 +41,6 @@ impl Drop for SpaceTree {
     fn drop(self) {
         let SpaceTree {
             places: _,
-            vacant: _,
             order: _,
             children: _,
         } = self;
@@ -53,14 +48,13 @@ impl Drop for SpaceTree {
 }
 
 impl Model for SpaceTree {
-    ghost use Rattle.std.specs.Prelude.{vec_capacity};
-    ghost use Rattle.ns_tree.specs.{Tree.{TreeOfSpaces}, Places.{nodes_of, IsSpaceTree}};
+    ghost use Rattle.ns_tree.specs.{Tree.{TreeOfSpaces}, Places.{IsSpaceTree}};
 
     ghost Value = { TreeOfSpaces };
 
-    ghost view = { λ a. record { nodes = nodes_of a.places.items; order = a.order } };
+    ghost view = { λ a. record { nodes = a.places.nodes; order = a.order } };
 
-    ghost invariant = { λ a. IsSpaceTree a.places.items a.vacant.items (vec_capacity a.vacant) a.order a.children };
+    ghost invariant = { λ a. IsSpaceTree a.places.nodes a.order a.children };
 }
 
 impl SpaceTree {
@@ -72,18 +66,16 @@ impl SpaceTree {
         order.push(0, 0)?;
         let mut children = MemberLists::new(alloc);
         children.grow(1)?;
-        let mut places = Vec::with_capacity(alloc, 1)?;
-        let vacant = Vec::with_capacity(alloc, 1)?;
         let mut path = ArrayVec::<SpaceKey, LEVELS>::new();
         path.push(0);
-        places.push_reserved(Place {
+        let root = Place {
             id: 0,
             fallen: false,
             path,
-        });
+        };
+        let places = Places::new(alloc, root)?;
         Ok(SpaceTree {
             places,
-            vacant,
             order,
             children,
         })
@@ -129,7 +121,7 @@ impl SpaceTree {
     pub fn is_there(&self, key: SpaceKey) -> bool
         ensures { result ≡ is_some (node_in self.now.nodes key) }
     {
-        find_place(&self.places, key).is_some()
+        self.places.find(key).is_some()
     }
 
     /// The id of the namespace.
@@ -137,7 +129,7 @@ impl SpaceTree {
     pub fn id(&self, key: SpaceKey) -> Option<u64>
         ensures { result ≡ id_in self.now.nodes key }
     {
-        match find_place(&self.places, key) {
+        match self.places.find(key) {
             Some(p) => Some(p.id),
             None => None,
         }
@@ -148,7 +140,7 @@ impl SpaceTree {
     pub fn is_fallen(&self, key: SpaceKey) -> bool
         ensures { result ≡ fell self.now.nodes key }
     {
-        match find_place(&self.places, key) {
+        match self.places.find(key) {
             Some(p) => p.fallen,
             None => false,
         }
@@ -176,11 +168,8 @@ impl SpaceTree {
         ensures { result ≡ if nat_lt 1 (length (way self.now.nodes key)) then Some
             (slice_index_or (way self.now.nodes key) 1 0) else None }
     {
-        if levels_at(&self.places, key) > 1 {
-            Some(key_at(&self.places, key, 1))
-        } else {
-            None
-        }
+        let path = path_of(&self.places, key);
+        if path.len() > 1 { Some(path[1]) } else { None }
     }
 
     /// The namespaces directly inside the one with the key, one after the other, in no order that a caller may rely on.
@@ -216,7 +205,8 @@ impl SpaceTree {
         ensures order { IfOk result (λ key. self.new.order ≡ self.old.order ++ (id, key) ∷ []) }
         ensures err { OnErr result (self.new ≡ self.old) }
     {
-        let key = reserve_place(&mut self.places, &mut self.vacant, &mut self.children)?;
+        let key = self.places.make_room()?;
+        grow_lists(&mut self.children, key)?;
         self.order.push(id, key)?;
         let path = path_below(&self.places, key, parent);
         let space = Place {
@@ -224,7 +214,7 @@ impl SpaceTree {
             fallen: false,
             path,
         };
-        fill_place(&mut self.places, &mut self.vacant, space);
+        self.places.insert_reserved(space);
         self.children.add(key, parent);
         Ok(key)
     }
@@ -237,7 +227,7 @@ impl SpaceTree {
         ensures count { length self.new.nodes ≡ length self.old.nodes }
         ensures order { self.new.order ≡ self.old.order }
     {
-        mark_at(&mut self.places, key);
+        self.places.mark_fallen(key);
     }
 
     /// The namespace and all inside it have fallen (`pid_namespaces(7)`). It costs a step for each of them.
@@ -247,7 +237,7 @@ impl SpaceTree {
         ensures count { length self.new.nodes ≡ length self.old.nodes }
         ensures order { self.new.order ≡ self.old.order }
     {
-        if find_place(&self.places, outer).is_some() {
+        if self.places.find(outer).is_some() {
             fall_within(&mut self.places, &self.children, outer);
         }
     }
@@ -262,10 +252,8 @@ impl SpaceTree {
         ensures count { length self.new.nodes ≡ length self.old.nodes }
         ensures order { self.new.order ≡ filter (λ p. is_some (node_in self.new.nodes p.1)) self.old.order }
     {
-        let space = &mut self.places[key as usize];
-        space.path.clear();
+        let space = self.places.remove(key);
         let _ = self.order.remove(space.id);
-        self.vacant.push_reserved(key);
         self.children.remove(key);
     }
 }

@@ -1,5 +1,7 @@
 pub mod Words
 pub mod Items
+pub mod Vacancy
+pub mod Filled
 pub mod Seats
 pub mod Ties
 pub mod Sweeps

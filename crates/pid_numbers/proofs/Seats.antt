@@ -1,8 +1,8 @@
 -- Identifiers in their places.
 use Rattle.std.proofs.Common.{◌≡◌, ◌≢◌, ℕ, ◌<◌, List, length, map, get_or, set, Option, Some, None, IsSome, sym, ap, ◌∙◌, arith, option_map}
 use Rattle.pid_numbers.proofs.Words.{length-map, length-set, cases_eq, Ident, Identifier, Table, identifier_of, get, ident_at, shown, ChangesPlace, IsTable}
-use Rattle.ns_tree.proofs.Filled as filled
-use Rattle.ns_tree.proofs.Vacancy as vacancy
+use Rattle.pid_numbers.proofs.Filled as filled
+use Rattle.pid_numbers.proofs.Vacancy as vacancy
 
 -- how many numbers it has
 abbrev pub numbers_of : Ident → ℕ

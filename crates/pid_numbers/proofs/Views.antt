@@ -10,7 +10,7 @@ use Rattle.pid_numbers.proofs.Words.{namespace_of, numbering_of, plan_on, steppe
 use Rattle.std.proofs.Math.ListN.{get_or-map}
 use Rattle.pid_numbers.specs.declared.Numbers.TheInside.{Inside}
 use Rattle.ns_tree.proofs.Paths as paths
-use Rattle.ns_tree.proofs.Vacancy.{filled-in}
+use Rattle.pid_numbers.proofs.Vacancy.{filled-in}
 use Rattle.pid_numbers.proofs.Items as items
 use Rattle.pid_numbers.proofs.Ties.{at_key, among_from, listed, planned_each, path-kept, told}
 

@@ -15,8 +15,8 @@ pub use Rattle.cyclic_ids.specs.Ids.{Ids, planned}
 pub use Rattle.index_array.proofs.Indexes.{contains_indexes}
 pub use Rattle.index_array.specs.Place.{Entry, IsLeastIndex, Place, entry_at, indexes, is_marked, is_prepared, with_mark}
 pub use Rattle.ns_tree.proofs.Paths.{contains_at, distinct-path, everywhere, place_of}
-pub use Rattle.ns_tree.specs.Tree.{AreListed, IsPath, IsPathTree, Node, TreeOfSpaces, fell, felled_within, grown, id_in, new_node, node_in, way}
-pub use Rattle.ns_tree.specs.Vacancy.{AreVacant, IsDistinct}
+pub use Rattle.ns_tree.specs.Tree.{AreListed, IsDistinct, IsPath, IsPathTree, Node, TreeOfSpaces, fell, felled_within, grown, id_in, new_node, node_in, way}
+pub use Rattle.pid_numbers.specs.Vacancy.{AreVacant}
 pub use Rattle.pid_types.proofs.LeastFree.{draw-Some, least_free-found}
 pub use Rattle.pid_types.specs.Chains.{contains}
 unfoldable pub use Rattle.pid_types.specs.Chains.{climb}

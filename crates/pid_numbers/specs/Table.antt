@@ -2,7 +2,7 @@
 use Rattle.std.specs.Prelude.{◌≡◌, ◌≢◌, ℕ, ◌≤◌, ◌^◌, ◌==◌, ◌&&◌, ◌||◌, nat_lt, Bool, List, length, map, Option, Some, None, option_map, if◌then◌else◌, slice_index_or}
 use Rattle.pid_numbers.specs.declared.idents.Ident.{Ident}
 use Rattle.pid_numbers.specs.Numbering.{Identifier}
-use Rattle.ns_tree.specs.Vacancy.{AreVacant, next_place as next_of}
+use Rattle.pid_numbers.specs.Vacancy.{AreVacant, next_place as next_of}
 
 -- the identifier or none at each key, the key of the next one, and whether there is room for it
 pub record Table : Type 0 where

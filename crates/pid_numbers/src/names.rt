@@ -6,7 +6,7 @@ ghost use Rattle.{
   pid_types.specs.{Bounds.{deepest_space}, declared.call.Kind.{Kind}},
   pid_numbers.specs.Numbering.{Identifier, uses, is_used, is_used_as},
   pid_numbers.specs.{Slabs.{entry_on, touched, mark_of, AreIn, KeepsBounds, KeepsCursors}, Table.{ident_at}},
-  ns_tree.specs.{Tree.{way}, Vacancy.{IsDistinct}},
+  ns_tree.specs.{Tree.{way, IsDistinct}},
   index_array.specs.Place.{with_mark},
 };
 

@@ -6,7 +6,7 @@ ghost use Rattle.std.specs.{Prelude.{false, ◌++◌}, List.{filter}};
 ghost use Rattle.{
   index_array.specs.Place.{index_count, entry_at, with_mark, is_marked, IsLeastIndex},
   pid_types.specs.{Bounds.{deepest_space}, Settings.{HasGoodPidMax}},
-  ns_tree.specs.{Tree.{node_in, way, id_in, grown, IsPathTree, AreListed}, Vacancy.{IsDistinct}},
+  ns_tree.specs.{Tree.{node_in, way, id_in, grown, IsDistinct, IsPathTree, AreListed}},
   pid_numbers.specs.Slabs.{entry_on, leads, plan_on, cursor_on, bound_on, ready, touched, stepped, given_to, mark_of},
   pid_numbers.specs.Slabs.{dead_on, AreAround, AreIn, ArePlanned, AreReady, KeepsPlans, KeepsNumbers, KeepsBounds},
   pid_numbers.specs.Slabs.{KeepsCursors, KeepsOtherNumbers, KeepsOtherSpaces},

@@ -1,7 +1,6 @@
 -- The path of an outer namespace is the end of an inner one's: so the difference of their lengths is its place there
 use Rattle.std.proofs.Common.{inl, inr, ◌∙◌, ap, arith, ◌<◌, ◌-◌, length, get_or, ◌==◌}
 use Rattle.ns_tree.specs.Tree.{way}
-use Rattle.ns_tree.specs.Places.{nodes_of}
 use Rattle.ns_tree.proofs.Paths as paths
 use Rattle.ns_tree.proofs.places.is_inside.Goals as goal
 
@@ -9,14 +8,14 @@ pub returns-then-from-eq0 : goal.returns-then-from-eq0
 returns-then-from-eq0 c =
     let from = c.levels_at-from.ensures.value in
     let len = ap length c.path_of-path.ensures in
-    paths.not-within (way (nodes_of c.args.places.now.items)) c.requires c.args.key c.args.outer (λ some few. elim c.then-from-eq0.either [
+    paths.not-within (way c.args.places.now.nodes) c.requires c.args.key c.args.outer (λ some few. elim c.then-from-eq0.either [
       | inl zero ↦ omega (arith, zero, some, from)
       | inr w ↦ (let below = w.1 in omega (arith, below, few, from, len))
     ])
 
 pub returns : goal.returns
 returns c =
-    let ways = way (nodes_of c.args.places.now.items) in
+    let ways = way c.args.places.now.nodes in
     let from = c.levels_at-from.ensures.value in
     let len = ap length c.path_of-path.ensures in
     let place = c.if-end-from.false in

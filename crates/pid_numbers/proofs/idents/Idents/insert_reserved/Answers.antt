@@ -1,8 +1,8 @@
 use Rattle.std.proofs.lemmas.Grind.{common_steps}
 use Rattle.pid_numbers.proofs.Words.{◌∙◌, ◌<◌, length, map, set, Some, arith, sym, ap, subst, vec_capacity, length-map, length-set, AreVacant, get, shown}
-use Rattle.ns_tree.proofs.Filled as filled
+use Rattle.pid_numbers.proofs.Filled as filled
 use Rattle.pid_numbers.proofs.Seats as seats
-use Rattle.ns_tree.proofs.Vacancy as vacancy
+use Rattle.pid_numbers.proofs.Vacancy as vacancy
 use Rattle.pid_numbers.proofs.idents.Idents.insert_reserved.Goals as goal
 
 pub invariant_of-self : goal.invariant_of-self

@@ -2,7 +2,7 @@ use Rattle.std.proofs.Common.{arith}
 use Rattle.std.proofs.lemmas.Grind.{common_steps}
 use Rattle.pid_numbers.proofs.Words.{◌≡◌, ◌∙◌, ◌<◌, length, map, get_or, None, Some, sym, ap, option_map, vec_capacity, less, is_used_as, identifier_of}
 use Rattle.pid_numbers.proofs.Words.{ident_at, shown}
-use Rattle.ns_tree.proofs.Filled as filled
+use Rattle.pid_numbers.proofs.Filled as filled
 use Rattle.pid_numbers.proofs.Seats as seats
 use Rattle.pid_numbers.proofs.Views as views
 use Rattle.pid_numbers.proofs.idents.Idents.less_use.Goals as goal

@@ -2,9 +2,9 @@
 use Rattle.std.proofs.lemmas.Grind.{common_steps}
 use Rattle.pid_numbers.proofs.Words.{◌≡◌, ◌∙◌, ◌<◌, ◌++◌, ◌∷◌, ℕ, List, [], length, map, get_or, None, Some, IsSome, arith, sym, ap, subst, option_map}
 use Rattle.pid_numbers.proofs.Words.{vec_capacity, length-set, Ident, AreVacant, get, identifier_of, ident_at, shown}
-use Rattle.ns_tree.proofs.Filled as filled
+use Rattle.pid_numbers.proofs.Filled as filled
 use Rattle.pid_numbers.proofs.Seats as seats
-use Rattle.ns_tree.proofs.Vacancy as vacancy
+use Rattle.pid_numbers.proofs.Vacancy as vacancy
 use Rattle.pid_numbers.proofs.idents.Idents.remove.Goals as goal
 
 -- it is there

@@ -5,7 +5,8 @@ use Rattle.std.specs.List.{list_any, AllByRecursion, IsDistinct as IsApart}
 use Rattle.std.proofs.lemmas.List.{length-append, get_or_append_left, get_or-append_right, get_or_default, length-set, get_or_past, get_or-set_same, get_or-set_other}
 use Rattle.std.proofs.lemmas.Map.Steps.{length-le_from_distinct_below}
 use Rattle.std.proofs.lemmas.Bool.{cases_eq, cases_lt, ne_eqb}
-use Rattle.ns_tree.specs.Vacancy.{next_place, AreVacant, IsDistinct}
+use Rattle.ns_tree.specs.Tree.{IsDistinct}
+use Rattle.pid_numbers.specs.Vacancy.{next_place, AreVacant}
 
 -- where a number of a list stands
 place_in : (ks : List ℕ) (q : ℕ) → list_any (nat_eq q) ks ≡ true → (j : ℕ) × (j < length ks) × (get_or ks j 0 ≡ q)
@@ -188,15 +189,6 @@ module _ {X : Type 0} where
         let is = get_or_default keys (length keys - 1) (length places) 0 (omega (arith, some)) in
         ap (at_key slots) is ∙ (v.each (length keys - 1) (omega (arith, some))).1
     | inr none ↦ get_or_past slots (next_place places keys) None (let past = get_or_past keys (length keys - 1) (length places) (omega (arith, none)) in omega (arith, past, len))
-  ]
-
-  -- and it has no gap before it
-  pub next-near : {Y : Type 0} (places : List Y) (slots : List (Option X)) (keys : List ℕ) (room : ℕ) → length places ≡ length slots → AreVacant slots keys room → next_place places keys ≤ length places
-  next-near {Y} places slots keys room len v = elim (cases_lt 0 (length keys)) [
-    | inl some ↦
-        let is = get_or_default keys (length keys - 1) (length places) 0 (omega (arith, some)) in
-        omega (arith, is, (v.each (length keys - 1) (omega (arith, some))).0, len)
-    | inr none ↦ (let past = get_or_past keys (length keys - 1) (length places) (omega (arith, none)) in omega (arith, past))
   ]
 
   -- where the same places are filled, the same ones are vacant

@@ -1,9 +1,6 @@
 -- The keys of vacant places, each of which is given again.
-use Rattle.std.specs.Prelude.{◌≡◌, ◌≢◌, ℕ, ◌-◌, ◌<◌, ◌≤◌, List, length, Option, None, slice_index_or}
-
--- each key is another than those before
-abbrev pub IsDistinct : List ℕ → Type 0
-IsDistinct path = (i j : ℕ) → i < j → j < length path → slice_index_or path i 0 ≢ slice_index_or path j 0
+use Rattle.std.specs.Prelude.{◌≡◌, ℕ, ◌-◌, ◌<◌, ◌≤◌, List, length, Option, None, slice_index_or}
+use Rattle.ns_tree.specs.Tree.{IsDistinct}
 
 module _ {X : Type 0} where
   -- the keys are those of the vacant places: each of them is, all of these are among them, none comes twice, and there is room for the
