@@ -39,12 +39,20 @@ run: ## answers SCRIPT (examples/first.script): by the proved program where it i
 list: ## shows the table that SCRIPT leaves, as `make run` does
 	$(call played,list)
 
+# Compiled once, and again when a source changes. What the tools say is in out/try.log.
+TRIED = out/unproved/pidtab
+$(TRIED): crates.txt $(wildcard crates/*/src/*.rt)
+	@echo 'compiling the program without proofs: some two minutes' >&2
+	@mkdir -p out/unproved
+	@tools/unproved pidtab $@ > out/try.log 2>&1 || { echo 'make try failed: see out/try.log' >&2; exit 1; }
+
 COMMAND = run
-try: ## * answers SCRIPT by a build that is not proved: do not rely on it (some 2 minutes)
+try: ## * answers SCRIPT by a build that is not proved, kept as out/unproved/pidtab: do not rely on it (some 2 minutes once)
 	$(need_script)
 	$(need_rt)
-	@echo 'this build is not proved, `make build` proves it: compiling takes some two minutes' >&2
-	@exec < '$(SCRIPT)' && cd crates/pidtab && rt try -- $(COMMAND)
+	@$(MAKE) -s $(TRIED)
+	@echo 'this build is not proved, `make build` proves it' >&2
+	@'$(TRIED)' $(COMMAND) < '$(SCRIPT)'
 
 # What the tools say is in out/build.log.
 build: ## * proves and builds the program, crates/pidtab/out/pidtab (some 40 minutes from nothing)
@@ -229,7 +237,7 @@ UNPROVED_OUT = out/unproved
 try-lib: ## * compiles the library for C without proofs, in out/: do not rely on it (some 4 minutes)
 	$(need_rt)
 	@echo 'this library is not proved, `make lib` proves it: compiling takes some four minutes' >&2
-	@rm -rf out/library.txt out/libpidtab.* $(UNPROVED_OUT) && mkdir -p $(UNPROVED_OUT)
+	@rm -rf out/library.txt out/libpidtab.* && mkdir -p $(UNPROVED_OUT)
 	@{ tools/unproved pidtab_c $(UNPROVED_OUT)/libpidtab_c.a && \
 		$(MAKE) -s OUT=$(UNPROVED_OUT) LIBRARY=$(UNPROVED_OUT)/libpidtab_c.a $(UNPROVED_OUT)/libpidtab.a $(UNPROVED_OUT)/libpidtab.so.1; } > out/try-lib.log 2>&1 \
 		|| { echo 'make try-lib failed: see out/try-lib.log' >&2; exit 1; }

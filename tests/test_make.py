@@ -16,13 +16,21 @@ from tests.pages import EXAMPLES, REPOSITORY
 CRATES = "# A product.\nlow:\nmid: low slab\npidtab: mid\npidtab_c staticlib: mid low\n"
 
 NO_TOOLCHAIN = "The Rattle toolchain (its command is `rt`) is not on the PATH"
-NOT_PROVED = "this build is not proved, `make build` proves it: compiling takes some two minutes\n"
+NOT_PROVED = "this build is not proved, `make build` proves it\n"
+COMPILES = "compiling the program without proofs: some two minutes\n"
+
+# It compiles a program that tells its words and its input.
+UNPROVED = """\
+#!/bin/sh
+printf '#!/bin/sh\\necho "%s $*: $(cat)"\\n' "$1" > "$2"
+chmod +x "$2"
+exit ${STATUS:-0}
+"""
 
 # It tells its words, its folder and its input, and for a proof makes the libraries one after the other.
 TOOLCHAIN = """\
 #!/bin/sh
 echo "rt $* in $(basename "$PWD"): $(cat)"
-test "$1" = try && exit
 for it in low mid; do mkdir -p ../$it/out/rlib; sleep 0.7; touch ../$it/out/rlib/stamp; done
 sleep 0.7
 exit ${STATUS:-0}
@@ -61,6 +69,7 @@ class Checkouts(unittest.TestCase):
         tool.parent.mkdir()
         tool.write_text(TOOLCHAIN)
         tool.chmod(0o755)
+        (self.top / "tools" / "unproved").write_text(UNPROVED)
         self.path = f"{tool.parent}{os.pathsep}{self.path}"
 
     def add_program(self) -> None:
@@ -118,16 +127,34 @@ class Toolchain(Checkouts):
     def test_a_try_plays_a_script(self) -> None:
         self.add_toolchain()
         (self.top / "my own.script").write_text("fork 1\n")
-        for script in ("my own.script", str(self.top / "my own.script")):
+        for script, said in (("my own.script", COMPILES + NOT_PROVED), (str(self.top / "my own.script"), NOT_PROVED)):
             done = self.make("try", f"SCRIPT={script}")
-            self.assertEqual((done.returncode, done.stdout, done.stderr), (0, "rt try -- run in pidtab: fork 1\n", NOT_PROVED))
+            self.assertEqual((done.returncode, done.stdout, done.stderr), (0, "pidtab run: fork 1\n", said))
+
+    def test_a_try_compiles_what_has_changed(self) -> None:
+        self.add_toolchain()
+        self.assertEqual([self.make("try").stderr for _ in range(2)], [COMPILES + NOT_PROVED, NOT_PROVED])
+        # The program is older than the last change of a source, and than no other.
+        now = time.time()
+        source = self.top / "crates" / "low" / "src" / "lib.rt"
+        source.parent.mkdir()
+        source.touch()
+        for file, age in ((self.top / "crates.txt", 90), (self.top / "out/unproved/pidtab", 60), (source, 30)):
+            os.utime(file, (now - age, now - age))
+        self.assertEqual(self.make("try").stderr, COMPILES + NOT_PROVED)
+
+    def test_a_try_that_does_not_compile(self) -> None:
+        self.add_toolchain()
+        done = self.make("try", STATUS="1")
+        self.assertEqual((done.returncode, done.stdout), (2, ""))
+        self.assertIn("make try failed: see out/try.log\n", done.stderr)
 
     def test_what_is_not_built_is_tried(self) -> None:
         self.add_toolchain()
         first = (EXAMPLES / "first.script").read_text()
-        for command in ("run", "list"):
+        for command, said in (("run", COMPILES + NOT_PROVED), ("list", NOT_PROVED)):
             done = self.make(command)
-            self.assertEqual((done.returncode, done.stdout, done.stderr), (0, f"rt try -- {command} in pidtab: {first}", NOT_PROVED))
+            self.assertEqual((done.returncode, done.stdout, done.stderr), (0, f"pidtab {command}: {first}", said))
 
     def test_what_is_built_is_run(self) -> None:
         self.add_program()
