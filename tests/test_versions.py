@@ -11,6 +11,7 @@ VERSION = r"(\d+\.\d+\.\d+(?:-dev)?)"
 # Where the version is written beside the file VERSION.
 VERSIONS = {
     "bindings/python/pyproject.toml": r'^version = "(.*)"$',
+    "bindings/python/pidtab/__init__.py": r'^__version__ = "(.*)"$',
     "bindings/rust/Cargo.toml": rf'^version = "{VERSION}"$',
     "service/Cargo.toml": rf'^version = "{VERSION}"$',
     "bindings/js/package.json": rf'^  "version": "{VERSION}",$',
