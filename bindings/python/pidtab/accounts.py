@@ -14,9 +14,11 @@ LIMITED = "pids-limit"
 class Accounts:
     """The peaks, refusals and keys of a table, from its calls in their order. It makes them again on a table of its own.
 
-    `table` is that. `peaks` are the most tasks that each control group has had, as `pids.peak`, and `limited` the forks that it has refused, as
-    `max` of `pids.events`. `refused` counts all refusals by their words. A key is the stamp of a task's fork, so no other task of the table ever
-    has it; a task that was there before the first call has none.
+    `table` is that. `peaks` are the most tasks that each control group has had; `pids.peak` counts a fork too that only a group around it refused.
+    `limited` are the forks that its own limit refused, as the `max` of `pids.events.local`; that of `pids.events` has those of the groups below it
+    too. So where a group of two tasks is below one with `pids.max` 2, a third fork leaves its peak at 2, and `limited` has 1 for the outer group
+    alone; the kernel's `pids.peak` of the inner one is 3. `refused` counts all refusals by their words. A key is the stamp of a task's fork, so no
+    other task of the table ever has it; a task that was there before the first call has none.
     """
 
     def __init__(self, table: Table, first_stamp: int = 1) -> None:

@@ -89,6 +89,16 @@ class Counts(Histories):
         accounts = self.accounts("fork 1", "fork 1", "fork 1", *ends, "fork 1")
         self.assertEqual((accounts.peaks, accounts.table.count()), ({0: 4}, 2))
 
+    def test_a_refusal_by_a_group_around(self) -> None:
+        # Linux 6.18 has `pids.peak` 3 of the inner group 2 here, and 2 of the outer.
+        refused = "mk 0", "mk 1", "fork 1", "move 2 2", "fork 2", "limit 1 2", "fork 2"
+        accounts = self.accounts(*refused)
+        self.assertEqual((accounts.peaks, accounts.limited), ({0: 3, 1: 2, 2: 2}, {1: 1}))
+        # Where both are full, the nearest one refuses alone.
+        self.seat.answers(("limit 2 2", "fork 2"))
+        accounts.add(self.shared.entries(len(refused)))
+        self.assertEqual((accounts.peaks, accounts.limited), ({0: 3, 1: 2, 2: 2}, {1: 1, 2: 1}))
+
     def test_a_group_that_was_removed(self) -> None:
         self.assertEqual(self.accounts("mk 0", "mk 1", "rm 2", "fork 1").peaks, {0: 2, 1: 0})
 
