@@ -77,6 +77,13 @@ class Forecast:
                 return kept
             left = kept
 
+    def waits_with(self, init: int) -> list[int]:
+        """An init, and all that it waits for, directly or by another."""
+        among, reached = self.dying(init), [init]
+        for number in reached:
+            reached += [other for other in self.waits_for(number, among) if other not in reached]
+        return reached
+
     def hold(self, member: Member, space: int, init: int) -> str:
         """How a process that does not go with a fall keeps a number of the namespace in use, if it does."""
         if self.is_within(member.space, space):
@@ -87,10 +94,10 @@ class Forecast:
         return WAITS_FOR_GROUP if uses_number else ENDS
 
     def outcome(self, init: int) -> str:
-        """What the fall comes to: NEVER where some init would wait for itself; WAITS_FOR_CHILD where a parent outside has to
+        """What the fall comes to: NEVER where the init would wait for itself; WAITS_FOR_CHILD where a parent outside has to
         wait first; WAITS_FOR_GROUP where a process outside has to leave a group; else ENDS."""
-        if self.stuck(init):
+        if init in self.stuck(init):
             return NEVER
-        spaces = {self.members[number].space: number for number in self.dying(init)}
+        spaces = {self.members[number].space: number for number in self.waits_with(init)}
         holds = {self.hold(member, space, owner) for space, owner in spaces.items() for member in self.members.values()}
         return next((held for held in (WAITS_FOR_CHILD, WAITS_FOR_GROUP) if held in holds), ENDS)
