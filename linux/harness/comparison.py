@@ -8,6 +8,7 @@ from pathlib import Path
 from harness.kernel_list import differing_lines, kernel_list
 from harness.known import Known, Meeting, agree, explain
 from harness.script import BadLine, Call, parse_line
+from harness.sight import Sight, look_before
 from harness.table import Table, list_lines
 from harness.world import Settings, World, WorldFault
 
@@ -64,6 +65,15 @@ MOVED_BY = {
 }
 
 
+def moved_spaces(world: World, caller: int, table: str) -> list[int]:
+    """The namespaces whose cursors a refused fork of a caller moves: all that the child would have been in, but for want of a
+    number only those inside of the one that has none, which draw first."""
+    spaces = list(world.outwards(world.tasks[caller].children_space))
+    words = table.split(" ")
+    full = int(words[2]) if words[1] == "no-number" else None
+    return spaces[: spaces.index(full)] if full in spaces else spaces
+
+
 class Comparison:
     """A run of one script by both. Lines may come from anywhere, also from one who looks at the world before each."""
 
@@ -72,7 +82,7 @@ class Comparison:
         self.pid_max = settings.pid_max or 32768
         self.sets_back = sets_back
         self.report = Report()
-        self.moved: set[str] = set()
+        self.moved: dict[str, set[int]] = {}
         self.world = World(settings)
         try:
             self.table = Table(program, self.pid_max)
@@ -105,15 +115,14 @@ class Comparison:
 
     def step(self, line: bytes) -> bool:
         """Has both answer one line, and tells whether to go on."""
-        causes = self.world.open_causes() | self.moved
         self.report.lines.append(line.decode("latin-1"))
         try:
             call = parse_line(line)
         except BadLine:
             call = None
-        kernel, zombie = "bad line", False
+        kernel, sight = "bad line", Sight()
         if call is not None:
-            zombie = call.name == "move" and self.world.is_zombie(call.numbers[0])
+            sight = look_before(self.world, call, self.moved)
             kernel = self.world.answer(call)
         if kernel == "n/a too-many-tasks":
             self.report.skipped = "too many tasks at once"
@@ -124,7 +133,7 @@ class Comparison:
             self.note_refusal(call, kernel, table)
         if agree(kernel, table):
             return True
-        known = explain(Meeting(call, kernel, table, causes, zombie)) if call is not None else None
+        known = explain(Meeting(call, kernel, table, sight)) if call is not None else None
         return self.note_difference(Difference(len(self.report.lines), self.report.lines[-1], kernel, table, known))
 
     def note_difference(self, difference: Difference) -> bool:
@@ -142,11 +151,11 @@ class Comparison:
         if self.sets_back and self.world.set_cursors_back(call.numbers[0]):
             self.report.cursors_set_back += 1
         else:
-            self.moved.add(moved)
+            self.moved.setdefault(moved, set()).update(moved_spaces(self.world, call.numbers[0], table))
 
     def compare_lists(self) -> None:
         """Compares the table that the script leaves with what the kernel shows; nothing where a cause of differences is open."""
-        if self.moved or self.world.open_causes():
+        if any(self.moved.values()) or self.world.open_causes():
             return
         script = "".join(line + "\n" for line in self.report.lines).encode("latin-1")
         wanted = list_lines(self.program, self.pid_max, script)

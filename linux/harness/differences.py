@@ -6,6 +6,9 @@ from pathlib import Path
 
 FOLDER = Path(__file__).resolve().parent.parent / "differences"
 CHAPTERS = ("Falls", "Fork and its numbers", "Wait", "The rest")
+# How a script is run that is not run as any other: where the kernel's fall never ends.
+ENDLESS = "endless"
+RUNS = ("", ENDLESS)
 FIELDS = ("chapter", "place", "what", "seen", "pid-max", "run", "shows")
 REPEATED = re.compile(r"([1-9][0-9]*) times (.*)")
 
@@ -26,8 +29,8 @@ class Step:
 
 @dataclass(frozen=True)
 class Row:
-    """A listed difference. `shows` is the name by which `known` tells it, mostly its own. `run` is empty where it is run as any script, `endless` where the kernel's fall never ends, and
-    otherwise says why it cannot be run."""
+    """A listed difference. `shows` is the name by which `known` tells it, mostly its own. `run` is one of RUNS, or says why it
+    cannot be run."""
 
     name: str
     chapter: str
@@ -42,7 +45,7 @@ class Row:
     @property
     def can_run(self) -> bool:
         """Whether the row is a script that processes can be asked."""
-        return bool(self.steps) and self.run in ("", "endless")
+        return bool(self.steps) and self.run in RUNS
 
     def lines(self) -> list[str]:
         """The script's lines."""

@@ -16,13 +16,6 @@ CONTROL = "control {id} parent {parent} limit {limit} count {count}"
 # The end of lines.
 
 
-def end_of(stat: Stat) -> str:
-    """How a process stands: `live`, `exit S` or `killed`."""
-    if not stat.is_zombie:
-        return "live"
-    return "killed" if stat.end & 0x7F else f"exit {stat.end >> 8}"
-
-
 def home_of(world: World, task: Task, stat: Stat) -> str:
     """The id of a live task's control group."""
     if world.groups is None or stat.is_zombie or world.proc is None:
@@ -58,7 +51,7 @@ def task_line(world: World, stat: Stat) -> str:
         group=stat.group,
         session=stat.session,
         control=home_of(world, task, stat),
-        state=end_of(stat),
+        state=stat.how_ended if stat.is_zombie else "live",
         executed="" if stat.flags & NOT_EXECUTED else " executed",
         children=children_of(world, task, stat),
         subreaper=subreaper_of(world, task, stat),
@@ -77,7 +70,7 @@ def space_lines(world: World) -> list[str]:
     """The lines of the namespaces whose init lives."""
     lines = []
     for id, space in world.spaces.items():
-        if world.is_live(space.init) and world.tasks[space.init].space == id:
+        if world.has_live_init(id):
             parent = "-" if space.parent is None else space.parent
             lines.append(SPACE.format(id=id, parent=parent, cursor=cursor_of(world, space.init), fallen=""))
     return lines

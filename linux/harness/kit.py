@@ -7,6 +7,7 @@ from harness.comparison import MOVED_BY
 from harness.known import DIFFERENCES, Known, Meeting
 from harness.machine import Machine
 from harness.script import DEFAULT_PID_MAX, parse_line
+from harness.sight import look_before
 from harness.world import World
 from pidtab.process import Process
 from pidtab.testing import Met, Tally, compare
@@ -19,16 +20,15 @@ class Kernel:
 
     def __init__(self, machine: Machine) -> None:
         self.world = World(machine.settings(DEFAULT_PID_MAX, b""))
-        self.moved: set[str] = set()
+        self.moved: dict[str, set[int]] = {}
         self.meet: Callable[[str, str], Meeting]
 
     def answer(self, line: str) -> str:
         """The kernel's answer. NotImplementedError where it was not asked: then the table is not asked either."""
         call = parse_line(line.encode())
         assert call
-        causes = frozenset(self.world.open_causes() | self.moved)
-        is_zombie = call.name == "move" and self.world.is_zombie(call.numbers[0])
-        self.meet = lambda kernel, table: Meeting(call, kernel, table, causes, is_zombie)
+        sight = look_before(self.world, call, self.moved)
+        self.meet = lambda kernel, table: Meeting(call, kernel, table, sight)
         answer = self.world.answer(call)
         if answer.startswith("n/a "):
             # No call of either then.
@@ -40,8 +40,12 @@ class Kernel:
 
     def set_back(self, caller: int) -> None:
         """Sets the cursors back that a refused fork has moved, or remembers that they moved."""
-        if not self.world.set_cursors_back(caller):
-            self.moved |= set(MOVED_BY.values())
+        if self.world.set_cursors_back(caller):
+            return
+        spaces = self.world.outwards(self.world.tasks[caller].children_space)
+        for space in spaces:
+            for cause in MOVED_BY.values():
+                self.moved.setdefault(cause, set()).add(space)
 
     def close(self) -> None:
         """Ends its processes."""

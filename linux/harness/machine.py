@@ -6,6 +6,7 @@ import re
 from dataclasses import dataclass
 from pathlib import Path
 
+from harness.differences import ENDLESS
 from harness.groups import Place, find_place
 from harness.script import DEFAULT_PID_MAX, count_forks, split_lines
 from harness.world import Settings, World, WorldFault
@@ -36,8 +37,9 @@ class Machine:
         groups = f"pids version {self.place.version} in {self.place.folder}" if self.place else "no control groups"
         return f"Linux {self.release}, {user}; {own}; {groups}"
 
-    def settings(self, pid_max: int, script: bytes, run_endless_falls: bool = False) -> Settings:
-        """How a world for a script is made; Unable where this machine makes none that would do."""
+    def settings(self, pid_max: int, script: bytes, run: str = "") -> Settings:
+        """How a world for a script is made, by the word of a row's field `run`; Unable where this machine makes none that would
+        do."""
         uses_groups = any(line.split(b" ")[0] in GROUP_WORDS for line in split_lines(script))
         if uses_groups and self.place is None:
             raise Unable("control groups with the pids controller, which this machine does not give")
@@ -47,7 +49,7 @@ class Machine:
             pid_max=pid_max if self.has_own_pid_max else None,
             place=self.place,
             own_user=self.own_user,
-            run_endless_falls=run_endless_falls,
+            run_endless_falls=run == ENDLESS,
         )
 
 

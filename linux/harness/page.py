@@ -3,7 +3,7 @@
 import re
 from pathlib import Path
 
-from harness.differences import CHAPTERS, Row, read_rows
+from harness.differences import CHAPTERS, RUNS, Row, read_rows
 from harness.known import agree
 from harness.world import NOT_ASKED
 
@@ -68,7 +68,7 @@ def shown_row(row: Row) -> str:
     if row.pid_max is not None:
         script = f"pid_max {row.pid_max}: {script}"
     seen = "" if row.seen in USUAL else ". It was not run" if row.seen == "not run" else f". Seen on {row.seen} alone"
-    reason = f" ({row.run})" if row.run not in ("", "endless") else ""
+    reason = f" ({row.run})" if row.run not in RUNS else ""
     return f"| *{row.name}*: {row.what}{seen}{reason} | {script} | {shown_answers(row)} |\n"
 
 

@@ -30,6 +30,11 @@ class Stat:
         return self.is_zombie or bool(self.flags & EXITING)
 
     @property
+    def how_ended(self) -> str:
+        """How a process that is exiting ended: `exit S` or `killed`."""
+        return "killed" if self.end & 0x7F else f"exit {self.end >> 8}"
+
+    @property
     def is_at_rest(self) -> bool:
         """Whether the process has ended, or is an exiting init that sleeps: until no other number is in use in its namespace, or
         until an init that does so lets itself be reaped."""

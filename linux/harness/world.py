@@ -4,7 +4,7 @@ import errno
 import socket
 import subprocess
 import time
-from collections.abc import Callable, Iterator
+from collections.abc import Callable, Iterable, Iterator, Mapping
 from dataclasses import dataclass
 from pathlib import Path
 
@@ -205,10 +205,19 @@ class World:
 
     def is_within(self, space: int, other: int) -> bool:
         """Whether a namespace is another or below it."""
+        return other in self.outwards(space)
+
+    def outwards(self, space: int) -> Iterator[int]:
+        """A namespace and those around it, the root last."""
         at: int | None = space
-        while at is not None and at != other:
+        while at is not None:
+            yield at
             at = self.spaces[at].parent
-        return at is not None
+
+    def has_live_init(self, space: int) -> bool:
+        """Whether a namespace's init lives, and no later process has its number."""
+        init = self.spaces[space].init
+        return self.is_live(init) and self.tasks[init].space == space
 
     def number_in(self, number: int, space: int) -> int | None:
         """The number, in a namespace, of the identifier with a root number."""
@@ -287,10 +296,8 @@ class World:
 
     def note_numbers(self, space: int, numbers: list[int]) -> None:
         """Keeps the number that each namespace gave last."""
-        at: int | None = space
-        while at is not None:
+        for at in self.outwards(space):
             self.spaces[at].last = numbers[self.spaces[at].level]
-            at = self.spaces[at].parent
 
     def do_exec(self, call: Call) -> str:
         """execve."""
@@ -334,20 +341,20 @@ class World:
         self.settle(task, outcome)
         return "ok"
 
-    def members(self) -> Iterator[Member]:
-        """The processes, as a forecast wants them."""
-        for number, stat in self.proc_all().items():
+    def members(self, stats: Mapping[int, Stat]) -> Iterator[Member]:
+        """Processes, as a forecast wants them."""
+        for number, stat in stats.items():
             task = self.tasks[number]
             has_exited = task.has_exited or stat.is_exiting
             yield Member(number, task.space, stat.parent, stat.group, stat.is_zombie, has_exited)
 
     def forecast(self, init: int) -> str:
         """What would come of an init's exit: one of the words of `falls`."""
-        return self.forecasts().outcome(init)
+        return self.forecasts(self.proc_all()).outcome(init)
 
-    def forecasts(self) -> Forecast:
-        """Forecasts for the processes as they stand."""
-        members = list(self.members())
+    def forecasts(self, stats: Mapping[int, Stat]) -> Forecast:
+        """Forecasts for processes."""
+        members = list(self.members(stats))
         space_of_name = {number: task.space for number, task in self.tasks.items()}
         inits = {id: space.init for id, space in self.spaces.items() if self.is_still_init(id)}
         return Forecast(members, space_of_name, self.is_within, inits)
@@ -360,7 +367,7 @@ class World:
     def can_help(self, init: int) -> bool:
         """Whether the parent of each init that would be stuck could end its fall: live, outside, of its session, and the
         child has not executed."""
-        stuck = self.forecasts().stuck(init)
+        stuck = self.forecasts(self.proc_all()).stuck(init)
         return all(self.can_be_helped(number, stuck) for number in stuck)
 
     def can_be_helped(self, number: int, stuck: list[int]) -> bool:
@@ -387,11 +394,20 @@ class World:
         else:
             self.await_end(task.number)
 
-    def settle_held_falls(self) -> None:
-        """Waits for the falls that nothing holds any more, and forgets them."""
+    def waiting_inits(self, stats: Mapping[int, Stat]) -> dict[int, str]:
+        """The inits among processes that have exited and are no zombies, each with its outcome."""
         self.forget_ended_falls()
-        for number in [number for number in self.held_falls if self.forecast(number) == ENDS]:
-            self.await_end(number)
+        if not self.held_falls:
+            return {}
+        forecasts = self.forecasts(stats)
+        exiting = [number for number, stat in stats.items() if stat.is_exiting and not stat.is_zombie]
+        return {number: forecasts.outcome(number) for number in exiting if self.spaces[self.tasks[number].space].init == number}
+
+    def settle_held_falls(self) -> None:
+        """Waits for the inits that nothing holds any more, those inside of a held fall among them."""
+        for number, outcome in self.waiting_inits(self.proc_all()).items():
+            if outcome == ENDS:
+                self.await_end(number)
         self.forget_ended_falls()
 
     def forget_ended_falls(self) -> None:
@@ -423,13 +439,10 @@ class World:
     def set_cursors_back(self, caller: int) -> bool:
         """After a refused fork of a caller, gives each namespace that the child would have been in the cursor it had before.
         Whether that could be done: it needs a kernel with CONFIG_CHECKPOINT_RESTORE."""
-        at: int | None = self.tasks[caller].children_space
         try:
-            while at is not None:
+            for at in filter(self.has_live_init, self.outwards(self.tasks[caller].children_space)):
                 space = self.spaces[at]
-                if self.is_live(space.init) and self.tasks[space.init].space == at:
-                    self.command(space.init, f"put {space.last} /proc/sys/kernel/ns_last_pid")
-                at = space.parent
+                self.command(space.init, f"put {space.last} /proc/sys/kernel/ns_last_pid")
         except Refused:
             return False
         return True
@@ -481,8 +494,11 @@ class World:
 
     def do_next(self, call: Call) -> str:
         """The least number in use, which no system call tells: from the tasks, groups and sessions of all processes."""
+        return self.least_in_use(call, self.proc_all().values())
+
+    def least_in_use(self, call: Call, stats: Iterable[Stat]) -> str:
+        """The answer to `next` of these processes."""
         space = self.tasks[call.numbers[0]].space
-        stats = self.proc_all().values()
         roots = {getattr(stat, {"task": "number"}.get(call.form, call.form)) for stat in stats}
         numbers = [self.number_in(root, space) for root in roots]
         above = [number for number in numbers if number is not None and number >= call.numbers[1]]

@@ -84,6 +84,14 @@ class Compare(unittest.TestCase):
         self.assertIn("root-exit", text)
         self.assertIn("wait-pid-0", text)
 
+    def test_of_a_listed_one_the_rest_is_compared(self) -> None:
+        # An orphan with a number less than that of the kernel's first ended child.
+        script = "fork 1\nfork 2\nfork 1\nexit 2 2\nwait 1 any\nexit 3 3\nexit 4 4\nwait 1 any\n"
+        answers = ["child 2 root 2", "child 3 root 3", "child 4 root 4", "ok", "reaped 2 exit 2", "ok", "ok"]
+        for answer, wanted in (("reaped 3 exit 3", 0), ("reaped 3 exit 4", 1), ("reaped 3 killed", 1), ("reaped 4 exit 3", 1), ("reaped 1 exit 4", 1)):
+            status, text = self.compare(script, [*answers, answer], LIST)
+            self.assertEqual((status, "NEW" in text, "wait-order" in text), (wanted, wanted == 1, wanted == 0), text)
+
     def test_no_program(self) -> None:
         command = [sys.executable, str(LINUX / "compare"), "--pidtab", "/nowhere/pidtab", os.devnull]
         done = subprocess.run(command, stdout=subprocess.PIPE, stderr=subprocess.PIPE, text=True, check=False)

@@ -19,11 +19,11 @@ getpid 1 => 1
 """
 
 
-def meeting(line: bytes, kernel: str, table: str, *causes: str) -> Meeting:
+def meeting(line: bytes, kernel: str, table: str) -> Meeting:
     """A line with both answers."""
     call = parse_line(line)
     assert call is not None
-    return Meeting(call, kernel, table, frozenset(causes))
+    return Meeting(call, kernel, table)
 
 
 class Files(unittest.TestCase):
@@ -87,6 +87,6 @@ class Agreement(unittest.TestCase):
             self.assertIsNone(explain(meeting(line, kernel, table)), line)
 
     def test_a_listed_one_has(self) -> None:
-        named = explain(meeting(b"fork 1", "child 3 root 3", "child 2 root 2", "cursor-after-limit"))
+        named = explain(meeting(b"wait 1 pid 0", "EINVAL", "ECHILD no-child"))
         assert named is not None
-        self.assertEqual((named.name, named.parts), ("cursor-after-limit", True))
+        self.assertEqual((named.name, named.parts), ("wait-pid-0", False))

@@ -21,7 +21,7 @@ import sys, time
 from harness.machine import look
 from harness.script import parse_line
 from harness.world import World
-world = World(look().settings(32768, b"", True))
+world = World(look().settings(32768, b"", "endless"))
 for line in sys.argv[1:]:
     assert "E" not in world.answer(parse_line(line.encode()))
 print(world.outer_init, world.keeper.pid, world.groups.root if world.groups else "-", flush=True)
