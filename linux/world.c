@@ -1,5 +1,5 @@
-// The processes of a world. `world keep GROUP MODE ORDERS` makes a PID namespace and stays outside to end it; all inside are
-// tasks, each of which does what its socket says, one system call a message. What a message may say is TABLE below.
+// The processes of a world. `world keep GROUP MODE SESSION ORDERS` makes a PID namespace and stays outside to end it; all inside
+// are tasks, each of which does what its socket says, one system call a message. What a message may say is TABLE below.
 #define _GNU_SOURCE
 #include <dirent.h>
 #include <errno.h>
@@ -370,14 +370,15 @@ static int map_user(unsigned user, unsigned group) {
     return (int)write_file("/proc/self/gid_map", text);
 }
 
-static void begin_world(int own_user, unsigned user, unsigned group) {
+// An init of `no-session` stays in the session and the group of the keeper, which are 0 to it, as the machine's first process has.
+static void begin_world(int own_user, int leads, unsigned user, unsigned group) {
     is_world_init = 1;
     on_term(end_orders);
     prctl(PR_SET_PDEATHSIG, SIGTERM, 0, 0, 0);
     if (own_user && map_user(user, group) < 0) tell(ORDERS, "unborn user %d", errno);
     else if (mount(NULL, "/", NULL, MS_REC | MS_PRIVATE, NULL) < 0) tell(ORDERS, "unborn mounts %d", errno);
     else if (mount("proc", "/proc", "proc", MS_NOSUID | MS_NODEV | MS_NOEXEC, NULL) < 0) tell(ORDERS, "unborn proc %d", errno);
-    else if (setsid() < 0) tell(ORDERS, "unborn session %d", errno);
+    else if (leads && setsid() < 0) tell(ORDERS, "unborn session %d", errno);
     else tell_birth();
     live();
 }
@@ -418,7 +419,7 @@ static int keep(pid_t init, const char *groups) {
     return ended ? 0 : STATUS_STUCK;
 }
 
-static int start(const char *groups, const char *mode, int orders) {
+static int start(const char *groups, const char *mode, const char *session, int orders) {
     unsigned user = geteuid(), group = getegid();
     int own_user = !strcmp(mode, "user");
     long flags = SIGCHLD | CLONE_NEWPID | CLONE_NEWNS | (own_user ? CLONE_NEWUSER : 0);
@@ -429,7 +430,7 @@ static int start(const char *groups, const char *mode, int orders) {
     int fault = errno;
     if (init == 0) {
         close(LIFE);
-        begin_world(own_user, user, group);
+        begin_world(own_user, !strcmp(session, "session"), user, group);
     }
     close(ORDERS);
     if (init > 0) {
@@ -448,7 +449,7 @@ int main(int count, char **words) {
         tell(ORDERS, "ok");
         live();
     }
-    if (count == 5 && !strcmp(words[1], "keep")) return start(words[2], words[3], atoi(words[4]));
-    fprintf(stderr, "world: started by the harness: world keep GROUP root|user ORDERS\n");
+    if (count == 6 && !strcmp(words[1], "keep")) return start(words[2], words[3], words[4], atoi(words[5]));
+    fprintf(stderr, "world: started by the harness: world keep GROUP root|user session|no-session ORDERS\n");
     return STATUS_USAGE;
 }

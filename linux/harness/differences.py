@@ -6,9 +6,10 @@ from pathlib import Path
 
 FOLDER = Path(__file__).resolve().parent.parent / "differences"
 CHAPTERS = ("Falls", "Fork and its numbers", "Wait", "The rest")
-# How a script is run that is not run as any other: where the kernel's fall never ends.
+# How a script is run that is not run as any other: where the kernel's fall never ends, and where the init leads nothing.
 ENDLESS = "endless"
-RUNS = ("", ENDLESS)
+NO_SESSION = "no-session"
+RUNS = ("", ENDLESS, NO_SESSION)
 FIELDS = ("chapter", "place", "what", "seen", "pid-max", "run", "shows")
 REPEATED = re.compile(r"([1-9][0-9]*) times (.*)")
 

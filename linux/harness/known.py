@@ -150,6 +150,18 @@ def is_too_deep_for_machine(meeting: Meeting) -> bool:
 # The rest.
 
 
+def is_first_process(meeting: Meeting) -> bool:
+    """The root init, which leads no group and no session yet in the kernel: what it asks for itself, and what is asked of it."""
+    caller, *numbers = meeting.call.numbers
+    if meeting.sight.has_session:
+        return False
+    if meeting.call.name in ("getpgid", "getsid"):
+        return meeting.says("0", "1")
+    if meeting.is_form("setpgid"):
+        return caller == 1 and set(numbers) <= {0, 1} and meeting.says("ok", "EPERM is-leader")
+    return meeting.is_form("setsid") and caller == 1 and meeting.says("1", "EPERM is-leader")
+
+
 def is_deep_control(meeting: Meeting) -> bool:
     """A control group below one of the deepest of the table."""
     is_made = re.fullmatch("control [0-9]+", meeting.kernel) is not None and meeting.table == "EAGAIN control-depth"
@@ -270,6 +282,7 @@ DIFFERENCES = [
     Known("move-large", False, lambda m: m.is_form("move") and is_large(m, 0) and m.says("EINVAL", "ESRCH no-task")),
     Known("control-depth", True, is_deep_control),
     Known("root-control", False, is_root_control),
+    Known("root-leads", True, is_first_process),
     Known("nspid-0", False, lambda m: m.is_form("nspid") and by_number(m, False)),
     Known("join-0", False, lambda m: m.is_form("join") and by_number(m, False)),
     Known("nspid-large", False, lambda m: m.is_form("nspid") and by_number(m, True)),

@@ -6,7 +6,7 @@ import re
 from dataclasses import dataclass
 from pathlib import Path
 
-from harness.differences import ENDLESS
+from harness.differences import ENDLESS, NO_SESSION
 from harness.groups import Place, find_place
 from harness.script import DEFAULT_PID_MAX, count_forks, split_lines
 from harness.world import Settings, World, WorldFault
@@ -50,6 +50,7 @@ class Machine:
             place=self.place,
             own_user=self.own_user,
             run_endless_falls=run == ENDLESS,
+            init_leads=run != NO_SESSION,
         )
 
 

@@ -71,6 +71,7 @@ class Sight:
     is_live: bool = False
     is_zombie: bool = False
     control_level: int | None = None
+    has_session: bool = True
     held: str = ""
     held_group: str = ""
     gone: tuple[str, ...] = ()
@@ -211,4 +212,4 @@ def look_before(world: World, call: Call, moved: Mapping[str, Set[int]]) -> Sigh
     view = View(world, call)
     parts = PARTS[call.name](view) if call.name in PARTS else {}
     seen = {cause: frozenset(spaces) for cause, spaces in moved.items()}
-    return Sight(moved=seen, gone=tuple(view.gone.values()), **parts)
+    return Sight(moved=seen, has_session=view.stats[1].session != 0, gone=tuple(view.gone.values()), **parts)

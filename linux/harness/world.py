@@ -51,13 +51,15 @@ class Space:
 
 @dataclass
 class Settings:
-    """How a world is made. `pid_max` is None where the machine's own is to stay."""
+    """How a world is made. `pid_max` is None where the machine's own is to stay. An init that does not lead is in group and session
+    0, as the machine's first process."""
 
     pid_max: int | None = DEFAULT_PID_MAX
     place: Place | None = None
     own_user: bool = False
     most_tasks: int = MOST_TASKS
     run_endless_falls: bool = False
+    init_leads: bool = True
 
 
 def errno_name(number: int) -> str:
@@ -134,7 +136,8 @@ class World:
         orders, init_orders = socket.socketpair(socket.AF_UNIX, socket.SOCK_SEQPACKET)
         folder = str(self.groups.root) if self.groups else "-"
         mode = "user" if self.settings.own_user else "root"
-        words = [str(PROGRAM), "keep", folder, mode, str(init_orders.fileno())]
+        session = "session" if self.settings.init_leads else "no-session"
+        words = [str(PROGRAM), "keep", folder, mode, session, str(init_orders.fileno())]
         with keeper_life, init_orders:
             keeper = subprocess.Popen(words, stdin=keeper_life, pass_fds=[init_orders.fileno()])
         return keeper, life, orders
@@ -220,9 +223,9 @@ class World:
         return self.is_live(init) and self.tasks[init].space == space
 
     def number_in(self, number: int, space: int) -> int | None:
-        """The number, in a namespace, of the identifier with a root number."""
-        task = self.tasks[number]
-        return task.numbers[self.spaces[space].level] if self.is_within(task.space, space) else None
+        """The number, in a namespace, of the identifier with a root number; None for 0, which is outside of the world."""
+        task = self.tasks.get(number)
+        return task.numbers[self.spaces[space].level] if task and self.is_within(task.space, space) else None
 
     def command(self, number: int, message: str) -> str:
         """Has a task do what a message says."""

@@ -33,6 +33,7 @@ class Files(unittest.TestCase):
         self.assertEqual(row.lines(), ["fork 1"] * 3 + ["wait 1 pid 0", "getpid 1"])
         self.assertEqual(row.answers()[3:], [("EINVAL", "ECHILD no-child"), ("1", "1")])
         self.assertTrue(row.can_run)
+        self.assertEqual([parse_row("a", GOOD.replace("script:", f"run: {run}\nscript:")).can_run for run in ("endless", "no-session", "it would end")], [True, True, False])
 
     def test_steps(self) -> None:
         answer = "child 300 root 300"

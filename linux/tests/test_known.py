@@ -121,6 +121,11 @@ WRONG_OWN = (
     ("reaped 3 exit 3", "reaped 2 exit 2"), ("reaped 3 exit 3", "none"),
 )  # fmt: skip
 
+# Lines of others than the root init.
+LEADING = {
+    "setsid 2": ("2", "EPERM is-leader"), "setpgid 2 0 0": ("ok", "EPERM is-leader"), "setpgid 1 2 0": ("ok", "EPERM is-leader"), "getppid 2": ("0", "1"),
+}  # fmt: skip
+
 CASES: dict[str, list[Case]] = {
     "endless-fall": [
         Case("exit 2 5", ("n/a endless-fall", "ok"), (("n/a endless-fall", "ESRCH no-caller"), ("n/a endless-fall", "EBUSY root-init"))),
@@ -197,6 +202,13 @@ CASES: dict[str, list[Case]] = {
         Case("rm 0", ("n/a root-control", "EINVAL root-control"), (("ENOENT", "EINVAL root-control"), ("n/a root-control", "EBUSY control-busy"))),
         Case("limit 4 5", NONE, (("ENOENT", "EINVAL root-control"),)),
         Case("count 0", NONE, (("ENOENT", "EINVAL root-control"),)),
+    ],
+    "root-leads": [
+        Case("setsid 1", ("1", "EPERM is-leader"), (("1", "EPERM no-group"), ("2", "EPERM is-leader")), Sight(has_session=False), (Sight(),)),
+        Case("setpgid 1 0 1", ("ok", "EPERM is-leader"), (("ok", "EPERM no-group"), ("EPERM", "ok")), Sight(has_session=False), (Sight(),)),
+        Case("getsid 1 0", ("0", "1"), (("0", "2"), ("1", "0")), Sight(has_session=False), (Sight(),)),
+        Case("getpgid 1 2", ("0", "1"), (("0", "0 1"),), Sight(has_session=False), (Sight(),)),
+        *(Case(line, NONE, (pair,), Sight(has_session=False)) for line, pair in LEADING.items()),
     ],
     "nspid-0": [Case("nspid 1 0", NO_TASK, (("EINVAL", "1"),)), Case("nspid 1 7", NONE, (NO_TASK,))],
     "join-0": [Case("join 1 0", NO_TASK, (("EINVAL", "ok"),)), Case("join 1 7", NONE, (NO_TASK,))],

@@ -72,6 +72,14 @@ class Answers(unittest.TestCase):
             "task 3,2 space 1 parent 2 group 1 session 1",
         ])
 
+    def test_an_init_that_leads_nothing(self) -> None:
+        # What is outside of a namespace is 0 there, as pid_namespaces(7) says of a parent; setsid(2) is for who leads no group.
+        lines = ["getsid 1 0", "getpgid 1 0", "fork 1", "getsid 1 2", "next 1 session 1", "setsid 1", "getsid 1 0", "getsid 1 2"]
+        with World(self.machine.settings(32768, b"", "no-session")) as world:
+            self.assertEqual(answers(world, *lines), ["0", "0", "child 2 root 2", "0", "end", "1", "1", "0"])
+        with World(self.machine.settings(32768, b"")) as world:
+            self.assertEqual(answers(world, *lines), ["1", "1", "child 2 root 2", "1", "1", "EPERM", "1", "1"])
+
     def test_an_ended_caller(self) -> None:
         with World(self.machine.settings(32768, b"")) as world:
             got = answers(world, "getpid 2", "fork 1", "exit 2 3", "getpid 2", "wait 1 any", "wait 1 any")
