@@ -2,8 +2,8 @@
 //
 // A caller is a root number. Every other process number is the caller's own, as in the script language of docs/SCRIPT.md. Process numbers are 0 to
 // 2^32 - 1, those of setpgid -2^31 to 2^31 - 1. What has 64 bits is answered as a BigInt: ids of namespaces and control groups, ordinals, stamps and
-// counts of calls. Such a number is taken as a BigInt, or as a number up to 2^53 - 1. What is no number is a TypeError, and one that is out of range
-// a RangeError; then no call was made.
+// counts of calls. Such a number is taken as a BigInt, or as a number up to 2^53 - 1. What is no number is a TypeError, and so are options that
+// are no object or have a key that is not known; a number out of range is a RangeError. Then no call was made.
 //
 // A call that the table refuses throws a Refusal; each method names the words that it may have. Where there is no memory, `fork`, `mk`, `list`, `dump`
 // and each call of a Record throw NoMemory. After 2^64 - 2 calls each throws Spent. What throws has changed nothing, but that a refused call uses a

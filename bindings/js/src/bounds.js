@@ -1,4 +1,4 @@
-// The ranges of what a table is made with and asked: a TypeError for what is no number, and a RangeError for one that is out of range.
+// What a table is made with and asked: a TypeError for what is no number and for options that are none, and a RangeError for a number that is out of range.
 
 const GREATEST_ID = 2n ** 64n - 1n;
 
@@ -24,6 +24,14 @@ export function checkNumber(name, number) {
 /** The number, if it has 32 bits, one of which is its sign. */
 export function checkSigned(name, number) {
   return checkRange(name, number, -(2 ** 31), 2 ** 31 - 1);
+}
+
+/** The options of a call, if they are an object and each of its keys is a known one. */
+export function checkOptions(options, ...known) {
+  if (typeof options !== "object" || options === null) throw new TypeError(`options are an object, not ${options === null ? "null" : `a ${typeof options}`}`);
+  const other = Object.keys(options).find((key) => !known.includes(key));
+  if (other !== undefined) throw new TypeError(`an option is one of ${known.join(", ")}, not ${other}`);
+  return options;
 }
 
 /** The number of 64 bits that a BigInt is, or a number that is a safe integer. */

@@ -3,7 +3,7 @@
 // What has these methods says by `_open` which instance it is, by `_call`, `_line`, `_forkAt` and `_callTold` how a call is made there, and by
 // `_forked` what a new task is told to.
 
-import { checkLong, checkNumber, checkRange, checkSigned } from "./bounds.js";
+import { checkLong, checkNumber, checkOptions, checkRange, checkSigned } from "./bounds.js";
 import { faultOf, readRefusal, Refusal, shorten } from "./faults.js";
 import { KIND, OPERATION, REPLY, STATUS, TASK, TREE, USES, WHICH, WHOM } from "./header.js";
 import { readListing } from "./listing.js";
@@ -27,11 +27,17 @@ function checkLine(text) {
 }
 
 /** Which children a wait means: the choice with its number. */
-function select({ pid, own = false, group }) {
+function select(which) {
+  const { pid, own = false, group } = checkOptions(which, "pid", "own", "group");
   if ((pid !== undefined) + Boolean(own) + (group !== undefined) > 1) throw new TypeError("at most one of pid, own and group");
   if (own) return [WHICH.OWN_GROUP, 0];
   if (pid !== undefined) return [WHICH.CHILD, checkNumber("pid", pid)];
   return group === undefined ? [WHICH.ANY, 0] : [WHICH.GROUP, checkNumber("group", group)];
+}
+
+/** The choice of a fork: 1 for a new namespace. As most forks have no options, these are looked at only where they are given. */
+function forkChoice(options) {
+  return options !== undefined && checkOptions(options, "newSpace").newSpace ? 1 : 0;
 }
 
 /** The number of what a next looks for. */
@@ -219,8 +225,8 @@ export class Ask extends onOwner(Queries) {
 
 /** A method for each call. */
 export class EachCall extends Queries {
-  fork(caller, { newSpace = false } = {}) {
-    const child = this._make(aChild, OPERATION.FORK, caller, 0, newSpace ? 1 : 0);
+  fork(caller, options) {
+    const child = this._make(aChild, OPERATION.FORK, caller, 0, forkChoice(options));
     this._forked(child.root);
     return child;
   }
@@ -349,8 +355,8 @@ export class Calls extends EachCall {
     return Array.from(texts, (text) => this._answer(text));
   }
 
-  forkAt(caller, { child, root }, { newSpace = false } = {}) {
-    const numbers = [checkNumber("caller", caller), newSpace ? 1 : 0, checkNumber("child", child), checkNumber("root", root)];
+  forkAt(caller, { child, root }, options) {
+    const numbers = [checkNumber("caller", caller), forkChoice(options), checkNumber("child", child), checkNumber("root", root)];
     const status = this._forkAt(this._open(), numbers);
     if (status === STATUS.DIFFERS) return false;
     if (status !== STATUS.DONE) throw faultOf(status, `fork ${caller}`);

@@ -1,6 +1,6 @@
 // A table with its history.
 
-import { checkLong, checkRange } from "./bounds.js";
+import { checkLong, checkOptions, checkRange } from "./bounds.js";
 import { Ask, Calls, Telling, Would } from "./calls.js";
 import { Differs, faultOf, SeatsTaken, TableClosed } from "./faults.js";
 import { DEFAULT_PID_MAX, MOST_WORKERS, STATUS } from "./header.js";
@@ -63,7 +63,8 @@ class Seat extends Calls {
 }
 
 export class Record {
-  constructor({ workers = 4, pidMax = DEFAULT_PID_MAX, firstStamp = 1n } = {}) {
+  constructor(options = {}) {
+    const { workers = 4, pidMax = DEFAULT_PID_MAX, firstStamp = 1n } = checkOptions(options, "workers", "pidMax", "firstStamp");
     const settings = { workers: checkWorkers(workers), pidMax: checkPidMax(pidMax), firstStamp: checkLong("firstStamp", firstStamp, 1n) };
     const instance = new Instance("record_");
     instance.writeNumbers([settings.firstStamp]);
@@ -71,7 +72,8 @@ export class Record {
     this._begin(instance, settings);
   }
 
-  static load(text, { workers = 4, recorded = Array(checkWorkers(workers)).fill(0n) } = {}) {
+  static load(text, options = {}) {
+    const { workers = 4, recorded = Array(checkWorkers(workers)).fill(0n) } = checkOptions(options, "workers", "recorded");
     const before = Array.from(recorded, (count) => checkLong("recorded", count));
     const count = checkRange("the numbers of `recorded`", before.length, 1, MOST_WORKERS);
     const instance = new Instance("record_");

@@ -1,6 +1,6 @@
 // A table without a history.
 
-import { checkRange } from "./bounds.js";
+import { checkOptions, checkRange } from "./bounds.js";
 import { Ask, Calls, Telling, Would } from "./calls.js";
 import { BadText, faultOf } from "./faults.js";
 import { DEFAULT_PID_MAX, FAULT, GREATEST_PID_MAX, LEAST_PID_MAX, STATUS } from "./header.js";
@@ -30,8 +30,9 @@ export function headOf(text) {
 }
 
 export class Table extends Calls {
-  constructor({ pidMax = DEFAULT_PID_MAX } = {}) {
+  constructor(options = {}) {
     super();
+    const { pidMax = DEFAULT_PID_MAX } = checkOptions(options, "pidMax");
     const bound = checkPidMax(pidMax);
     const instance = new Instance("");
     checkOpened(instance, instance.exports.open(bound), "open");
