@@ -40,12 +40,9 @@ class Kernel:
 
     def set_back(self, caller: int) -> None:
         """Sets the cursors back that a refused fork has moved, or remembers that they moved."""
-        if self.world.set_cursors_back(caller):
-            return
-        spaces = self.world.outwards(self.world.tasks[caller].children_space)
-        for space in spaces:
-            for cause in MOVED_BY.values():
-                self.moved.setdefault(cause, set()).add(space)
+        if not self.world.set_cursors_back(caller):
+            spaces = set(self.world.outwards(self.world.tasks[caller].children_space))
+            self.moved = {cause: self.moved.get(cause, set()) | spaces for cause in MOVED_BY.values()}
 
     def close(self) -> None:
         """Ends its processes."""

@@ -1,6 +1,6 @@
 """What the world shows before a line: as much of it as the tests of listed differences look at."""
 
-from collections.abc import Callable, Mapping, Set
+from collections.abc import Callable, Iterator, Mapping, Set
 from dataclasses import dataclass, field
 from itertools import chain
 from typing import Any
@@ -147,15 +147,18 @@ class View:
     def draw(self, space: int) -> Draw:
         """What a namespace would give."""
         users: dict[int, list[int]] = {}
-        for stat in self.stats.values():
-            for root in {stat.number, stat.group, stat.session}:
-                number = self.world.number_in(root, space)
-                users.setdefault(number or 0, []).append(stat.number)
+        for root, user in self.uses():
+            users.setdefault(self.world.number_in(root, space) or 0, []).append(user)
         held = {number: self.only_gone(those) for number, those in users.items()}
         taken = {number for number, cause in held.items() if not cause}
         pid_max = self.world.settings.pid_max or DEFAULT_PID_MAX
         number = first_free(self.world.spaces[space].last, taken, pid_max)
         return Draw(space, number, held.get(number or 0, ""))
+
+    def uses(self) -> Iterator[tuple[int, int]]:
+        """The identifiers in use, by root number, each with a process that uses it as its own, its group or its session."""
+        for stat in self.stats.values():
+            yield from ((root, stat.number) for root in {stat.number, stat.group, stat.session})
 
     def held_process(self) -> str:
         """The cause by which the kernel alone has the process that a question names."""
@@ -180,6 +183,11 @@ class View:
         """What `next` says without the inits that are gone."""
         left = [stat for number, stat in self.stats.items() if number not in self.gone]
         return self.world.least_in_use(self.call, left)
+
+    def has_session(self) -> bool:
+        """Whether the world's init is in a session of the world."""
+        init = self.stats.get(1)
+        return init is None or init.session != 0
 
     def control_level(self, at: int) -> int | None:
         """The level of the control group that a line names."""
@@ -212,4 +220,4 @@ def look_before(world: World, call: Call, moved: Mapping[str, Set[int]]) -> Sigh
     view = View(world, call)
     parts = PARTS[call.name](view) if call.name in PARTS else {}
     seen = {cause: frozenset(spaces) for cause, spaces in moved.items()}
-    return Sight(moved=seen, has_session=view.stats[1].session != 0, gone=tuple(view.gone.values()), **parts)
+    return Sight(moved=seen, has_session=view.has_session(), gone=tuple(view.gone.values()), **parts)

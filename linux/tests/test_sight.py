@@ -2,7 +2,7 @@
 
 import unittest
 
-from harness.comparison import Comparison
+from harness.comparison import Comparison, moved_spaces
 from harness.falls import NEVER, WAITS_FOR_CHILD, WAITS_FOR_GROUP
 from harness.machine import Unable, look
 from harness.script import DEFAULT_PID_MAX, parse_line
@@ -97,6 +97,18 @@ class Sights(unittest.TestCase):
         for lines, number in ((full, None), ([*full, "exit 300 0"], None), ([*full, "exit 300 0", "wait 1 pid 300"], 300)):
             (sight,) = self.seen(lines, "fork 2", pid_max=301)
             self.assertEqual(sight.birth, Birth(1, (Draw(1, 2), Draw(0, number)), 1))
+
+    def test_cursors_that_a_refused_fork_moves(self) -> None:
+        # Each namespace gives its number before the one around it is asked, and all before the limits are.
+        nested = ["fork 1 new", "fork 2 new"]
+        with World(self.need(DEFAULT_PID_MAX, nested)) as world:
+            for line in nested:
+                world.answer(parse_line(line.encode()))
+            for table, wanted in (
+                ("EAGAIN no-number 0", [2, 1]), ("EAGAIN no-number 1", [2]), ("EAGAIN no-number 2", []),
+                ("EAGAIN pids-limit 0", [2, 1, 0]), ("ENOMEM space-fallen", [2, 1, 0]),
+            ):
+                self.assertEqual(moved_spaces(world, 3, table), wanted, table)
 
     def test_the_first_free_number(self) -> None:
         for last, taken, wanted in ((1, {1}, 2), (4, {5, 6}, 7), (309, {300}, 301), (309, {*range(300, 310)}, None), (200, {*range(201, 310)}, 1), (300, {1}, 301)):
