@@ -31,6 +31,7 @@ ROOT = Birth(0, (Draw(0, 4),), 0)
 INNER = Birth(2, (Draw(2, 2), Draw(0, 300)), 1)
 JOINED = Birth(0, (Draw(2, 2), Draw(0, 4)), 1)
 LAST = Birth(0, (Draw(0, 33),), 32)
+ELSEWHERE = Birth(0, (Draw(2, 2), Draw(0, 33)), 32)
 DEEP = Sight(birth=replace(JOINED, level=33))
 FULL = Birth(0, (Draw(2, 2), Draw(0, None)), 1, has_fallen=True)
 
@@ -52,17 +53,20 @@ def waits_for(cause: str) -> list[Case]:
     return [
         Case("wait 1 any", ("none", "reaped 2 exit 5"), wrong_waits, alone, (LIVE, ENDED)),
         Case("wait 1 any", ("reaped 3 exit 3", "reaped 2 exit 5"), wrong_orders, among),
+        Case("wait 1 group 0", NONE, (("none", "reaped 2 exit 5"),), alone),
         Case("fork 1", ("child 5 root 5", "child 4 root 4"), wrong_forks, in_use, (drawn, Sight(birth=ROOT))),
         Case("fork 1", ("EAGAIN", "child 4 root 4"), (("EAGAIN", "child 5 root 5"), ("ENOMEM", "child 4 root 4")), drawn, (Sight(birth=ROOT),)),
+        # Of two other numbers, one is not in use.
+        Case("fork 2", NONE, (("child 3 root 301", "child 2 root 300"),), replace(gone, birth=Birth(2, (Draw(2, 2, cause), Draw(0, 300)), 1))),
         Case("getpgid 1 3", ("1", "ESRCH no-task"), (("1", "2"), ("ESRCH", "1"), ("1", "ESRCH no-caller")), held, (gone, Sight())),
         Case("getsid 1 3", ("1", "ESRCH no-task"), (("1", "2"),), held, (gone,)),
         Case("nspid 1 3", ("3 2 1", "ESRCH no-task"), (("3 2 1", "3 2"), ("EINVAL", "ESRCH no-task")), held, (gone,)),
         Case("next 1 task 3", ("3", "4"), (("3", "5"), ("3", "end"), ("end", "4")), replace(gone, next_number="4"), (Sight(next_number="4"),)),
         Case("setpgid 1 2 3", ("n/a waiting-init", "ok"), (("n/a waiting-init", "ESRCH no-caller"), ("ok", "EPERM no-group")), held, (grouped,)),
         Case("setpgid 1 0 3", ("ok", "EPERM no-group"), (("ok", "EPERM is-leader"), ("EPERM", "ok")), grouped, (gone, held)),
-        Case("setsid 4", ("EPERM", "4"), (("4", "EPERM is-leader"),), grouped, (gone, held)),
+        Case("setsid 4", ("EPERM", "4"), (("4", "EPERM is-leader"), ("EINVAL", "4"), ("EPERM", "ok")), grouped, (gone, held)),
         Case("move 3 1", ("ok", "ESRCH no-task"), (("ok", "ENOENT no-control"), ("EBUSY", "ESRCH no-task")), held, (gone, Sight(is_live=True))),
-        Case("count 1", ("3", "2"), (("3", "1"), ("2", "3"), ("3", "ENOENT no-control")), gone, (held, Sight())),
+        Case("count 1", ("3", "2"), (("3", "1"), ("2", "3"), ("3", "ENOENT no-control"), ("ENOENT", "2")), gone, (held, Sight())),
         # Lines that no waiting init can touch.
         *(Case(line, NONE, (pair,), replace(in_use, held=cause, held_group=cause, next_number="2")) for line, pair in UNTOUCHED.items()),
     ]
@@ -123,7 +127,8 @@ WRONG_OWN = (
 
 # Lines of others than the root init.
 LEADING = {
-    "setsid 2": ("2", "EPERM is-leader"), "setpgid 2 0 0": ("ok", "EPERM is-leader"), "setpgid 1 2 0": ("ok", "EPERM is-leader"), "getppid 2": ("0", "1"),
+    "setsid 2": ("1", "EPERM is-leader"), "getpid 1": ("1", "EPERM is-leader"), "getppid 2": ("0", "1"),
+    "setpgid 2 0 0": ("ok", "EPERM is-leader"), "setpgid 1 2 0": ("ok", "EPERM is-leader"),
 }  # fmt: skip
 
 CASES: dict[str, list[Case]] = {
@@ -147,7 +152,7 @@ CASES: dict[str, list[Case]] = {
     ],
     "depth-of-the-machine": [
         Case("fork 1 new", ("ENOSPC", "child 33 root 33"), (("ENOSPC", "child 34 root 34"), ("EINVAL", "child 33 root 33")), Sight(birth=LAST),
-             tuple(Sight(birth=birth) for birth in (replace(LAST, level=33), replace(LAST, has_fallen=True), replace(JOINED, level=32)))),
+             tuple(Sight(birth=birth) for birth in (replace(LAST, level=33), replace(LAST, has_fallen=True), ELSEWHERE))),
         Case("fork 1", NONE, (("ENOSPC", "child 33 root 33"),), Sight(birth=LAST)),
     ],
     "root-exit": [
