@@ -198,23 +198,33 @@ impl Engine {
         self.table.stat(caller, number)
     }
 
-    /// Writes what was recorded. `Ok(false)`: the disk does not take it now.
+    /// Writes what was recorded. `Ok(false)`: the disk does not take it now. What was written is never written again: it stays in `written` until
+    /// it is taken, however many turns that takes.
     pub fn commit(&mut self) -> Result<bool, Fault> {
-        if let Some(log) = self.log.as_mut().filter(|_| !self.batch.is_empty()) {
-            if !log.commit(&self.batch)? {
+        if !self.batch.is_empty() {
+            if !self.log.as_mut().map_or(Ok(true), |it| it.commit(&self.batch))? {
                 return Ok(false);
             }
-        }
-        std::mem::swap(&mut self.batch, &mut self.written);
-        if self.log.is_none() {
-            self.commit_loose();
+            self.move_batch();
         }
         self.turn_over_when_due()?;
         Ok(true)
     }
 
-    fn commit_loose(&mut self) {
-        self.loose.extend_from_slice(&self.written);
+    /// The batch is written.
+    fn move_batch(&mut self) {
+        if self.log.is_none() {
+            self.loose.extend_from_slice(&self.batch);
+            self.order_loose();
+        }
+        if self.written.is_empty() {
+            std::mem::swap(&mut self.batch, &mut self.written);
+        } else {
+            self.written.append(&mut self.batch);
+        }
+    }
+
+    fn order_loose(&mut self) {
         if self.loose.len() >= LOOSE {
             self.replica.order(Order::Blocks(std::mem::take(&mut self.loose)));
         }

@@ -1,4 +1,5 @@
 """What is on the disk: kills, losses of power, damage, a full disk, wrong directories. `check` replays the log, and shares no code with the daemon."""
+import contextlib
 import os
 import pathlib
 import random
@@ -332,12 +333,12 @@ def damaged(data, dice):
 
 
 class Full(Case):
-    def small_disk(self):
-        """A daemon whose directory is a file system of 200 KB."""
+    def small_disk(self, size="200k"):
+        """A daemon whose directory is a file system of its own."""
         if os.geteuid() != 0:
             self.skipTest("not root")
         one = self.daemon("--fsync", "always")
-        mounted = subprocess.run(["mount", "-t", "tmpfs", "-o", "size=200k,mode=700", "none", one.kept], check=False, capture_output=True)
+        mounted = subprocess.run(["mount", "-t", "tmpfs", "-o", f"size={size},mode=700", "none", one.kept], check=False, capture_output=True)
         if mounted.returncode:
             self.skipTest("no mount")
         self.addCleanup(subprocess.run, ["umount", "-l", one.kept], check=False)
@@ -383,6 +384,32 @@ class Full(Case):
         self.assertEqual([client.say("EXEC 1") for _ in range(1000)], ["OK"] * 1000)
         one.kill()
         self.assertEqual(one.start().client().say("POSITION"), answered + 1001)
+
+    def test_leases_have_no_room_and_the_log_has(self):
+        """Another program fills the disk, and only the log has room left, its zeroes. Then there is room again: each call is in the log once."""
+        one = self.small_disk("8m")
+        client = one.client()
+        client.say("LEASE rig 3600000")
+        client.say("FORK 1")
+        filler = one.kept / "filler"
+        with contextlib.suppress(OSError), open(filler, "wb", buffering=0) as file:
+            while file.write(bytes(4096)):
+                pass
+        client.socket.settimeout(1)
+        answered = 1
+        with self.assertRaises(TimeoutError):
+            while client.say("FORK 1"):
+                answered += 1
+        self.assertTrue(20 < answered < 1000, answered)
+        filler.unlink()
+        client.socket.settimeout(30)
+        self.assertEqual(client.answer(), [answered + 2, answered + 2])
+        for _ in range(500):
+            client.say("FORK 1")
+        one.kill()
+        other = one.start().client()
+        self.assertEqual(other.say("POSITION"), answered + 501)
+        self.assertEqual(other.say("LEASES")[0][3], list(range(2, answered + 503)))
 
 
 if __name__ == "__main__":
