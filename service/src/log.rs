@@ -104,7 +104,7 @@ impl Log {
         let place = directory.log(end.as_ref().map_or(made, |it| it.base));
         let opened = match &end {
             Some(end) => go_on(&directory, end),
-            None => begin(&directory, made, pid_max),
+            None => begin(&directory, made, pid_max).and_then(|begun| directory.set_current(made).map(|_| begun)),
         };
         let (file, blocks) = opened.map_err(fault_at(&place))?;
         let (base, bytes) = end.map_or((made, Blocks::HEAD as u64), |it| (it.base, it.bytes));
@@ -249,15 +249,28 @@ impl Log {
             Ok(begun) => begun,
             Err(error) => {
                 eprintln!("pidtabd: {}: cannot be begun, and the log goes on in its file: {error}", place.display());
+                // Its name must be gone before the old file has a call more, or a start would find two logs with that call.
                 fs::remove_file(&place).or_else(unless_missing).map_err(fault_at(&place))?;
+                self.directory.sync().map_err(fault_at(&place))?;
                 return Ok(None);
             }
         };
+        self.name_current(made);
         let closed = Closed { base: self.base, bytes: self.bytes };
         self.file = Arc::new(file);
         (self.base, self.bytes, self.unsynced) = (made, Blocks::HEAD as u64, None);
         self.length = self.bytes;
         Ok(Some((closed, blocks)))
+    }
+
+    /// `current` only tells a directory that has lost its newest file: if it cannot be written, it names the log before, or this one, and both are there.
+    fn name_current(&self, base: u64) {
+        if let Err(error) = self.directory.set_current(base) {
+            eprintln!(
+                "pidtabd: {}/current: cannot be written, and the log goes on: {error}",
+                self.directory.path.display()
+            );
+        }
     }
 
     /// All is on the disk, and nothing behind it.
@@ -277,7 +290,7 @@ fn unless_missing(error: io::Error) -> io::Result<()> {
     Err(error)
 }
 
-/// A new file with its head. Its name is on the disk before an entry is, and `current` names it.
+/// A new file with its head. Its name is on the disk before an entry is, and before `current` names it.
 fn begin(directory: &Directory, made: u64, pid_max: u32) -> io::Result<(File, Blocks)> {
     let head = Head { pid_max, workers: SEATS, first_stamp: made + 1 };
     let mut bytes = Vec::new();
@@ -287,7 +300,6 @@ fn begin(directory: &Directory, made: u64, pid_max: u32) -> io::Result<(File, Bl
     file.write_all_at(&bytes, 0)?;
     file.sync_all()?;
     directory.sync()?;
-    directory.set_current(made)?;
     Ok((file, blocks))
 }
 

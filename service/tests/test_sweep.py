@@ -1,0 +1,137 @@
+"""Each operation on the disk fails once, in turn: the n-th write, sync, rename, truncation, removal or creation of a file, from the start on. Then the
+daemon is killed, and starts again: no directory is refused, no answered call is lost, and what was leased is leased."""
+import collections
+import concurrent.futures
+import errno
+import mmap
+import struct
+import time
+import unittest
+
+from harness import BUILT, Case, Refused, need
+
+# So many are enough to look at.
+MANY = 20
+
+KINDS = ["nothing", "sync", "write", "rename", "truncate", "unlink", "create"]
+
+
+class Plan:
+    """The numbers that flaky.so reads: which operation fails, and how; and how many there were, and which kind has failed."""
+
+    def __init__(self, folder, number, error):
+        path = folder / "plan"
+        path.write_bytes(struct.pack("4i", number, error, 0, 0))
+        with open(path, "r+b") as file:
+            self.numbers = mmap.mmap(file.fileno(), 16)
+        self.variables = {"LD_PRELOAD": str(BUILT / "flaky.so"), "FLAKY": str(path)}
+
+    def failed(self):
+        return KINDS[struct.unpack("4i", self.numbers[:])[3]]
+
+    def end(self):
+        self.numbers[:4] = bytes(4)
+
+
+class Told:
+    """What a daemon was asked, and has answered."""
+
+    def __init__(self):
+        self.calls, self.leased, self.has_lease = 0, set(), False
+
+    def say(self, client, words):
+        answer = client.say(words)
+        verb = words.split()[0]
+        self.calls += verb in ("FORK", "EXIT", "WAIT", "MK")
+        self.has_lease |= verb == "LEASE"
+        if verb == "FORK":
+            self.leased.add(answer[1])
+        if verb == "EXIT":
+            self.leased.discard(int(words.split()[1]))
+        return answer
+
+    def play(self, one):
+        """A lease, calls, two snapshots, and another client whose lease ends."""
+        client, other = one.client(), one.client()
+        client.socket.settimeout(5)
+        for words in ("LEASE rig 60000", "FORK 1", "FORK 1", "FORK 1", "EXIT 2 1", "WAIT 1 ANY", "BGSAVE"):
+            self.say(client, words)
+        for words in ("FORK 1", "FORK 1", "FORK 1", "FORK 1"):
+            time.sleep(0.03)
+            self.say(client, words)
+        for words in ("LEASE brief 0", "MK 0"):
+            other.say(words)
+        self.calls += 1
+        other.say("FORK 1")
+        self.calls += 1
+        other.close()
+        time.sleep(0.25)
+        end = time.monotonic() + 5
+        while "compacting:1" in client.say("INFO") and time.monotonic() < end:
+            time.sleep(0.02)
+        self.say(client, "BGSAVE")
+        time.sleep(0.2)
+        self.say(client, "FORK 1")
+
+
+class Sweep(Case):
+    def try_one(self, number, error, options):
+        """The kind that has failed, and what is wrong then."""
+        one = self.daemon(*options, name=f"{options[1]}{number}")
+        plan, told = Plan(one.folder, number, error), Told()
+        one.variables = plan.variables
+        wrong = ""
+        try:
+            told.play(one.start())
+        except TimeoutError:
+            wrong = "no answer"
+        except (AssertionError, OSError, EOFError, Refused):
+            pass
+        one.kill()
+        try:
+            one.start()
+        except AssertionError:
+            plan.end()
+        one.kill()
+        failed = plan.failed()
+        plan.end()
+        try:
+            wrong = wrong or self.what_is_lost(one.start().client(), told)
+        except (AssertionError, OSError, EOFError):
+            wrong = "refused: " + one.said().splitlines()[-1].replace(str(self.folder), "")
+        one.kill()
+        return failed, wrong
+
+    def what_is_lost(self, client, told):
+        position = client.say("POSITION")
+        if position < told.calls:
+            return f"{told.calls - position} of {told.calls} answered calls are lost"
+        leases = {row[0]: row for row in client.say("LEASES")}
+        if told.has_lease and (gone := told.leased - set(leases["rig"][3])):
+            return f"{gone} are leased no more"
+        task = next((line for line in client.say("LIST").splitlines() if line.startswith("task 9 ")), "")
+        return "what the brief lease has forked lives on" if " live " in task and "brief" not in leases else ""
+
+    def sweep(self, error, *options):
+        need(BUILT / "flaky.so")
+        tried, wrong, number = collections.Counter(), [], 1
+        with concurrent.futures.ThreadPoolExecutor(3) as pool:
+            while not tried["nothing"] and len(wrong) < MANY:
+                some = range(number, number + 12)
+                for place, (failed, why) in zip(some, pool.map(lambda it: self.try_one(it, error, options), some)):
+                    tried[failed] += 1
+                    wrong += [f"operation {place}, {failed}: {why}"] if why else []
+                number += 12
+        print(f"{options[1]}, {errno.errorcode[error]}: {dict(tried)}; {len(wrong)} wrong")
+        self.assertEqual(wrong, [])
+        self.assertGreater(min(tried[kind] for kind in KINDS[1:] if kind != "truncate"), 0)
+
+    def test_everysec(self):
+        self.sweep(errno.EIO, "--fsync", "everysec")
+
+    def test_always(self):
+        self.sweep(errno.ENOSPC, "--fsync", "always")
+
+
+if __name__ == "__main__":
+    unittest.main()
