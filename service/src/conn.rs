@@ -46,6 +46,12 @@ pub struct Follower {
     pub is_begun: bool,
 }
 
+/// A lease that a connection has taken: there may be another of that name now.
+pub struct Held {
+    pub number: u64,
+    pub name: Vec<u8>,
+}
+
 pub struct Conn {
     pub socket: UnixStream,
     pub token: usize,
@@ -60,7 +66,7 @@ pub struct Conn {
     pub multi: Option<Multi>,
     pub channels: Vec<Channel>,
     pub follower: Option<Follower>,
-    pub lease: Option<(u32, Vec<u8>)>,
+    pub lease: Option<Held>,
     /// There may be something to read.
     pub is_readable: bool,
     /// The peer says no more.

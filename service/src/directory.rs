@@ -99,6 +99,10 @@ impl Directory {
         self.path.join(format!("snap-{ordinal:020}"))
     }
 
+    pub fn leases(&self) -> PathBuf {
+        self.path.join("leases")
+    }
+
     /// What was created, renamed or removed is so on the disk.
     pub fn sync(&self) -> io::Result<()> {
         File::open(&self.path)?.sync_all()
@@ -106,6 +110,12 @@ impl Directory {
 
     /// A whole file: under another name first, so that it is there whole or not at all.
     pub fn write(&self, path: &Path, parts: &[&[u8]]) -> io::Result<()> {
+        self.put(path, parts)?;
+        self.sync()
+    }
+
+    /// The same, whose name is not on the disk yet.
+    pub fn put(&self, path: &Path, parts: &[&[u8]]) -> io::Result<File> {
         let mut new = path.as_os_str().to_owned();
         new.push(NEW);
         let mut options = OpenOptions::new();
@@ -113,7 +123,7 @@ impl Directory {
         parts.iter().try_for_each(|it| file.write_all(it))?;
         file.sync_all()?;
         fs::rename(&new, path)?;
-        self.sync()
+        Ok(file)
     }
 
     /// Says which log is the newest.

@@ -1,7 +1,7 @@
 //! The table, its book, and the calls that are recorded and not written yet.
 use crate::book::Book;
 use crate::directory::{Directory, Fault, SEATS};
-use crate::log::{Closed, Log, Sync};
+use crate::log::{Closed, Committed, Log, Sync};
 use crate::recover::{End, Recovery};
 use crate::replica::{loose_blocks, Order, Replica, Report, Source};
 use pidtab::{Blocks, Call, Error, Head, Made, Reply, Stat, Table};
@@ -145,6 +145,11 @@ impl Engine {
         Ok(engine)
     }
 
+    /// What is kept, for another part of the service.
+    pub fn directory(&self) -> Result<Option<Directory>, Fault> {
+        self.directory.as_ref().map(Directory::again).transpose()
+    }
+
     fn read_book(&mut self, born: &std::collections::HashMap<u32, u64>) -> Result<(), Fault> {
         let listing = self.table.listing().map_err(|error| error.to_string())?;
         let (is_watched, tells_gone) = (self.book.is_watched, self.book.tells_gone);
@@ -198,17 +203,17 @@ impl Engine {
         self.table.stat(caller, number)
     }
 
-    /// Writes what was recorded. `Ok(false)`: the disk does not take it now. What was written is never written again: it stays in `written` until
-    /// it is taken, however many turns that takes.
-    pub fn commit(&mut self) -> Result<bool, Fault> {
+    /// Writes what was recorded. It is never written again: it stays in `written` until it is taken, however many turns that takes.
+    pub fn commit(&mut self) -> Result<Committed, Fault> {
         if !self.batch.is_empty() {
-            if !self.log.as_mut().map_or(Ok(true), |it| it.commit(&self.batch))? {
-                return Ok(false);
+            let done = self.log.as_mut().map_or(Ok(Committed::Done), |it| it.commit(&self.batch))?;
+            if done != Committed::Done {
+                return Ok(done);
             }
             self.move_batch();
         }
         self.turn_over_when_due()?;
-        Ok(true)
+        Ok(Committed::Done)
     }
 
     /// The batch is written.
@@ -242,8 +247,14 @@ impl Engine {
         self.written = written;
     }
 
+    /// Whether the log goes on in a new file behind the next commit.
+    pub fn is_to_turn(&self) -> bool {
+        !self.is_compacting && self.log.as_ref().is_some_and(Log::is_to_turn)
+    }
+
     fn turn_over_when_due(&mut self) -> Result<(), Fault> {
-        let Some(log) = self.log.as_mut().filter(|it| it.is_to_turn() && !self.is_compacting) else { return Ok(()) };
+        let is_due = self.is_to_turn();
+        let Some(log) = self.log.as_mut().filter(|_| is_due) else { return Ok(()) };
         if let Some((Closed { base, bytes }, blocks)) = log.turn_over(self.made, self.pid_max)? {
             self.blocks = blocks;
             self.head = head_bytes(self.pid_max, self.made);
@@ -283,8 +294,8 @@ impl Engine {
 
     /// All that was recorded is on the disk.
     pub fn close(&mut self) -> Result<(), Fault> {
-        if !self.commit()? {
-            return Err("the log cannot be written: ending, with unsaved calls unanswered".to_owned());
+        if let Committed::Waits(why) = self.commit()? {
+            return Err(format!("{why}: ending, with unsaved calls unanswered"));
         }
         self.log.as_mut().map_or(Ok(()), Log::close)
     }

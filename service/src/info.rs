@@ -51,7 +51,7 @@ fn clients(service: &Service) -> Fields {
         field("turned_away", figures.turned_away),
         field("closed_as_stalled", figures.stalled),
         field("sleeping", service.sleepers.count()),
-        field("leases", service.leases.all.len()),
+        field("leases", service.leases.count()),
     ]
 }
 

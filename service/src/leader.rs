@@ -172,6 +172,7 @@ impl Service {
             let made = self.engine.made;
             return Err(format!("the leader has {} calls, and this has {made}: it is not overwritten", stamp - 1));
         }
+        self.leases.forget(stamp - 1)?;
         let wake = wake_by(self.waker());
         self.engine.adopt(text, wake)
     }

@@ -1,11 +1,10 @@
-//! Leases: what a connection forks ends when the connections with its lease have been gone for too long. The file `leases` has them, a line a fact.
-use crate::directory::{fault_at, Fault};
+//! Leases: what a connection forks ends when the connections with its lease have been gone for too long. Each lease has a number, by which
+//! connections hold it: another one of the same name is another lease.
+use crate::directory::{fault_at, Directory, Fault};
+use crate::lease_file::{Fact, LeaseFile};
+use crate::log::{Committed, Sync};
 use crate::resp::number;
 use std::collections::{BTreeMap, HashMap};
-use std::fs::{self, File, OpenOptions};
-use std::io::{self, Write};
-use std::os::unix::fs::OpenOptionsExt;
-use std::path::PathBuf;
 
 /// No name is longer, in bytes.
 const LONGEST_NAME: usize = 64;
@@ -13,31 +12,39 @@ const LONGEST_NAME: usize = 64;
 /// The greatest time to live, in ms: a day.
 const LONGEST_TTL: u64 = 86_400_000;
 
-/// The file is written anew where it has so many lines more than there are facts.
-const MANY_LINES: usize = 10_000;
-
 /// The user whose lease it is, and its name.
 pub type Key = (u32, Vec<u8>);
 
 pub struct Lease {
+    pub key: Key,
     pub ttl: u64,
     pub holders: usize,
     /// When it ends, in ms, while nobody holds it.
-    pub until: u64,
+    until: u64,
     /// The root numbers of its tasks, each with the stamp of its fork.
     pub tasks: BTreeMap<u32, u64>,
 }
 
 #[derive(Default)]
 pub struct Leases {
-    pub all: BTreeMap<Key, Lease>,
-    of_task: HashMap<u32, Key>,
-    file: Option<(PathBuf, File)>,
-    is_synced: bool,
-    /// Lines that are not written yet, and how many were.
-    lines: Vec<u8>,
-    written: usize,
-    count: usize,
+    /// By their numbers.
+    all: BTreeMap<u64, Lease>,
+    /// Those that can be held.
+    named: BTreeMap<Key, u64>,
+    of_task: HashMap<u32, u64>,
+    next_number: u64,
+    /// The ordinal of the call that the file was brought up to last.
+    at: u64,
+    file: Option<LeaseFile>,
+}
+
+/// What is known of a table whose leases are read.
+pub struct Known<F> {
+    /// So many calls were made, and so many before the snapshot that it was begun from.
+    pub made: u64,
+    pub snapshot: u64,
+    /// The stamp of a task's fork, 0 for one that is of the snapshot; none where there is no such task.
+    pub born: F,
 }
 
 /// A name that may stand in the file.
@@ -50,202 +57,304 @@ pub fn read_ttl(word: &[u8]) -> Option<u64> {
 }
 
 impl Leases {
-    /// Reads the file, or begins it. `is_bound` says whether a task is the one that was bound. Nobody holds a lease yet.
+    /// Reads the file, or begins it. Nobody holds a lease yet.
     pub fn open(
-        path: Option<PathBuf>,
-        is_synced: bool,
-        now: u64,
-        is_bound: impl Fn(u32, u64) -> bool,
+        directory: Option<Directory>,
+        sync: Sync,
+        known: &Known<impl Fn(u32) -> Option<u64>>,
+        wake: impl Fn() + Send + 'static,
     ) -> Result<Leases, Fault> {
-        let mut leases = Leases { is_synced, ..Leases::default() };
-        let Some(path) = path else { return Ok(leases) };
-        let text = match fs::read(&path) {
-            Err(error) if error.kind() == io::ErrorKind::NotFound => Vec::new(),
-            read => read.map_err(fault_at(&path))?,
-        };
-        // A line without its end is one that a crash has torn.
-        let whole = text.iter().rposition(|it| *it == b'\n').map_or(0, |it| it + 1);
-        for (place, line) in text[..whole].split(|it| *it == b'\n').enumerate().filter(|it| !it.1.is_empty()) {
-            let taken = leases.take_line(line, now);
-            taken.ok_or_else(|| fault_at(&path)(format!("line {}: is no fact of a lease", place + 1)))?;
+        let mut leases = Leases { next_number: 1, ..Leases::default() };
+        let Some(directory) = directory else { return Ok(leases) };
+        let path = directory.leases();
+        match LeaseFile::read(&directory)? {
+            Some(facts) => facts.into_iter().try_for_each(|it| leases.take(it)).map_err(fault_at(&path))?,
+            None if known.made > 0 => {
+                return Err(fault_at(&path)("is missing: the directory was not copied whole"));
+            }
+            None => {}
         }
-        for lease in leases.all.values_mut() {
-            lease.tasks.retain(|task, born| is_bound(*task, *born));
+        if leases.at < known.snapshot {
+            let (at, snapshot) = (leases.at, known.snapshot);
+            let why =
+                format!("is that of call {at}, and the snapshot that of call {snapshot}: restore both from one copy");
+            return Err(fault_at(&path)(why));
         }
-        leases.write_anew(path).map_err(|(path, error)| fault_at(&path)(error))?;
+        leases.keep_bound(known);
+        leases.at = known.made;
+        leases.file = Some(LeaseFile::begin(directory, sync, &leases.facts(), wake)?);
         Ok(leases)
     }
 
-    /// `lease USER NAME TTL`, `bind USER NAME TASK BORN`, `free USER NAME TASK` or `release USER NAME`.
-    fn take_line(&mut self, line: &[u8], now: u64) -> Option<()> {
-        let words: Vec<_> = line.split(|it| *it == b' ').collect();
-        let [kind, user, name, numbers @ ..] = &words[..] else { return None };
-        let key = (number(user, u64::from(u32::MAX))? as u32, name.to_vec());
-        let numbers: Option<Vec<_>> = numbers.iter().map(|it| number(it, u64::MAX)).collect();
-        match (*kind, &numbers?[..]) {
-            (b"lease", [ttl]) => {
-                let lease = Lease { ttl: *ttl, holders: 0, until: now + ttl, tasks: BTreeMap::new() };
-                self.all.entry(key).or_insert(lease).ttl = *ttl;
+    /// Those are bound that are the tasks that were forked then. A task of the snapshot was forked before that, and the file is not older.
+    fn keep_bound(&mut self, known: &Known<impl Fn(u32) -> Option<u64>>) {
+        let is_bound = |task: u32, born: u64| match (known.born)(task) {
+            Some(0) => born <= known.snapshot,
+            found => found == Some(born),
+        };
+        for lease in self.all.values_mut() {
+            lease.tasks.retain(|task, born| is_bound(*task, *born));
+        }
+        let bound = self.all.iter().flat_map(|it| it.1.tasks.keys().map(|task| (*task, *it.0)));
+        self.of_task = bound.collect();
+    }
+
+    /// A fact of the file.
+    fn take(&mut self, fact: Fact) -> Result<(), String> {
+        let fault = || "a fact of a lease that is not there".to_owned();
+        match fact {
+            Fact::At(ordinal) => self.at = ordinal,
+            Fact::Lease { user, name, number, ttl } => self.add((user, name), number, ttl),
+            Fact::Bind { number, task, born } => {
+                self.all.get_mut(&number).ok_or_else(fault)?.tasks.insert(task, born);
             }
-            (b"bind", [task, born]) => drop(self.all.get_mut(&key)?.tasks.insert(*task as u32, *born)),
-            (b"free", [task]) => drop(self.all.get_mut(&key)?.tasks.remove(&(*task as u32))),
-            (b"release", []) => drop(self.all.remove(&key)),
-            _ => return None,
+            Fact::Free { number, task } => {
+                self.all.get_mut(&number).ok_or_else(fault)?.tasks.remove(&task);
+            }
+            Fact::Release { number } => {
+                let lease = self.all.remove(&number).ok_or_else(fault)?;
+                self.unname(&lease.key, number);
+            }
         }
-        Some(())
+        Ok(())
     }
 
-    fn say(&mut self, kind: &str, key: &Key, numbers: &[u64]) {
-        if self.file.is_none() {
-            return;
-        }
-        let name = String::from_utf8_lossy(&key.1);
-        let numbers: String = numbers.iter().map(|it| format!(" {it}")).collect();
-        self.lines.extend(format!("{kind} {} {name}{numbers}\n", key.0).bytes());
-        self.count += 1;
+    /// A lease that is new, or has another time.
+    fn add(&mut self, key: Key, number: u64, ttl: u64) {
+        let lease = Lease { key: key.clone(), ttl, holders: 0, until: ttl, tasks: BTreeMap::new() };
+        let lease = self.all.entry(number).or_insert(lease);
+        (lease.ttl, lease.until) = (ttl, ttl);
+        self.named.insert(key, number);
+        self.next_number = self.next_number.max(number + 1);
     }
 
-    /// A connection holds the lease from now on.
-    pub fn hold(&mut self, key: &Key, ttl: u64) {
-        let lease = self.all.entry(key.clone()).or_insert(Lease { ttl, holders: 0, until: 0, tasks: BTreeMap::new() });
-        lease.holders += 1;
-        lease.ttl = ttl;
-        self.say("lease", key, &[ttl]);
+    /// The name is free, if it is that lease's.
+    fn unname(&mut self, key: &Key, number: u64) {
+        if self.named.get(key) == Some(&number) {
+            self.named.remove(key);
+        }
+    }
+
+    fn facts(&self) -> Vec<Fact> {
+        let mut facts = vec![Fact::At(self.at)];
+        for (number, Lease { key: (user, name), ttl, tasks, .. }) in &self.all {
+            let (number, name) = (*number, name.clone());
+            facts.push(Fact::Lease { user: *user, name, number, ttl: *ttl });
+            facts.extend(tasks.iter().map(|(task, born)| Fact::Bind { number, task: *task, born: *born }));
+        }
+        facts
+    }
+
+    fn say(&mut self, fact: Fact) {
+        if let Some(file) = &mut self.file {
+            file.say(&fact);
+        }
+    }
+
+    pub fn count(&self) -> usize {
+        self.named.len()
+    }
+
+    pub fn is_empty(&self) -> bool {
+        self.all.is_empty()
+    }
+
+    /// Those that can be held, by their names.
+    pub fn named(&self) -> impl Iterator<Item = &Lease> {
+        self.named.values().filter_map(|it| self.all.get(it))
+    }
+
+    pub fn is_there(&self, number: u64) -> bool {
+        self.all.contains_key(&number)
+    }
+
+    pub fn number(&self, key: &Key) -> Option<u64> {
+        self.named.get(key).copied()
+    }
+
+    /// A connection holds the lease from now on: its number.
+    pub fn hold(&mut self, key: &Key, ttl: u64) -> u64 {
+        let number = self.named.get(key).copied().unwrap_or(self.next_number);
+        let (user, name) = key.clone();
+        self.add(key.clone(), number, ttl);
+        if let Some(lease) = self.all.get_mut(&number) {
+            lease.holders += 1;
+        }
+        self.say(Fact::Lease { user, name, number, ttl });
+        number
     }
 
     /// A connection that has held it is gone.
-    pub fn let_go(&mut self, key: &Key, now: u64) {
-        if let Some(lease) = self.all.get_mut(key) {
+    pub fn let_go(&mut self, number: u64, now: u64) {
+        if let Some(lease) = self.all.get_mut(&number) {
             lease.holders = lease.holders.saturating_sub(1);
             lease.until = now + lease.ttl;
         }
     }
 
-    pub fn bind(&mut self, key: &Key, task: u32, born: u64) {
-        let Some(lease) = self.all.get_mut(key) else { return };
+    pub fn bind(&mut self, number: u64, task: u32, born: u64) {
+        let Some(lease) = self.all.get_mut(&number) else { return };
         lease.tasks.insert(task, born);
-        self.of_task.insert(task, key.clone());
-        self.say("bind", key, &[u64::from(task), born]);
+        self.of_task.insert(task, number);
+        self.say(Fact::Bind { number, task, born });
     }
 
     /// The task is there no more.
     pub fn free(&mut self, task: u32) {
-        let Some(key) = self.of_task.remove(&task) else { return };
-        if let Some(lease) = self.all.get_mut(&key) {
+        let Some(number) = self.of_task.remove(&task) else { return };
+        if let Some(lease) = self.all.get_mut(&number) {
             lease.tasks.remove(&task);
         }
-        self.say("free", &key, &[u64::from(task)]);
+        self.say(Fact::Free { number, task });
     }
 
-    /// The lease is forgotten: its tasks stay. Whether there was one.
-    pub fn release(&mut self, key: &Key) -> bool {
-        let Some(lease) = self.all.remove(key) else { return false };
-        lease.tasks.keys().for_each(|it| drop(self.of_task.remove(it)));
-        self.say("release", key, &[]);
-        true
-    }
-
-    /// Those that nobody holds and whose time is over, with their tasks.
-    pub fn ended(&self, now: u64) -> Vec<(Key, Vec<u32>)> {
-        let those = self.all.iter().filter(|it| it.1.holders == 0 && it.1.until <= now);
-        those.map(|(key, lease)| (key.clone(), lease.tasks.keys().copied().collect())).collect()
-    }
-
-    /// Writes what is new. `Ok(false)`: the disk does not take it now.
-    pub fn commit(&mut self) -> Result<bool, Fault> {
-        let Some((path, file)) = self.file.as_mut().filter(|_| !self.lines.is_empty()) else { return Ok(true) };
-        while self.written < self.lines.len() {
-            match file.write(&self.lines[self.written..]) {
-                Ok(count) => self.written += count,
-                Err(error) if error.kind() == io::ErrorKind::Interrupted => {}
-                Err(_) => return Ok(false),
-            }
+    /// The lease is forgotten: its tasks stay.
+    pub fn release(&mut self, number: u64) {
+        let Some(lease) = self.all.remove(&number) else { return };
+        self.unname(&lease.key, number);
+        for task in lease.tasks.keys() {
+            self.of_task.remove(task);
         }
-        if self.is_synced {
-            file.sync_data().map_err(|error| {
-                fault_at(path)(format!("fdatasync: {error}: ending, with unsaved leases unanswered"))
-            })?;
-        }
-        let path = path.clone();
-        (self.written, self.lines) = (0, Vec::new());
-        if self.count > MANY_LINES + 2 * self.facts() {
-            return Ok(self.write_anew(path).is_ok());
-        }
-        Ok(true)
+        self.say(Fact::Release { number });
     }
 
-    fn facts(&self) -> usize {
-        self.all.values().map(|it| 1 + it.tasks.len()).sum()
-    }
-
-    /// The whole file, under another name first.
-    fn write_anew(&mut self, path: PathBuf) -> Result<(), (PathBuf, io::Error)> {
-        let written = self.write_whole(&path);
-        match written {
-            Ok(file) => self.file = Some((path, file)),
-            Err(error) => return Err((path, error)),
+    /// Those whose time is over from now on, as nobody holds them: nobody can hold one any more. Each with its user and its tasks.
+    pub fn take_over(&mut self, now: u64) -> Vec<(u64, u32, Vec<u32>)> {
+        let is_over = |it: &(&u64, &Lease)| it.1.holders == 0 && it.1.until <= now;
+        let over: Vec<_> = self.all.iter().filter(is_over).map(|it| (*it.0, it.1.key.clone())).collect();
+        let mut told = Vec::new();
+        for (number, key) in over {
+            self.unname(&key, number);
+            let Some(lease) = self.all.get_mut(&number) else { continue };
+            lease.until = u64::MAX;
+            told.push((number, key.0, lease.tasks.keys().copied().collect()));
         }
-        Ok(())
+        told
     }
 
-    fn write_whole(&mut self, path: &PathBuf) -> io::Result<File> {
-        let mut text = Vec::new();
+    /// All of another table.
+    pub fn forget(&mut self, made: u64) -> Result<(), Fault> {
+        self.all.clear();
+        self.named.clear();
         self.of_task.clear();
-        for (key, lease) in &self.all {
-            let (user, name) = (key.0, String::from_utf8_lossy(&key.1));
-            text.extend(format!("lease {user} {name} {}\n", lease.ttl).bytes());
-            for (task, born) in &lease.tasks {
-                text.extend(format!("bind {user} {name} {task} {born}\n").bytes());
-                self.of_task.insert(*task, key.clone());
+        self.at = made;
+        self.rewrite()
+    }
+
+    /// What the calls before that ordinal have done is on the disk behind the next commit.
+    pub fn mark(&mut self, made: u64) {
+        if self.at >= made {
+            return;
+        }
+        self.at = made;
+        self.say(Fact::At(made));
+        if let Some(file) = &mut self.file {
+            file.want_sync();
+        }
+    }
+
+    /// Writes what is new.
+    pub fn commit(&mut self) -> Result<Committed, Fault> {
+        let Some(file) = &mut self.file else { return Ok(Committed::Done) };
+        let done = file.commit()?;
+        if done == Committed::Done && file.is_long(self.all.len() + self.of_task.len()) {
+            if let Err(why) = self.rewrite() {
+                eprintln!("pidtabd: {why}: it is not written anew, and goes on as it is");
             }
         }
-        let new = path.with_extension("new");
-        let mut options = OpenOptions::new();
-        let mut file = options.write(true).create(true).truncate(true).mode(0o600).open(&new)?;
-        file.write_all(&text)?;
-        file.sync_all()?;
-        fs::rename(&new, path)?;
-        File::open(path.parent().unwrap_or(path))?.sync_all()?;
-        self.count = self.facts();
-        Ok(file)
+        Ok(done)
+    }
+
+    fn rewrite(&mut self) -> Result<(), Fault> {
+        let facts = self.facts();
+        self.file.as_mut().map_or(Ok(()), |it| it.rewrite(&facts))
+    }
+
+    /// What is due by the clock.
+    pub fn tick(&mut self) -> Result<(), Fault> {
+        self.file.as_mut().map_or(Ok(()), LeaseFile::tick)
     }
 }
 
 #[cfg(test)]
 mod tests {
     use super::*;
+    use std::fs;
+    use std::path::{Path, PathBuf};
+
+    fn folder(name: &str) -> PathBuf {
+        let folder = std::env::temp_dir().join(format!("pidtabd-{name}-{}", std::process::id()));
+        let _ = fs::remove_dir_all(&folder);
+        fs::create_dir_all(&folder).expect("a folder");
+        folder
+    }
+
+    /// Opens what is kept, where the tasks were born so, and there is a snapshot of so many calls.
+    fn open(folder: &Path, snapshot: u64, born: &[(u32, u64)]) -> Result<Leases, Fault> {
+        let born: HashMap<u32, u64> = born.iter().copied().collect();
+        let known = Known { made: 20, snapshot, born: |task| born.get(&task).copied() };
+        Leases::open(Some(Directory::take(folder)?), Sync::Always, &known, || {})
+    }
+
+    fn tasks(leases: &Leases, key: &Key) -> Vec<u32> {
+        let number = leases.number(key).expect("a lease");
+        leases.all[&number].tasks.keys().copied().collect()
+    }
 
     #[test]
     fn they_outlive_the_process() {
-        let folder = std::env::temp_dir().join(format!("pidtabd-leases-{}", std::process::id()));
-        fs::create_dir_all(&folder).expect("a folder");
-        let path = Some(folder.join("leases"));
-        let mut leases = Leases::open(path.clone(), true, 0, |_, _| true).expect("leases");
+        let folder = folder("leases");
+        fs::write(folder.join("leases"), "pidtab leases 1\n").expect("a file");
+        let mut leases = open(&folder, 0, &[]).expect("leases");
         let (one, other) = ((7, b"web".to_vec()), (8, b"web".to_vec()));
-        leases.hold(&one, 500);
-        leases.hold(&other, 100);
-        leases.bind(&one, 2, 1);
-        leases.bind(&one, 3, 2);
-        leases.bind(&other, 4, 3);
+        let (first, second) = (leases.hold(&one, 500), leases.hold(&other, 100));
+        for (number, task, born) in [(first, 2, 1), (first, 3, 2), (first, 5, 4), (second, 4, 3)] {
+            leases.bind(number, task, born);
+        }
         leases.free(3);
-        assert_eq!(leases.commit(), Ok(true));
-        fs::OpenOptions::new()
-            .append(true)
-            .open(path.as_ref().expect("a path"))
-            .and_then(|mut it| it.write_all(b"bind 7 we"))
-            .expect("a torn line");
-        let mut again = Leases::open(path.clone(), true, 1000, |task, _| task != 4).expect("leases");
-        assert_eq!(again.all[&one].tasks.keys().copied().collect::<Vec<_>>(), [2]);
-        assert!(again.all[&other].tasks.is_empty());
-        assert_eq!(again.ended(1100).iter().map(|it| &it.0).collect::<Vec<_>>(), [&other]);
-        assert_eq!(again.ended(1500).len(), 2);
-        again.hold(&one, 500);
-        assert_eq!(again.ended(1500).len(), 1);
-        assert!(again.release(&other) && !again.release(&other));
-        assert_eq!(again.commit(), Ok(true));
-        fs::write(path.as_ref().expect("a path"), "lease 7\n").expect("a file");
-        assert!(Leases::open(path, true, 0, |_, _| true).is_err());
+        leases.mark(10);
+        assert_eq!(leases.commit(), Ok(Committed::Done));
+        drop(leases);
+        // Task 2 was forked before the snapshot, 5 behind another fork of its number, and 4 is not there.
+        let mut again = open(&folder, 10, &[(2, 0), (5, 14)]).expect("leases");
+        assert_eq!((tasks(&again, &one), tasks(&again, &other)), (vec![2], vec![]));
+        assert_eq!(again.take_over(100), [(second, 8, vec![])]);
+        assert_eq!((again.number(&other), again.is_there(second)), (None, true));
+        assert!(again.hold(&other, 100) > second);
+        assert_eq!(again.take_over(500), [(first, 7, vec![2])]);
+        again.release(first);
+        assert!(!again.is_there(first));
+        assert_eq!(again.commit(), Ok(Committed::Done));
+        drop(again);
+        assert_eq!(open(&folder, 10, &[]).expect("leases").all.len(), 2);
         fs::remove_dir_all(&folder).expect("no folder");
+    }
+
+    /// A file that is missing or older than the snapshot knows nothing of what has happened since.
+    #[test]
+    fn old_files_are_refused() {
+        let folder = folder("old-leases");
+        let why = |opened: Result<Leases, Fault>| opened.err().expect("a fault");
+        assert!(why(open(&folder, 10, &[])).contains("is missing"));
+        fs::write(folder.join("leases"), "pidtab leases 1\n").expect("a file");
+        assert!(why(open(&folder, 10, &[])).contains("is that of call 0, and the snapshot that of call 10"));
+        fs::write(folder.join("leases"), "lease 7\n").expect("a file");
+        assert!(why(open(&folder, 0, &[])).contains("line 1"));
+        fs::remove_dir_all(&folder).expect("no folder");
+    }
+
+    #[test]
+    fn who_holds_a_lease_that_was_released_holds_no_other() {
+        let mut leases = Leases { next_number: 1, ..Leases::default() };
+        let key = (7, b"rig".to_vec());
+        let first = leases.hold(&key, 0);
+        assert_eq!(leases.hold(&key, 0), first);
+        leases.release(first);
+        let second = leases.hold(&key, 0);
+        leases.let_go(first, 1);
+        assert_eq!((leases.take_over(9), leases.is_there(first)), (vec![], false));
+        leases.let_go(second, 1);
+        assert_eq!(leases.take_over(9), [(second, 7, vec![])]);
     }
 
     #[test]

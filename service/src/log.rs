@@ -1,18 +1,16 @@
-//! The log: one file that grows, and goes on in a new one when it is long enough. A second thread syncs it each second, where that is wanted.
+//! The log: one file that grows, and goes on in a new one when it is long enough. A syncer has it on the disk each second, where that is wanted.
 //!
 //! Where each batch is synced, small ones are written over zeroes that are on the disk already: so a sync has their bytes to write, and neither a
 //! new length of the file nor a new block. At most [`BATCH`] bytes are written between two syncs then, by which the recovery knows a batch that a
 //! loss of power has cut.
 use crate::directory::{fault_at, Directory, Fault, SEATS};
 use crate::recover::End;
+use crate::syncer::Syncer;
 use pidtab::{Blocks, Head};
 use std::fs::{self, File, OpenOptions};
 use std::io;
 use std::os::unix::fs::{FileExt, OpenOptionsExt};
-use std::sync::mpsc::{channel, Receiver, Sender};
 use std::sync::Arc;
-use std::thread;
-use std::time::{Duration, Instant};
 
 /// So many bytes are written between two syncs, where each batch is synced.
 pub const BATCH: usize = 1 << 20;
@@ -39,6 +37,14 @@ impl Sync {
     }
 }
 
+/// What has come of what was to be written.
+#[derive(Debug, PartialEq)]
+pub enum Committed {
+    Done,
+    /// The disk does not take it now, and why.
+    Waits(Fault),
+}
+
 /// How far the file is on its way to a new one.
 #[derive(Clone, Copy, PartialEq)]
 enum Turn {
@@ -60,10 +66,7 @@ pub struct Log {
     /// How long the file is, with the zeroes that were written ahead.
     length: u64,
     turn: Turn,
-    unsynced: Option<Instant>,
-    is_syncing: bool,
-    orders: Sender<Arc<File>>,
-    done: Receiver<io::Result<()>>,
+    syncer: Syncer,
     pub commits: u64,
     pub largest: u64,
     pub retries: u64,
@@ -73,21 +76,6 @@ pub struct Log {
 pub struct Closed {
     pub base: u64,
     pub bytes: u64,
-}
-
-/// The thread that syncs. `wake` is called when it has.
-fn start_syncer(wake: impl Fn() + Send + 'static) -> (Sender<Arc<File>>, Receiver<io::Result<()>>) {
-    let (orders, taken) = channel::<Arc<File>>();
-    let (tell, done) = channel();
-    thread::spawn(move || {
-        for file in taken {
-            if tell.send(file.sync_data()).is_err() {
-                break;
-            }
-            wake();
-        }
-    });
-    (orders, done)
 }
 
 impl Log {
@@ -108,7 +96,6 @@ impl Log {
         };
         let (file, blocks) = opened.map_err(fault_at(&place))?;
         let (base, bytes) = end.map_or((made, Blocks::HEAD as u64), |it| (it.base, it.bytes));
-        let (orders, done) = start_syncer(wake);
         let log = Log {
             directory,
             file: Arc::new(file),
@@ -119,10 +106,7 @@ impl Log {
             written: 0,
             length: bytes,
             turn: Turn::Goes,
-            unsynced: None,
-            is_syncing: false,
-            orders,
-            done,
+            syncer: Syncer::start(wake),
             commits: 0,
             largest: 0,
             retries: 0,
@@ -131,27 +115,26 @@ impl Log {
     }
 
     /// Writes the batch, and syncs it where that is always done. Behind a write that failed, the same batch goes on where that one stopped.
-    /// `Ok(false)`: it cannot be written now.
-    pub fn commit(&mut self, batch: &[u8]) -> Result<bool, Fault> {
+    pub fn commit(&mut self, batch: &[u8]) -> Result<Committed, Fault> {
         if self.sync == Sync::Always && self.written == 0 && batch.len() <= SMALL {
             self.write_ahead(self.bytes + batch.len() as u64);
         }
         while self.written < batch.len() {
             match self.write_piece(batch) {
-                Ok(0) => return Ok(self.complain(&io::ErrorKind::WriteZero.into())),
+                Ok(0) => return Ok(self.waits(io::ErrorKind::WriteZero.into())),
                 Ok(count) => self.written += count,
                 Err(error) if error.kind() == io::ErrorKind::Interrupted => continue,
-                Err(error) => return Ok(self.complain(&error)),
+                Err(error) => return Ok(self.waits(error)),
             }
             if self.sync == Sync::Always {
                 self.sync_here()?;
             }
         }
-        if self.sync != Sync::Always && self.unsynced.is_none() {
-            self.unsynced = Some(Instant::now());
+        if self.sync != Sync::Always {
+            self.syncer.wrote();
         }
         self.count(batch.len());
-        Ok(true)
+        Ok(Committed::Done)
     }
 
     /// Writes what is left of the batch, or as much as may be written before a sync.
@@ -182,16 +165,9 @@ impl Log {
         }
     }
 
-    /// Now and then, of a write that failed.
-    fn complain(&mut self, error: &io::Error) -> bool {
-        if self.retries.is_multiple_of(100) {
-            eprintln!(
-                "pidtabd: {}: cannot be written, and answers wait: {error}",
-                self.directory.log(self.base).display()
-            );
-        }
+    fn waits(&mut self, error: io::Error) -> Committed {
         self.retries += 1;
-        false
+        Committed::Waits(fault_at(&self.directory.log(self.base))(error))
     }
 
     /// What is not on the disk must not be answered, and nobody knows what a failed sync has left.
@@ -213,23 +189,28 @@ impl Log {
     /// Ten times a second, and when the other thread has synced: what it has done, and what is due. The file is synced by that thread before it
     /// is turned over, so that little is left to sync here.
     pub fn tick(&mut self) -> Result<(), Fault> {
-        while let Ok(done) = self.done.try_recv() {
-            done.map_err(|error| self.lost(&error))?;
-            self.is_syncing = false;
+        while self.syncer.take_done().map_err(|error| self.lost(&error))? {
             if self.turn == Turn::Syncs {
                 self.turn = Turn::Synced;
             }
         }
-        let is_due =
-            self.sync == Sync::EverySecond && self.unsynced.is_some_and(|it| it.elapsed() >= Duration::from_secs(1));
-        if !self.is_syncing && (is_due || self.turn == Turn::Wanted) {
-            self.unsynced = None;
-            self.is_syncing = self.orders.send(Arc::clone(&self.file)).is_ok();
+        let is_due = self.sync == Sync::EverySecond && self.syncer.is_due();
+        if self.syncer.is_idle() && (is_due || self.turn == Turn::Wanted) {
+            self.syncer.order(&self.file);
             if self.turn == Turn::Wanted {
                 self.turn = Turn::Syncs;
             }
         }
         Ok(())
+    }
+
+    /// The sync behind which what is written in this turn is on the disk; none where nobody waits for one.
+    pub fn next_sync(&self) -> Option<u64> {
+        (self.sync == Sync::EverySecond).then(|| self.syncer.next())
+    }
+
+    pub fn has_synced(&self, sync: u64) -> bool {
+        self.syncer.has_done(sync)
     }
 
     /// Whether the log is to go on in a new file now.
@@ -258,8 +239,9 @@ impl Log {
         self.name_current(made);
         let closed = Closed { base: self.base, bytes: self.bytes };
         self.file = Arc::new(file);
-        (self.base, self.bytes, self.unsynced) = (made, Blocks::HEAD as u64, None);
+        (self.base, self.bytes) = (made, Blocks::HEAD as u64);
         self.length = self.bytes;
+        self.syncer.has_synced();
         Ok(Some((closed, blocks)))
     }
 

@@ -2,6 +2,7 @@
 #![forbid(unsafe_code)]
 
 mod book;
+mod checksum;
 mod commands;
 mod conn;
 mod directory;
@@ -10,6 +11,7 @@ mod events;
 mod haste;
 mod info;
 mod leader;
+mod lease_file;
 mod leases;
 mod log;
 mod options;
@@ -21,6 +23,7 @@ mod run;
 mod say;
 mod service;
 mod sleepers;
+mod syncer;
 
 use listenfd::ListenFd;
 use mio::net::{UnixListener, UnixStream};

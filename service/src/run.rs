@@ -1,9 +1,9 @@
 //! What each command does.
 use crate::commands::{find, without_prefix, Action, Command, Values, Verb, COMMANDS};
-use crate::conn::{Conn, Follower, Multi, Pause};
+use crate::conn::{Conn, Follower, Held, Multi, Pause};
 use crate::directory::SEATS;
 use crate::events::{self, Channel, MOST_CHANNELS};
-use crate::leases::{is_name, read_ttl};
+use crate::leases::{is_name, read_ttl, Lease};
 use crate::options::Rights;
 use crate::resp::{is_word, number, Answer, Words};
 use crate::rights::may_make;
@@ -83,12 +83,18 @@ impl Service {
         if let Some(why) = self.refusal(conn.rights, Some(call)) {
             return conn.out.line(&why);
         }
+        let is_fork = matches!(call, Call::Fork { .. });
+        if is_fork && conn.lease.as_ref().is_some_and(|it| !self.leases.is_there(it.number)) {
+            return conn
+                .out
+                .line("-NOLEASE the lease of this connection was released: say LEASE, or RELEASE and its name");
+        }
         match self.engine.make(conn.seat, call) {
             Ok(reply) => {
                 self.figures.calls += 1;
                 self.figures.refused += u64::from(matches!(reply, Reply::Refused { .. }));
-                if let (Reply::Forked(child), Some(key)) = (&reply, &conn.lease) {
-                    self.leases.bind(key, child.root, self.engine.made);
+                if let (Reply::Forked(child), Some(held)) = (&reply, &conn.lease) {
+                    self.leases.bind(held.number, child.root, self.engine.made);
                 }
                 say::reply(&mut conn.out, &reply);
             }
@@ -287,11 +293,10 @@ impl Service {
             return conn.out.line(&why);
         }
         if let Some(before) = conn.lease.take() {
-            self.leases.let_go(&before, self.now);
+            self.leases.let_go(before.number, self.now);
         }
-        let key = (conn.user, name.to_vec());
-        self.leases.hold(&key, ttl);
-        conn.lease = Some(key);
+        let number = self.leases.hold(&(conn.user, name.to_vec()), ttl);
+        conn.lease = Some(Held { number, name: name.to_vec() });
         self.engine.book.tells_gone = true;
         conn.out.ok();
     }
@@ -303,12 +308,12 @@ impl Service {
     }
 
     fn run_leases(&mut self, conn: &mut Conn) {
-        let user = conn.user;
-        let those: Vec<_> = self.leases.all.iter().filter(|it| it.0 .0 == user || conn.rights == Rights::All).collect();
+        let is_seen = |it: &&Lease| it.key.0 == conn.user || conn.rights == Rights::All;
+        let those: Vec<_> = self.leases.named().filter(is_seen).collect();
         conn.out.array(those.len());
-        for ((_, name), lease) in those {
+        for lease in those {
             conn.out.array(4);
-            conn.out.bulk(name);
+            conn.out.bulk(&lease.key.1);
             conn.out.number(lease.ttl);
             conn.out.number(lease.holders as u64);
             conn.out.array(lease.tasks.len());
@@ -320,12 +325,11 @@ impl Service {
         if let Some(why) = self.refusal_of_lease(conn.rights) {
             return conn.out.line(&why);
         }
-        let key = (conn.user, name.to_vec());
-        let was_there = self.leases.release(&key);
-        if conn.lease.as_ref() == Some(&key) {
-            conn.lease = None;
-        }
-        conn.out.number(u64::from(was_there));
+        let held = conn.lease.take_if(|it| it.name == name);
+        let is_another_s = held.is_some_and(|it| !self.leases.is_there(it.number));
+        let number = self.leases.number(&(conn.user, name.to_vec())).filter(|_| !is_another_s);
+        number.into_iter().for_each(|it| self.leases.release(it));
+        conn.out.number(u64::from(number.is_some()));
     }
 
     fn run_save(&mut self, conn: &mut Conn) {
@@ -386,13 +390,13 @@ impl Service {
         conn.ends = true;
     }
 
-    /// Ends a task of a lease.
-    pub fn kill(&mut self, task: u32) {
+    /// Ends a task of a lease, if its user may.
+    pub fn kill(&mut self, rights: Rights, task: u32) {
         if self.engine.book.kin(task).is_none_or(|it| it.is_zombie) {
             return;
         }
         let call = Call::Exit { caller: task, status: KILLED };
-        if self.engine.make(0, call).is_ok() {
+        if may_make(&mut self.engine, rights, call) && self.engine.make(0, call).is_ok() {
             self.figures.calls += 1;
         }
     }

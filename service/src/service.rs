@@ -4,7 +4,8 @@ use crate::directory::Fault;
 use crate::engine::{Engine, Text};
 use crate::haste::{Haste, LOOK};
 use crate::leader::Leader;
-use crate::leases::Leases;
+use crate::leases::{Known, Leases};
+use crate::log::{Committed, Log};
 use crate::options::{Options, Rights};
 use crate::replica::Report;
 use crate::resp::{Answer, Reader, LONGEST_REQUEST};
@@ -74,7 +75,10 @@ pub struct Service {
     freed: Vec<usize>,
     ready: Vec<usize>,
     touched: Vec<usize>,
-    is_stuck: bool,
+    /// Why the disk does not take what was recorded, while it does not.
+    stuck: Option<Fault>,
+    /// Leases whose tasks have ended, each with the sync that brings that to the disk.
+    ending: Vec<(u64, Option<u64>)>,
     next_id: u64,
     ticked: u64,
     input: Vec<u8>,
@@ -120,7 +124,7 @@ impl Service {
         let poll = Poll::new().map_err(fault)?;
         let waker = Arc::new(Waker::new(poll.registry(), WAKE).map_err(fault)?);
         let engine = Engine::open(options.keep.clone(), wake_by(&waker))?;
-        let leases = read_leases(&engine)?;
+        let leases = read_leases(&engine, wake_by(&waker))?;
         let mut service = Service {
             engine,
             figures: Figures::default(),
@@ -141,7 +145,8 @@ impl Service {
             freed: Vec::new(),
             ready: Vec::new(),
             touched: Vec::new(),
-            is_stuck: false,
+            stuck: None,
+            ending: Vec::new(),
             next_id: 1,
             ticked: 0,
             input: vec![0; LONGEST_REQUEST + READ_AT_ONCE],
@@ -152,7 +157,7 @@ impl Service {
             options,
         };
         service.watch().map_err(fault)?;
-        service.engine.book.tells_gone = !service.leases.all.is_empty();
+        service.engine.book.tells_gone = !service.leases.is_empty();
         Ok(service)
     }
 
@@ -175,14 +180,14 @@ impl Service {
     }
 
     fn turn(&mut self, events: &mut Events) -> Result<(), Fault> {
-        let is_busy = !self.is_stuck && (self.is_calling || !self.ready.is_empty());
+        let is_busy = !self.is_stuck() && (self.is_calling || !self.ready.is_empty());
         let wait = if is_busy { 0 } else { self.wait() };
         self.await_events(events, wait)?;
         for event in events.iter() {
             self.take_event(event);
         }
         self.tick()?;
-        if !self.is_stuck {
+        if !self.is_stuck() {
             self.work();
         }
         self.settle()?;
@@ -353,8 +358,8 @@ impl Service {
         self.wake_sleepers();
         self.free_gone();
         self.publish();
-        self.is_stuck = !self.engine.commit()? || !self.leases.commit()?;
-        if self.is_stuck {
+        self.commit()?;
+        if self.is_stuck() {
             return Ok(());
         }
         self.stream();
@@ -362,6 +367,29 @@ impl Service {
         for token in std::mem::take(&mut self.touched) {
             self.send_to(token);
         }
+        Ok(())
+    }
+
+    /// The leases come first: so a fork that the log has is bound, whenever the process ends.
+    fn commit(&mut self) -> Result<(), Fault> {
+        if self.engine.is_to_turn() {
+            self.leases.mark(self.engine.made);
+        }
+        let done = match self.leases.commit()? {
+            Committed::Done => self.engine.commit()?,
+            waits => waits,
+        };
+        match (&done, &self.stuck) {
+            (Committed::Waits(why), before) if before.as_ref() != Some(why) => {
+                eprintln!("pidtabd: {why}: answers wait until it can be written");
+            }
+            (Committed::Done, Some(_)) => eprintln!("pidtabd: the disk takes what has waited, and answers go out"),
+            _ => {}
+        }
+        self.stuck = match done {
+            Committed::Done => None,
+            Committed::Waits(why) => Some(why),
+        };
         Ok(())
     }
 
@@ -392,8 +420,8 @@ impl Service {
         self.figures.clients -= 1;
         self.figures.seated[conn.seat as usize] -= 1;
         self.followers -= usize::from(conn.follower.is_some());
-        if let Some(key) = &conn.lease {
-            self.leases.let_go(key, self.now);
+        if let Some(held) = &conn.lease {
+            self.leases.let_go(held.number, self.now);
         }
     }
 
@@ -480,6 +508,7 @@ impl Service {
         }
         self.follow_leader()?;
         self.engine.tick()?;
+        self.leases.tick()?;
         if self.now - self.ticked >= TICK {
             self.ticked = self.now;
             self.texts.forget(self.engine.made);
@@ -494,7 +523,7 @@ impl Service {
         let (now, stall) = (self.now, self.options.stall * 1000);
         let mut stalled = Vec::new();
         for conn in self.conns.iter_mut().flatten() {
-            if conn.unsent() == 0 || self.is_stuck {
+            if conn.unsent() == 0 || self.stuck.is_some() {
                 conn.moved = now;
             } else if now - conn.moved > stall || conn.waiting() > FAR_BEHIND {
                 stalled.push(conn.token);
@@ -504,17 +533,27 @@ impl Service {
         stalled.into_iter().for_each(|it| self.end(it));
     }
 
-    /// The tasks of leases whose time is over end, as if killed.
+    /// The tasks of leases whose time is over end, as if killed, where their users may still end them.
     fn end_leases(&mut self) {
-        if self.leader.is_some() || self.is_stuck {
+        if self.leader.is_some() || self.is_stuck() {
             return;
         }
-        for (key, tasks) in self.leases.ended(self.now) {
-            for task in tasks {
-                self.kill(task);
-            }
-            self.leases.release(&key);
+        self.forget_ended();
+        for (number, user, tasks) in self.leases.take_over(self.now) {
+            let rights = self.rights_of(user).unwrap_or(Rights::Asks);
+            tasks.into_iter().for_each(|it| self.kill(rights, it));
+            self.ending.push((number, self.engine.log.as_ref().and_then(Log::next_sync)));
         }
+    }
+
+    /// A lease is forgotten when the exits of its tasks are saved: else these could live on without it.
+    fn forget_ended(&mut self) {
+        let log = self.engine.log.as_ref();
+        let is_saved = |it: &(u64, Option<u64>)| it.1.zip(log).is_none_or(|(sync, log)| log.has_synced(sync));
+        let (saved, rest) = std::mem::take(&mut self.ending).into_iter().partition(is_saved);
+        self.ending = rest;
+        let saved: Vec<_> = saved;
+        saved.into_iter().for_each(|it| self.leases.release(it.0));
     }
 
     fn free_gone(&mut self) {
@@ -643,14 +682,14 @@ impl Service {
     }
 
     pub fn is_stuck(&self) -> bool {
-        self.is_stuck
+        self.stuck.is_some()
     }
 
     /// What was recorded is saved, and its clients are told, if they read. A disk that is full is waited for a while.
     fn finish(&mut self) -> Result<(), Fault> {
         let began = Instant::now();
         self.settle()?;
-        while self.is_stuck && began.elapsed() < LAST_WAIT {
+        while self.is_stuck() && began.elapsed() < LAST_WAIT {
             std::thread::sleep(Duration::from_millis(TICK));
             self.settle()?;
         }
@@ -683,13 +722,10 @@ fn is_no_descriptor(error: &io::Error) -> bool {
     error.raw_os_error().is_some_and(|it| errnos.contains(&it))
 }
 
-fn read_leases(engine: &Engine) -> Result<Leases, Fault> {
-    let path = engine.keep.path.as_ref().map(|it| it.join("leases"));
-    let is_synced = engine.keep.sync == crate::log::Sync::Always;
-    Leases::open(path, is_synced, 0, |task, born| {
-        let kin = engine.book.kin(task);
-        kin.is_some_and(|it| it.born == born || it.born == 0)
-    })
+fn read_leases(engine: &Engine, wake: impl Fn() + Send + 'static) -> Result<Leases, Fault> {
+    let born = |task| engine.book.kin(task).map(|it| it.born);
+    let known = Known { made: engine.made, snapshot: engine.snapshot, born };
+    Leases::open(engine.directory()?, engine.keep.sync, &known, wake)
 }
 
 /// A client with more output than that is not read from, so few answers are lost with it.

@@ -1,9 +1,11 @@
 /* A disk that fails once: the n-th write, sync, rename, truncation, removal or creation of a file returns an error, and all others are done. The file
- * FLAKY has four numbers of 32 bits: n, or 0; the error; how many operations there were; and which kind has failed. LD_PRELOAD. */
+ * FLAKY has four numbers of 32 bits: n, or 0; the error, or 0 if the process is killed in its place; how many operations there were; and which kind
+ * has failed. LD_PRELOAD. */
 #define _GNU_SOURCE
 #include <dlfcn.h>
 #include <errno.h>
 #include <fcntl.h>
+#include <signal.h>
 #include <stdarg.h>
 #include <stdlib.h>
 #include <sys/mman.h>
@@ -32,6 +34,8 @@ static int fails(enum kind kind)
 	if (!plan || !plan->number || __atomic_add_fetch(&plan->count, 1, __ATOMIC_SEQ_CST) != plan->number)
 		return 0;
 	plan->failed = kind;
+	if (!plan->error)
+		kill(getpid(), SIGKILL);
 	errno = plan->error;
 	return 1;
 }

@@ -365,6 +365,33 @@ class Leases(Case):
         time.sleep(0.4)
         self.assertEqual((other.say("LEASES"), other.say("GETPID 300")), ([], 300))
 
+    def test_released_by_another_who_takes_it_again(self):
+        """A connection that held a lease of that name, which was released, does not end the one that has the name now."""
+        one = self.daemon().start()
+        first, second, third = [one.client() for _ in range(3)]
+        first.say("LEASE rig 100")
+        second.say("LEASE rig 100")
+        self.assertEqual(first.say("RELEASE rig"), 1)
+        third.say("LEASE rig 100")
+        self.assertEqual(third.say("FORK 1"), [2, 2])
+        self.assertEqual(second.say("RELEASE rig"), 0)
+        second.close()
+        time.sleep(0.5)
+        self.assertEqual((third.say("LEASES"), third.say("GETPID 2")), ([["rig", 100, 1, [2]]], 2))
+
+    def test_released_under_a_holder(self):
+        """Who holds a lease that was released is told so before he forks what nothing would end."""
+        one = self.daemon().start()
+        client, other = one.client(), one.client()
+        client.say("LEASE rig 100")
+        other.say("LEASE rig 100")
+        client.say("RELEASE rig")
+        self.refused(other, "FORK 1", "NOLEASE")
+        self.refused(other, "CALL fork 1", "NOLEASE")
+        self.assertEqual((other.say("POSITION"), other.say("GETPID 1"), other.say("MK 0")), (0, 1, 1))
+        self.assertEqual((other.say("LEASE rig 100"), other.say("FORK 1"), other.say("LEASES")), ("OK", [2, 2], [["rig", 100, 1, [2]]]))
+        self.assertEqual((client.say("FORK 1"), other.say("RELEASE rig"), other.say("FORK 1")), ([3, 3], 1, [4, 4]))
+
     def test_they_outlive_the_daemon(self):
         one = self.daemon("--fsync", "always").start()
         client = one.client()
@@ -426,6 +453,33 @@ class Users(Case):
         client.say("EXIT 4 0")
         client.say("WAIT 3 ANY")
         self.assertEqual(self.as_enemy(one, ["EXIT 3 0"]), "+OK\r\n")
+
+    def test_a_lease_ends_what_its_user_may(self):
+        """The init of a namespace where another user's task is stays, as by EXIT."""
+        one = self.daemon("--mode", "666", "--allow", f"0,{self.ENEMY}:below=1").start()
+        client = one.client()
+        for line in ("MK 0", "FORK 1", "MOVE 2 1"):
+            client.say(line)
+        other = self.keep_as_enemy(one, ["LEASE rig 100", "FORK 2 NEW", "FORK 2"])
+        for line in ("FORK 1", "JOIN 5 3", "FORK 5"):
+            client.say(line)
+        self.assertEqual(client.say("LEASES"), [["rig", 100, 1, [3, 4]]])
+        other.kill()
+        self.assertEqual(client.say("WAITCHILD 2 PID 4 TIMEOUT 5000"), [4, 137])
+        time.sleep(0.3)
+        self.assertEqual((client.say("GETPID 3"), client.say("GETPID 6"), client.say("LEASES")), (1, 2, []))
+
+    def keep_as_enemy(self, one, lines):
+        """A process of the other user that has said the lines, and stays connected."""
+        code = ("import socket, sys, time; it = socket.socket(socket.AF_UNIX); it.connect(sys.argv[1]); it.sendall(sys.stdin.buffer.read());"
+                "it.recv(9); print(flush=True); time.sleep(60)")
+        done = subprocess.Popen(["python3", "-c", code, str(one.socket)], stdin=subprocess.PIPE, stdout=subprocess.PIPE, user=self.ENEMY, group=self.ENEMY)
+        self.addCleanup(done.kill)
+        done.stdin.write("".join(f"{line}\r\n" for line in lines).encode())
+        done.stdin.close()
+        done.stdout.readline()
+        time.sleep(0.1)
+        return done
 
     def test_who_may_only_ask(self):
         one = self.daemon("--mode", "666", "--allow", f"0,{self.ENEMY}:ro").start()

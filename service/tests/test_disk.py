@@ -222,7 +222,7 @@ class Damaged(Case):
         [client.answer() for _ in range(60)]
         self.assertEqual(one.end(), 0)
         whole = {path.name: path.read_bytes() for path in one.kept.iterdir()}
-        names = [name for name in whole if name[:4] in ("snap", "log-")]
+        names = [name for name in whole if name[:4] in ("snap", "log-", "leas")]
         statuses = {0: 0, 3: 0}
         for number in range(500 * LONG):
             name = names[number % len(names)]
@@ -330,6 +330,110 @@ def damaged(data, dice):
     else:
         del data[place:place + dice.randrange(100)]
     return bytes(data)
+
+
+class Leased(Case):
+    """The file `leases`."""
+
+    def reuse(self, client, number):
+        """Another task has that number, as numbers below 300 are not given again (docs/MODEL.md)."""
+        for _ in range(400):
+            task = client.say("FORK 1")[1]
+            if task == number:
+                return
+            client.say(f"EXIT {task} 0")
+            client.say("WAIT 1 ANY")
+        raise AssertionError(f"{number} does not come again")
+
+    def snapshot(self, client):
+        before = client.say("POSITION")
+        client.say("BGSAVE")
+        while f"snapshot:{before}\r" not in client.say("INFO"):
+            time.sleep(0.02)
+
+    def leased(self):
+        """A daemon with a task that was leased, and ended; another has its number. And the file as it was before."""
+        one = self.daemon("--pid-max", "400").start()
+        client = one.client()
+        for number in range(2, 310):
+            client.say("FORK 1")
+            client.say(f"EXIT {number} 0")
+            client.say("WAIT 1 ANY")
+        client.say("LEASE rig 100")
+        client.say("FORK 1")
+        one.kill()
+        client = one.start().client()
+        before = (one.kept / "leases").read_bytes()
+        for line in ("LEASE rig 100", "EXIT 310 0", "WAIT 1 ANY", "RELEASE rig"):
+            client.say(line)
+        self.reuse(one.client(), 310)
+        return one, before
+
+    def test_an_old_file_ends_nobody_else_s_task(self):
+        one, before = self.leased()
+        one.kill()
+        (one.kept / "leases").write_bytes(before)
+        client = one.start().client()
+        self.assertEqual(client.say("LEASES"), [["rig", 100, 0, []]])
+        time.sleep(0.5)
+        self.assertEqual((client.say("LEASES"), client.say("GETPID 310")), ([], 310))
+
+    def test_a_file_older_than_the_snapshot_is_refused(self):
+        one, before = self.leased()
+        self.snapshot(one.client())
+        one.kill()
+        (one.kept / "leases").write_bytes(before)
+        one.start(is_up=False)
+        self.assertEqual(one.process.wait(timeout=20), 3)
+        self.assertRegex(one.said(), "leases: is that of call [0-9]+, and the snapshot that of call [0-9]+: restore both from one copy")
+
+    def test_a_snapshot_behind_a_lease(self):
+        """What was leased before a snapshot is leased behind a start from it."""
+        one = self.daemon().start()
+        client = one.client()
+        for line in ("LEASE rig 60000", "FORK 1", "FORK 1", "EXIT 3 0", "WAIT 1 ANY"):
+            client.say(line)
+        self.snapshot(client)
+        client.say("FORK 1")
+        one.kill()
+        self.assertEqual(one.start().client().say("LEASES"), [["rig", 60000, 0, [2, 4]]])
+
+    def test_damage(self):
+        """A file that is missing, or has another byte, is refused by its name; a torn end is left out."""
+        one = self.daemon().start()
+        client = one.client()
+        for line in ("LEASE rig 60000", "FORK 1", "FORK 1"):
+            client.say(line)
+        one.kill()
+        path = one.kept / "leases"
+        whole = path.read_bytes()
+        for place in range(0, len(whole) - 1, 7):
+            path.write_bytes(whole[:place] + bytes([whole[place] ^ 1]) + whole[place + 1:])
+            one.start(is_up=False)
+            self.assertEqual(one.process.wait(timeout=20), 3, place)
+        self.assertIn(f"{path}: line 5: a byte is not the one that was written", one.said())
+        path.unlink()
+        one.start(is_up=False)
+        self.assertEqual(one.process.wait(timeout=20), 3)
+        self.assertIn(f"{path}: is missing", one.said())
+        for end in (whole[:-4], whole[:-9] + bytes(9)):
+            path.write_bytes(end)
+            self.assertEqual(one.start().client().say("LEASES"), [["rig", 60000, 0, [2]]])
+            one.kill()
+
+    def test_everysec_syncs_it(self):
+        need(BUILT / "power.so")
+        synced = self.folder / "synced"
+        synced.touch()
+        one = self.daemon(variables={"LD_PRELOAD": str(BUILT / "power.so"), "SYNCED": str(synced)}).start()
+        client = one.client()
+        client.say("LEASE rig 60000")
+        client.say("FORK 1")
+        about = (one.kept / "leases").stat()
+        end = time.monotonic() + 3
+        while f"file {about.st_ino} {about.st_size} " not in synced.read_text(encoding="ascii"):
+            self.assertLess(time.monotonic(), end, "it was not synced")
+            time.sleep(0.05)
 
 
 class Full(Case):

@@ -1,5 +1,6 @@
-"""Each operation on the disk fails once, in turn: the n-th write, sync, rename, truncation, removal or creation of a file, from the start on. Then the
-daemon is killed, and starts again: no directory is refused, no answered call is lost, and what was leased is leased."""
+"""Each operation on the disk fails once, in turn, or is the one that the process is killed before: the n-th write, sync, rename, truncation, removal or
+creation of a file, from the start on. Then the daemon is killed, and starts again: no directory is refused, no answered call is lost, and what was
+forked under a lease is bound to it."""
 import collections
 import concurrent.futures
 import errno
@@ -109,8 +110,9 @@ class Sweep(Case):
         leases = {row[0]: row for row in client.say("LEASES")}
         if told.has_lease and (gone := told.leased - set(leases["rig"][3])):
             return f"{gone} are leased no more"
-        task = next((line for line in client.say("LIST").splitlines() if line.startswith("task 9 ")), "")
-        return "what the brief lease has forked lives on" if " live " in task and "brief" not in leases else ""
+        bound = {task for row in leases.values() for task in row[3]}
+        live = {int(line.split()[1]) for line in client.say("LIST").splitlines() if line.startswith("task ") and " live" in line}
+        return f"{live - bound - {1}} live on without a lease" if live - bound - {1} else ""
 
     def sweep(self, error, *options):
         need(BUILT / "flaky.so")
@@ -122,7 +124,7 @@ class Sweep(Case):
                     tried[failed] += 1
                     wrong += [f"operation {place}, {failed}: {why}"] if why else []
                 number += 12
-        print(f"{options[1]}, {errno.errorcode[error]}: {dict(tried)}; {len(wrong)} wrong")
+        print(f"{options[1]}, {errno.errorcode.get(error, 'killed')}: {dict(tried)}; {len(wrong)} wrong")
         self.assertEqual(wrong, [])
         self.assertGreater(min(tried[kind] for kind in KINDS[1:] if kind != "truncate"), 0)
 
@@ -131,6 +133,9 @@ class Sweep(Case):
 
     def test_always(self):
         self.sweep(errno.ENOSPC, "--fsync", "always")
+
+    def test_killed_before_each(self):
+        self.sweep(0, "--fsync", "everysec")
 
 
 if __name__ == "__main__":
