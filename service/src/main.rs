@@ -66,8 +66,14 @@ fn show(text: &str) -> ExitCode {
     }
 }
 
-/// 0: ended as asked. 1: it cannot listen. 3: the directory is not taken. 4: what was recorded cannot be saved.
+/// 0: ended as asked. 1: it cannot listen. 2: users cannot be told apart. 3: the directory is not taken. 4: what was recorded cannot be saved.
 fn serve(options: Options) -> ExitCode {
+    if !options.allowed.is_empty() && !rights::sees_all_users() {
+        return fail(
+            "--allow: this user namespace does not have all users (/proc/self/uid_map), so they cannot be told apart",
+            2,
+        );
+    }
     raise_files(options.most_clients as u64 + 64);
     let begun = listen(&options).and_then(|listeners| Ok((listeners, signals()?)));
     let (listeners, signals) = match begun {

@@ -12,6 +12,17 @@ pub fn may_make(engine: &mut Engine, rights: Rights, call: Call) -> bool {
     }
 }
 
+/// Whether each user has a number of his own here: in a user namespace all those that it does not have are one.
+pub fn sees_all_users() -> bool {
+    std::fs::read_to_string("/proc/self/uid_map").is_ok_and(|it| has_all_users(&it))
+}
+
+/// The number of users is the third of each line of such a map. The last number of 32 bits is that of no user.
+fn has_all_users(map: &str) -> bool {
+    let counts = map.lines().filter_map(|it| it.split_ascii_whitespace().nth(2)?.parse::<u64>().ok());
+    counts.sum::<u64>() >= u64::from(u32::MAX)
+}
+
 struct Below<'a> {
     engine: &'a mut Engine,
     top: u64,
@@ -60,5 +71,18 @@ impl Below<'_> {
     fn has_all_that_fall_with(&mut self, task: u32) -> bool {
         let those = self.engine.book.falls_with(task);
         those.into_iter().all(|it| self.has(it))
+    }
+}
+
+#[cfg(test)]
+mod tests {
+    use super::*;
+
+    /// By user_namespaces(7).
+    #[test]
+    fn maps_of_users() {
+        assert!(has_all_users("         0          0 4294967295\n"));
+        assert!(has_all_users("0 0 1000\n1000 2000 4294966295\n"));
+        assert!(!has_all_users("0 0 1\n990 990 1\n") && !has_all_users("0 100000 65536\n") && !has_all_users(""));
     }
 }

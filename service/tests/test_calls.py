@@ -1,5 +1,6 @@
 """What each command answers: by docs/SCRIPT.md, by Redis's own words, and by what the service promises besides."""
 import os
+import pathlib
 import random
 import re
 import subprocess
@@ -410,8 +411,8 @@ class Users(Case):
 
     def setUp(self):
         super().setUp()
-        if os.geteuid() != 0:
-            self.skipTest("not root")
+        if os.geteuid() != 0 or "4294967295" not in pathlib.Path("/proc/self/uid_map").read_text(encoding="ascii"):
+            self.skipTest("not root, or not of all users")
 
     def as_enemy(self, one, lines):
         """The answers to the lines, by a process of the other user."""
@@ -486,6 +487,18 @@ class Users(Case):
         told = self.as_enemy(one, ["GETPID 1", "FORK 1", "CALL getpid 1", "LEASE x 1", "SHUTDOWN", "BGSAVE", "WAITCHILD 1 ANY"])
         self.assertEqual(told, ":1\r\n" + "-NOPERM this user may only ask\r\n" * 6)
         self.assertEqual(one.client().say("POSITION"), 0)
+
+    def test_where_users_cannot_be_told_apart(self):
+        """In a user namespace that has only some users, all others have one number: --allow is refused there."""
+        need("unshare")
+        one = self.daemon("--allow", f"0,{self.ENEMY}:ro")
+        one.command = ["unshare", "--user", "--map-root-user"]
+        one.start(is_up=False)
+        self.assertEqual(one.process.wait(timeout=10), 2)
+        self.assertIn("they cannot be told apart", one.said())
+        two = self.daemon(name="two")
+        two.command = one.command
+        self.assertEqual(two.start().client().say("PING"), "PONG")
 
     def test_who_may_not_come(self):
         one = self.daemon("--mode", "666", "--allow", "0").start()
