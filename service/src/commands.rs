@@ -294,7 +294,7 @@ pub const COMMANDS: &[Command] = &[
     row("END", A::Call(Verb::Exit), &[Caller, Status], "EXIT, at a prompt that takes that word for its own"),
     row("EXEC", A::Call(Verb::Exec), &[Caller], "the caller executes a program; with no caller it ends a MULTI"),
     row("EXIT", A::Call(Verb::Exit), &[Caller, Status], "the caller ends with the status"),
-    row("FOLLOW", A::Follow, &[], "the text of the table, and then each call that is recorded: for a follower"),
+    row("FOLLOW", A::Follow, &[Other("[IDENTITY]", 0, 1)], "the table's identity, if asked, its text, and then each call that is recorded: for a follower"),
     row("FORK", A::Call(Verb::Fork), &[Caller, New], "a child, perhaps in a new namespace: its number in the caller's and in the root"),
     row("GETPGID", A::Call(Verb::Getpgid), &[Caller, Process], "the group of the task"),
     row("GETPID", A::Call(Verb::Getpid), &[Caller], "the caller's number"),

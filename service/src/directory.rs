@@ -1,5 +1,5 @@
 //! The directory of a table: `snap-N` is its text after N calls, `log-N` has the calls from the ordinal N on in the form of docs/SAVED.md,
-//! `current` names the newest log, `leases` has what is leased, and `lock` is held.
+//! `current` names the newest log, `leases` has what is leased, `identity` tells the table from others, and `lock` is held.
 use nix::unistd::geteuid;
 use std::fs::{self, File, OpenOptions, TryLockError};
 use std::io::{self, Read, Write};
@@ -10,7 +10,7 @@ use std::path::{Path, PathBuf};
 pub const SEATS: u32 = 16;
 
 /// What is there besides the snapshots and the logs.
-const OTHERS: [&str; 4] = ["lock", "current", "leases", "lost+found"];
+const OTHERS: [&str; 5] = ["lock", "current", "identity", "leases", "lost+found"];
 
 /// Files that are being written have this end, and are nothing yet.
 const NEW: &str = ".new";
@@ -145,6 +145,24 @@ impl Directory {
         }
     }
 
+    /// What tells the table from all others, if it is there.
+    pub fn identity(&self) -> Result<Option<String>, Fault> {
+        let path = self.path.join("identity");
+        match fs::read_to_string(&path) {
+            Err(error) if error.kind() == io::ErrorKind::NotFound => Ok(None),
+            Err(error) => Err(fault_at(&path)(error)),
+            Ok(text) => {
+                let identity = text.strip_suffix('\n').filter(|it| is_identity(it));
+                identity.map(|it| Some(it.to_owned())).ok_or_else(|| fault_at(&path)("has no identity"))
+            }
+        }
+    }
+
+    pub fn set_identity(&self, identity: &str) -> Result<(), Fault> {
+        let path = self.path.join("identity");
+        self.write(&path, &[identity.as_bytes(), b"\n"]).map_err(fault_at(&path))
+    }
+
     /// Takes away, or renames, what a snapshot has made needless. What cannot be taken away is tried again behind the next one.
     pub fn put_away(&self, below: u64, archive: bool) -> io::Result<()> {
         let files = self.files().map_err(io::Error::other)?;
@@ -160,6 +178,17 @@ impl Directory {
         }
         Ok(())
     }
+}
+
+/// 128 random bits.
+pub fn new_identity() -> Result<String, Fault> {
+    let (path, mut bytes) = (Path::new("/dev/urandom"), [0; 16]);
+    File::open(path).and_then(|mut it| it.read_exact(&mut bytes)).map_err(fault_at(path))?;
+    Ok(format!("{:032x}", u128::from_be_bytes(bytes)))
+}
+
+pub fn is_identity(word: &str) -> bool {
+    word.len() == 32 && word.bytes().all(|it| matches!(it, b'0'..=b'9' | b'a'..=b'f'))
 }
 
 /// The ordinal in a name with 20 digits behind the front.

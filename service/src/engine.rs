@@ -1,6 +1,6 @@
 //! The table, its book, and the calls that are recorded and not written yet.
 use crate::book::Book;
-use crate::directory::{Directory, Fault, SEATS};
+use crate::directory::{new_identity, Directory, Fault, SEATS};
 use crate::log::{Closed, Committed, Log, Sync};
 use crate::recover::{End, Recovery};
 use crate::replica::{loose_blocks, Order, Replica, Report, Source};
@@ -32,6 +32,8 @@ pub enum Refused {
 }
 
 pub struct Engine {
+    /// What tells the table from all others. A follower has that of its leader.
+    pub identity: String,
     pub table: Table,
     pub book: Book,
     pub pid_max: u32,
@@ -107,6 +109,17 @@ fn begin_log(
     Ok((Some(log), blocks, source))
 }
 
+/// That of the directory, or a new one.
+fn identity_of(directory: Option<&Directory>) -> Result<String, Fault> {
+    let Some(directory) = directory else { return new_identity() };
+    if let Some(identity) = directory.identity()? {
+        return Ok(identity);
+    }
+    let identity = new_identity()?;
+    directory.set_identity(&identity)?;
+    Ok(identity)
+}
+
 impl Engine {
     /// Opens what is kept. `wake` wakes the loop from other threads.
     pub fn open(keep: Keep, wake: impl Fn() + Clone + Send + 'static) -> Result<Engine, Fault> {
@@ -119,6 +132,7 @@ impl Engine {
         let left_out = opened.end.as_ref().map_or(0, |it| it.left_out);
         let (log, blocks, source) = begin_log(directory.as_ref(), &keep, &mut opened, wake.clone())?;
         let mut engine = Engine {
+            identity: identity_of(directory.as_ref())?,
             book: Book::default(),
             table: opened.table,
             pid_max,
@@ -312,6 +326,15 @@ impl Engine {
         put.map_err(|error| error.to_string())?;
         self.note(made.worker, made.call, &made.reply);
         Ok(made.size)
+    }
+
+    /// The table is to be that of a leader. Its identity is on the disk before the table is.
+    pub fn take_identity(&mut self, identity: &str) -> Result<(), Fault> {
+        if self.identity != identity {
+            self.directory.as_ref().map_or(Ok(()), |it| it.set_identity(identity))?;
+            identity.clone_into(&mut self.identity);
+        }
+        Ok(())
     }
 
     /// The table is that of a text from now on, and what was kept before goes away.

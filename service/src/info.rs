@@ -58,6 +58,7 @@ fn clients(service: &Service) -> Fields {
 fn table(service: &Service) -> Fields {
     let (engine, figures) = (&service.engine, &service.figures);
     vec![
+        field("identity", &engine.identity),
         field("position", engine.made),
         field("pid_max", engine.pid_max),
         field("tasks", engine.book.tasks()),

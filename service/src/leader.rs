@@ -1,5 +1,5 @@
 //! A follower's side: it asks a leader for its table, and makes each call that the leader records.
-use crate::directory::Fault;
+use crate::directory::{is_identity, Fault};
 use crate::service::{wake_by, Service, LEADER};
 use mio::net::UnixStream;
 use mio::Interest;
@@ -27,9 +27,10 @@ pub struct Leader {
     state: State,
 }
 
-/// What comes next: the text, the checksum to go on from, or blocks.
+/// What comes next: the identity, the text, the checksum to go on from, or blocks.
 enum State {
-    Text,
+    Identity,
+    Text(String),
     Sum,
     Blocks(Blocks),
 }
@@ -44,7 +45,7 @@ impl Leader {
             socket: None,
             again_at: 0,
             input: Vec::new(),
-            state: State::Text,
+            state: State::Identity,
         }
     }
 
@@ -59,13 +60,13 @@ impl Leader {
         }
         (self.fault, self.socket, self.again_at) = (Some(why), None, now + PAUSE);
         self.input.clear();
-        self.state = State::Text;
+        self.state = State::Identity;
     }
 
     fn connect(&mut self, registry: &mio::Registry) -> io::Result<()> {
         let mut socket = UnixStream::connect(&self.path)?;
         registry.register(&mut socket, LEADER, Interest::READABLE)?;
-        socket.write_all(b"*1\r\n$13\r\nPIDTAB.FOLLOW\r\n")?;
+        socket.write_all(b"PIDTAB.FOLLOW IDENTITY\r\n")?;
         (self.socket, self.is_stirred) = (Some(socket), true);
         Ok(())
     }
@@ -147,7 +148,9 @@ impl Service {
     fn take_bulk(&mut self, leader: &mut Leader, from: usize, to: usize) -> Result<(), Fault> {
         let bytes = &leader.input[from..to];
         leader.state = match &mut leader.state {
-            State::Text => {
+            State::Identity => State::Text(self.compare_identity(bytes)?),
+            State::Text(identity) => {
+                self.engine.take_identity(identity)?;
                 self.adopt_text(bytes)?;
                 State::Sum
             }
@@ -165,7 +168,20 @@ impl Service {
         Ok(())
     }
 
-    /// A directory that is ahead of the leader is another table's, or the leader has lost calls: it is not overwritten.
+    /// A table of its own is not overwritten by another one.
+    fn compare_identity(&self, word: &[u8]) -> Result<String, Fault> {
+        let identity =
+            std::str::from_utf8(word).ok().filter(|it| is_identity(it)).ok_or("the leader has no identity")?;
+        let (made, own) = (self.engine.made, &self.engine.identity);
+        if made > 0 && own != identity {
+            return Err(format!(
+                "the leader has another table, {identity}, and this has {made} calls of {own}: it is not overwritten"
+            ));
+        }
+        Ok(identity.to_owned())
+    }
+
+    /// A directory that is ahead of its leader, which has lost calls, is not overwritten.
     fn adopt_text(&mut self, text: &[u8]) -> Result<(), Fault> {
         let (_, stamp) = crate::recover::settings_of(text).ok_or("the leader's text is that of no table")?;
         if stamp <= self.engine.made {
@@ -174,7 +190,9 @@ impl Service {
         }
         self.leases.forget(stamp - 1)?;
         let wake = wake_by(self.waker());
-        self.engine.adopt(text, wake)
+        self.engine.adopt(text, wake)?;
+        self.renew();
+        Ok(())
     }
 
     fn follow_blocks(&mut self, blocks: &mut Blocks, bytes: &[u8]) -> Result<(), Fault> {

@@ -12,6 +12,8 @@ const PART: usize = 1 << 16;
 /// What a disk writes whole, or not at all.
 const SECTOR: u64 = 512;
 
+const MISSING: &str = "is missing, and `current` names it as the newest log: the directory was not copied whole";
+
 /// A log as far as it was read.
 struct Input {
     file: File,
@@ -135,22 +137,23 @@ impl Recovery {
     }
 
     fn begin_with_log(directory: Directory, logs: &[u64]) -> Result<Option<Recovery>, Fault> {
-        match logs.first() {
-            None => return Ok(None),
-            Some(0) => {}
-            Some(first) => {
+        let (current, path) = (directory.current()?, directory.log(0));
+        match (logs.first(), current) {
+            (None, None) => return Ok(None),
+            (None, Some(current)) => return Err(fault_at(&directory.log(current))(MISSING)),
+            (Some(0), _) => {}
+            (Some(first), _) => {
                 let path = directory.log(*first);
                 return Err(fault_at(&path)(format!(
                     "begins at call {first}, and no snapshot or log comes before: the directory was not copied whole"
                 )));
             }
         }
-        let path = directory.log(0);
         let mut head = [0; Blocks::HEAD];
         let read = File::open(&path).and_then(|mut it| read_up_to(&mut it, &mut head)).map_err(fault_at(&path))?;
         let pid_max = match Blocks::read_head(&head[..read]) {
             Ok((head, _)) => head.pid_max,
-            Err(SavedFault::Torn) if logs.len() == 1 => return Ok(None),
+            Err(SavedFault::Torn) if logs.len() == 1 && current.is_none() => return Ok(None),
             Err(fault) => return Err(fault_at(&path)(fault)),
         };
         let table = Table::open(pid_max).map_err(fault_at(&path))?;
@@ -188,7 +191,7 @@ impl Recovery {
             return Ok(());
         }
         let path = self.directory.log(current);
-        Err(fault_at(&path)("is missing, and `current` names it as the newest log: the directory was not copied whole"))
+        Err(fault_at(&path)(MISSING))
     }
 
     /// Goes on to a place of the log with that first ordinal, which is written meanwhile. The logs before it are closed.
@@ -240,11 +243,12 @@ impl Recovery {
         Ok(())
     }
 
-    /// The last log, which may end within its head: then it is begun anew.
+    /// The last log, which may end within its head until `current` names it: then it is begun anew.
     fn open_last(&mut self, base: u64) -> Result<bool, Fault> {
         let path = self.directory.log(base);
         let bytes = fs::metadata(&path).map(|it| it.len()).map_err(fault_at(&path));
-        if base == self.made && bytes? < Blocks::HEAD as u64 {
+        let is_begun = self.directory.current()?.is_none_or(|it| it < base);
+        if base == self.made && is_begun && bytes? < Blocks::HEAD as u64 {
             return Ok(false);
         }
         self.open(base).map(|_| true)

@@ -23,6 +23,11 @@ const LONGEST_SLEEP: u64 = 86_400_000;
 
 impl Service {
     pub fn run_command(&mut self, conn: &mut Conn, words: Words) {
+        if conn.follower.is_some() {
+            // An answer would stand among the blocks.
+            conn.is_gone = true;
+            return;
+        }
         let Some(command) = find(words.at(0)) else {
             return self.run_unknown(conn, words.at(0));
         };
@@ -195,7 +200,7 @@ impl Service {
             Action::Leases => self.run_leases(conn),
             Action::Release => self.run_release(conn, words.at(1)),
             Action::Save => self.run_save(conn),
-            Action::Follow => self.run_follow(conn),
+            Action::Follow => self.run_follow(conn, command, words),
             Action::Takeover => self.run_takeover(conn, command, words),
             Action::Shutdown => self.run_shutdown(conn),
             _ => self.misused(conn, command),
@@ -346,13 +351,17 @@ impl Service {
         }
     }
 
-    /// The text, then the checksum to go on from, then blocks. A follower may only listen then.
-    fn run_follow(&mut self, conn: &mut Conn) {
+    /// The identity, if asked, the text, the checksum to go on from, and then blocks. A follower may only listen: who says more is closed.
+    fn run_follow(&mut self, conn: &mut Conn, command: &Command, words: Words) {
+        let tells = is_word(words.at(1), "IDENTITY");
+        if words.len() == 2 && !tells {
+            return self.misused(conn, command);
+        }
         if conn.rights != Rights::All && conn.rights != Rights::Asks {
             return conn.out.line(no_permission(conn.rights));
         }
-        if conn.follower.is_some() {
-            return conn.out.line("-ERR this connection follows already");
+        if tells {
+            conn.out.bulk(self.engine.identity.as_bytes());
         }
         self.want_text(conn, true);
         if matches!(conn.pause, Pause::Awaits { .. }) {

@@ -669,6 +669,19 @@ impl Service {
         }
     }
 
+    /// The table is another: the texts that were ordered of the one before never come, and who follows asks anew.
+    pub fn renew(&mut self) {
+        self.texts.last = [None, None];
+        for token in 0..self.conns.len() {
+            let Some(conn) = self.conn(token) else { continue };
+            conn.is_gone |= conn.follower.is_some();
+            if let Pause::Awaits { is_dump, .. } = conn.pause {
+                self.texts.wanted[usize::from(is_dump)] = true;
+            }
+            self.touch(token);
+        }
+    }
+
     pub fn waker(&self) -> &Arc<Waker> {
         &self.waker
     }

@@ -284,6 +284,17 @@ class Damaged(Case):
         last.unlink()
         self.assertIn(f"{last}: is missing", self.refusal(one))
 
+    def test_the_only_log_is_missing(self):
+        """It is not taken for a new table; nor is one of which no head is left."""
+        one = self.daemon().start()
+        one.client().say("FORK 1")
+        one.end()
+        path = one.kept / f"log-{0:020}"
+        path.write_bytes(path.read_bytes()[:20])
+        self.assertIn(f"{path}: ", self.refusal(one))
+        path.unlink()
+        self.assertIn(f"{path}: is missing", self.refusal(one))
+
     def test_the_snapshot_is_missing(self):
         one = self.made("one")
         for path in one.kept.iterdir():

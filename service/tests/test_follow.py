@@ -1,7 +1,9 @@
 """A follower has the leader's table, serves what is asked, and takes over; the viewer draws it."""
 import json
 import random
+import shutil
 import signal
+import socket
 import subprocess
 import time
 import unittest
@@ -80,21 +82,86 @@ class Follows(Case):
         wait_for(other, 12)
         self.assertEqual(other.say("DUMP"), client.say("DUMP"))
 
-    def test_a_leader_that_is_behind(self):
-        """A follower that is ahead of its leader is not overwritten."""
-        one = self.daemon().start()
-        two = self.daemon(name="two").start()
-        client = two.client()
-        for _ in range(5):
-            client.say("FORK 1")
-        two.end()
+    def follow_in_vain(self, one, two, calls, why):
+        """The second daemon is started as a follower of the first, has so many calls, and keeps them."""
         two.options += ["--follow", str(one.socket)]
         client = two.start().client()
         end = time.monotonic() + 5
         while "it is not overwritten" not in client.say("INFO") and time.monotonic() < end:
             time.sleep(0.02)
-        self.assertIn("it is not overwritten", client.say("INFO"))
-        self.assertEqual(client.say("POSITION"), 5)
+        self.assertRegex(client.say("INFO"), f"leader_fault:{why}.*: it is not overwritten")
+        self.assertEqual(client.say("POSITION"), calls)
+
+    def test_a_leader_that_is_behind(self):
+        """A leader that has lost calls, as it has an old copy of the directory, does not overwrite its follower."""
+        one, two = self.daemon(), self.daemon(name="two").start()
+        client = two.client()
+        client.say("FORK 1")
+        two.end()
+        shutil.copytree(two.kept, one.kept, dirs_exist_ok=True)
+        for _ in range(5):
+            two.start().client().say("FORK 1")
+            two.end()
+        self.follow_in_vain(one.start(), two, 6, "the leader has 1 calls, and this has 6")
+
+    def test_another_table_is_not_overwritten(self):
+        """The leader has more calls, and another table."""
+        one, two = self.daemon().start(), self.daemon(name="two").start()
+        for _ in range(9):
+            one.client().say("FORK 1")
+        two.client().say("FORK 1 NEW")
+        listed = two.client().say("LIST")
+        two.end()
+        self.follow_in_vain(one, two, 1, "the leader has another table, [0-9a-f]{32}, and this has 1 calls of [0-9a-f]{32}")
+        self.assertEqual(two.client().say("LIST"), listed)
+
+    def test_a_follower_has_the_leader_s_identity(self):
+        one, client, two, other = self.two()
+        wait_for(other, 1)
+        identity = (one.kept / "identity").read_text(encoding="ascii")
+        self.assertEqual((two.kept / "identity").read_text(encoding="ascii"), identity)
+        self.assertIn(f"identity:{identity.strip()}\r", other.say("INFO"))
+        two.kill()
+        client.say("FORK 1")
+        wait_for(two.start().client(), 2)
+
+    def test_what_a_follower_says(self):
+        """Who follows may only listen: a request behind is no answer among the blocks, and the connection is closed."""
+        one = self.daemon().start()
+        client, other = one.client(), one.client()
+        client.say("FORK 1")
+        other.send("FOLLOW")
+        self.assertIn("\ntask 2@0 ", other.answer())
+        self.assertRegex(other.answer(), "[0-9a-f]{16}")
+        other.send("LIST")
+        with self.assertRaises((EOFError, ConnectionResetError)):
+            other.answer()
+        self.assertEqual(client.say("PING"), "PONG")
+
+    def test_a_list_while_a_table_is_taken_anew(self):
+        """LIST of a follower is answered, also where its leader comes again before the text is made. The leader is the test."""
+        client = self.daemon("--pid-max", "100000", name="source").start().client()
+        client.socket.sendall(b"FORK 1\r\n" * 3000)
+        [client.answer() for _ in range(3000)]
+        texts = [client.say("DUMP")]
+        client.say("FORK 1")
+        texts.append(client.say("DUMP"))
+        served = socket.socket(socket.AF_UNIX)
+        served.bind(str(self.folder / "leader"))
+        served.listen()
+        two = self.daemon("--follow", str(self.folder / "leader"), name="two").start()
+        for turn, text in enumerate(texts):
+            with served.accept()[0] as leader:
+                asked = leader.recv(100)
+                other = two.client()
+                if turn:
+                    other.send("LIST")
+                    time.sleep(0.005)
+                identity = ["a" * 32] if b"IDENTITY" in asked else []
+                leader.sendall(b"".join(f"${len(word)}\r\n{word}\r\n".encode() for word in [*identity, text, "0" * 16]))
+                wait_for(other if not turn else two.client(), 3000 + turn)
+        other.socket.settimeout(10)
+        self.assertEqual(other.answer().count("task "), 3002)
 
     def test_many_tasks_and_two_followers(self):
         one = self.daemon("--pid-max", "100000").start()
