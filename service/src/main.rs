@@ -33,13 +33,20 @@ use options::{Options, Wanted, USAGE};
 use sd_notify::NotifyState;
 use service::Service;
 use signal_hook::consts::{SIGINT, SIGTERM};
+use std::fs::{File, TryLockError};
 use std::io;
 use std::os::unix::net;
 use std::path::Path;
 use std::process::ExitCode;
+use std::thread;
+use std::time::Duration;
 
 /// More than these listening sockets are not taken.
 const MOST_LISTENERS: usize = 8;
+
+/// So often, and in such steps, it is tried to lock the folder of the socket.
+const MOST_TRIES: u32 = 250;
+const BETWEEN_TRIES: Duration = Duration::from_millis(20);
 
 fn main() -> ExitCode {
     let wanted = options::read(std::env::args_os().skip(1));
@@ -145,8 +152,9 @@ fn begin_listening(listener: net::UnixListener) -> Result<UnixListener, String> 
     Ok(UnixListener::from_std(listener))
 }
 
-/// A path that is there already goes away only if nobody listens there. The mode holds from the first moment on.
+/// A path that is there already goes away only if nobody listens there, which one process at a time looks at. The mode holds from the first moment on.
 fn bind(path: &Path, mode: u32) -> io::Result<net::UnixListener> {
+    let _turn = lock_folder(path)?;
     match net::UnixStream::connect(path) {
         Err(error) if error.kind() == io::ErrorKind::ConnectionRefused => std::fs::remove_file(path)?,
         Err(error) if error.kind() == io::ErrorKind::NotFound => {}
@@ -157,4 +165,18 @@ fn bind(path: &Path, mode: u32) -> io::Result<net::UnixListener> {
     let bound = net::UnixListener::bind(path);
     umask(before);
     bound
+}
+
+/// The folder of the path, locked until it is dropped. Who holds the lock for long is no process of this program.
+fn lock_folder(path: &Path) -> io::Result<File> {
+    let folder = path.parent().filter(|it| !it.as_os_str().is_empty()).unwrap_or(Path::new("."));
+    let folder = File::open(folder)?;
+    for _ in 0..MOST_TRIES {
+        match folder.try_lock() {
+            Ok(()) => return Ok(folder),
+            Err(TryLockError::WouldBlock) => thread::sleep(BETWEEN_TRIES),
+            Err(TryLockError::Error(error)) => return Err(error),
+        }
+    }
+    Err(io::Error::other("another process has locked the folder of the socket"))
 }

@@ -317,6 +317,22 @@ class Damaged(Case):
         self.assertIn("in use", two.said())
         self.assertEqual(one.client().say("PING"), "PONG")
 
+    def test_one_socket_that_nobody_listens_at(self):
+        """Two that start at once where a killed one has left its socket: one serves, and the other ends."""
+        one, two = self.daemon(kept=False), self.daemon(kept=False)
+        for number in range(30 * LONG):
+            one.start().kill()
+            one.start(is_up=False)
+            two.start(is_up=False)
+            self.assertEqual(one.client().say("PING"), "PONG")
+            end = time.monotonic() + 5
+            while one.process.poll() is None and two.process.poll() is None:
+                self.assertLess(time.monotonic(), end, f"both serve in round {number}")
+                time.sleep(0.005)
+            self.assertEqual({one.process.poll(), two.process.poll()}, {None, 1})
+            for each in (one, two):
+                each.kill()
+
     def test_another_user_s_directory(self):
         if os.geteuid() != 0:
             self.skipTest("not root")
