@@ -282,10 +282,10 @@ use Argument::*;
 #[rustfmt::skip]
 pub const COMMANDS: &[Command] = &[
     row("AUTH", A::Auth, &[Other("[USER] PASSWORD", 1, 2)], "an error: the socket's mode and --allow say who may connect"),
-    row("BGSAVE", A::Save, &[], "goes on in a new file of the log, and makes a snapshot beside"),
+    row("BGSAVE", A::Save, &[Other("[SCHEDULE]", 0, 1)], "goes on in a new file of the log, and makes a snapshot beside"),
     row("CALL", A::Line, &[Other("VERB ..", 1, 5)], "a line of the script language: recorded, the queries too"),
     row("CLIENT", A::Client, &[Other("ID|SETNAME|SETINFO|GETNAME ..", 1, 4)], "for the libraries of clients"),
-    row("COMMAND", A::Command, &[Other("[COUNT|DOCS|LIST ..]", 0, 63)], "the commands"),
+    row("COMMAND", A::Command, &[Other("[COUNT|DOCS|INFO|LIST ..]", 0, 63)], "the commands"),
     row("CONFIG", A::Config, &[Other("GET NAME", 1, 63)], "nothing, for redis-benchmark"),
     row("COUNT", A::Call(Verb::Count), &[Control], "how many tasks the cgroup and those below it have"),
     row("DISCARD", A::Discard, &[], "forgets a MULTI"),
@@ -302,7 +302,7 @@ pub const COMMANDS: &[Command] = &[
     row("GETSID", A::Call(Verb::Getsid), &[Caller, Process], "the session of the task"),
     row("HELLO", A::Hello, &[Other("[2 ..]", 0, 6)], "the protocol is RESP2"),
     row("HELP", A::Help, &[Other("[NAME]", 0, 1)], "these lines"),
-    row("INFO", A::Info, &[Other("[SECTION]", 0, 1)], "figures of the service"),
+    row("INFO", A::Info, &[Other("[SECTION ..]", 0, 63)], "figures of the service"),
     row("JOIN", A::Call(Verb::Join), &[Caller, Process], "the caller's later children go into the namespace of the task"),
     row("LEASE", A::Lease, &[Other("NAME TTL", 2, 2)], "what this connection forks ends TTL ms after the last connection with the lease has gone"),
     row("LEASES", A::Leases, &[], "each lease: its name, TTL, connections and tasks"),

@@ -1,8 +1,10 @@
 //! What INFO says.
+use crate::resp::{is_word, Words};
 use crate::service::Service;
 use std::fmt::Write;
 
-pub fn text(service: &Service) -> String {
+/// The sections that are named, or all.
+pub fn text(service: &Service, named: Words) -> String {
     let mut text = String::new();
     let sections = [
         ("Server", server(service)),
@@ -11,7 +13,9 @@ pub fn text(service: &Service) -> String {
         ("Log", log(service)),
         ("Seats", seats(service)),
     ];
-    for (name, fields) in sections {
+    let is_named = |name: &str| (0..named.len()).any(|it| is_word(named.at(it), name));
+    let has_all = named.len() == 0 || ["ALL", "DEFAULT", "EVERYTHING"].into_iter().any(is_named);
+    for (name, fields) in sections.into_iter().filter(|it| has_all || is_named(it.0)) {
         let _ = write!(text, "# {name}\r\n");
         for (field, value) in fields {
             let _ = write!(text, "{field}:{value}\r\n");

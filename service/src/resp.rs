@@ -99,15 +99,10 @@ impl Reader {
         let Some(end) = front.iter().position(|it| *it == b'\n') else {
             return if front.len() < LONGEST_LINE { Ok(None) } else { Err(fault) };
         };
-        let mut from = 0;
-        for place in 0..=end {
-            if !matches!(bytes[place], b' ' | b'\t' | b'\r' | b'\n') {
-                continue;
-            }
-            if place > from {
-                self.spans.push((from as u32, place as u32));
-            }
-            from = place + 1;
+        let mut at = 0;
+        while let Some((from, to, behind)) = next_word(&front[..end], at)? {
+            self.spans.push((from as u32, to as u32));
+            at = behind;
         }
         let is_long = |it: &Span| (it.1 - it.0) as usize > LONGEST_WORD;
         if self.spans.len() > MOST_WORDS || self.spans.iter().any(is_long) {
@@ -115,6 +110,25 @@ impl Reader {
         }
         Ok(Some(end + 1))
     }
+}
+
+/// Where the next word of a line begins and ends, and where it goes on. A word may stand in quotes, as clients have it; escapes may not.
+fn next_word(line: &[u8], at: usize) -> Result<Option<(usize, usize, usize)>, Fault> {
+    let is_blank = |it: &u8| matches!(it, b' ' | b'\t' | b'\r');
+    let Some(first) = line[at..].iter().position(|it| !is_blank(it)).map(|it| at + it) else { return Ok(None) };
+    let quote = line[first];
+    if !matches!(quote, b'"' | b'\'') {
+        let end = line[first..].iter().position(is_blank).map_or(line.len(), |it| first + it);
+        return Ok(Some((first, end, end)));
+    }
+    let from = first + 1;
+    let Some(to) = line[from..].iter().position(|it| *it == quote).map(|it| from + it) else {
+        return Err("unbalanced quotes in request");
+    };
+    if line[from..to].contains(&b'\\') || line.get(to + 1).is_some_and(|it| !is_blank(it)) {
+        return Err("a word in quotes has no escapes, and a blank behind it");
+    }
+    Ok(Some((from, to, to + 1)))
 }
 
 /// The number of `*N\r\n` or `$N\r\n` from its digits on, and where the bytes behind begin. None: it is no number; none within: it is not whole.
@@ -253,6 +267,8 @@ mod tests {
         assert_eq!(words(bytes), Ok(Some((26, wanted))));
         assert_eq!(words(b"PING\r\n"), Ok(Some((6, vec![b"PING".to_vec()]))));
         assert_eq!(words(b" a  b \n"), Ok(Some((7, vec![b"a".to_vec(), b"b".to_vec()]))));
+        let quoted = vec![b"a b".to_vec(), b"".to_vec(), b"x\"y".to_vec()];
+        assert_eq!(words(b"\"a b\" '' x\"y\r\n"), Ok(Some((14, quoted))));
         assert_eq!(words(b"*0\r\n"), Ok(Some((4, vec![]))));
         assert_eq!(words(b"*-1\r\n"), Ok(Some((5, vec![]))));
         assert_eq!(words(b"*1\r\n$0\r\n\r\n"), Ok(Some((10, vec![vec![]]))));
@@ -269,7 +285,10 @@ mod tests {
     #[test]
     fn what_is_no_request() {
         let long = [b'x'; LONGEST_LINE];
-        let wrong: [&[u8]; 12] = [
+        let wrong: [&[u8]; 15] = [
+            b"\"a\n",
+            b"'a'b\n",
+            b"\"a\\\"b\"\n",
             b"*x\r\n",
             b"*65\r\n",
             b"*\r\n",

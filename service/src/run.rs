@@ -18,6 +18,9 @@ const MOST_QUEUED: usize = 1024;
 /// What a task that a lease has ended leaves as its status: that of a shell for one that SIGKILL has ended.
 const KILLED: u8 = 137;
 
+const NO_PASSWORDS: &str =
+    "-ERR AUTH called without any password configured: the socket's mode and --allow say who may connect";
+
 /// The longest sleep of WAITCHILD, in ms: a day.
 const LONGEST_SLEEP: u64 = 86_400_000;
 
@@ -171,16 +174,14 @@ impl Service {
             Action::Ping => ping(conn, words),
             Action::Echo => conn.out.bulk(words.at(1)),
             Action::Info => {
-                let text = crate::info::text(self);
+                let text = crate::info::text(self, words.from(1));
                 conn.out.bulk(text.as_bytes());
             }
             Action::Help => say::help(&mut conn.out),
             Action::Command => run_command_of_commands(conn, words),
             Action::Config => conn.out.array(0),
             Action::Select => conn.out.ok(),
-            Action::Auth => conn.out.line(
-                "-ERR AUTH called without any password configured: the socket's mode and --allow say who may connect",
-            ),
+            Action::Auth => conn.out.line(NO_PASSWORDS),
             Action::Quit => {
                 conn.ends = true;
                 conn.out.ok();
@@ -193,13 +194,13 @@ impl Service {
         match command.action {
             Action::Seat => self.run_seat(conn, command, words),
             Action::Client => self.run_client(conn, command, words),
-            Action::Hello => self.run_hello(conn, words),
+            Action::Hello => self.run_hello(conn, command, words),
             Action::Subscribe => self.run_subscribe(conn, words.from(1)),
             Action::Unsubscribe => self.run_unsubscribe(conn, words.from(1)),
             Action::Lease => self.run_lease(conn, command, words),
             Action::Leases => self.run_leases(conn),
             Action::Release => self.run_release(conn, words.at(1)),
-            Action::Save => self.run_save(conn),
+            Action::Save => self.run_save(conn, command, words),
             Action::Follow => self.run_follow(conn, command, words),
             Action::Takeover => self.run_takeover(conn, command, words),
             Action::Shutdown => self.run_shutdown(conn),
@@ -240,9 +241,16 @@ impl Service {
         }
     }
 
-    fn run_hello(&mut self, conn: &mut Conn, words: Words) {
+    fn run_hello(&mut self, conn: &mut Conn, command: &Command, words: Words) {
         if words.len() > 1 && words.at(1) != b"2" {
             return conn.out.line("-NOPROTO unsupported protocol version");
+        }
+        let (options, count) = (words.from(2), words.len().saturating_sub(2));
+        match count {
+            0 => {}
+            2 if is_word(options.at(0), "SETNAME") => {}
+            3 | 5 if is_word(options.at(0), "AUTH") => return conn.out.line(NO_PASSWORDS),
+            _ => return self.misused(conn, command),
         }
         conn.out.array(8);
         for (name, value) in [("server", "pidtabd"), ("version", env!("CARGO_PKG_VERSION"))] {
@@ -337,16 +345,21 @@ impl Service {
         conn.out.number(u64::from(number.is_some()));
     }
 
-    fn run_save(&mut self, conn: &mut Conn) {
+    fn run_save(&mut self, conn: &mut Conn, command: &Command, words: Words) {
+        let waits = is_word(words.at(1), "SCHEDULE");
+        if words.len() == 2 && !waits {
+            return self.misused(conn, command);
+        }
         if conn.rights != Rights::All {
             return conn.out.line(no_permission(conn.rights));
         }
         match &mut self.engine.log {
             None => conn.out.line("-ERR nothing is kept: there is no --dir"),
-            Some(_) if self.engine.is_compacting => conn.out.line("-BUSY a snapshot is in work"),
+            Some(_) if self.engine.is_compacting && !waits => conn.out.line("-BUSY a snapshot is in work"),
             Some(log) => {
                 log.want_turn();
-                conn.out.line("+Background saving started");
+                let word = if self.engine.is_compacting { "scheduled" } else { "started" };
+                conn.out.line(&format!("+Background saving {word}"));
             }
         }
     }
@@ -463,7 +476,14 @@ fn run_command_of_commands(conn: &mut Conn, words: Words) {
             conn.out.array(COMMANDS.len());
             COMMANDS.iter().for_each(|it| conn.out.bulk(it.name.as_bytes()));
         }
-        b"INFO" | b"" => say::commands(&mut conn.out),
+        b"INFO" if words.len() > 2 => {
+            conn.out.array(words.len() - 2);
+            (2..words.len()).for_each(|it| say::command(&mut conn.out, find(words.at(it))));
+        }
+        b"INFO" | b"" => {
+            conn.out.array(COMMANDS.len());
+            COMMANDS.iter().for_each(|it| say::command(&mut conn.out, Some(it)));
+        }
         _ => conn.out.array(0),
     }
 }

@@ -116,17 +116,15 @@ pub fn help(out: &mut Vec<u8>) {
 }
 
 /// As COMMAND of Redis: the name, how many words (less than 0: at least), flags, and no keys.
-pub fn commands(out: &mut Vec<u8>) {
-    out.array(COMMANDS.len());
-    for command in COMMANDS {
-        let (least, most) = command.counts();
-        out.array(6);
-        out.bulk(command.name.as_bytes());
-        out.line(&format!(":{}{least}", if least == most { "" } else { "-" }));
-        out.array(1);
-        out.line(if command.asks() { "+readonly" } else { "+write" });
-        (0..3).for_each(|_| out.number(0));
-    }
+pub fn command(out: &mut Vec<u8>, command: Option<&Command>) {
+    let Some(command) = command else { return out.line("*-1") };
+    let (least, most) = command.counts();
+    out.array(6);
+    out.bulk(command.name.as_bytes());
+    out.line(&format!(":{}{least}", if least == most { "" } else { "-" }));
+    out.array(1);
+    out.line(if command.asks() { "+readonly" } else { "+write" });
+    (0..3).for_each(|_| out.number(0));
 }
 
 pub fn command_docs(out: &mut Vec<u8>) {

@@ -138,11 +138,26 @@ class Commands(Case):
         self.refused(self.client, "NOTHING", "ERR unknown command 'NOTHING'")
         self.refused(self.client, "AUTH x", "ERR AUTH")
         self.refused(self.client, "HELLO 3", "NOPROTO")
-        self.assertEqual(self.client.say("HELLO 2")[0], "server")
+        self.refused(self.client, "HELLO 2 AUTH user password", "ERR AUTH called without any password")
+        self.refused(self.client, "HELLO 2 SETNAME", "ERR syntax: HELLO")
+        self.assertEqual((self.client.say("HELLO 2")[0], self.client.say("HELLO 2 SETNAME x")[0]), ("server", "server"))
         self.assertEqual(self.client.say("PING x"), "x")
         self.client.socket.sendall(b"*1\r\n$x\r\n")
         self.assertTrue(str(self.client.answer()).startswith("ERR Protocol error"))
         self.assertRaises(EOFError, self.client.answer)
+
+    def test_as_clients_of_redis_ask(self):
+        """Sections of INFO, some commands of COMMAND, a save that may wait, and quotes in a line."""
+        told = self.client.say("INFO clients TABLE")
+        self.assertEqual(re.findall("^# (.*)\r$", told, re.MULTILINE), ["Clients", "Table"])
+        self.assertEqual(self.client.say("INFO everything"), re.sub("asked:.*", "asked:0\r", self.client.say("INFO")))
+        self.assertEqual([row and row[0] for row in self.client.say("COMMAND INFO fork NOTHING ping")], ["FORK", None, "PING"])
+        self.refused(self.client, "BGSAVE NOW", "ERR syntax: BGSAVE [SCHEDULE]")
+        self.client.socket.sendall(b"ECHO \"a b\"\r\nECHO \"a\r\n")
+        self.assertEqual((self.client.answer(), str(self.client.answer())), ("a b", "ERR Protocol error: unbalanced quotes in request"))
+        client = self.daemon(name="two").start().client()
+        client.say("FORK 1")
+        self.assertRegex(client.say("BGSAVE SCHEDULE"), "^Background saving (started|scheduled)$")
 
     def test_seats(self):
         self.assertEqual([self.client.say("SEAT 5"), self.client.say("SEAT")], [5, 5])
