@@ -51,23 +51,13 @@ pub struct Kin {
     first_child: u32,
     before: u32,
     after: u32,
-    /// So many of its children have ended.
-    ended: u32,
 }
 
 impl Kin {
     /// A task without children, in front of a sibling.
     fn new(parent: u32, number: u32, space: u64, children: u64, after: u32) -> Kin {
-        let (is_zombie, born, first_child, before, ended) = (false, 0, 0, 0, 0);
-        Kin { parent, number, space, children, is_zombie, born, first_child, before, after, ended }
-    }
-
-    pub fn has_children(&self) -> bool {
-        self.first_child != 0
-    }
-
-    pub fn has_ended_children(&self) -> bool {
-        self.ended != 0
+        let (is_zombie, born, first_child, before) = (false, 0, 0, 0);
+        Kin { parent, number, space, children, is_zombie, born, first_child, before, after }
     }
 }
 
@@ -201,11 +191,6 @@ impl Book {
         })
     }
 
-    /// Whether that child of a task has ended.
-    pub fn is_ended_child(&self, task: u32, number: u32) -> bool {
-        self.zombies.contains_key(&(task, number))
-    }
-
     /// Who goes if the task ends: the members of its namespace and of those inside, where it is the init there.
     pub fn falls_with(&self, task: u32) -> Vec<u32> {
         let Some(space) = self.tasks.get(&task).map(|it| it.space) else { return Vec::new() };
@@ -329,9 +314,6 @@ impl Book {
 
     fn add_zombie(&mut self, parent: u32, number: u32, task: u32) {
         self.zombies.insert((parent, number), task);
-        if let Some(it) = self.tasks.get_mut(&parent) {
-            it.ended += 1;
-        }
         self.stirred.push(parent);
     }
 
@@ -424,7 +406,6 @@ impl Book {
             it.after = kin.after;
         }
         if let Some(parent) = self.tasks.get_mut(&kin.parent) {
-            parent.ended -= u32::from(kin.is_zombie);
             if kin.before == 0 {
                 parent.first_child = kin.after;
             }
@@ -506,8 +487,6 @@ mod tests {
                 let wanted = facts(&Book::of(&table.listing().expect("a list")));
                 assert_eq!(facts(&book), wanted, "seed {seed}, call {stamp}: {call:?} {reply:?}");
                 assert!(tasks.iter().all(|it| book.children(*it).all(|child| child.1.parent == *it)));
-                let ended = |it| book.children(it).filter(|child| child.1.is_zombie).count();
-                assert!(book.tasks.iter().all(|(task, kin)| ended(*task) == kin.ended as usize));
                 let children: usize = tasks.iter().map(|it| book.children(*it).count()).sum();
                 assert_eq!(children + 1, book.tasks().max(1));
             }
@@ -538,7 +517,7 @@ mod tests {
         ];
         let wanted = wanted.map(|what| Event { what, spaces: vec![1, 0], controls: vec![0] });
         assert_eq!(book.events, wanted);
-        assert!(book.is_ended_child(1, 2) && !book.is_ended_child(1, 3));
+        assert_eq!(book.zombies.keys().collect::<Vec<_>>(), [&(1, 2)]);
     }
 
     #[test]

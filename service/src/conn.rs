@@ -67,6 +67,10 @@ pub struct Conn {
     pub channels: Vec<Channel>,
     pub follower: Option<Follower>,
     pub lease: Option<Held>,
+    /// Of a user who does not have all of the service.
+    pub is_guest: bool,
+    /// What it has sent was not looked at to its end, as its user's time was over.
+    pub is_cut: bool,
     /// There may be something to read.
     pub is_readable: bool,
     /// The peer says no more.
@@ -102,6 +106,8 @@ impl Conn {
             channels: Vec::new(),
             follower: None,
             lease: None,
+            is_guest: false,
+            is_cut: false,
             is_readable: false,
             is_half: false,
             is_hung: false,

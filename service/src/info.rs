@@ -54,6 +54,7 @@ fn clients(service: &Service) -> Fields {
         field("accepted", figures.accepted),
         field("turned_away", figures.turned_away),
         field("closed_as_stalled", figures.stalled),
+        field("closed_with_too_much_output", figures.heavy),
         field("sleeping", service.sleepers.count()),
         field("leases", service.leases.count()),
     ]

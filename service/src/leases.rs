@@ -155,6 +155,11 @@ impl Leases {
         self.named.len()
     }
 
+    /// How many of a user can be held.
+    pub fn count_of(&self, user: u32) -> usize {
+        self.named.range((user, Vec::new())..).take_while(|it| it.0 .0 == user).count()
+    }
+
     pub fn is_empty(&self) -> bool {
         self.all.is_empty()
     }

@@ -1,6 +1,7 @@
 //! pidtabd: one pidtab table for all processes of a host, by a Unix socket and RESP2, the protocol of Redis.
 #![forbid(unsafe_code)]
 
+mod accounts;
 mod book;
 mod checksum;
 mod commands;

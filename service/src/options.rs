@@ -19,6 +19,7 @@ usage: pidtabd [OPTION ..]
   --pid-max N         of a new table: 301 to 4194304 (32768)
   --follow SOCKET     has the table of the service there, until TAKEOVER
   --max-clients N     1 to 100000 (1000)
+  --max-user-clients N  of a user, but root and the daemon's own (half of --max-clients)
   --max-controls N    how many cgroups there may be (65536)
   --max-output BYTES  of LIST and DUMP that wait to be taken (268435456)
   --stall SECONDS     who takes no answer for so long is closed: 1 to 86400 (60)
@@ -44,6 +45,7 @@ pub struct Options {
     pub keep: Keep,
     pub follow: Option<PathBuf>,
     pub most_clients: usize,
+    pub most_user_clients: Option<usize>,
     pub most_output: usize,
     pub stall: u64,
 }
@@ -66,6 +68,7 @@ impl Default for Options {
             keep: Keep { path, sync, segment, archive, pid_max: 32768, most_controls: 65536 },
             follow: None,
             most_clients: 1000,
+            most_user_clients: None,
             most_output: 256 << 20,
             stall: 60,
         }
@@ -110,6 +113,7 @@ fn take(options: &mut Options, name: &str, value: OsString) -> Result<(), String
         "segment" => options.keep.segment = number(4096, u64::MAX)?,
         "pid-max" => options.keep.pid_max = number(301, 4_194_304)? as u32,
         "max-clients" => options.most_clients = number(1, 100_000)? as usize,
+        "max-user-clients" => options.most_user_clients = Some(number(1, 100_000)? as usize),
         "max-controls" => options.keep.most_controls = number(0, u64::MAX)? as usize,
         "max-output" => options.most_output = number(1, u64::MAX)? as usize,
         "stall" => options.stall = number(1, 86_400)?,

@@ -1,4 +1,5 @@
 //! What each command does.
+use crate::accounts::{MOST_LEASES, REQUESTS_AT_ONCE};
 use crate::commands::{find, without_prefix, Action, Command, Values, Verb, COMMANDS};
 use crate::conn::{Conn, Follower, Held, Multi, Pause};
 use crate::directory::SEATS;
@@ -97,6 +98,9 @@ impl Service {
                 .out
                 .line("-NOLEASE the lease of this connection was released: say LEASE, or RELEASE and its name");
         }
+        if matches!(call, Call::Exit { .. }) {
+            self.accounts.count(REQUESTS_AT_ONCE);
+        }
         match self.engine.make(conn.seat, call) {
             Ok(reply) => {
                 self.figures.calls += 1;
@@ -140,7 +144,7 @@ impl Service {
         let call = Call::Wait { caller, which };
         if self.leader.is_none()
             && may_make(&mut self.engine, conn.rights, call)
-            && must_sleep(&mut self.engine, caller, which)
+            && must_sleep(&self.engine, caller, which)
         {
             let (token, deadline) = (conn.token, timeout.map(|it| self.now + it));
             conn.pause = Pause::Sleeps;
@@ -270,11 +274,11 @@ impl Service {
                 conn.out.line("-ERR a channel is exit, fork or fall, alone or with :space:ID or :control:ID behind");
                 continue;
             };
-            if conn.channels.len() == MOST_CHANNELS {
-                conn.out.line("-ERR too many channels");
-                continue;
-            }
             if !conn.channels.contains(&channel) {
+                if conn.channels.len() == MOST_CHANNELS || !self.accounts.takes_channel(conn.user) {
+                    conn.out.line("-ERR too many channels");
+                    continue;
+                }
                 conn.channels.push(channel);
             }
             events::say(&mut conn.out, "subscribe", Some(name));
@@ -288,7 +292,9 @@ impl Service {
         let all = conn.channels.iter().map(|it| it.name.clone()).collect();
         let those: Vec<Vec<u8>> = if named.is_empty() { all } else { named };
         for name in &those {
+            let before = conn.channels.len();
             conn.channels.retain(|it| it.name != *name);
+            self.accounts.gives_channels(conn.user, before - conn.channels.len());
             events::say(&mut conn.out, "unsubscribe", Some(name));
             conn.out.number(conn.channels.len() as u64);
         }
@@ -308,7 +314,12 @@ impl Service {
         if let Some(before) = conn.lease.take() {
             self.leases.let_go(before.number, self.now);
         }
-        let number = self.leases.hold(&(conn.user, name.to_vec()), ttl);
+        let key = (conn.user, name.to_vec());
+        let is_full = conn.is_guest && self.leases.count_of(conn.user) >= MOST_LEASES;
+        if is_full && self.leases.number(&key).is_none() {
+            return conn.out.line("-OOM too-many-leases");
+        }
+        let number = self.leases.hold(&key, ttl);
         conn.lease = Some(Held { number, name: name.to_vec() });
         self.engine.book.tells_gone = true;
         conn.out.ok();

@@ -1,4 +1,5 @@
 //! The sockets, in one thread. A turn: what has come is read and done, what was recorded is written in one go, and then the answers go out.
+use crate::accounts::{Accounts, MOST_OUTPUT};
 use crate::conn::{Conn, Pause, MUCH_OUTPUT};
 use crate::directory::Fault;
 use crate::engine::{Engine, Text};
@@ -39,6 +40,9 @@ const FEW_TASKS: usize = 200;
 /// A follower that is so many bytes behind is closed.
 const FAR_BEHIND: usize = 256 << 20;
 
+/// Behind so many bytes of output it is looked at whose is too much.
+const MUCH_POURED: usize = 8 << 20;
+
 /// So long a disk that is full is waited for at the end.
 const LAST_WAIT: Duration = Duration::from_secs(5);
 
@@ -50,6 +54,8 @@ pub struct Figures {
     pub refused: u64,
     pub faults: u64,
     pub stalled: u64,
+    /// Closed, as their users had too much output together.
+    pub heavy: u64,
     pub clients: usize,
     pub seated: [usize; crate::directory::SEATS as usize],
 }
@@ -60,6 +66,7 @@ pub struct Service {
     pub figures: Figures,
     pub leases: Leases,
     pub sleepers: Sleepers,
+    pub accounts: Accounts,
     pub leader: Option<Leader>,
     pub is_ending: bool,
     pub now: u64,
@@ -77,6 +84,8 @@ pub struct Service {
     touched: Vec<usize>,
     /// Why the disk does not take what was recorded, while it does not.
     stuck: Option<Fault>,
+    /// So many bytes of output have come to guests since it was looked at whose is too much.
+    poured: usize,
     /// Leases whose tasks have ended, each with the sync that brings that to the disk.
     ending: Vec<(u64, Option<u64>)>,
     next_id: u64,
@@ -93,8 +102,10 @@ pub struct Service {
 struct Texts {
     last: [Option<(u64, Text)>; 2],
     alive: Vec<Weak<Vec<u8>>>,
-    /// Whether one is wanted that was not ordered yet.
+    /// Whether one is wanted that was not ordered yet, and whether one is in work. Who comes meanwhile waits for the next: so all who wait for a text have
+    /// one.
     wanted: [bool; 2],
+    ordered: [bool; 2],
 }
 
 impl Texts {
@@ -130,6 +141,7 @@ impl Service {
             figures: Figures::default(),
             leases,
             sleepers: Sleepers::default(),
+            accounts: Accounts::of(&options),
             leader: options.follow.clone().map(Leader::of),
             is_ending: false,
             now: 0,
@@ -146,6 +158,7 @@ impl Service {
             ready: Vec::new(),
             touched: Vec::new(),
             stuck: None,
+            poured: 0,
             ending: Vec::new(),
             next_id: 1,
             ticked: 0,
@@ -284,11 +297,16 @@ impl Service {
 
     /// Each client that is ready is read from once, and its requests are done.
     fn work(&mut self) {
+        self.accounts.begin_turn();
         for token in std::mem::take(&mut self.ready) {
             let Some(mut conn) = self.conns[token].take() else { continue };
             conn.is_queued = false;
-            self.serve(&mut conn);
-            let goes_on = conn.is_free() && conn.is_readable && !conn.is_gone;
+            conn.is_cut = !self.accounts.begin(conn.user);
+            if !conn.is_cut {
+                self.serve(&mut conn);
+                self.accounts.end(conn.user);
+            }
+            let goes_on = conn.is_free() && (conn.is_readable || conn.is_cut) && !conn.is_gone;
             let is_touched = conn.waiting() > 0 || conn.ends || conn.is_gone;
             self.conns[token] = Some(conn);
             if goes_on {
@@ -319,8 +337,9 @@ impl Service {
         conn.rest.extend_from_slice(&input[used..have]);
         conn.rest.shrink_to(READ_AT_ONCE);
         // Who says no more still gets the answers to what he has said, also behind a pause.
-        conn.is_readable |= had_ended && !conn.is_free();
-        conn.ends |= had_ended && conn.is_free();
+        let is_done = conn.is_free() && !conn.is_cut;
+        conn.is_readable |= had_ended && !is_done;
+        conn.ends |= had_ended && is_done;
         self.input = input;
     }
 
@@ -328,7 +347,7 @@ impl Service {
     fn run_requests(&mut self, conn: &mut Conn, bytes: &[u8]) -> usize {
         let mut reader = std::mem::take(&mut self.reader);
         let mut at = 0;
-        while at < bytes.len() && conn.is_free() {
+        while at < bytes.len() && conn.is_free() && !conn.is_cut {
             match reader.take(&bytes[at..]) {
                 Ok(None) => break,
                 Ok(Some(size)) => {
@@ -337,6 +356,8 @@ impl Service {
                         self.run_command(conn, words);
                     }
                     at += size;
+                    self.accounts.count(1);
+                    conn.is_cut = self.accounts.is_over();
                 }
                 Err(fault) => {
                     conn.out.line(&format!("-ERR Protocol error: {fault}"));
@@ -419,6 +440,7 @@ impl Service {
         self.sleepers.forget(token);
         self.figures.clients -= 1;
         self.figures.seated[conn.seat as usize] -= 1;
+        self.accounts.gone(conn.user, conn.channels.len());
         self.followers -= usize::from(conn.follower.is_some());
         if let Some(held) = &conn.lease {
             self.leases.let_go(held.number, self.now);
@@ -471,13 +493,18 @@ impl Service {
         let Some((user, rights)) = user.ok().and_then(|it| Some((it, self.rights_of(it)?))) else {
             return self.turn_away(&socket, "-NOPERM this user may not connect\r\n");
         };
+        if let Some(why) = self.accounts.refuses(user, self.figures.clients) {
+            return self.turn_away(&socket, why);
+        }
         let token = self.free.pop().unwrap_or(self.conns.len());
         if self.poll.registry().register(&mut socket, Token(CLIENTS + token), Interest::READABLE).is_err() {
             self.freed.push(token);
             return;
         }
         let seat = self.emptiest_seat();
-        let conn = Box::new(Conn::new(socket, token, self.next_id, seat, user, rights, self.now));
+        let mut conn = Box::new(Conn::new(socket, token, self.next_id, seat, user, rights, self.now));
+        conn.is_guest = self.accounts.is_guest(user);
+        self.accounts.connected(user);
         self.next_id += 1;
         self.figures.seated[seat as usize] += 1;
         self.figures.clients += 1;
@@ -503,6 +530,7 @@ impl Service {
     fn tick(&mut self) -> Result<(), Fault> {
         while let Some(report) = self.engine.take_report() {
             if let Report::Text { is_dump, ordinal, text } = report {
+                self.texts.ordered[usize::from(is_dump)] = false;
                 self.deliver(is_dump, ordinal, text);
             }
         }
@@ -514,6 +542,7 @@ impl Service {
             self.texts.forget(self.engine.made);
             self.end_leases();
             self.close_stalled();
+            self.close_heavy();
         }
         Ok(())
     }
@@ -531,6 +560,29 @@ impl Service {
         }
         self.figures.stalled += stalled.len() as u64;
         stalled.into_iter().for_each(|it| self.end(it));
+    }
+
+    /// So much has been put into the output of guests: if it is much, it is looked at whose is too much, and not only by the clock.
+    fn pour(&mut self, bytes: usize) {
+        self.poured += bytes;
+        if self.poured >= MUCH_POURED {
+            self.close_heavy();
+        }
+    }
+
+    /// Of guests whose output is too much together, those connections go that have most.
+    fn close_heavy(&mut self) {
+        self.poured = 0;
+        let guests = self.conns.iter().flatten().filter(|it| it.is_guest && it.waiting() > 0);
+        let mut heavy: Vec<_> = guests.map(|it| (it.user, it.waiting(), it.token)).collect();
+        heavy.sort_unstable();
+        let (mut user, mut sum) = (None, 0);
+        heavy.retain(|it| {
+            sum = if user.replace(it.0) == Some(it.0) { sum + it.1 } else { it.1 };
+            sum > MOST_OUTPUT
+        });
+        self.figures.heavy += heavy.len() as u64;
+        heavy.into_iter().for_each(|it| self.end(it.2));
     }
 
     /// The tasks of leases whose time is over end, as if killed, where their users may still end them.
@@ -571,14 +623,18 @@ impl Service {
         let mut told = Vec::new();
         // Events are kept while somebody wants them.
         self.engine.book.is_watched = self.conns.iter().flatten().any(|it| !it.channels.is_empty());
+        let payloads: Vec<_> = events.iter().map(|it| (it, crate::events::payload(it))).collect();
+        let mut poured = 0;
         for conn in self.conns.iter_mut().flatten().filter(|it| !it.channels.is_empty()) {
             let before = conn.out.len();
-            events.iter().for_each(|it| tell(conn, it));
+            payloads.iter().for_each(|(event, payload)| tell(conn, event, payload));
             if conn.out.len() > before {
                 told.push(conn.token);
+                poured += usize::from(conn.is_guest) * (conn.out.len() - before);
             }
         }
         told.into_iter().for_each(|it| self.touch(it));
+        self.pour(poured);
     }
 
     /// Followers get what was written in this turn, and the head of a new log.
@@ -587,14 +643,16 @@ impl Service {
         if self.followers == 0 {
             return self.engine.give_back(blocks);
         }
-        let mut told = Vec::new();
+        let (mut told, mut poured) = (Vec::new(), 0);
         for conn in self.conns.iter_mut().flatten().filter(|it| it.follower.is_some()) {
             let parts = [&blocks[..], &head[..]];
             parts.iter().filter(|it| !it.is_empty()).for_each(|it| conn.stream(it));
+            poured += usize::from(conn.is_guest) * blocks.len();
             told.push(conn.token);
         }
         told.into_iter().for_each(|it| self.touch(it));
         self.engine.give_back(blocks);
+        self.pour(poured);
     }
 
     /// LIST, DUMP and FOLLOW: the text of now. A client waits for it, and nobody else does.
@@ -610,12 +668,13 @@ impl Service {
     /// All that was recorded is written: the texts that are wanted are those of now.
     fn order_texts(&mut self) {
         for is_dump in [false, true] {
-            if !std::mem::take(&mut self.texts.wanted[usize::from(is_dump)]) {
+            let kind = usize::from(is_dump);
+            if self.texts.ordered[kind] || !std::mem::take(&mut self.texts.wanted[kind]) {
                 continue;
             }
             self.begin_followers(is_dump);
             let made = self.engine.made;
-            let last = self.texts.last[usize::from(is_dump)].take().filter(|it| it.0 == made);
+            let last = self.texts.last[kind].take().filter(|it| it.0 == made);
             if let Some((ordinal, text)) = last {
                 self.deliver(is_dump, ordinal, Ok(text));
             } else if self.engine.book.tasks() <= FEW_TASKS {
@@ -625,6 +684,7 @@ impl Service {
                 self.deliver(is_dump, made, text.map_err(|error| error.to_string()));
             } else {
                 self.engine.order_text(is_dump);
+                self.texts.ordered[kind] = true;
             }
         }
     }
@@ -653,6 +713,9 @@ impl Service {
                 Pause::Awaits { is_dump: it, ordinal: wanted } if it == is_dump && wanted <= ordinal => {}
                 _ => continue,
             }
+            if conn.follower.as_ref().is_some_and(|it| !it.is_begun) {
+                continue;
+            }
             match &text {
                 Ok(text) => conn.begin_text(Arc::clone(text)),
                 Err(fault) => {
@@ -671,7 +734,7 @@ impl Service {
 
     /// The table is another: the texts that were ordered of the one before never come, and who follows asks anew.
     pub fn renew(&mut self) {
-        self.texts.last = [None, None];
+        (self.texts.last, self.texts.ordered) = ([None, None], [false, false]);
         for token in 0..self.conns.len() {
             let Some(conn) = self.conn(token) else { continue };
             conn.is_gone |= conn.follower.is_some();
@@ -722,10 +785,10 @@ fn watch_output(registry: &mio::Registry, conn: &mut Conn) {
     conn.is_full = is_full;
 }
 
-fn tell(conn: &mut Conn, event: &crate::book::Event) {
+fn tell(conn: &mut Conn, event: &crate::book::Event, payload: &str) {
     for channel in conn.channels.iter().filter(|it| it.has(event)) {
         crate::events::say(&mut conn.out, "message", Some(&channel.name));
-        conn.out.bulk(crate::events::payload(event).as_bytes());
+        conn.out.bulk(payload.as_bytes());
     }
 }
 

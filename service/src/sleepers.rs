@@ -1,6 +1,5 @@
 //! Clients that wait for a child by WAITCHILD. A wait is made when its answer is there, so it is one call, and a client that goes away before
 //! made none.
-use crate::book::Book;
 use crate::conn::Pause;
 use crate::directory::SEATS;
 use crate::engine::Engine;
@@ -9,7 +8,7 @@ use crate::resp::Answer;
 use crate::rights::may_make;
 use crate::say;
 use crate::service::Service;
-use pidtab::{Call, Reply, Table, Which};
+use pidtab::{Call, Reply, Which};
 
 pub struct Sleeper {
     pub token: usize,
@@ -44,36 +43,8 @@ impl Sleepers {
 }
 
 /// Whether a wait would find nobody now, and may find somebody later.
-pub fn must_sleep(engine: &mut Engine, caller: u32, which: Which) -> bool {
-    let Engine { book, table, .. } = engine;
-    let Some(kin) = book.kin(caller).filter(|it| !it.is_zombie) else { return false };
-    if which == Which::Any {
-        return kin.has_children() && !kin.has_ended_children();
-    }
-    if matches!(which, Which::Pid(number) if book.is_ended_child(caller, number)) {
-        return false;
-    }
-    let own = group_of(table, caller, 0);
-    let mut is_meant = |number| match which {
-        Which::Pid(it) => it == number,
-        Which::Group(group) => group_of(table, caller, number) == Some(group),
-        // A group that the caller does not see is not told from others.
-        _ => own == Some(0) || group_of(table, caller, number) == own,
-    };
-    !(kin.has_ended_children() && has_child(book, caller, true, &mut is_meant))
-        && has_child(book, caller, false, is_meant)
-}
-
-/// Whether one of the children is meant, or one of those that have ended.
-fn has_child(book: &Book, caller: u32, is_ended: bool, mut is_meant: impl FnMut(u32) -> bool) -> bool {
-    book.children(caller).any(|it| (it.1.is_zombie || !is_ended) && is_meant(it.1.number))
-}
-
-fn group_of(table: &mut Table, caller: u32, pid: u32) -> Option<u32> {
-    match table.ask(Call::Getpgid { caller, pid }) {
-        Ok(Reply::Number(group)) => Some(group),
-        _ => None,
-    }
+pub fn must_sleep(engine: &Engine, caller: u32, which: Which) -> bool {
+    engine.table.would(Call::Wait { caller, which }) == Ok(Reply::NoneYet)
 }
 
 impl Service {
@@ -106,7 +77,7 @@ impl Service {
         for sleeper in std::mem::take(&mut self.sleepers.all) {
             let (caller, which) = (sleeper.caller, sleeper.which);
             let is_stirred = stirred.binary_search(&caller).is_ok();
-            if !is_stirred || must_sleep(&mut self.engine, caller, which) || !self.wait_for(&sleeper) {
+            if !is_stirred || must_sleep(&self.engine, caller, which) || !self.wait_for(&sleeper) {
                 self.sleepers.all.push(sleeper);
             }
         }

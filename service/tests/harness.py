@@ -28,6 +28,7 @@ class Client:
     """One connection."""
 
     def __init__(self, path, wait=10.0):
+        self.bytes = b""
         end = time.monotonic() + wait
         while True:
             self.socket = socket.socket(socket.AF_UNIX)
@@ -40,7 +41,29 @@ class Client:
                     raise
                 time.sleep(0.01)
         self.socket.settimeout(60)
-        self.bytes = b""
+
+    @classmethod
+    def of(cls, user, path):
+        """A connection of another user: a child that is his makes it, and hands it over."""
+        here, there = socket.socketpair()
+        child = os.fork()
+        if not child:
+            try:
+                os.setgroups([])
+                os.setresgid(user, user, user)
+                os.setresuid(user, user, user)
+                made = cls(path, wait=0)
+                socket.send_fds(there, [b"x"], [made.socket.fileno()])
+            finally:
+                os._exit(0)
+        there.close()
+        _, files, _, _ = socket.recv_fds(here, 1, 1)
+        here.close()
+        os.waitpid(child, 0)
+        client = cls.__new__(cls)
+        client.socket, client.bytes = socket.socket(fileno=files[0]), b""
+        client.socket.settimeout(60)
+        return client
 
     def close(self):
         self.socket.close()

@@ -1,0 +1,165 @@
+"""Users who do their worst: others are served meanwhile, and the daemon stays small. It needs root, to be other users."""
+import os
+import pathlib
+import threading
+import time
+import unittest
+
+from harness import Case, Client, Refused
+
+GUEST, OTHER = 65534, 65533
+
+
+class Slowest(threading.Thread):
+    """PINGs, one after another, until it is asked how long the slowest took, in ms."""
+
+    def __init__(self, client):
+        super().__init__()
+        self.client, self.worst, self.goes = client, 0.0, True
+        self.start()
+
+    def run(self):
+        while self.goes:
+            began = time.monotonic()
+            self.client.say("PING")
+            self.worst = max(self.worst, (time.monotonic() - began) * 1000)
+
+    def ms(self):
+        self.goes = False
+        self.join()
+        return self.worst
+
+
+def forks(client, parent, count):
+    """So many children of a task, by pipelines: their root numbers."""
+    told = []
+    for at in range(0, count, 1000):
+        some = min(1000, count - at)
+        client.socket.sendall(f"FORK {parent}\r\n".encode() * some)
+        told += [client.answer()[1] for _ in range(some)]
+    return told
+
+
+class Guests(Case):
+    def setUp(self):
+        super().setUp()
+        if os.geteuid() != 0 or "4294967295" not in pathlib.Path("/proc/self/uid_map").read_text(encoding="ascii"):
+            self.skipTest("not root, or not of all users")
+
+    def serve(self, *options, kept=False):
+        """A daemon where the guest has the cgroup 1 and the task 2, and another may ask; root's client, and the guest's."""
+        one = self.daemon("--mode", "666", "--allow", f"0,{GUEST}:below=1,{OTHER}:ro", *options, kept=kept).start()
+        client = one.client()
+        for line in ("MK 0", "FORK 1", "MOVE 2 1"):
+            client.say(line)
+        return one, client, Client.of(GUEST, one.socket)
+
+    def test_connections(self):
+        """A guest has half of them, guests together all but a sixteenth, and root comes always."""
+        one, _, first = self.serve("--max-clients", "32")
+        guests = [first, *[Client.of(GUEST, one.socket) for _ in range(20)], *[Client.of(OTHER, one.socket) for _ in range(20)]]
+        time.sleep(0.1)
+        told = [self.first_answer(guest) for guest in guests]
+        self.assertEqual(told[:21], ["PONG"] * 16 + ["ERR max number of clients of this user reached"] * 5)
+        self.assertEqual(told[21:], ["PONG"] * 13 + ["ERR max number of clients reached"] * 7)
+        self.assertEqual([one.client().say("PING") for _ in range(1)], ["PONG"])
+        for guest in guests[:16]:
+            guest.close()
+        time.sleep(0.1)
+        self.assertEqual(Client.of(GUEST, one.socket).say("PING"), "PONG")
+
+    def first_answer(self, client):
+        try:
+            return str(client.say("PING"))
+        except Refused as why:
+            return str(why)
+        except OSError:
+            return str(client.answer())
+
+    def test_waits_for_a_group(self):
+        """Among 20,000 children none is of that group, which is not looked for in each."""
+        one, _, guest = self.serve()
+        forks(guest, 2, 20000)
+        slowest = Slowest(one.client())
+        guest.socket.sendall(b"WAITCHILD 2 GROUP 7\r\n" * 300)
+        self.assertEqual({str(guest.answer()) for _ in range(300)}, {"ECHILD no-child"})
+        self.assertLess(slowest.ms(), 150)
+
+    def test_requests_that_take_long(self):
+        """Each exit of an init looks at all namespaces. The guest's time in a turn is over after a few, and others come between."""
+        one, client, guest = self.serve("--pid-max", "100000")
+        client.socket.sendall(b"FORK 1 NEW\r\n" * 10000)
+        [client.answer() for _ in range(10000)]
+        guest.socket.sendall(b"FORK 2 NEW\r\n" * 300)
+        inits = [guest.answer()[1] for _ in range(300)]
+        slowest = Slowest(one.client())
+        guest.socket.sendall(b"".join(f"EXIT {init} 0\r\n".encode() for init in inits))
+        self.assertEqual({guest.answer() for _ in inits}, {"OK"})
+        self.assertLess(slowest.ms(), 150)
+
+    def test_who_is_cut_and_says_no_more(self):
+        """A guest that has closed its half is answered all that it has sent."""
+        _, _, guest = self.serve()
+        guest.socket.sendall(b"EXIT 99999 0\r\n" * 5000)
+        guest.socket.shutdown(1)
+        self.assertEqual({str(guest.answer()) for _ in range(5000)}, {"NOPERM this user may call by tasks below his cgroup alone"})
+        self.assertRaises(EOFError, guest.answer)
+
+    def test_followers_that_never_read(self):
+        """40 of them, while others write 14 MB for each: memory is bounded, and those that read go on."""
+        one, client, _ = self.serve()
+        guests = [Client.of(OTHER, one.socket) for _ in range(40)]
+        for guest in guests:
+            guest.send("FOLLOW")
+        reads = Client.of(OTHER, one.socket)
+        most = 0
+        for _ in range(100):
+            client.socket.sendall(b"EXEC 1\r\n" * 3000)
+            [client.answer() for _ in range(3000)]
+            self.assertEqual(reads.say("PING"), "PONG")
+            most = max(most, one.memory())
+        self.assertLess(most, 150_000)
+        self.assertRegex(client.say("INFO clients"), "closed_with_too_much_output:[1-9]")
+        print(f"40 followers that never read: at most {most} kB")
+
+    def test_channels(self):
+        one, _, first = self.serve()
+        second = Client.of(GUEST, one.socket)
+        first.send("SUBSCRIBE", *[f"exit:space:{number}" for number in range(40)])
+        second.send("SUBSCRIBE", *[f"exit:space:{number}" for number in range(40)])
+        self.assertEqual([first.answer()[2] for _ in range(40)], list(range(1, 41)))
+        told = [second.answer() for _ in range(40)]
+        self.assertEqual(([row[2] for row in told[:24]], {str(row) for row in told[24:]}), (list(range(1, 25)), {"ERR too many channels"}))
+        first.close()
+        time.sleep(0.1)
+        self.assertEqual(second.say("SUBSCRIBE exit:space:99"), ["subscribe", "exit:space:99", 25])
+
+    def test_leases(self):
+        _, client, guest = self.serve(kept=True)
+        guest.socket.sendall(b"".join(f"LEASE x{number} 86400000\r\n".encode() for number in range(1002)))
+        told = [guest.answer() for _ in range(1002)]
+        self.assertEqual((told[:1000], [str(it) for it in told[1000:]]), (["OK"] * 1000, ["OOM too-many-leases"] * 2))
+        self.assertEqual((guest.say("LEASE x5 1000"), guest.say("RELEASE x7"), guest.say("LEASE y 1"), client.say("LEASE z 1")), ("OK", 1, "OK", "OK"))
+        self.assertIn("leases:1001\r", client.say("INFO"))
+
+    def test_lists(self):
+        """30 guests want the list of 20,000 tasks at 30 states: they have a few texts together, and root's DUMP does not wait for 30."""
+        one, client, _ = self.serve()
+        forks(client, 1, 20000)
+        began = time.monotonic()
+        client.say("LIST")
+        alone = time.monotonic() - began
+        guests = [Client.of(OTHER, one.socket) for _ in range(30)]
+        for guest in guests:
+            guest.send("LIST")
+            client.say("EXEC 1")
+        began = time.monotonic()
+        self.assertIn("\ntask 20000@", client.say("DUMP"))
+        took = time.monotonic() - began
+        self.assertLess(took, 6 * alone + 0.5)
+        self.assertTrue(all(guest.answer().count("task ") > 20000 for guest in guests))
+        print(f"LIST alone {alone:.2f} s, DUMP behind 30 of them {took:.2f} s")
+
+
+if __name__ == "__main__":
+    unittest.main()
