@@ -265,6 +265,16 @@ impl Command {
         }
     }
 
+    /// Whether it waits where the disk does not take what was recorded: whatever changes something, and the texts.
+    pub fn waits_for_disk(&self) -> bool {
+        match self.action {
+            Action::Call(verb) => !verb.asks(),
+            Action::Stat | Action::Ping | Action::Echo | Action::Info | Action::Help | Action::Command => false,
+            Action::Client | Action::Config | Action::Hello | Action::Select | Action::Auth | Action::Quit => false,
+            _ => true,
+        }
+    }
+
     /// Whether it may come within a MULTI.
     pub fn is_call(&self) -> bool {
         matches!(self.action, Action::Call(_) | Action::Line)

@@ -18,6 +18,8 @@ pub enum Pause {
     None,
     /// A child, by WAITCHILD.
     Sleeps,
+    /// The second table's answer to a query.
+    Asks,
     /// The answer to LIST or DUMP, which has so many calls at least.
     Awaits {
         is_dump: bool,
@@ -67,6 +69,10 @@ pub struct Conn {
     pub channels: Vec<Channel>,
     pub follower: Option<Follower>,
     pub lease: Option<Held>,
+    /// Its next request waits until the disk takes what was recorded.
+    pub is_delayed: bool,
+    /// So do its answers.
+    pub is_held: bool,
     /// Of a user who does not have all of the service.
     pub is_guest: bool,
     /// What it has sent was not looked at to its end, as its user's time was over.
@@ -106,6 +112,8 @@ impl Conn {
             channels: Vec::new(),
             follower: None,
             lease: None,
+            is_delayed: false,
+            is_held: false,
             is_guest: false,
             is_cut: false,
             is_readable: false,
@@ -126,7 +134,7 @@ impl Conn {
 
     /// Whether its next request may be looked at.
     pub fn is_free(&self) -> bool {
-        matches!(self.pause, Pause::None) && !self.ends && self.unsent() < MUCH_OUTPUT
+        matches!(self.pause, Pause::None) && !self.is_delayed && !self.ends && self.unsent() < MUCH_OUTPUT
     }
 
     /// Reads once, up to the room: how many bytes. A short read has taken all that was there.

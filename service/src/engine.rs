@@ -3,7 +3,7 @@ use crate::book::Book;
 use crate::directory::{new_identity, Directory, Fault, SEATS};
 use crate::log::{Closed, Committed, Log, Sync};
 use crate::recover::{End, Recovery};
-use crate::replica::{loose_blocks, Order, Replica, Report, Source};
+use crate::replica::{loose_blocks, Asker, Order, Query, Replica, Report, Source};
 use pidtab::{Blocks, Call, Error, Head, Made, Reply, Stat, Table};
 use std::path::PathBuf;
 use std::sync::Arc;
@@ -39,6 +39,8 @@ pub struct Engine {
     pub pid_max: u32,
     /// So many calls are recorded: the ordinal of the next one.
     pub made: u64,
+    /// So many of them are written.
+    pub saved: u64,
     pub counts: [u64; SEATS as usize],
     pub asked: u64,
     pub log: Option<Log>,
@@ -137,6 +139,7 @@ impl Engine {
             table: opened.table,
             pid_max,
             made,
+            saved: made,
             counts: [0; SEATS as usize],
             asked: 0,
             log,
@@ -232,6 +235,7 @@ impl Engine {
 
     /// The batch is written.
     fn move_batch(&mut self) {
+        self.saved = self.made;
         if self.log.is_none() {
             self.loose.extend_from_slice(&self.batch);
             self.order_loose();
@@ -286,11 +290,22 @@ impl Engine {
 
     /// The second table goes on to here, and tells its text. All that was recorded is written.
     pub fn order_text(&mut self, is_dump: bool) {
+        self.order_saved();
+        self.replica.order(Order::Text { is_dump, ordinal: self.made });
+    }
+
+    /// The second table goes on to the end of what was written, and answers.
+    pub fn order_answer(&mut self, asker: Asker, query: Query) {
+        self.asked += 1;
+        self.order_saved();
+        self.replica.order(Order::Ask { asker, query });
+    }
+
+    fn order_saved(&mut self) {
         match &self.log {
             Some(log) => self.replica.order(Order::File { base: log.base, bytes: log.bytes }),
             None => self.replica.order(Order::Blocks(std::mem::take(&mut self.loose))),
         }
-        self.replica.order(Order::Text { is_dump, ordinal: self.made });
     }
 
     /// What the second table has done; a text is given back.
@@ -341,7 +356,7 @@ impl Engine {
     pub fn adopt(&mut self, text: &[u8], wake: impl Fn() + Clone + Send + 'static) -> Result<(), Fault> {
         let table = Table::from_dump(text).map_err(|fault| fault.to_string())?;
         let (pid_max, stamp) = crate::recover::settings_of(text).ok_or("the text has no settings")?;
-        (self.table, self.pid_max, self.made) = (table, pid_max, stamp - 1);
+        (self.table, self.pid_max, self.made, self.saved) = (table, pid_max, stamp - 1, stamp - 1);
         self.batch.clear();
         self.loose.clear();
         self.read_book(&std::collections::HashMap::new())?;

@@ -57,6 +57,8 @@ fn clients(service: &Service) -> Fields {
         field("closed_with_too_much_output", figures.heavy),
         field("sleeping", service.sleepers.count()),
         field("leases", service.leases.count()),
+        field("followers", service.followers),
+        field("follower_lag_bytes", service.follower_lag()),
     ]
 }
 
@@ -64,7 +66,8 @@ fn table(service: &Service) -> Fields {
     let (engine, figures) = (&service.engine, &service.figures);
     vec![
         field("identity", &engine.identity),
-        field("position", engine.made),
+        field("position", if service.is_stuck() { engine.saved } else { engine.made }),
+        field("waiting_calls", if service.is_stuck() { engine.made - engine.saved } else { 0 }),
         field("pid_max", engine.pid_max),
         field("tasks", engine.book.tasks()),
         field("controls", engine.book.controls()),
@@ -88,6 +91,7 @@ fn log(service: &Service) -> Fields {
         field("largest_commit_bytes", log.largest),
         field("write_retries", log.retries),
         field("is_stuck", u8::from(service.is_stuck())),
+        field("stuck_by", service.stuck_by().unwrap_or("nothing")),
         field("replayed_at_start", engine.replayed),
         field("left_out_at_start", engine.left_out),
     ]

@@ -2,7 +2,7 @@
 //! so the table that serves is never copied, and each log is seen to replay, reply for reply, before it is taken away.
 use crate::directory::{fault_at, Directory, Fault, SEATS};
 use crate::recover::Recovery;
-use pidtab::{Blocks, Head, Table};
+use pidtab::{Blocks, Call, Error, Head, Reply, Stat, Table};
 use std::sync::mpsc::{channel, Receiver, Sender};
 use std::sync::Arc;
 use std::thread;
@@ -17,6 +17,23 @@ pub enum Order {
     Snapshot,
     /// Tells its text, or its list.
     Text { is_dump: bool, ordinal: u64 },
+    /// Answers a query of that connection.
+    Ask { asker: Asker, query: Query },
+}
+
+/// A connection: its token, and its own number.
+pub type Asker = (usize, u64);
+
+#[derive(Clone, Copy)]
+pub enum Query {
+    Call(Call),
+    Stat { caller: u32, number: u32 },
+}
+
+/// What a query was answered.
+pub enum Told {
+    Reply(Result<Reply, Error>),
+    Stat(Box<Result<Stat, Error>>),
 }
 
 /// What the thread has done.
@@ -27,6 +44,10 @@ pub enum Report {
         is_dump: bool,
         ordinal: u64,
         text: Result<Arc<Vec<u8>>, Fault>,
+    },
+    Told {
+        asker: Asker,
+        told: Result<Told, Fault>,
     },
 }
 
@@ -111,6 +132,11 @@ impl Copy {
                 self.begin_anew();
                 Some(Report::Text { is_dump, ordinal, text })
             }
+            Order::Ask { asker, query } => {
+                let told = self.table().map(|it| answer(it, query));
+                self.begin_anew();
+                Some(Report::Told { asker, told })
+            }
         }
     }
 
@@ -154,16 +180,20 @@ impl Copy {
         }
     }
 
-    fn text(&mut self, is_dump: bool) -> Result<String, Fault> {
+    fn table(&mut self) -> Result<&Table, Fault> {
         if matches!(self.state, State::Unread) {
             self.replay(b"");
         }
-        let table = match &mut self.state {
-            State::Kept(recovery) => &mut recovery.table,
-            State::Loose { table, .. } => table,
-            State::Failed(fault) => return Err(fault.clone()),
-            State::Unread => return Err("there is no second table".to_owned()),
-        };
+        match &self.state {
+            State::Kept(recovery) => Ok(&recovery.table),
+            State::Loose { table, .. } => Ok(table),
+            State::Failed(fault) => Err(fault.clone()),
+            State::Unread => Err("there is no second table".to_owned()),
+        }
+    }
+
+    fn text(&mut self, is_dump: bool) -> Result<String, Fault> {
+        let table = self.table()?;
         let text = if is_dump { table.dump() } else { table.list() };
         text.map_err(|error| error.to_string())
     }
@@ -177,6 +207,13 @@ impl Copy {
         directory.write(&path, &[text?.as_bytes()]).map_err(fault_at(&path))?;
         directory.put_away(recovery.made, *archive).map_err(fault_at(&directory.path))?;
         Ok(recovery.made)
+    }
+}
+
+fn answer(table: &Table, query: Query) -> Told {
+    match query {
+        Query::Call(call) => Told::Reply(table.ask(call)),
+        Query::Stat { caller, number } => Told::Stat(Box::new(table.stat(caller, number))),
     }
 }
 

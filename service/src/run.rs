@@ -2,10 +2,11 @@
 use crate::accounts::{MOST_LEASES, REQUESTS_AT_ONCE};
 use crate::commands::{find, without_prefix, Action, Command, Values, Verb, COMMANDS};
 use crate::conn::{Conn, Follower, Held, Multi, Pause};
-use crate::directory::SEATS;
+use crate::directory::{Fault, SEATS};
 use crate::events::{self, Channel, MOST_CHANNELS};
 use crate::leases::{is_name, read_ttl, Lease};
 use crate::options::Rights;
+use crate::replica::{Asker, Query, Told};
 use crate::resp::{is_word, number, Answer, Words};
 use crate::rights::may_make;
 use crate::say;
@@ -77,6 +78,9 @@ impl Service {
     fn run_call(&mut self, conn: &mut Conn, call: Call, asks: bool) {
         if conn.multi.is_some() {
             return queue_call(conn, call, asks);
+        }
+        if asks && self.is_stuck() {
+            return self.ask_saved(conn, Query::Call(call));
         }
         if asks {
             return match self.engine.ask(call) {
@@ -153,7 +157,34 @@ impl Service {
         self.make(conn, call);
     }
 
+    /// The table has calls that the disk has not taken: the second table, which has what is written, answers.
+    fn ask_saved(&mut self, conn: &mut Conn, query: Query) {
+        conn.pause = Pause::Asks;
+        self.engine.order_answer((conn.token, conn.id), query);
+    }
+
+    /// The second table has answered.
+    pub fn tell(&mut self, (token, id): Asker, told: Result<Told, Fault>) {
+        let Some(conn) = self.conn(token).filter(|it| it.id == id) else { return };
+        conn.pause = Pause::None;
+        match told {
+            Ok(Told::Reply(Ok(reply))) => say::reply(&mut conn.out, &reply),
+            Ok(Told::Reply(Err(error))) => say::error(&mut conn.out, &error),
+            Ok(Told::Stat(stat)) => match *stat {
+                Ok(task) => say::stat(&mut conn.out, &task),
+                Err(error) => say::error(&mut conn.out, &error),
+            },
+            Err(fault) => conn.out.line(&format!("-ERR no answer: {}", fault.replace(['\r', '\n'], " "))),
+        }
+        self.touch(token);
+        self.queue(token);
+    }
+
     fn run_stat(&mut self, conn: &mut Conn, values: &Values) {
+        if self.is_stuck() {
+            let Values { caller, number, .. } = *values;
+            return self.ask_saved(conn, Query::Stat { caller, number });
+        }
         match self.engine.stat(values.caller, values.number) {
             Ok(task) => say::stat(&mut conn.out, &task),
             Err(error) => say::error(&mut conn.out, &error),

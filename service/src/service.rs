@@ -1,5 +1,6 @@
 //! The sockets, in one thread. A turn: what has come is read and done, what was recorded is written in one go, and then the answers go out.
 use crate::accounts::{Accounts, MOST_OUTPUT};
+use crate::commands::{find, Command};
 use crate::conn::{Conn, Pause, MUCH_OUTPUT};
 use crate::directory::Fault;
 use crate::engine::{Engine, Text};
@@ -84,6 +85,9 @@ pub struct Service {
     touched: Vec<usize>,
     /// Why the disk does not take what was recorded, while it does not.
     stuck: Option<Fault>,
+    /// Whose answers wait for it, and whose requests.
+    held: Vec<usize>,
+    delayed: Vec<usize>,
     /// So many bytes of output have come to guests since it was looked at whose is too much.
     poured: usize,
     /// Leases whose tasks have ended, each with the sync that brings that to the disk.
@@ -158,6 +162,8 @@ impl Service {
             ready: Vec::new(),
             touched: Vec::new(),
             stuck: None,
+            held: Vec::new(),
+            delayed: Vec::new(),
             poured: 0,
             ending: Vec::new(),
             next_id: 1,
@@ -193,16 +199,14 @@ impl Service {
     }
 
     fn turn(&mut self, events: &mut Events) -> Result<(), Fault> {
-        let is_busy = !self.is_stuck() && (self.is_calling || !self.ready.is_empty());
+        let is_busy = self.is_calling || !self.ready.is_empty();
         let wait = if is_busy { 0 } else { self.wait() };
         self.await_events(events, wait)?;
         for event in events.iter() {
             self.take_event(event);
         }
         self.tick()?;
-        if !self.is_stuck() {
-            self.work();
-        }
+        self.work();
         self.settle()?;
         if self.is_calling {
             self.accept_some();
@@ -301,6 +305,10 @@ impl Service {
         for token in std::mem::take(&mut self.ready) {
             let Some(mut conn) = self.conns[token].take() else { continue };
             conn.is_queued = false;
+            if conn.is_delayed {
+                self.conns[token] = Some(conn);
+                continue;
+            }
             conn.is_cut = !self.accounts.begin(conn.user);
             if !conn.is_cut {
                 self.serve(&mut conn);
@@ -308,6 +316,7 @@ impl Service {
             }
             let goes_on = conn.is_free() && (conn.is_readable || conn.is_cut) && !conn.is_gone;
             let is_touched = conn.waiting() > 0 || conn.ends || conn.is_gone;
+            self.delayed.extend(conn.is_delayed.then_some(token));
             self.conns[token] = Some(conn);
             if goes_on {
                 self.queue(token);
@@ -352,6 +361,10 @@ impl Service {
                 Ok(None) => break,
                 Ok(Some(size)) => {
                     let words = reader.words(&bytes[at..]);
+                    if self.is_stuck() && find(words.at(0)).is_some_and(Command::waits_for_disk) {
+                        conn.is_delayed = true;
+                        break;
+                    }
                     if words.len() > 0 {
                         self.run_command(conn, words);
                     }
@@ -379,16 +392,41 @@ impl Service {
         self.wake_sleepers();
         self.free_gone();
         self.publish();
+        let was_stuck = self.is_stuck();
         self.commit()?;
-        if self.is_stuck() {
-            return Ok(());
+        match (was_stuck, self.is_stuck()) {
+            (false, true) => self.hold(),
+            (true, false) => self.go_on(),
+            _ => {}
         }
-        self.stream();
-        self.order_texts();
+        if !self.is_stuck() {
+            self.stream();
+            self.order_texts();
+        }
         for token in std::mem::take(&mut self.touched) {
             self.send_to(token);
         }
         Ok(())
+    }
+
+    /// The answers of this turn may be of what is not saved: they wait, and the clients with them. Others are answered what is.
+    fn hold(&mut self) {
+        for token in std::mem::take(&mut self.touched) {
+            let Some(conn) = self.conns[token].as_deref_mut() else { continue };
+            (conn.is_held, conn.is_delayed) = (true, true);
+            self.held.push(token);
+            self.delayed.push(token);
+        }
+    }
+
+    /// What has waited for the disk goes on.
+    fn go_on(&mut self) {
+        self.touched.append(&mut self.held);
+        for token in std::mem::take(&mut self.delayed) {
+            let Some(conn) = self.conns[token].as_deref_mut() else { continue };
+            (conn.is_held, conn.is_delayed) = (false, false);
+            self.queue(token);
+        }
     }
 
     /// The leases come first: so a fork that the log has is bound, whenever the process ends.
@@ -529,9 +567,13 @@ impl Service {
     /// What is due by the clock, and what other threads have done.
     fn tick(&mut self) -> Result<(), Fault> {
         while let Some(report) = self.engine.take_report() {
-            if let Report::Text { is_dump, ordinal, text } = report {
-                self.texts.ordered[usize::from(is_dump)] = false;
-                self.deliver(is_dump, ordinal, text);
+            match report {
+                Report::Text { is_dump, ordinal, text } => {
+                    self.texts.ordered[usize::from(is_dump)] = false;
+                    self.deliver(is_dump, ordinal, text);
+                }
+                Report::Told { asker, told } => self.tell(asker, told),
+                Report::Snapshot(_) => {}
             }
         }
         self.follow_leader()?;
@@ -738,8 +780,14 @@ impl Service {
         for token in 0..self.conns.len() {
             let Some(conn) = self.conn(token) else { continue };
             conn.is_gone |= conn.follower.is_some();
-            if let Pause::Awaits { is_dump, .. } = conn.pause {
-                self.texts.wanted[usize::from(is_dump)] = true;
+            match conn.pause {
+                Pause::Awaits { is_dump, .. } => self.texts.wanted[usize::from(is_dump)] = true,
+                Pause::Asks => {
+                    conn.pause = Pause::None;
+                    conn.out.line("-BUSY the table is taken anew");
+                    self.queue(token);
+                }
+                _ => {}
             }
             self.touch(token);
         }
@@ -755,6 +803,16 @@ impl Service {
 
     pub fn uptime(&self) -> u64 {
         self.started.elapsed().as_secs()
+    }
+
+    pub fn stuck_by(&self) -> Option<&str> {
+        self.stuck.as_deref()
+    }
+
+    /// How many bytes the follower that is the farthest behind was not sent.
+    pub fn follower_lag(&self) -> usize {
+        let followers = self.conns.iter().flatten().filter(|it| it.follower.is_some());
+        followers.map(|it| it.waiting()).max().unwrap_or(0)
     }
 
     pub fn is_stuck(&self) -> bool {

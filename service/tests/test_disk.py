@@ -516,6 +516,48 @@ class Full(Case):
         one.kill()
         self.assertEqual(one.start().client().say("POSITION"), answered + 1001)
 
+    def fill(self, one):
+        """The disk has no room: how many calls were answered before, one at a time; the last one waits."""
+        client = one.client()
+        client.socket.settimeout(1)
+        answered = 0
+        with self.assertRaises(TimeoutError):
+            while client.say("FORK 1"):
+                answered += 1
+        client.socket.settimeout(30)
+        return client, answered
+
+    def test_who_asks_is_answered(self):
+        """While calls wait for room, PING and INFO are answered, and queries by what is saved; a call of another waits too. And it is said."""
+        one = self.small_disk()
+        caller, answered = self.fill(one)
+        client, other = one.client(), one.client()
+        client.socket.settimeout(5)
+        self.assertEqual((client.say("PING"), client.say("GETPPID 2"), client.say(f"GETPID {answered + 1}")), ("PONG", 1, answered + 1))
+        self.assertEqual(client.say(f"STAT 1 {answered + 1}")[5], answered + 1)
+        self.refused(client, f"GETPID {answered + 2}", "ESRCH no-caller")
+        self.refused(client, f"STAT 1 {answered + 2}", "ESRCH no-task")
+        told = client.say("INFO")
+        for field in (f"position:{answered}", "waiting_calls:1", "is_stuck:1", f"stuck_by:{one.kept}/log-"):
+            self.assertIn(f"\n{field}", told)
+        client.socket.sendall(b"GETPID 1\r\nEXEC 1\r\nGETPID 1\r\n")
+        self.assertEqual(client.answer(), 1)
+        other.send("POSITION")
+        client.socket.settimeout(0.5)
+        self.assertRaises(TimeoutError, client.answer)
+        self.assertRegex(one.said(), "log-[0-9]{20}: No space left on device .*: answers wait until it can be written\n$")
+        before = one.time()
+        time.sleep(0.5)
+        self.assertLess(one.time() - before, 0.1)
+        self.grow(one)
+        client.socket.settimeout(30)
+        self.assertEqual((caller.answer(), client.answer(), client.answer()), ([answered + 2, answered + 2], "OK", 1))
+        self.assertIn(other.answer(), (answered + 1, answered + 2))
+        self.assertIn("waiting_calls:0\r\n", client.say("INFO"))
+        self.assertTrue(one.said().endswith("pidtabd: the disk takes what has waited, and answers go out\n"), one.said())
+        one.kill()
+        self.assertEqual(one.start().client().say("POSITION"), answered + 2)
+
     def test_leases_have_no_room_and_the_log_has(self):
         """Another program fills the disk, and only the log has room left, its zeroes. Then there is room again: each call is in the log once."""
         one = self.small_disk("8m")
