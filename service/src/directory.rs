@@ -48,6 +48,9 @@ impl Directory {
             let owner = about.uid();
             return Err(fault_at(path)(format!("belongs to the user {owner}, and this process is the user {user}'s")));
         }
+        if about.mode() & 0o022 != 0 {
+            return Err(fault_at(path)("may be written by others: `chmod go-w` it"));
+        }
         let mut options = OpenOptions::new();
         options.read(true).write(true).create(true).truncate(false).mode(0o600);
         Directory::list(path)?;

@@ -284,6 +284,11 @@ class Damaged(Case):
         last.unlink()
         self.assertIn(f"{last}: is missing", self.refusal(one))
 
+    def test_a_directory_that_others_may_write(self):
+        one = self.daemon()
+        one.kept.chmod(0o770)
+        self.assertIn(f"{one.kept}: may be written by others", self.refusal(one))
+
     def test_the_only_log_is_missing(self):
         """It is not taken for a new table; nor is one of which no head is left."""
         one = self.daemon().start()
