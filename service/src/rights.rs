@@ -1,7 +1,7 @@
 //! What a user may do to tasks: all, nothing but ask, or calls by tasks below one cgroup alone.
 use crate::engine::Engine;
 use crate::options::Rights;
-use pidtab::Call;
+use pidtab::{Call, Reply};
 
 /// Whether the call may be made.
 pub fn may_make(engine: &mut Engine, rights: Rights, call: Call) -> bool {
@@ -39,9 +39,8 @@ impl Below<'_> {
             Call::Count { id } => self.is_within(id),
             // The limit of his own cgroup is not his to change.
             Call::Rm { id } | Call::Limit { id, .. } => id != self.top && self.is_within(id),
-            Call::Fork { caller, .. } | Call::Exec { caller } | Call::Wait { caller, .. } | Call::Setsid { caller } => {
-                self.has(caller)
-            }
+            Call::Wait { caller, .. } => self.has(caller) && self.has_whom_it_reaps(caller, call),
+            Call::Fork { caller, .. } | Call::Exec { caller } | Call::Setsid { caller } => self.has(caller),
             Call::Subreaper { caller, .. } | Call::Getpid { caller } | Call::Getppid { caller } => self.has(caller),
             Call::Nspid { caller, .. }
             | Call::Getpgid { caller, .. }
@@ -65,6 +64,14 @@ impl Below<'_> {
     fn sees(&mut self, caller: u32, number: u32) -> bool {
         let task = self.engine.table.stat(caller, number);
         task.is_ok_and(|it| self.is_within(it.control()))
+    }
+
+    /// A child that has gone outside is another's to wait for.
+    fn has_whom_it_reaps(&mut self, caller: u32, call: Call) -> bool {
+        match self.engine.table.would(call) {
+            Ok(Reply::Reaped(it)) => self.sees(caller, it.child),
+            _ => true,
+        }
     }
 
     /// An init takes all of its namespace with it, who may be another's.
