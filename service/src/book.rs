@@ -5,7 +5,7 @@ use std::collections::{BTreeSet, HashMap};
 use std::hash::{BuildHasherDefault, Hasher};
 
 /// The root init, which never ends, and so may always ask.
-const INIT: u32 = 1;
+pub const INIT: u32 = 1;
 
 /// An odd number without a pattern: 2^64 by the golden ratio.
 const MIX: u64 = 0x9e37_79b9_7f4a_7c15;

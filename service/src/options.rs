@@ -22,6 +22,7 @@ usage: pidtabd [OPTION ..]
   --max-user-clients N  of a user, but root and the daemon's own (half of --max-clients)
   --max-controls N    how many cgroups there may be (65536)
   --max-output BYTES  of LIST and DUMP that wait to be taken (268435456)
+  --reap              what a lease has ended is waited for, where task 1 has to
   --stall SECONDS     who takes no answer for so long is closed: 1 to 86400 (60)
   --commands          writes the table of commands, and ends
   --version, --help
@@ -48,6 +49,8 @@ pub struct Options {
     pub most_user_clients: Option<usize>,
     pub most_output: usize,
     pub stall: u64,
+    /// What a lease has ended is waited for, where task 1 has to.
+    pub reaps: bool,
 }
 
 /// What the command line asks for.
@@ -71,9 +74,27 @@ impl Default for Options {
             most_user_clients: None,
             most_output: 256 << 20,
             stall: 60,
+            reaps: false,
         }
     }
 }
+
+/// The options behind which a value comes.
+const WITH_VALUES: [&str; 13] = [
+    "socket",
+    "follow",
+    "dir",
+    "mode",
+    "allow",
+    "fsync",
+    "segment",
+    "pid-max",
+    "max-clients",
+    "max-user-clients",
+    "max-controls",
+    "max-output",
+    "stall",
+];
 
 /// Reads the command line. What is wrong with it is a sentence.
 pub fn read(words: impl IntoIterator<Item = OsString> + 'static) -> Result<Wanted, String> {
@@ -85,6 +106,8 @@ pub fn read(words: impl IntoIterator<Item = OsString> + 'static) -> Result<Wante
             Long("version") => return Ok(Wanted::Version),
             Long("commands") => return Ok(Wanted::Commands),
             Long("archive") => options.keep.archive = true,
+            Long("reap") => options.reaps = true,
+            Long(name) if !WITH_VALUES.contains(&name) => return Err(format!("there is no option --{name}")),
             Long(name) => {
                 let name = name.to_owned();
                 let value = parser.value().map_err(|fault| fault.to_string())?;
@@ -193,5 +216,7 @@ mod tests {
             &["--stall"],
         ];
         assert_eq!(wrong.iter().find(|it| options(it).is_ok()), None);
+        assert_eq!(options(&["--nosuch"]).unwrap_err(), "there is no option --nosuch");
+        assert_eq!(options(&["--dir"]).unwrap_err(), "missing argument for option '--dir'");
     }
 }

@@ -1,5 +1,6 @@
 //! What each command does.
 use crate::accounts::{MOST_LEASES, REQUESTS_AT_ONCE};
+use crate::book::INIT;
 use crate::commands::{find, without_prefix, Action, Command, Values, Verb, COMMANDS};
 use crate::conn::{Conn, Follower, Held, Multi, Pause};
 use crate::directory::{Fault, SEATS};
@@ -12,7 +13,7 @@ use crate::rights::may_make;
 use crate::say;
 use crate::service::Service;
 use crate::sleepers::{must_sleep, no_permission, Sleeper};
-use pidtab::{Call, Reply};
+use pidtab::{Call, Reply, Which};
 
 /// No MULTI has more calls.
 const MOST_QUEUED: usize = 1024;
@@ -452,6 +453,16 @@ impl Service {
         }
         self.is_ending = true;
         conn.ends = true;
+    }
+
+    /// Of the tasks those that have ended and that task 1 has to wait for are reaped, as by an init.
+    pub fn reap(&mut self, tasks: &[u32]) {
+        for task in tasks {
+            if self.engine.book.kin(*task).is_some_and(|it| it.is_zombie && it.parent == INIT) {
+                let call = Call::Wait { caller: INIT, which: Which::Pid(*task) };
+                self.figures.calls += u64::from(self.engine.make(0, call).is_ok());
+            }
+        }
     }
 
     /// Ends a task of a lease, if its user may.

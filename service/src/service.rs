@@ -635,7 +635,10 @@ impl Service {
         self.forget_ended();
         for (number, user, tasks) in self.leases.take_over(self.now) {
             let rights = self.rights_of(user).unwrap_or(Rights::Asks);
-            tasks.into_iter().for_each(|it| self.kill(rights, it));
+            tasks.iter().for_each(|it| self.kill(rights, *it));
+            if self.options.reaps {
+                self.reap(&tasks);
+            }
             self.ending.push((number, self.engine.log.as_ref().and_then(Log::next_sync)));
         }
     }

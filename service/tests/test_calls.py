@@ -381,6 +381,37 @@ class Leases(Case):
         time.sleep(0.4)
         self.assertEqual((other.say("LEASES"), other.say("GETPID 300")), ([], 300))
 
+    def test_what_a_lease_ends_is_reaped(self):
+        """With --reap its tasks leave no zombies to task 1, which would fill the table; with another parent they stay his."""
+        one = self.daemon("--pid-max", "400", "--reap").start()
+        other = one.client()
+        self.assertEqual(other.say("FORK 1"), [2, 2])
+        for number in range(440):
+            client = one.client()
+            client.socket.sendall(b"LEASE rig%d 0\r\nFORK 1\r\nFORK 1 NEW\r\n" % number)
+            self.assertEqual(client.answer(), "OK")
+            child = client.answer()
+            self.assertIsInstance(child, list, f"{child} in round {number}")
+            client.answer()
+            client.close()
+            if number % 40 == 39:
+                self.wait_for_none(other)
+        client = one.client()
+        for line in ("LEASE rig 0", "FORK 2"):
+            client.say(line)
+        client.close()
+        self.wait_for_none(other)
+        self.assertEqual(other.say("LIST").count(" exit 137"), 1)
+        self.assertEqual(other.say("WAIT 2 ANY")[1], 137)
+
+    def wait_for_none(self, client):
+        """All leases are over."""
+        end = time.monotonic() + 5
+        while client.say("LEASES"):
+            self.assertLess(time.monotonic(), end)
+            time.sleep(0.02)
+        time.sleep(0.1)
+
     def test_released_by_another_who_takes_it_again(self):
         """A connection that held a lease of that name, which was released, does not end the one that has the name now."""
         one = self.daemon().start()
@@ -469,6 +500,15 @@ class Users(Case):
         client.say("EXIT 4 0")
         client.say("WAIT 3 ANY")
         self.assertEqual(self.as_enemy(one, ["EXIT 3 0"]), "+OK\r\n")
+
+    def test_a_child_that_has_gone_outside(self):
+        """Who is below a cgroup does not reap one that ended outside."""
+        one = self.daemon("--mode", "666", "--allow", f"0,{self.ENEMY}:below=1").start()
+        client = one.client()
+        for line in ("MK 0", "FORK 1", "MOVE 2 1", "FORK 2", "FORK 2", "MOVE 3 0", "EXIT 3 5", "EXIT 4 6"):
+            client.say(line)
+        self.assertEqual(self.as_enemy(one, ["WAIT 2 PID 3", "WAIT 2 PID 4"]), "-NOPERM this user may call by tasks below his cgroup alone\r\n*2\r\n:4\r\n:6\r\n")
+        self.assertEqual(client.say("WAIT 2 ANY"), [3, 5])
 
     def test_a_lease_ends_what_its_user_may(self):
         """The init of a namespace where another user's task is stays, as by EXIT."""
