@@ -13,6 +13,9 @@ const MOST_CHANNELS: usize = 64;
 /// So many bytes may wait to be sent to a guest, in all his connections.
 pub const MOST_OUTPUT: usize = 32 << 20;
 
+/// Behind so many bytes of output to guests it is looked at whose is too much.
+const MUCH_POURED: usize = 8 << 20;
+
 /// So long a guest's requests are done in a turn. Then the others come, and his in the next turn.
 const BUDGET: Duration = Duration::from_millis(4);
 
@@ -38,6 +41,7 @@ pub struct Accounts {
     /// When the requests that are being done are to stop, those of a guest.
     until: Option<Instant>,
     requests: u32,
+    poured: usize,
 }
 
 impl Accounts {
@@ -51,6 +55,7 @@ impl Accounts {
             most_of_guests: most - most.div_ceil(16),
             until: None,
             requests: 0,
+            poured: 0,
         }
     }
 
@@ -98,6 +103,14 @@ impl Accounts {
         if let Some(account) = self.guests.get_mut(&user) {
             account.channels -= count;
         }
+    }
+
+    /// So many bytes more are in the output of guests: whether that is much since it was much last.
+    pub fn pours(&mut self, bytes: usize) -> bool {
+        self.poured += bytes;
+        let is_much = self.poured >= MUCH_POURED;
+        self.poured *= usize::from(!is_much);
+        is_much
     }
 
     /// A turn begins: each guest has his whole time.

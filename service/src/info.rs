@@ -57,7 +57,7 @@ fn clients(service: &Service) -> Fields {
         field("closed_with_too_much_output", figures.heavy),
         field("sleeping", service.sleepers.count()),
         field("leases", service.leases.count()),
-        field("followers", service.followers),
+        field("followers", figures.followers),
         field("follower_lag_bytes", service.follower_lag()),
     ]
 }

@@ -422,7 +422,7 @@ impl Service {
         self.want_text(conn, true);
         if matches!(conn.pause, Pause::Awaits { .. }) {
             conn.follower = Some(Follower::default());
-            self.followers += 1;
+            self.figures.followers += 1;
         }
     }
 

@@ -41,9 +41,6 @@ const FEW_TASKS: usize = 200;
 /// A follower that is so many bytes behind is closed.
 const FAR_BEHIND: usize = 256 << 20;
 
-/// Behind so many bytes of output it is looked at whose is too much.
-const MUCH_POURED: usize = 8 << 20;
-
 /// So long a disk that is full is waited for at the end.
 const LAST_WAIT: Duration = Duration::from_secs(5);
 
@@ -58,6 +55,7 @@ pub struct Figures {
     /// Closed, as their users had too much output together.
     pub heavy: u64,
     pub clients: usize,
+    pub followers: usize,
     pub seated: [usize; crate::directory::SEATS as usize],
 }
 
@@ -83,22 +81,13 @@ pub struct Service {
     freed: Vec<usize>,
     ready: Vec<usize>,
     touched: Vec<usize>,
-    /// Why the disk does not take what was recorded, while it does not.
-    stuck: Option<Fault>,
-    /// Whose answers wait for it, and whose requests.
-    held: Vec<usize>,
-    delayed: Vec<usize>,
-    /// So many bytes of output have come to guests since it was looked at whose is too much.
-    poured: usize,
-    /// Leases whose tasks have ended, each with the sync that brings that to the disk.
-    ending: Vec<(u64, Option<u64>)>,
+    disk: Disk,
     next_id: u64,
     ticked: u64,
     input: Vec<u8>,
     pub reader: Reader,
     spare: Option<File>,
     texts: Texts,
-    pub followers: usize,
 }
 
 /// The last text of each kind, and all that are being sent.
@@ -124,6 +113,18 @@ impl Texts {
         self.alive.retain(|it| it.strong_count() > 0);
         self.alive.iter().filter_map(|it| it.upgrade()).map(|it| it.len()).sum()
     }
+}
+
+/// What waits for the disk.
+#[derive(Default)]
+struct Disk {
+    /// Why it does not take what was recorded, while it does not.
+    stuck: Option<Fault>,
+    /// Whose answers wait for that, and whose requests.
+    held: Vec<usize>,
+    delayed: Vec<usize>,
+    /// Leases whose tasks have ended, each with the sync that saves that.
+    ending: Vec<(u64, Option<u64>)>,
 }
 
 /// What wakes the loop from another thread.
@@ -161,18 +162,13 @@ impl Service {
             freed: Vec::new(),
             ready: Vec::new(),
             touched: Vec::new(),
-            stuck: None,
-            held: Vec::new(),
-            delayed: Vec::new(),
-            poured: 0,
-            ending: Vec::new(),
+            disk: Disk::default(),
             next_id: 1,
             ticked: 0,
             input: vec![0; LONGEST_REQUEST + READ_AT_ONCE],
             reader: Reader::default(),
             spare: File::open("/dev/null").ok(),
             texts: Texts::default(),
-            followers: 0,
             options,
         };
         service.watch().map_err(fault)?;
@@ -316,7 +312,7 @@ impl Service {
             }
             let goes_on = conn.is_free() && (conn.is_readable || conn.is_cut) && !conn.is_gone;
             let is_touched = conn.waiting() > 0 || conn.ends || conn.is_gone;
-            self.delayed.extend(conn.is_delayed.then_some(token));
+            self.disk.delayed.extend(conn.is_delayed.then_some(token));
             self.conns[token] = Some(conn);
             if goes_on {
                 self.queue(token);
@@ -414,15 +410,15 @@ impl Service {
         for token in std::mem::take(&mut self.touched) {
             let Some(conn) = self.conns[token].as_deref_mut() else { continue };
             (conn.is_held, conn.is_delayed) = (true, true);
-            self.held.push(token);
-            self.delayed.push(token);
+            self.disk.held.push(token);
+            self.disk.delayed.push(token);
         }
     }
 
     /// What has waited for the disk goes on.
     fn go_on(&mut self) {
-        self.touched.append(&mut self.held);
-        for token in std::mem::take(&mut self.delayed) {
+        self.touched.append(&mut self.disk.held);
+        for token in std::mem::take(&mut self.disk.delayed) {
             let Some(conn) = self.conns[token].as_deref_mut() else { continue };
             (conn.is_held, conn.is_delayed) = (false, false);
             self.queue(token);
@@ -438,14 +434,14 @@ impl Service {
             Committed::Done => self.engine.commit()?,
             waits => waits,
         };
-        match (&done, &self.stuck) {
+        match (&done, &self.disk.stuck) {
             (Committed::Waits(why), before) if before.as_ref() != Some(why) => {
                 eprintln!("pidtabd: {why}: answers wait until it can be written");
             }
             (Committed::Done, Some(_)) => eprintln!("pidtabd: the disk takes what has waited, and answers go out"),
             _ => {}
         }
-        self.stuck = match done {
+        self.disk.stuck = match done {
             Committed::Done => None,
             Committed::Waits(why) => Some(why),
         };
@@ -479,7 +475,7 @@ impl Service {
         self.figures.clients -= 1;
         self.figures.seated[conn.seat as usize] -= 1;
         self.accounts.gone(conn.user, conn.channels.len());
-        self.followers -= usize::from(conn.follower.is_some());
+        self.figures.followers -= usize::from(conn.follower.is_some());
         if let Some(held) = &conn.lease {
             self.leases.let_go(held.number, self.now);
         }
@@ -594,7 +590,7 @@ impl Service {
         let (now, stall) = (self.now, self.options.stall * 1000);
         let mut stalled = Vec::new();
         for conn in self.conns.iter_mut().flatten() {
-            if conn.unsent() == 0 || self.stuck.is_some() {
+            if conn.unsent() == 0 || self.disk.stuck.is_some() {
                 conn.moved = now;
             } else if now - conn.moved > stall || conn.waiting() > FAR_BEHIND {
                 stalled.push(conn.token);
@@ -606,15 +602,13 @@ impl Service {
 
     /// So much has been put into the output of guests: if it is much, it is looked at whose is too much, and not only by the clock.
     fn pour(&mut self, bytes: usize) {
-        self.poured += bytes;
-        if self.poured >= MUCH_POURED {
+        if self.accounts.pours(bytes) {
             self.close_heavy();
         }
     }
 
     /// Of guests whose output is too much together, those connections go that have most.
     fn close_heavy(&mut self) {
-        self.poured = 0;
         let guests = self.conns.iter().flatten().filter(|it| it.is_guest && it.waiting() > 0);
         let mut heavy: Vec<_> = guests.map(|it| (it.user, it.waiting(), it.token)).collect();
         heavy.sort_unstable();
@@ -639,7 +633,7 @@ impl Service {
             if self.options.reaps {
                 self.reap(&tasks);
             }
-            self.ending.push((number, self.engine.log.as_ref().and_then(Log::next_sync)));
+            self.disk.ending.push((number, self.engine.log.as_ref().and_then(Log::next_sync)));
         }
     }
 
@@ -647,8 +641,8 @@ impl Service {
     fn forget_ended(&mut self) {
         let log = self.engine.log.as_ref();
         let is_saved = |it: &(u64, Option<u64>)| it.1.zip(log).is_none_or(|(sync, log)| log.has_synced(sync));
-        let (saved, rest) = std::mem::take(&mut self.ending).into_iter().partition(is_saved);
-        self.ending = rest;
+        let (saved, rest) = std::mem::take(&mut self.disk.ending).into_iter().partition(is_saved);
+        self.disk.ending = rest;
         let saved: Vec<_> = saved;
         saved.into_iter().for_each(|it| self.leases.release(it.0));
     }
@@ -685,7 +679,7 @@ impl Service {
     /// Followers get what was written in this turn, and the head of a new log.
     fn stream(&mut self) {
         let (blocks, head) = self.engine.take_written();
-        if self.followers == 0 {
+        if self.figures.followers == 0 {
             return self.engine.give_back(blocks);
         }
         let (mut told, mut poured) = (Vec::new(), 0);
@@ -809,7 +803,7 @@ impl Service {
     }
 
     pub fn stuck_by(&self) -> Option<&str> {
-        self.stuck.as_deref()
+        self.disk.stuck.as_deref()
     }
 
     /// How many bytes the follower that is the farthest behind was not sent.
@@ -819,7 +813,7 @@ impl Service {
     }
 
     pub fn is_stuck(&self) -> bool {
-        self.stuck.is_some()
+        self.disk.stuck.is_some()
     }
 
     /// What was recorded is saved, and its clients are told, if they read. A disk that is full is waited for a while.
