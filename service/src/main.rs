@@ -83,9 +83,8 @@ fn serve(options: Options) -> ExitCode {
         );
     }
     raise_files(options.most_clients as u64 + 64);
-    let begun = listen(&options).and_then(|listeners| Ok((listeners, signals()?)));
-    let (listeners, signals) = match begun {
-        Ok(begun) => begun,
+    let listeners = match listen(&options) {
+        Ok(listeners) => listeners,
         Err(fault) => return fail(&fault, 1),
     };
     let socket = options.socket.clone();

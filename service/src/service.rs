@@ -134,8 +134,12 @@ pub fn wake_by(waker: &Arc<Waker>) -> impl Fn() + Clone + Send + 'static {
 }
 
 impl Service {
-    /// The signals come as bytes of that stream.
-    pub fn begin(options: Options, listeners: Vec<UnixListener>, signals: UnixStream) -> Result<Service, Fault> {
+    /// The signals come as bytes of a stream once the directory was read; until then they end the process.
+    pub fn begin(
+        options: Options,
+        listeners: Vec<UnixListener>,
+        signals: impl FnOnce() -> Result<UnixStream, Fault>,
+    ) -> Result<Service, Fault> {
         let fault = |error: io::Error| format!("the loop cannot begin: {error}");
         let poll = Poll::new().map_err(fault)?;
         let waker = Arc::new(Waker::new(poll.registry(), WAKE).map_err(fault)?);
@@ -154,7 +158,7 @@ impl Service {
             haste: Haste::default(),
             poll,
             waker,
-            signals,
+            signals: signals()?,
             listeners,
             is_calling: false,
             conns: Vec::new(),

@@ -4,6 +4,7 @@ import os
 import pathlib
 import random
 import shutil
+import signal
 import subprocess
 import threading
 import time
@@ -306,6 +307,14 @@ class Damaged(Case):
             if path.name.startswith("snap-"):
                 path.unlink()
         self.assertIn("no snapshot or log comes before", self.refusal(one))
+
+    def test_a_start_is_ended(self):
+        """SIGTERM ends it also while the directory is read: here a snapshot that never ends."""
+        one = self.daemon()
+        os.mkfifo(one.kept / f"snap-{5:020}")
+        one.start()
+        one.process.terminate()
+        self.assertEqual(one.process.wait(timeout=5), -signal.SIGTERM)
 
     def test_two_daemons(self):
         one = self.daemon().start()
