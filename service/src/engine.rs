@@ -277,6 +277,7 @@ impl Engine {
             self.blocks = blocks;
             self.head = head_bytes(self.pid_max, self.made);
             self.is_compacting = true;
+            self.replica.order(Order::Current { base: self.made });
             self.replica.order(Order::File { base, bytes });
             self.replica.order(Order::Snapshot);
         }

@@ -236,23 +236,12 @@ impl Log {
                 return Ok(None);
             }
         };
-        self.name_current(made);
         let closed = Closed { base: self.base, bytes: self.bytes };
         self.file = Arc::new(file);
         (self.base, self.bytes) = (made, Blocks::HEAD as u64);
         self.length = self.bytes;
         self.syncer.has_synced();
         Ok(Some((closed, blocks)))
-    }
-
-    /// `current` only tells a directory that has lost its newest file: if it cannot be written, it names the log before, or this one, and both are there.
-    fn name_current(&self, base: u64) {
-        if let Err(error) = self.directory.set_current(base) {
-            eprintln!(
-                "pidtabd: {}/current: cannot be written, and the log goes on: {error}",
-                self.directory.path.display()
-            );
-        }
     }
 
     /// All is on the disk, and nothing behind it.

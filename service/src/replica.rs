@@ -9,6 +9,8 @@ use std::thread;
 
 /// What the thread is told to do, in this order.
 pub enum Order {
+    /// That log is the newest.
+    Current { base: u64 },
     /// Goes on to a place of the log.
     File { base: u64, bytes: u64 },
     /// Goes on with these blocks, where nothing is kept.
@@ -114,6 +116,10 @@ struct Copy {
 impl Copy {
     fn follow(&mut self, order: Order) -> Option<Report> {
         match order {
+            Order::Current { base } => {
+                self.name_current(base);
+                None
+            }
             Order::File { base, bytes } => {
                 self.go_on(|it| it.go_on(base, bytes));
                 None
@@ -137,6 +143,16 @@ impl Copy {
                 self.begin_anew();
                 Some(Report::Told { asker, told })
             }
+        }
+    }
+
+    /// `current` only tells a directory that has lost its newest file: if it cannot be written, it names the log before, or this one, and both are
+    /// there.
+    fn name_current(&self, base: u64) {
+        let Source::Directory { directory, .. } = &self.source else { return };
+        if let Err(error) = directory.set_current(base) {
+            let path = directory.path.display();
+            eprintln!("pidtabd: {path}/current: cannot be written, and the log goes on: {error}");
         }
     }
 
