@@ -52,7 +52,7 @@ impl Accounts {
             own: geteuid().as_raw(),
             turn: 0,
             most_connections: options.most_user_clients.unwrap_or(most.div_ceil(2)),
-            most_of_guests: most - most.div_ceil(16),
+            most_of_guests: most - most.div_ceil(16).min(most - 1),
             until: None,
             requests: 0,
             poured: 0,
@@ -174,6 +174,7 @@ mod tests {
         );
         accounts.gone(1000, 0);
         assert_eq!(accounts.refuses(1000, 15), None);
+        assert_eq!(self::accounts(1).refuses(1000, 0), None);
     }
 
     #[test]
