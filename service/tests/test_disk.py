@@ -462,6 +462,30 @@ class Leased(Case):
             self.assertEqual(one.start().client().say("LEASES"), [["rig", 60000, 0, [2]]])
             one.kill()
 
+    def test_the_power_is_lost(self):
+        """By `always` each fork under a lease is bound that the log has; by `everysec` each that was answered two seconds before."""
+        need(BUILT / "power.so")
+        for mode, rounds, wait in (("always", 10 * LONG, 0), ("everysec", 2 * LONG, 2)):
+            dice, forked = random.Random(rounds), set()
+            synced = self.folder / f"synced-{mode}"
+            synced.touch()
+            one = self.daemon("--fsync", mode, "--segment", "4096", name=mode, variables={"LD_PRELOAD": str(BUILT / "power.so"), "SYNCED": str(synced)})
+            for number in range(rounds):
+                client = one.start().client()
+                client.say("LEASE rig 3600000")
+                forked |= {client.say("FORK 1")[1] for _ in range(dice.randrange(1, 60))}
+                time.sleep(wait)
+                client.socket.sendall(b"FORK 1\r\n" * 20)
+                one.kill()
+                lose_power(one.kept, synced, dice)
+                other = one.start().client()
+                self.assertEqual(forked - set(other.say("LEASES")[0][3]), set(), f"{mode}, round {number}")
+                live = {int(line.split()[1]) for line in other.say("LIST").splitlines() if line.startswith("task ")}
+                if mode == "always":
+                    self.assertEqual(live - set(other.say("LEASES")[0][3]), {1}, f"round {number}")
+                forked = set(other.say("LEASES")[0][3])
+                one.kill()
+
     def test_everysec_syncs_it(self):
         need(BUILT / "power.so")
         synced = self.folder / "synced"
