@@ -71,8 +71,6 @@ pub struct Conn {
     pub lease: Option<Held>,
     /// Its next request waits until the disk takes what was recorded.
     pub is_delayed: bool,
-    /// So do its answers.
-    pub is_held: bool,
     /// Of a user who does not have all of the service.
     pub is_guest: bool,
     /// What it has sent was not looked at to its end, as its user's time was over.
@@ -113,7 +111,6 @@ impl Conn {
             follower: None,
             lease: None,
             is_delayed: false,
-            is_held: false,
             is_guest: false,
             is_cut: false,
             is_readable: false,

@@ -127,6 +127,8 @@ struct Disk {
     ending: Vec<(u64, Option<u64>)>,
 }
 
+type Signals = Result<UnixStream, Fault>;
+
 /// What wakes the loop from another thread.
 pub fn wake_by(waker: &Arc<Waker>) -> impl Fn() + Clone + Send + 'static {
     let waker = Arc::clone(waker);
@@ -135,11 +137,7 @@ pub fn wake_by(waker: &Arc<Waker>) -> impl Fn() + Clone + Send + 'static {
 
 impl Service {
     /// The signals come as bytes of a stream once the directory was read; until then they end the process.
-    pub fn begin(
-        options: Options,
-        listeners: Vec<UnixListener>,
-        signals: impl FnOnce() -> Result<UnixStream, Fault>,
-    ) -> Result<Service, Fault> {
+    pub fn begin(options: Options, listeners: Vec<UnixListener>, signals: fn() -> Signals) -> Result<Service, Fault> {
         let fault = |error: io::Error| format!("the loop cannot begin: {error}");
         let poll = Poll::new().map_err(fault)?;
         let waker = Arc::new(Waker::new(poll.registry(), WAKE).map_err(fault)?);
@@ -409,11 +407,11 @@ impl Service {
         Ok(())
     }
 
-    /// The answers of this turn may be of what is not saved: they wait, and the clients with them. Others are answered what is.
+    /// The answers of this turn may be of what is not saved: they wait, and the clients with them. These stay touched, and so are not sent anything.
     fn hold(&mut self) {
         for token in std::mem::take(&mut self.touched) {
             let Some(conn) = self.conns[token].as_deref_mut() else { continue };
-            (conn.is_held, conn.is_delayed) = (true, true);
+            conn.is_delayed = true;
             self.disk.held.push(token);
             self.disk.delayed.push(token);
         }
@@ -424,7 +422,7 @@ impl Service {
         self.touched.append(&mut self.disk.held);
         for token in std::mem::take(&mut self.disk.delayed) {
             let Some(conn) = self.conns[token].as_deref_mut() else { continue };
-            (conn.is_held, conn.is_delayed) = (false, false);
+            conn.is_delayed = false;
             self.queue(token);
         }
     }
