@@ -372,33 +372,38 @@ impl Engine {
         Ok(())
     }
 
-    /// The table is that of a text from now on, and what was kept before goes away.
+    /// The table is that of a text from now on, and what was kept before goes away. If the disk does not take it, nothing has changed here.
     pub fn adopt(&mut self, text: &[u8], wake: impl Fn() + Clone + Send + 'static) -> Result<(), Fault> {
         let table = Table::from_dump(text).map_err(|fault| fault.to_string())?;
         let (pid_max, stamp) = crate::recover::settings_of(text).ok_or("the text has no settings")?;
+        let (log, blocks, source) = self.keep_adopted(text, stamp - 1, pid_max, wake.clone())?;
+        (self.log, self.blocks, self.replica) = (log, blocks, Replica::start(source, wake));
         (self.table, self.pid_max, self.made, self.saved) = (table, pid_max, stamp - 1, stamp - 1);
+        (self.snapshot, self.is_compacting) = (self.made, false);
         self.batch.clear();
         self.loose.clear();
-        self.read_book(&std::collections::HashMap::new())?;
-        self.keep_adopted(text, wake)
+        self.read_book(&std::collections::HashMap::new())
     }
 
-    fn keep_adopted(&mut self, text: &[u8], wake: impl Fn() + Clone + Send + 'static) -> Result<(), Fault> {
+    /// The text as a snapshot, with a log behind it. Then the older files go; those that stay are looked at no more.
+    fn keep_adopted(
+        &self,
+        text: &[u8],
+        made: u64,
+        pid_max: u32,
+        wake: impl Fn() + Send + 'static,
+    ) -> Result<(Option<Log>, Blocks, Source), Fault> {
         let Some(directory) = &self.directory else {
-            self.blocks = loose_blocks(self.pid_max).map_err(|error| error.to_string())?;
-            let source = Source::Nothing { pid_max: self.pid_max, text: Some(text.to_vec()) };
-            self.replica = Replica::start(source, wake);
-            return Ok(());
+            let blocks = loose_blocks(pid_max).map_err(|error| error.to_string())?;
+            return Ok((None, blocks, Source::Nothing { pid_max, text: Some(text.to_vec()) }));
         };
-        let path = directory.snapshot(self.made);
-        let kept = directory.write(&path, &[text]).and_then(|_| directory.put_away(self.made, self.keep.archive));
-        kept.map_err(crate::directory::fault_at(&path))?;
-        let (again, keep) = (directory.again()?, &self.keep);
-        let (log, blocks) = Log::open(again, keep.sync, keep.segment, None, self.made, self.pid_max, wake.clone())?;
-        (self.log, self.blocks, self.snapshot, self.is_compacting) = (Some(log), blocks, self.made, false);
-        let source = Source::Directory { directory: directory.again()?, archive: keep.archive };
-        self.replica = Replica::start(source, wake);
-        Ok(())
+        let (path, keep) = (directory.snapshot(made), &self.keep);
+        directory.write(&path, &[text]).map_err(crate::directory::fault_at(&path))?;
+        let (log, blocks) = Log::open(directory.again()?, keep.sync, keep.segment, None, made, pid_max, wake)?;
+        if let Err(error) = directory.put_away(made, keep.archive) {
+            eprintln!("pidtabd: {}: older files stay: {error}", directory.path.display());
+        }
+        Ok((Some(log), blocks, Source::Directory { directory: directory.again()?, archive: keep.archive }))
     }
 }
 

@@ -150,6 +150,8 @@ impl Service {
         leader.state = match &mut leader.state {
             State::Identity => State::Text(self.compare_identity(bytes)?),
             State::Text(identity) => {
+                // Until the table is there whole, a TAKEOVER would serve one whose files are those of another.
+                leader.has_text = false;
                 self.engine.take_identity(identity)?;
                 self.adopt_text(bytes)?;
                 State::Sum

@@ -76,7 +76,7 @@ class Told:
 
 
 class Sweep(Case):
-    def try_one(self, number, error, options):
+    def serve(self, number, error, *options):
         """The kind that has failed, and what is wrong then."""
         one = self.daemon(*options, name=f"{options[1]}{number}")
         plan, told = Plan(one.folder, number, error), Told()
@@ -114,17 +114,18 @@ class Sweep(Case):
         live = {int(line.split()[1]) for line in client.say("LIST").splitlines() if line.startswith("task ") and " live" in line}
         return f"{live - bound - {1}} live on without a lease" if live - bound - {1} else ""
 
-    def sweep(self, error, *options):
+    def sweep(self, error, *options, play=None):
         need(BUILT / "flaky.so")
+        play = play or self.serve
         tried, wrong, number = collections.Counter(), [], 1
         with concurrent.futures.ThreadPoolExecutor(3) as pool:
             while not tried["nothing"] and len(wrong) < MANY:
                 some = range(number, number + 12)
-                for place, (failed, why) in zip(some, pool.map(lambda it: self.try_one(it, error, options), some)):
+                for place, (failed, why) in zip(some, pool.map(lambda it: play(it, error, *options), some)):
                     tried[failed] += 1
                     wrong += [f"operation {place}, {failed}: {why}"] if why else []
                 number += 12
-        print(f"{options[1]}, {errno.errorcode.get(error, 'killed')}: {dict(tried)}; {len(wrong)} wrong")
+        print(f"{options[-1] if options else 'follower'}, {errno.errorcode.get(error, 'killed')}: {dict(tried)}; {len(wrong)} wrong")
         self.assertEqual(wrong, [])
         self.assertGreater(min(tried[kind] for kind in KINDS[1:] if kind != "truncate"), 0)
 
@@ -136,6 +137,52 @@ class Sweep(Case):
 
     def test_killed_before_each(self):
         self.sweep(0, "--fsync", "everysec")
+
+    def follow(self, number, error):
+        """The kind that has failed in a follower, and what is wrong then: it takes the table twice, and takes over."""
+        one = self.daemon(name=f"leader{number}").start()
+        two = self.daemon("--follow", str(one.socket), name=f"follower{number}")
+        plan, made, kept = Plan(two.folder, number, error), 0, 0
+        two.variables = plan.variables
+        try:
+            for _ in range(2):
+                client = one.client()
+                made += [client.say("FORK 1 NEW"), client.say("EXEC 1")].count("OK") + 1
+                if not two.process:
+                    two.start()
+                kept = self.wait_for(two, made)
+                one.kill()
+                one.start()
+            made += one.client().say("EXEC 1") == "OK"
+            kept = self.wait_for(two, made)
+            other = two.client()
+            one.kill()
+            if other.say("TAKEOVER FORCE") == "OK":
+                kept += isinstance(other.say("FORK 1"), list)
+        except (AssertionError, OSError, EOFError, Refused):
+            pass
+        failed = plan.failed()
+        plan.end()
+        for each in (one, two):
+            each.kill()
+        two.options = two.options[:2]
+        try:
+            position = two.start().client().say("POSITION")
+            wrong = f"{kept - position} of {kept} calls are lost" if position < kept else ""
+        except (AssertionError, OSError, EOFError):
+            wrong = "refused: " + two.said().splitlines()[-1].replace(str(self.folder), "")
+        two.kill()
+        return failed, wrong
+
+    def wait_for(self, daemon, position):
+        client, end = daemon.client(), time.monotonic() + 3
+        while client.say("POSITION") < position:
+            self.assertLess(time.monotonic(), end)
+            time.sleep(0.02)
+        return position
+
+    def test_a_follower(self):
+        self.sweep(errno.EIO, play=self.follow)
 
 
 if __name__ == "__main__":
