@@ -9,7 +9,9 @@ use crate::rights::may_make;
 use crate::say;
 use crate::service::Service;
 use pidtab::{Call, Reply, Which};
+use std::collections::{BTreeSet, HashMap};
 
+#[derive(Clone)]
 pub struct Sleeper {
     pub token: usize,
     pub caller: u32,
@@ -18,27 +20,53 @@ pub struct Sleeper {
     pub deadline: Option<u64>,
 }
 
-/// The one who has slept longest comes first.
+/// Those who sleep, each by its token. A turn looks at those alone whose callers were stirred, or whose time is over.
 #[derive(Default)]
 pub struct Sleepers {
-    all: Vec<Sleeper>,
+    /// Of each caller the one who has slept longest comes first.
+    by_caller: HashMap<u32, Vec<Sleeper>>,
+    callers: HashMap<usize, u32>,
+    due: BTreeSet<(u64, usize)>,
 }
 
 impl Sleepers {
     pub fn add(&mut self, sleeper: Sleeper) {
-        self.all.push(sleeper);
+        self.callers.insert(sleeper.token, sleeper.caller);
+        self.due.extend(sleeper.deadline.map(|it| (it, sleeper.token)));
+        self.by_caller.entry(sleeper.caller).or_default().push(sleeper);
     }
 
     pub fn forget(&mut self, token: usize) {
-        self.all.retain(|it| it.token != token);
+        let Some(caller) = self.callers.remove(&token) else { return };
+        let Some(all) = self.by_caller.get_mut(&caller) else { return };
+        let place = all.iter().position(|it| it.token == token);
+        let deadline = place.and_then(|it| all.remove(it).deadline);
+        if let Some(deadline) = deadline {
+            self.due.remove(&(deadline, token));
+        }
+        if all.is_empty() {
+            self.by_caller.remove(&caller);
+        }
     }
 
     pub fn next_deadline(&self) -> Option<u64> {
-        self.all.iter().filter_map(|it| it.deadline).min()
+        self.due.first().map(|it| it.0)
+    }
+
+    /// One whose time is over, who sleeps no more.
+    fn take_due(&mut self, now: u64) -> Option<usize> {
+        let token = self.due.first().filter(|it| it.0 <= now)?.1;
+        self.forget(token);
+        Some(token)
+    }
+
+    /// Those who wait for a child of that caller, in their order.
+    fn of(&self, caller: u32) -> Vec<Sleeper> {
+        self.by_caller.get(&caller).cloned().unwrap_or_default()
     }
 
     pub fn count(&self) -> usize {
-        self.all.len()
+        self.callers.len()
     }
 }
 
@@ -53,32 +81,27 @@ impl Service {
         self.end_naps();
         while !self.engine.book.stirred.is_empty() {
             let mut stirred = std::mem::take(&mut self.engine.book.stirred);
-            if self.sleepers.all.is_empty() {
+            if self.sleepers.count() == 0 {
                 stirred.clear();
                 self.engine.book.stirred = stirred;
                 return;
             }
             stirred.sort_unstable();
-            self.wake_those(&stirred);
+            stirred.dedup();
+            stirred.into_iter().for_each(|it| self.wake_those_of(it));
         }
     }
 
     fn end_naps(&mut self) {
-        let now = self.now;
-        let is_over = |it: &Sleeper| it.deadline.is_some_and(|it| it <= now);
-        let (over, rest) = std::mem::take(&mut self.sleepers.all).into_iter().partition(is_over);
-        self.sleepers.all = rest;
-        for sleeper in over {
-            self.answer(sleeper.token, |out| out.line("*-1"));
+        while let Some(token) = self.sleepers.take_due(self.now) {
+            self.answer(token, |out| out.line("*-1"));
         }
     }
 
-    fn wake_those(&mut self, stirred: &[u32]) {
-        for sleeper in std::mem::take(&mut self.sleepers.all) {
-            let (caller, which) = (sleeper.caller, sleeper.which);
-            let is_stirred = stirred.binary_search(&caller).is_ok();
-            if !is_stirred || must_sleep(&self.engine, caller, which) || !self.wait_for(&sleeper) {
-                self.sleepers.all.push(sleeper);
+    fn wake_those_of(&mut self, caller: u32) {
+        for sleeper in self.sleepers.of(caller) {
+            if !must_sleep(&self.engine, caller, sleeper.which) && self.wait_for(&sleeper) {
+                self.sleepers.forget(sleeper.token);
             }
         }
     }
