@@ -456,7 +456,7 @@ service: ## builds pidtabd, one table for all processes of a host, over what `ma
 	@echo $(SERVICE)
 
 # Its parts by cargo, and the daemon by Python. LONG=10 has ten times the sizes. What is not there is skipped.
-service-test: service built ## tests pidtabd: kills, losses of power, damage, planted faults, clients of Redis (some 10 minutes)
+service-test: service built ## tests pidtabd: kills, losses of power, damage, planted faults, clients of Redis (10 to 30 minutes)
 	@$(CC) -std=c11 -O2 -Wall -Wextra -Werror -Ibindings/c -o out/service/check service/tests/check.c out/libpidtab.a
 	@for it in power flaky; do $(CC) -std=gnu11 -O2 -Wall -Wextra -Werror -shared -fPIC -o out/service/$$it.so service/tests/$$it.c -ldl || exit 1; done
 	@{ (cd service && cargo test --release --offline --quiet) && cd service/tests && \
