@@ -17,6 +17,7 @@ enum {
 	FIRST_THREAD = MOST_REAL,   /* threads beside the main one: above every number of the table and of the kernel */
 	SUPERVISOR = 1,             /* the table's process 1 is this program; the program in the box is its child, 2 */
 	BOX_INIT = 2,
+	OWN_FAILURE = 125,          /* the exit status, as of env(1) and timeout(1) */
 	FIRST_RESTART = 512         /* results from -512 downwards mean that the kernel makes the call again */
 };
 
@@ -47,6 +48,7 @@ struct process {
 	pid_t real;
 	uint32_t root;
 	int threads;             /* real ones that the tracer knows */
+	int forking;             /* those whose child is not claimed yet */
 	int leaving;             /* those of an init that are at their end */
 	bool ended;              /* in the table */
 	bool dead;               /* in the kernel: the tracer has seen its end */
@@ -107,6 +109,8 @@ struct thread {
 	uint32_t number;         /* as the program sees it; 0 for a main thread, whose number is its process's */
 	struct process *process; /* none where it came before its parent's event */
 	bool is_begun;           /* its first stop was seen */
+	bool is_unclaimed;       /* it stopped, and its parent's event has not come: it is in a list with others */
+	struct thread *next, *previous;
 	enum phase phase;
 	const struct call *call; /* what it makes, in the table of calls */
 	struct registers made;   /* the call as the program made it */
@@ -192,9 +196,9 @@ int64_t call_argument(const struct thread *thread, int index);
 /* ---- forks.c ---- */
 
 void forked(struct thread *thread, pid_t real);
-void fork_failed(struct thread *thread, bool again);
+void fork_lost(struct thread *thread);
 void give_registers_back(struct thread *thread);
-void unclaimed_end(void);
+void stranger_stopped(struct thread *thread);
 
 /* ---- groups.c ---- */
 
@@ -213,6 +217,12 @@ bool settle_parent(const struct process *parent, const struct process *child);
 uint32_t reap(struct process *parent, struct process *child);
 void reap_vanished(struct process *parent);
 bool has_fallen_with(const struct process *init);
+
+/* ---- ending.c ---- */
+
+void ending_start(void);
+void ending_of(pid_t init);
+void ending_not_caught(const struct process *process, int signal);
 
 /* ---- tracer.c ---- */
 
@@ -233,6 +243,13 @@ void compare(const char *what, int64_t kernel, int64_t table);
 void compare_wait(const struct thread *thread, const struct process *child);
 void compare_no_child(const struct thread *thread, int64_t result);
 void compare_state(void);
+
+/* What the kernel says of a process, by its own numbers. */
+struct state {
+	int parent, group, session;
+};
+
+bool read_state(pid_t real, struct state *state);
 
 /* ---- proc.c: paths and listings of /proc; content.c: its files ---- */
 

@@ -125,11 +125,7 @@ void compare_no_child(const struct thread *thread, int64_t result)
 
 /* ---- parents, groups and sessions ---- */
 
-struct state {
-	int parent, group, session;
-};
-
-static bool read_state(pid_t real, struct state *state)
+bool read_state(pid_t real, struct state *state)
 {
 	char name[32], text[512], *end;
 	FILE *file;

@@ -13,7 +13,8 @@
 /* Where clone(2) has its arguments. */
 enum { FLAGS = 0, STACK = 1, PARENT_TID = 2, CHILD_TID = MACHINE == 0 ? 3 : 4 };
 
-static int forking; /* threads whose child is not claimed yet */
+static int forking;     /* threads whose child is not claimed yet */
+static bool some_lost; /* a thread has ended so: its child, if the kernel has made one, is nobody's */
 
 /* The flags by which clone(2) would do what the call does. */
 static uint64_t flags_of(const struct registers *registers)
@@ -72,17 +73,65 @@ enum onward enter_fork(struct thread *thread, struct registers *registers)
 	thread->child = (uint32_t)child;
 	thread->is_made = false;
 	forking++;
+	caller->forking++;
 	return make_child(thread, registers);
 }
 
+/* ---- children whose parent was killed before it could say whose they are ---- */
+
+/* A process alone, which leads its threads: a new thread is claimed by the event of its process, which lives. */
+static void kill_process(struct thread *thread)
+{
+	if (!syscall(SYS_tgkill, thread->tid, thread->tid, 0))
+		kill(thread->tid, SIGKILL);
+}
+
+/* Kills a child whose parent is in no fork. That of a parent that is dead has another one by now. */
+static void kill_stranger(struct thread *thread)
+{
+	const struct name *name;
+	struct state state;
+
+	if (forking > 0 && !read_state(thread->tid, &state))
+		return;
+	name = forking > 0 ? name_of_real(state.parent) : NULL;
+	if (!name || !name->process || name->process->ended || name->process->forking == 0)
+		kill_process(thread);
+}
+
+/* Of the children that wait, those that no fork will claim are nobody's. */
+static void kill_strangers(void)
+{
+	if (forking == 0 || some_lost)
+		each_unclaimed(kill_stranger);
+}
+
+/* A child has stopped before its parent's event, which may be one that never comes. */
+void stranger_stopped(struct thread *thread)
+{
+	if (forking == 0 || some_lost)
+		kill_stranger(thread);
+}
+
+/* ---- the end of a fork ---- */
+
+/* The thread will claim no child any more. Whether it would have. */
+static bool stop_forking(struct thread *thread)
+{
+	if (!thread->child || thread->is_made)
+		return false;
+	forking--;
+	thread->process->forking--;
+	return true;
+}
+
 /* A fork of the table without one of the kernel: it is kept for the call that comes again, or is ended and reaped. */
-void fork_failed(struct thread *thread, bool again)
+static void fork_failed(struct thread *thread, bool again)
 {
 	struct process *caller = thread->process;
 
-	if (!thread->child || thread->is_made)
+	if (!stop_forking(thread))
 		return;
-	forking--;
 	if (again && !caller->spare) {
 		caller->spare = thread->child;
 		caller->spare_root = thread->child_root;
@@ -91,6 +140,21 @@ void fork_failed(struct thread *thread, bool again)
 		table_do(PIDTAB_WAIT, caller->root, thread->child, PIDTAB_CHILD);
 	}
 	thread->child = 0;
+}
+
+/* The thread is at its end, or its process has fallen: where the kernel has made the child, nobody claims it. The table drops what falls. */
+void fork_lost(struct thread *thread)
+{
+	bool is_lost = thread->child && !thread->is_made;
+
+	if (!thread->process->ended)
+		fork_failed(thread, false);
+	else
+		stop_forking(thread);
+	thread->child = 0;
+	some_lost |= is_lost;
+	if (is_lost)
+		kill_strangers();
 }
 
 /* The numbers that the kernel writes for a new process or thread are its own: in the parent's memory now, in the child's as it begins. A
@@ -157,12 +221,16 @@ void forked(struct thread *thread, pid_t real)
 	struct thread *child = thread_of_real(real);
 	bool has_stopped = child;
 
+	if (process->ended) {
+		fork_lost(thread);
+		return;
+	}
 	if (thread->phase == IN_CALL && thread->child) {
 		process = process_new(name_make(real, thread->child_root));
 		inherit_handling(thread->process, process, thread->flags);
 		process->is_init = thread->makes_space;
+		stop_forking(thread);
 		thread->is_made = true;
-		forking--;
 	}
 	process->threads++;
 	if (!child)
@@ -173,6 +241,8 @@ void forked(struct thread *thread, pid_t real)
 	inherit(thread, child);
 	if (has_stopped)
 		begin(child);
+	if (forking == 0)
+		kill_strangers();
 }
 
 int64_t leave_fork(struct thread *thread, int64_t result)
@@ -190,6 +260,8 @@ int64_t leave_fork(struct thread *thread, int64_t result)
 		result = thread->child;
 	} else {
 		fork_failed(thread, result <= -FIRST_RESTART);
+		if (forking == 0)
+			kill_strangers();
 	}
 	thread->child = 0;
 	return result;
@@ -214,20 +286,4 @@ int64_t leave_unshare(struct thread *thread, int64_t result)
 {
 	thread->process->unshared = result == 0;
 	return result;
-}
-
-/* ---- children whose parent was killed before it could say whose they are ---- */
-
-/* A process alone, which leads its threads: a new thread is claimed by the event of its process, which lives. */
-static void kill_process(struct thread *thread)
-{
-	if (!syscall(SYS_tgkill, thread->tid, thread->tid, 0))
-		kill(thread->tid, SIGKILL);
-}
-
-/* A thread has ended. Where it was within a fork and no other one is, nobody will claim the children that wait: they are nobody's. */
-void unclaimed_end(void)
-{
-	if (forking == 0)
-		each_unclaimed(kill_process);
 }

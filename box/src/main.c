@@ -12,7 +12,7 @@
 #include <unistd.h>
 
 /* What env(1) and timeout(1) answer for a program that cannot be run. */
-enum { OWN_FAILURE = 125, CANNOT_RUN = 126, NOT_FOUND = 127 };
+enum { CANNOT_RUN = 126, NOT_FOUND = 127 };
 
 struct settings {
 	const char *log, *answers, *report;
@@ -20,8 +20,6 @@ struct settings {
 	uint32_t pid_max;
 	bool prints_calls;
 };
-
-static pid_t init_real;
 
 static const char usage[] =
 	"usage: pidtab-box [--log FILE] [--answers FILE] [--check] [--report FILE] [--pids-max N] [--pid-max N] [--proc box|kernel] PROGRAM [WORD ..]\n"
@@ -108,12 +106,6 @@ static _Noreturn void be_program(int ready, char **words)
 	_exit(errno == ENOENT ? NOT_FOUND : CANNOT_RUN);
 }
 
-static void pass_on(int signal)
-{
-	if (init_real)
-		kill(init_real, signal);
-}
-
 /* The supervisor's own group and session are outside: all three are the table's process 1. */
 static void be_supervisor(void)
 {
@@ -121,7 +113,7 @@ static void be_supervisor(void)
 	name_outside(getsid(0));
 	name_outside(getpid());
 	each_left_alone(SIG_IGN);
-	signal(SIGTERM, pass_on);
+	ending_start();
 	if (prctl(PR_SET_CHILD_SUBREAPER, 1))
 		die("the start");
 }
@@ -144,9 +136,10 @@ static struct process *make_init(pid_t real, int64_t pids_max)
 	return init;
 }
 
-static void start(char **words, int64_t pids_max)
+static pid_t start(char **words, int64_t pids_max)
 {
 	struct sigaction former;
+	pid_t init_real;
 	struct process *init;
 	int ready[2];
 
@@ -165,10 +158,12 @@ static void start(char **words, int64_t pids_max)
 	init = make_init(init_real, pids_max);
 	init->ignores_children = former.sa_handler == SIG_IGN;
 	trace_first(init_real, init);
+	ending_of(init_real);
 	if (write(ready[1], "", 1) != 1)
 		die("the start");
 	close(ready[0]);
 	close(ready[1]);
+	return init_real;
 }
 
 int main(int count, char **words)
@@ -182,8 +177,7 @@ int main(int count, char **words)
 	}
 	report_start(settings.report);
 	table_start(settings.pid_max, settings.log, settings.answers);
-	start(words + optind, settings.pids_max);
-	status = supervise(init_real);
+	status = supervise(start(words + optind, settings.pids_max));
 	if (checking)
 		compare("tasks left", 0, table_do(PIDTAB_NEXT, SUPERVISOR, SUPERVISOR + 1, PIDTAB_TASKS));
 	report_stop();

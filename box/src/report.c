@@ -17,7 +17,7 @@ static uint64_t refused_unknown[MOST_UNKNOWN]; /* by number; the last one counts
 _Noreturn void die(const char *what)
 {
 	fprintf(stderr, "pidtab-box: %s%s%s\n", what, errno ? ": " : "", errno ? strerror(errno) : "");
-	exit(125);
+	exit(OWN_FAILURE);
 }
 
 /* Without a file nothing is said but differences, where they are looked for. */

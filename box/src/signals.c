@@ -122,8 +122,10 @@ int signal_arrives(const struct thread *thread, int signal)
 		return signal; /* nobody will look who has sent it */
 	if (ptrace(PTRACE_GETSIGINFO, thread->tid, 0, &info))
 		return signal;
-	if (process->is_init && !is_harmless && !is_fault(signal, info.si_code) && !is_caught(thread->tid, signal))
+	if (process->is_init && !is_harmless && !is_fault(signal, info.si_code) && !is_caught(thread->tid, signal)) {
+		ending_not_caught(process, signal);
 		return 0;
+	}
 	if (is_from_a_process(signal, info.si_code) && info.si_pid > 0) {
 		info.si_pid = (pid_t)to_number(process, PROCESS, info.si_pid);
 		ptrace(PTRACE_SETSIGINFO, thread->tid, 0, &info);

@@ -5,22 +5,34 @@
 
 static struct thread *by_real[MOST_REAL];
 static struct thread *by_number[MOST_REAL]; /* from FIRST_THREAD on */
-static struct thread *unclaimed[64];        /* they stopped before their parent's event; more than a few are never there */
+static struct thread *unclaimed;            /* a list of those that stopped before their parent's event: as many as forks are under way */
 
 struct thread *thread_of_real(pid_t tid)
 {
 	return by_real[tid];
 }
 
-static void claim(const struct thread *thread, struct thread *in_place)
+static void put_unclaimed(struct thread *thread)
 {
-	for (size_t i = 0; i < sizeof unclaimed / sizeof unclaimed[0]; i++)
-		if (unclaimed[i] == thread) {
-			unclaimed[i] = in_place;
-			return;
-		}
-	if (!thread)
-		die("too many new threads at once");
+	thread->next = unclaimed;
+	if (unclaimed)
+		unclaimed->previous = thread;
+	unclaimed = thread;
+	thread->is_unclaimed = true;
+}
+
+static void take_unclaimed(struct thread *thread)
+{
+	if (!thread->is_unclaimed)
+		return;
+	thread->is_unclaimed = false;
+	if (thread->previous)
+		thread->previous->next = thread->next;
+	else
+		unclaimed = thread->next;
+	if (thread->next)
+		thread->next->previous = thread->previous;
+	thread->next = thread->previous = NULL;
 }
 
 struct thread *thread_new(pid_t tid, struct process *process)
@@ -31,7 +43,7 @@ struct thread *thread_new(pid_t tid, struct process *process)
 	thread->process = process;
 	thread->behind_reads = thread->content = -1;
 	if (!process)
-		claim(NULL, thread);
+		put_unclaimed(thread);
 	return by_real[tid] = thread;
 }
 
@@ -41,7 +53,7 @@ void thread_number(struct thread *thread)
 {
 	static uint32_t cursor;
 
-	claim(thread, NULL);
+	take_unclaimed(thread);
 	if (thread->tid == thread->process->real)
 		return;
 	while (by_number[cursor])
@@ -53,7 +65,7 @@ void thread_number(struct thread *thread)
 
 void thread_free(struct thread *thread)
 {
-	claim(thread, NULL);
+	take_unclaimed(thread);
 	if (thread->number)
 		by_number[thread->number - FIRST_THREAD] = NULL;
 	by_real[thread->tid] = NULL;
@@ -74,7 +86,8 @@ uint32_t thread_seen(const struct thread *thread)
 
 void each_unclaimed(void (*act)(struct thread *thread))
 {
-	for (size_t i = 0; i < sizeof unclaimed / sizeof unclaimed[0]; i++)
-		if (unclaimed[i])
-			act(unclaimed[i]);
+	for (struct thread *thread = unclaimed, *next; thread; thread = next) {
+		next = thread->next;
+		act(thread);
+	}
 }

@@ -93,6 +93,9 @@ static void executed(struct thread *thread)
 	if (former != (unsigned long)thread->tid && former < MOST_REAL && thread_of_real((pid_t)former)) {
 		thread_free(thread_of_real((pid_t)former));
 		process->threads--;
+		fork_lost(thread); /* the main one may have been within a call */
+		if (!process->ended)
+			setpgid_over(thread, -1);
 	}
 	thread->phase = FREE;
 	thread->has_no_exit = false;
@@ -121,7 +124,7 @@ static void leaving(struct thread *thread)
 	unsigned long status = 0;
 
 	trace(PTRACE_GETEVENTMSG, thread->tid, (long)&status);
-	fork_failed(thread, false);
+	fork_lost(thread);
 	if (++process->leaving == process->threads && !process->ended) {
 		process_ended(process, (int)status);
 		if (has_fallen_with(process))
@@ -136,12 +139,11 @@ static void thread_ended(struct thread *thread, int status)
 	struct process *process = thread->process;
 	pid_t tid = thread->tid;
 
-	if (process && !process->ended) {
-		fork_failed(thread, false);
+	if (process)
+		fork_lost(thread);
+	if (process && !process->ended)
 		setpgid_over(thread, -1);
-	}
 	thread_free(thread);
-	unclaimed_end();
 	if (!process)
 		return;
 	process->threads--;
@@ -153,6 +155,7 @@ static void thread_ended(struct thread *thread, int status)
 	process->died = events;
 	process_ended(process, status);
 	if (process->root == BOX_INIT) {
+		ending_of(0);
 		compare("wait of the supervisor", BOX_INIT, table_do(PIDTAB_WAIT, SUPERVISOR, BOX_INIT, PIDTAB_CHILD));
 		process->gone = true;
 	}
@@ -262,7 +265,7 @@ static void handle(pid_t tid, int status)
 		if (thread)
 			thread_ended(thread, status);
 	} else if (!thread) {
-		thread_new(tid, NULL); /* it waits for its parent's event */
+		stranger_stopped(thread_new(tid, NULL)); /* it waits for its parent's event */
 	} else if (thread->process && !thread->is_begun) {
 		begin(thread);
 	} else if (thread->process) {

@@ -23,6 +23,14 @@ def has_kernel_namespaces():
     return subprocess.run([*KERNEL, "true"], capture_output=True, check=False).returncode == 0
 
 
+def compiled(name, *options):
+    """A C program of the tests, built in out/box."""
+    OUT.mkdir(parents=True, exist_ok=True)
+    made = OUT / name
+    subprocess.run(["cc", "-std=c11", "-O2", "-Wall", "-Wextra", "-Werror", *options, "-o", made, TESTS / f"{name}.c"], check=True)
+    return str(made)
+
+
 def folder():
     """A folder for one run, which nobody may write to."""
     made = tempfile.mkdtemp(prefix="pidtab-box-")
@@ -73,12 +81,12 @@ def in_kernel(words, seconds=60, as_root=False, stdin=None):
         shutil.rmtree(home, ignore_errors=True)
 
 
-def in_box(words, name, seconds=60, options=("--check",), box=BOX, stdin=None):
+def in_box(words, name, seconds=60, options=("--check",), box=BOX, stdin=None, before=()):
     """In the box, with its log, answers and report in out/box."""
     home = folder()
     OUT.mkdir(parents=True, exist_ok=True)
     base = pathlib.Path(home, "run")
-    own = [str(box), *options, "--log", f"{base}.log", "--answers", f"{base}.answers", "--report", f"{base}.report"]
+    own = [*before, str(box), *options, "--log", f"{base}.log", "--answers", f"{base}.answers", "--report", f"{base}.report"]
     try:
         output, status = start([*(AS_NOBODY if IS_ROOT else []), *own, *words], seconds, home, stdin)
         for kind in ("log", "answers", "report"):

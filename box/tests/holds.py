@@ -1,0 +1,90 @@
+"""What must hold under load: processes that begin and end all at once, and an end of the box that always comes."""
+import signal
+import subprocess
+import time
+
+import rig
+from rig import BOX, in_box, in_kernel
+
+PYTHON = "/usr/bin/python3"
+TIMES = 40
+SECONDS = 30
+ONE_PROCESSOR = ("taskset", "-c", "0")
+
+# A way of storm.c, how many begin, and what; before the box, and how often it is run.
+STORMS = (
+    ("at-once", 300, "fork", (), 3), ("at-once", 300, "vfork", (), 3), ("at-once", 100, "thread", (), 3), ("at-once", 1000, "fork", ONE_PROCESSOR, 1),
+    ("killed", 40, "fork", (), 5), ("killed", 40, "vfork", (), 5), ("killed", 40, "thread", (), 5),
+    ("executed", 40, "fork", (), 5), ("executed", 40, "vfork", (), 5), ("executed", 40, "thread", (), 5),
+)
+FALLS = ((1, "fork"), (8, "fork"), (32, "fork"), (8, "vfork"), (8, "thread"))
+BOMBS = (20, 100, 200, 300, 500)
+
+
+def often(tell, name, words, times, **how):
+    """The program in the kernel's namespace once, and in the box so often: the same output and status, and no difference."""
+    kernel = in_kernel(words, SECONDS)
+    for run in range(times):
+        box = in_box(words, name, SECONDS, **how)
+        if (kernel.output, kernel.status) != (box.output, box.status):
+            tell.fault(name, f"run {run + 1}: kernel {kernel.status} {kernel.output!r}, box {box.status} {box.output!r}")
+            return
+        tell.differences(name, box)
+
+
+def storms(tell):
+    """Many that begin others all at once, that are killed while they do, and that execute meanwhile."""
+    storm = rig.compiled("storm", "-pthread")
+    for way, count, what, before, times in STORMS:
+        often(tell, f"storm-{way}-{count}-{what}", [storm, way, str(count), what], times, before=before)
+    tell.say("storms", f"{len(STORMS)} of them")
+
+
+def falls(tell):
+    """An init that ends while others fork: the box ends with it."""
+    storm = rig.compiled("storm", "-pthread")
+    for count, what in FALLS:
+        often(tell, f"fall-{count}-{what}", [storm, "fall", str(count), what], TIMES)
+    tell.say("falls", f"{len(FALLS)} kinds, {TIMES} times each")
+
+
+def bombs(tell):
+    """A fork bomb meets its limit, and the box ends with its init."""
+    storm = rig.compiled("storm", "-pthread")
+    for limit in BOMBS:
+        box = in_box([storm, "bomb", "1", "fork"], f"bomb-{limit}", SECONDS, options=("--check", "--pids-max", str(limit)))
+        if (box.output, box.status) != ("EAGAIN\n", 0):
+            tell.fault(f"bomb {limit}", f"status {box.status}, {box.output!r}")
+        tell.differences(f"bomb-{limit}", box)
+    tell.say("bombs", f"{len(BOMBS)} limits")
+
+
+# What a program does with SIGTERM, how often it is sent, the status, and how many seconds the end takes at most.
+CATCHES = "import signal, time; signal.signal(signal.SIGTERM, lambda *_: {}); print('ready', flush=True); [time.sleep(1) for _ in range(100)]"
+IGNORES = "import signal, time; signal.signal(signal.SIGTERM, signal.{}); print('ready', flush=True); time.sleep(100)"
+ENDS = (
+    ("does not catch it", IGNORES.format("SIG_DFL"), 1, 137, 2), ("ignores it", IGNORES.format("SIG_IGN"), 1, 137, 2),
+    ("ends by it", CATCHES.format("exit(3)"), 1, 3, 2), ("goes on, and gets two", CATCHES.format("None"), 2, 137, 2),
+    ("goes on", CATCHES.format("None"), 1, 137, 13),
+)
+
+
+def ends(tell):
+    """SIGTERM ends the box, whatever its program does."""
+    for what, script, times, status, seconds in ENDS:
+        box = subprocess.Popen([*(rig.AS_NOBODY if rig.IS_ROOT else []), BOX, PYTHON, "-c", script], stdout=subprocess.PIPE, text=True)
+        box.stdout.readline()
+        begun = time.monotonic()
+        for _ in range(times):
+            box.send_signal(signal.SIGTERM)
+            time.sleep(0.2)
+        try:
+            ended = box.wait(SECONDS)
+        except subprocess.TimeoutExpired:
+            box.kill()
+            ended = "none: it was killed"
+        if ended != status or time.monotonic() - begun > seconds:
+            tell.fault(f"SIGTERM to one that {what}", f"status {ended} in {time.monotonic() - begun:.1f} s")
+        box.stdout.close()
+        box.wait()
+    tell.say("ends", f"{len(ENDS)} programs that get SIGTERM")
