@@ -18,11 +18,13 @@ enum {
 	SUPERVISOR = 1,             /* the table's process 1 is this program; the program in the box is its child, 2 */
 	BOX_INIT = 2,
 	OWN_FAILURE = 125,          /* the exit status, as of env(1) and timeout(1) */
+	MOST_ERRORS = 4096,         /* results above minus this are an errno each */
 	FIRST_RESTART = 512         /* results from -512 downwards mean that the kernel makes the call again */
 };
 
 struct call;
 struct thread;
+struct memory;
 
 /* ---- names.c: numbers of the kernel and root numbers ---- */
 
@@ -42,6 +44,9 @@ struct name {
 	uint32_t count;
 };
 
+/* Each number that is a signalfd's for the first time gets a filter of its own, up to these. The last one is about all numbers. */
+enum { MOST_READ_FILTERS = 8 };
+
 /* A process as the table has it and as the kernel has it, which differ for a moment at times. */
 struct process {
 	struct name *name;       /* none where it is gone */
@@ -60,6 +65,9 @@ struct process {
 	bool wants_no_zombies;   /* the same by SA_NOCLDWAIT, which an exec ends */
 	bool may_catch_end;      /* it has, or had, a handler of SIGCHLD, which an exec ends */
 	bool shares_handlers;    /* with another process, which may change what this one does with a signal */
+	struct memory *memory;   /* its address space */
+	int read_filters;        /* how many filters stop its reads of signalfds (filter.c) */
+	int filtered[MOST_READ_FILTERS]; /* the number that each is about */
 	bool ends_unheard;       /* its end sends its parent another signal than SIGCHLD, or none */
 	pid_t held;              /* the thread of an init that waits for its namespace's members to die */
 	struct process *killer;  /* the init with which it fell */
@@ -96,6 +104,9 @@ int64_t to_number(const struct process *caller, enum kind kind, int64_t real);
 /* What it does: its own business; a call whose exit is seen; a call of ours that it is about to make; or is making. */
 enum phase { FREE, IN_CALL, INJECTED, IN_INJECTED };
 
+/* A call of ours: what it is for. */
+enum injected { MAKE_SUBREAPER, MAP_ROOM, ADD_FILTER, ADD_FILTER_TO_ALL };
+
 enum { MOST_LENT = 8 };
 
 /* A number in the program's memory in whose place the kernel's stands during a call. */
@@ -114,7 +125,8 @@ struct thread {
 	enum phase phase;
 	const struct call *call; /* what it makes, in the table of calls */
 	struct registers made;   /* the call as the program made it */
-	struct registers behind; /* how it goes on behind an injected call */
+	enum injected injected;  /* the call of ours */
+	struct registers behind; /* how it goes on behind that */
 	uint64_t put_off;        /* signals that came before such a call, a bit each */
 	bool has_no_exit;        /* the call is a wait whose exit is not seen: the next stop comes right behind it */
 	uint64_t entered;        /* when, in events */
@@ -135,6 +147,7 @@ struct thread {
 	bool is_at_rest;              /* it is stopped by a signal */
 	bool once_more;               /* the call is made again, unseen by the program */
 	int behind_reads;             /* a signalfd, from which reads are to stop behind the call; -1 for none */
+	uint64_t room;                /* memory of ours that it has for its call; 0 for none */
 	int content;                  /* a file of /proc that is given in place of the kernel's; -1 for none */
 };
 
@@ -176,16 +189,31 @@ void report_stop(void);
 /* ---- filter.c ---- */
 
 void filter_install(void);
-bool filter_for_reads(struct thread *thread, struct registers *registers, int file);
+bool reads_stop(const struct process *process, int file);
+bool filter_for_reads(struct thread *thread, const struct registers *registers, int file);
+bool filter_added(struct thread *thread, int64_t result);
 
-/* ---- translate.c: every call that stops ---- */
+/* ---- room.c ---- */
 
 enum onward { GO, SEE_EXIT };
 
+enum { ROOM = 4096 };
+
+struct memory *memory_new(void);
+struct memory *memory_copy(const struct memory *from);
+struct memory *memory_share(struct memory *memory);
+void memory_leave(struct memory *memory);
+bool room_take(struct thread *thread);
+void room_give_back(struct thread *thread);
+enum onward room_map(struct thread *thread);
+void room_mapped(struct thread *thread, int64_t at);
+
+/* ---- translate.c: every call that stops ---- */
 enum onward call_enter(struct thread *thread);
 enum onward call_leave(struct thread *thread);
 void wait_over(struct thread *thread);
 enum onward answer_with(const struct thread *thread, int64_t result);
+enum onward refuse(struct thread *thread);
 enum onward watch(struct thread *thread, const struct registers *registers);
 enum onward answer_or_check(struct thread *thread, int64_t told, const struct registers *registers);
 enum onward translate(struct thread *thread, struct registers *registers);

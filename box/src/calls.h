@@ -71,6 +71,9 @@ enum onward enter_kill(struct thread *, struct registers *);     /* signals.c */
 enum onward enter_sigaction(struct thread *, struct registers *);
 int64_t leave_kill(struct thread *, int64_t);
 int64_t leave_sigtimedwait(struct thread *, int64_t);
+enum onward enter_signalfd(struct thread *, struct registers *);
+enum onward enter_signalfd_read(struct thread *, struct registers *);
+enum onward enter_signalfd_readv(struct thread *, struct registers *);
 int64_t leave_signalfd(struct thread *, int64_t);
 int64_t leave_signalfd_read(struct thread *, int64_t);
 enum onward enter_timer(struct thread *, struct registers *);

@@ -3,11 +3,14 @@
 #define _GNU_SOURCE
 #include "calls.h"
 
+#include <dirent.h>
 #include <errno.h>
 #include <linux/audit.h>
 #include <linux/filter.h>
 #include <linux/seccomp.h>
 #include <stddef.h>
+#include <stdio.h>
+#include <stdlib.h>
 #include <string.h>
 #include <sys/prctl.h>
 #include <sys/syscall.h>
@@ -143,30 +146,105 @@ void filter_install(void)
 		die("seccomp");
 }
 
-/* Has the thread install one more filter, by which reads of the descriptor stop. Its code is lent room below the stack. */
-bool filter_for_reads(struct thread *thread, struct registers *registers, int file)
+/* ---- reads of signalfds. A filter cannot be taken away, and outlives its descriptor: so there are few, and what they stop is looked at. ---- */
+
+/* Whether reads of this number stop already. */
+bool reads_stop(const struct process *process, int file)
 {
-	struct { struct sock_fprog made; struct sock_filter code[7]; } lent = {
+	if (process->read_filters == MOST_READ_FILTERS)
+		return true;
+	for (int i = 0; i < process->read_filters; i++)
+		if (process->filtered[i] == file)
+			return true;
+	return false;
+}
+
+/* How many filters a thread has, by what the kernel says of it; -1 where it does not say it. */
+static int filters_of(pid_t process, long thread)
+{
+	char name[64], line[256];
+	int count = -1;
+	FILE *file;
+
+	snprintf(name, sizeof name, "/proc/%d/task/%ld/status", process, thread);
+	file = fopen(name, "re");
+	while (file && fgets(line, sizeof line, file))
+		if (sscanf(line, "Seccomp_filters: %d", &count) == 1)
+			break;
+	if (file)
+		fclose(file);
+	return count;
+}
+
+/* Whether all threads have as many filters: then the program has given none of them one of its own, which all would get. */
+static bool are_alike(const struct process *process)
+{
+	char name[64];
+	struct dirent *entry;
+	int first = -1;
+	bool is_so = true;
+	DIR *tasks;
+
+	snprintf(name, sizeof name, "/proc/%d/task", process->real);
+	tasks = opendir(name);
+	while (is_so && tasks && (entry = readdir(tasks)))
+		if (entry->d_name[0] != '.') {
+			int count = filters_of(process->real, strtol(entry->d_name, NULL, 10));
+
+			first = first < 0 ? count : first;
+			is_so = count == first;
+		}
+	if (tasks)
+		closedir(tasks);
+	return tasks && is_so;
+}
+
+/* The call that adds the filter in the thread's room, for it alone or for all threads. */
+static bool inject_filter(struct thread *thread, const struct registers *registers, enum injected injected)
+{
+	struct registers changed = *registers;
+
+	registers_repeat(&changed, SYS_seccomp);
+	registers_set_argument(&changed, 0, SECCOMP_SET_MODE_FILTER);
+	registers_set_argument(&changed, 1, injected == ADD_FILTER_TO_ALL ? SECCOMP_FILTER_FLAG_TSYNC : 0);
+	registers_set_argument(&changed, 2, thread->room);
+	thread->phase = INJECTED;
+	thread->injected = injected;
+	return registers_write(thread->tid, &changed);
+}
+
+/* Has the thread add a filter by which reads of the descriptor stop; with the last filter, those of all. */
+bool filter_for_reads(struct thread *thread, const struct registers *registers, int file)
+{
+	struct process *process = thread->process;
+	bool is_last = process->read_filters == MOST_READ_FILTERS - 1;
+	struct { struct sock_fprog made; struct sock_filter code[8]; } given = {
 		.code = {
 			FIELD(nr),
-			STEP(BPF_JMP | BPF_JEQ, SYS_read, 1, 0),
-			STEP(BPF_JMP | BPF_JEQ, SYS_readv, 0, 3),
+			STEP(BPF_JMP | BPF_JEQ, SYS_read, 2, 0),
+			STEP(BPF_JMP | BPF_JEQ, SYS_readv, 1, 0),
+			STEP(BPF_JMP | BPF_JEQ, SYS_preadv2, 0, 3),
 			FIELD(args[0]),
-			STEP(BPF_JMP | BPF_JEQ, (uint32_t)file, 0, 1),
+			is_last ? (struct sock_filter)BPF_JUMP(BPF_JMP | BPF_JA, 0, 0, 0) : STEP(BPF_JMP | BPF_JEQ, (uint32_t)file, 0, 1),
 			GIVE(SECCOMP_RET_TRACE),
 			GIVE(SECCOMP_RET_ALLOW)
 		}
 	};
-	uint64_t at = (registers_stack(registers) - 1024) & ~(uint64_t)15;
 
-	lent.made = (struct sock_fprog){ .len = 7, .filter = (struct sock_filter *)(at + offsetof(__typeof__(lent), code)) };
-	if (!write_memory(thread->tid, at, &lent, sizeof lent))
+	thread->behind_reads = -1;
+	given.made = (struct sock_fprog){ .len = 8, .filter = (struct sock_filter *)(thread->room + offsetof(__typeof__(given), code)) };
+	if (!write_memory(thread->tid, thread->room, &given, sizeof given))
 		return false;
+	process->filtered[process->read_filters++] = file;
 	thread->behind = *registers;
-	registers_repeat(registers, SYS_seccomp);
-	registers_set_argument(registers, 0, SECCOMP_SET_MODE_FILTER);
-	registers_set_argument(registers, 1, 0);
-	registers_set_argument(registers, 2, at);
-	thread->phase = INJECTED;
-	return registers_write(thread->tid, registers);
+	return inject_filter(thread, registers, are_alike(process) ? ADD_FILTER_TO_ALL : ADD_FILTER);
+}
+
+/* The filter was added, or was not. Where the threads have different ones after all, the caller alone gets it: whether this follows. */
+bool filter_added(struct thread *thread, int64_t result)
+{
+	if (thread->injected == ADD_FILTER_TO_ALL && result != 0)
+		return inject_filter(thread, &thread->behind, ADD_FILTER);
+	room_give_back(thread);
+	return false;
 }

@@ -6,6 +6,7 @@
 #include <sched.h>
 #include <signal.h>
 #include <stdlib.h>
+#include <string.h>
 #include <sys/ptrace.h>
 #include <sys/syscall.h>
 #include <unistd.h>
@@ -203,13 +204,17 @@ void give_registers_back(struct thread *thread)
 	registers_change(thread->tid, &present, &wanted);
 }
 
-/* What the child does with the end of its own children, and what its own end does. */
-static void inherit_handling(struct process *parent, struct process *child, uint64_t flags)
+/* What the child does with the end of its own children, what its own end does, and what of ours it has. */
+static void inherit_state(struct process *parent, struct process *child, uint64_t flags)
 {
 	child->ignores_children = parent->ignores_children;
 	child->wants_no_zombies = parent->wants_no_zombies;
 	child->may_catch_end = parent->may_catch_end;
 	child->ends_unheard = (flags & CSIGNAL) != SIGCHLD;
+	child->read_filters = parent->read_filters;
+	memcpy(child->filtered, parent->filtered, sizeof child->filtered);
+	memory_leave(child->memory);
+	child->memory = flags & CLONE_VM ? memory_share(parent->memory) : memory_copy(parent->memory);
 	if (flags & CLONE_SIGHAND)
 		parent->shares_handlers = child->shares_handlers = true;
 }
@@ -227,7 +232,7 @@ void forked(struct thread *thread, pid_t real)
 	}
 	if (thread->phase == IN_CALL && thread->child) {
 		process = process_new(name_make(real, thread->child_root));
-		inherit_handling(thread->process, process, thread->flags);
+		inherit_state(thread->process, process, thread->flags);
 		process->is_init = thread->makes_space;
 		stop_forking(thread);
 		thread->is_made = true;

@@ -131,7 +131,7 @@ struct process *process_new(struct name *name)
 {
 	struct process *process = need(calloc(1, sizeof *process));
 
-	*process = (struct process){ .name = name, .real = name->real, .root = name->root, .next = processes };
+	*process = (struct process){ .name = name, .real = name->real, .root = name->root, .memory = memory_new(), .next = processes };
 	if (processes)
 		processes->previous = process;
 	name->process = process;
@@ -148,6 +148,7 @@ void process_free(struct process *process)
 		processes = process->next;
 	if (process->next)
 		process->next->previous = process->previous;
+	memory_leave(process->memory);
 	free(process);
 }
 

@@ -6,6 +6,7 @@
 #include <dirent.h>
 #include <errno.h>
 #include <fcntl.h>
+#include <limits.h>
 #include <linux/openat2.h>
 #include <stddef.h>
 #include <stdlib.h>
@@ -14,7 +15,8 @@
 
 bool shows_proc = true;
 
-enum { LONGEST_PATH = 512, RED_ZONE = 128, PAGE = 4096 };
+enum { LONGEST_PATH = PATH_MAX, PAGE = 4096 };
+_Static_assert(PATH_MAX <= ROOM, "a path fits into the room of a thread");
 
 /* ---- a path, component by component ---- */
 
@@ -209,14 +211,12 @@ static bool is_in_proc(struct place *place, const struct thread *thread, int ind
 	return place->where != ELSEWHERE;
 }
 
-/* The call gets another path, which is lent room below the stack. */
+/* The call gets another path. */
 static enum onward take_path(struct thread *thread, struct registers *registers, int index, const char *path)
 {
-	uint64_t at = (registers_stack(registers) - RED_ZONE - LONGEST_PATH) & ~(uint64_t)15;
-
-	if (!write_memory(thread->tid, at, path, strlen(path) + 1))
-		return GO;
-	registers_set_argument(registers, index, at);
+	if (!write_memory(thread->tid, thread->room, path, strlen(path) + 1))
+		return answer_with(thread, -EFAULT);
+	registers_set_argument(registers, index, thread->room);
 	return watch(thread, registers);
 }
 
@@ -225,9 +225,11 @@ static enum onward path_enter(struct thread *thread, struct registers *registers
 	struct place place;
 	char path[LONGEST_PATH];
 
-	if (!is_in_proc(&place, thread, index, has_folder) || !place.is_translated || !write_place(&place, path))
+	if (!is_in_proc(&place, thread, index, has_folder) || !place.is_translated)
 		return GO;
-	return take_path(thread, registers, index, path);
+	if (!write_place(&place, path))
+		return answer_with(thread, -ENAMETOOLONG);
+	return room_take(thread) ? take_path(thread, registers, index, path) : room_map(thread);
 }
 
 enum onward enter_path(struct thread *thread, struct registers *registers)
@@ -267,14 +269,18 @@ static enum onward open_enter(struct thread *thread, struct registers *registers
 	char path[LONGEST_PATH];
 	const char *file;
 
-	if (!is_in_proc(&place, thread, index, has_folder) || !write_place(&place, path))
+	if (!is_in_proc(&place, thread, index, has_folder))
 		return GO;
 	file = (flags & O_ACCMODE) == O_RDONLY && !(flags & O_PATH) ? translated_file(&place) : NULL;
+	if (!file && !place.is_translated)
+		return GO;
+	if (!write_place(&place, path))
+		return answer_with(thread, -ENAMETOOLONG);
+	if (!room_take(thread))
+		return room_map(thread);
 	thread->content = file ? content_open(thread, path, file, place.task ? place.task : place.process) : -1;
 	if (thread->content >= 0)
 		snprintf(path, sizeof path, "/proc/%d/fd/%d", getpid(), thread->content);
-	else if (!place.is_translated)
-		return GO;
 	return take_path(thread, registers, index, path);
 }
 

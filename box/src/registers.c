@@ -70,11 +70,6 @@ void registers_set_result(struct registers *registers, int64_t result)
 	registers->all.rax = (unsigned long long)result;
 }
 
-uint64_t registers_stack(const struct registers *registers)
-{
-	return registers->all.rsp;
-}
-
 bool registers_change(pid_t tid, const struct registers *present, const struct registers *wanted)
 {
 	enum { WORD = sizeof present->all.rax, WORDS = sizeof present->all / WORD };
@@ -129,11 +124,6 @@ int64_t registers_result(const struct registers *registers)
 void registers_set_result(struct registers *registers, int64_t result)
 {
 	registers->all.regs[0] = (uint64_t)result;
-}
-
-uint64_t registers_stack(const struct registers *registers)
-{
-	return registers->all.sp;
 }
 
 bool registers_change(pid_t tid, const struct registers *present, const struct registers *wanted)

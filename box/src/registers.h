@@ -33,7 +33,6 @@ uint64_t registers_argument(const struct registers *registers, int index);
 void registers_set_argument(struct registers *registers, int index, uint64_t value);
 int64_t registers_result(const struct registers *registers);
 void registers_set_result(struct registers *registers, int64_t result);
-uint64_t registers_stack(const struct registers *registers);
 
 /* In a stop before a call: another one is made, or none, and then the result is that of registers_set_result. */
 bool registers_make_other(pid_t tid, struct registers *registers, int64_t call);

@@ -6,9 +6,11 @@
 #include <signal.h>
 #include <stddef.h>
 #include <stdio.h>
+#include <string.h>
 #include <sys/ptrace.h>
 #include <sys/signalfd.h>
 #include <sys/syscall.h>
+#include <unistd.h>
 
 /* ---- kill ---- */
 
@@ -145,13 +147,43 @@ int64_t leave_sigtimedwait(struct thread *thread, int64_t result)
 
 /* ---- signalfd: what is read of it has the sender, and reads do not stop. So reads of a new descriptor are made to. ---- */
 
+/* The filter is put where it does not disturb the program. One whose memory cannot be read is let go. */
+enum onward enter_signalfd(struct thread *thread, struct registers *registers)
+{
+	uint64_t signals;
+
+	if (!read_memory(thread->tid, registers_argument(registers, 1), &signals, sizeof signals))
+		return GO;
+	return room_take(thread) ? watch(thread, registers) : room_map(thread);
+}
+
 int64_t leave_signalfd(struct thread *thread, int64_t result)
 {
-	bool is_new = call_argument(thread, 0) == -1;
-
-	if (result >= 0 && is_new)
+	if (result >= 0 && !reads_stop(thread->process, (int)result))
 		thread->behind_reads = (int)result;
 	return result;
+}
+
+/* Whether the descriptor that is read is a signalfd: reads of its number stop when it has long become another file. */
+static bool is_signalfd(const struct thread *thread)
+{
+	static const char name[] = "anon_inode:[signalfd]";
+	char link[64], found[sizeof name];
+
+	snprintf(link, sizeof link, "/proc/%d/fd/%d", thread->tid, (int)call_argument(thread, 0));
+	return readlink(link, found, sizeof found) == sizeof name - 1 && !memcmp(found, name, sizeof name - 1);
+}
+
+enum onward enter_signalfd_read(struct thread *thread, struct registers *registers)
+{
+	return is_signalfd(thread) ? watch(thread, registers) : GO;
+}
+
+/* The bytes of a signalfd may be anywhere. */
+enum onward enter_signalfd_readv(struct thread *thread, struct registers *registers)
+{
+	(void)registers;
+	return is_signalfd(thread) ? refuse(thread) : GO;
 }
 
 int64_t leave_signalfd_read(struct thread *thread, int64_t result)
@@ -159,6 +191,8 @@ int64_t leave_signalfd_read(struct thread *thread, int64_t result)
 	uint64_t at = registers_argument(&thread->made, 1);
 	struct signalfd_siginfo info;
 
+	if (!is_signalfd(thread))
+		return result;
 	for (int64_t done = 0; done + (int64_t)sizeof info <= result; done += (int64_t)sizeof info)
 		if (read_memory(thread->tid, at + (uint64_t)done, &info, sizeof info) && is_from_a_process((int)info.ssi_signo, info.ssi_code))
 			show(thread, at + (uint64_t)done + offsetof(struct signalfd_siginfo, ssi_pid), PROCESS);

@@ -70,6 +70,8 @@ void thread_free(struct thread *thread)
 		by_number[thread->number - FIRST_THREAD] = NULL;
 	by_real[thread->tid] = NULL;
 	content_done(thread);
+	if (thread->process)
+		room_give_back(thread);
 	free(thread);
 }
 

@@ -63,6 +63,7 @@ static bool make_subreaper(struct thread *thread)
 	registers_set_argument(&registers, 0, PR_SET_CHILD_SUBREAPER);
 	registers_set_argument(&registers, 1, 1);
 	thread->phase = INJECTED;
+	thread->injected = MAKE_SUBREAPER;
 	return registers_write(thread->tid, &registers);
 }
 
@@ -100,6 +101,9 @@ static void executed(struct thread *thread)
 	thread->phase = FREE;
 	thread->has_no_exit = false;
 	thread->lent_count = 0;
+	room_give_back(thread);
+	memory_leave(process->memory);
+	process->memory = memory_new();
 	process->wants_no_zombies = process->may_catch_end = false;
 	process->exec_waits = true;
 	if (!process->asked)
@@ -190,6 +194,22 @@ static void signal_stopped(struct thread *thread, int signal)
 	}
 }
 
+/* The exit of an injected call. Whether another one follows. */
+static bool injected_over(struct thread *thread)
+{
+	struct registers registers;
+	int64_t result = registers_read(thread->tid, &registers) ? registers_result(&registers) : -ESRCH;
+
+	if (thread->injected == MAP_ROOM)
+		room_mapped(thread, result);
+	else if (thread->injected != MAKE_SUBREAPER && filter_added(thread, result))
+		return true;
+	registers_write(thread->tid, &thread->behind);
+	thread->phase = FREE;
+	send_put_off(thread);
+	return false;
+}
+
 /* A stop at the entry or the exit of a call that is watched. */
 static void watched_stopped(struct thread *thread)
 {
@@ -201,9 +221,8 @@ static void watched_stopped(struct thread *thread)
 		request = PTRACE_SYSCALL;
 		break;
 	case IN_INJECTED:
-		registers_write(thread->tid, &thread->behind);
-		thread->phase = FREE;
-		send_put_off(thread);
+		if (injected_over(thread))
+			request = PTRACE_SYSCALL;
 		break;
 	case IN_CALL:
 		if (!thread->process->ended && call_leave(thread) == SEE_EXIT)

@@ -19,7 +19,7 @@ enum onward answer_with(const struct thread *thread, int64_t result)
 	return GO;
 }
 
-static enum onward refuse(struct thread *thread)
+enum onward refuse(struct thread *thread)
 {
 	report_refused(thread->call, registers_call(&thread->made));
 	return answer_with(thread, -ENOSYS);
@@ -129,18 +129,9 @@ enum onward call_enter(struct thread *thread)
 		wait_again(thread, &registers);
 	thread->made = registers;
 	thread->call = call_row(&registers);
-	if (!thread->call || thread->call->decides == REFUSED)
+	if (!thread->call || (thread->call->decides == REFUSED && !thread->call->enter))
 		return refuse(thread);
 	return thread->call->enter ? thread->call->enter(thread, &registers) : translate(thread, &registers);
-}
-
-/* Behind a signalfd(2) reads of the new descriptor are to stop. */
-static enum onward add_filter(struct thread *thread, struct registers *registers)
-{
-	int file = thread->behind_reads;
-
-	thread->behind_reads = -1;
-	return filter_for_reads(thread, registers, file) ? SEE_EXIT : GO;
 }
 
 /* Behind a wait whose exit is not seen. */
@@ -169,8 +160,9 @@ enum onward call_leave(struct thread *thread)
 	if (thread->once_more)
 		registers_repeat(&registers, registers_call(&thread->made));
 	thread->once_more = false;
-	if (thread->behind_reads >= 0)
-		return add_filter(thread, &registers);
+	if (thread->behind_reads >= 0 && filter_for_reads(thread, &registers, thread->behind_reads))
+		return SEE_EXIT;
+	room_give_back(thread);
 	registers_change(thread->tid, &present, &registers);
 	return GO;
 }

@@ -59,6 +59,17 @@ def bombs(tell):
     tell.say("bombs", f"{len(BOMBS)} limits")
 
 
+BYTES = ("again", "executed", "read", "senders", "stacks", "threads", "taken", "filters")
+
+
+def memory(tell):
+    """No byte of a program's memory, and none that it reads, is changed."""
+    program = rig.compiled("bytes", "-pthread")
+    for way in BYTES:
+        often(tell, f"bytes-{way}", [program, way], 5)
+    tell.say("memory", f"{len(BYTES)} ways")
+
+
 # What a program does with SIGTERM, how often it is sent, the status, and how many seconds the end takes at most.
 CATCHES = "import signal, time; signal.signal(signal.SIGTERM, lambda *_: {}); print('ready', flush=True); [time.sleep(1) for _ in range(100)]"
 IGNORES = "import signal, time; signal.signal(signal.SIGTERM, signal.{}); print('ready', flush=True); time.sleep(100)"
