@@ -283,9 +283,11 @@ static void handle(pid_t tid, int status)
 	if (!WIFSTOPPED(status)) {
 		if (thread)
 			thread_ended(thread, status);
+	} else if (status >> 16 == PTRACE_EVENT_EXIT && (!thread || !thread->process)) {
+		trace(PTRACE_CONT, tid, 0); /* it is killed before its parent's event has come, which will not come any more */
 	} else if (!thread) {
 		stranger_stopped(thread_new(tid, NULL)); /* it waits for its parent's event */
-	} else if (thread->process && !thread->is_begun) {
+	} else if (thread->process && !thread->is_begun && status >> 16 != PTRACE_EVENT_EXIT) {
 		begin(thread);
 	} else if (thread->process) {
 		stopped(thread, status);

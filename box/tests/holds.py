@@ -17,7 +17,8 @@ STORMS = (
     ("killed", 40, "fork", (), 5), ("killed", 40, "vfork", (), 5), ("killed", 40, "thread", (), 5),
     ("executed", 40, "fork", (), 5), ("executed", 40, "vfork", (), 5), ("executed", 40, "thread", (), 5),
 )
-FALLS = ((1, "fork"), (8, "fork"), (32, "fork"), (8, "vfork"), (8, "thread"))
+FALLS = tuple(("fall", *it) for it in ((1, "fork"), (8, "fork"), (32, "fork"), (8, "vfork"), (8, "thread"))) + tuple(
+    ("leave", 4, it) for it in ("fork", "vfork", "thread"))
 BOMBS = (20, 100, 200, 300, 500)
 
 
@@ -41,10 +42,10 @@ def storms(tell):
 
 
 def falls(tell):
-    """An init that ends while others fork: the box ends with it."""
+    """An init that ends while others, or its own threads, fork: the box ends with it."""
     storm = rig.compiled("storm", "-pthread")
-    for count, what in FALLS:
-        often(tell, f"fall-{count}-{what}", [storm, "fall", str(count), what], TIMES)
+    for way, count, what in FALLS:
+        often(tell, f"{way}-{count}-{what}", [storm, way, str(count), what], TIMES)
     tell.say("falls", f"{len(FALLS)} kinds, {TIMES} times each")
 
 

@@ -93,6 +93,23 @@ static int fall(int count, begins *begin)
 	return 0;
 }
 
+static void *go_on_in_thread(void *word)
+{
+	go_on(*(begins **)word);
+}
+
+/* The init ends while its own threads begin others. */
+static int leave(int count, begins *begin)
+{
+	pthread_t thread;
+
+	for (int i = 0; i < count; i++)
+		pthread_create(&thread, NULL, go_on_in_thread, &begin);
+	usleep(MOMENT);
+	puts("the init ends");
+	return 0;
+}
+
 /* Each is killed while it begins others: in the midst of a fork at times. */
 static int killed(int count, begins *begin)
 {
@@ -162,11 +179,11 @@ int main(int count, char **words)
 	static const struct {
 		const char *name;
 		int (*act)(int count, begins *begin);
-	} ways[] = { { "at-once", at_once }, { "fall", fall }, { "killed", killed }, { "executed", executed }, { "bomb", bomb } };
+	} ways[] = { { "at-once", at_once }, { "fall", fall }, { "leave", leave }, { "killed", killed }, { "executed", executed }, { "bomb", bomb } };
 
 	for (size_t i = 0; count == 4 && i < sizeof ways / sizeof ways[0]; i++)
 		if (!strcmp(words[1], ways[i].name))
 			return ways[i].act(atoi(words[2]), begins_of(words[3]));
-	fputs("usage: storm at-once|fall|killed|executed|bomb COUNT thread|fork|vfork\n", stderr);
+	fputs("usage: storm at-once|fall|leave|killed|executed|bomb COUNT thread|fork|vfork\n", stderr);
 	return MISUSED;
 }
