@@ -44,6 +44,46 @@ struct name {
 	uint32_t count;
 };
 
+/* ---- stages.c: where a thread is, and the fork that it makes ---- */
+
+enum stage {
+	NEW,      /* nothing is known of it */
+	STRANGER, /* it has stopped, and no parent has claimed it */
+	DEAD,     /* a stranger that was killed, and may still be claimed */
+	EXPECTED, /* its parent has claimed it, and it has not stopped */
+	RUNNING,
+	ASKING,   /* within a fork: the table has the child, and the kernel may have it */
+	MADE,     /* within a fork: its child is claimed */
+	FALLEN,   /* its process was killed with its namespace */
+	LEAVING,  /* a thread of an init, at its end */
+	HELD,     /* the last one of an init, which waits until those are dead that fell with it */
+	OVER,
+	STAGES
+};
+
+enum event {
+	STOPS,    /* any stop but that of an end */
+	CLAIMED,  /* its parent says that it is its child */
+	ASKS,     /* the table has made a child */
+	TOLD,     /* the kernel has said which one is the child */
+	FAILS, DELAYED, /* the call is over without a child, or is made again */
+	RETURNS,  /* the call is over, with a child */
+	EXECUTES, /* an execve: another thread may have made it */
+	FALLS, LEAVES, HOLDS, LET_GO, ENDS,
+	EVENTS
+};
+
+enum deed {
+	NO_DEED = 0,
+	UNDO = 1,   /* the table's child is ended and reaped: the kernel has none that it could be */
+	KEEP = 2,   /* the table's child is kept for the call that comes again */
+	LOSE = 4,   /* the kernel may have a child that nobody will claim */
+	JUDGE = 8,  /* whether the stranger may be claimed */
+	BEGIN = 16, /* its first steps */
+	RUN = 32,   /* it goes on to its end */
+	SERVE = 64, END = 128 /* for the caller */
+};
+
 /* Each number that is a signalfd's for the first time gets a filter of its own, up to these. The last one is about all numbers. */
 enum { MOST_READ_FILTERS = 8 };
 
@@ -52,9 +92,8 @@ struct process {
 	struct name *name;       /* none where it is gone */
 	pid_t real;
 	uint32_t root;
-	int threads;             /* real ones that the tracer knows */
-	int forking;             /* those whose child is not claimed yet */
-	int leaving;             /* those of an init that are at their end */
+	struct thread *threads;  /* real ones that the tracer knows */
+	int at[STAGES];          /* how many of them are in each stage */
 	bool ended;              /* in the table */
 	bool dead;               /* in the kernel: the tracer has seen its end */
 	bool gone;               /* the table has no such task any more; the kernel may have */
@@ -69,7 +108,6 @@ struct process {
 	int read_filters;        /* how many filters stop its reads of signalfds (filter.c) */
 	int filtered[MOST_READ_FILTERS]; /* the number that each is about */
 	bool ends_unheard;       /* its end sends its parent another signal than SIGCHLD, or none */
-	pid_t held;              /* the thread of an init that waits for its namespace's members to die */
 	struct process *killer;  /* the init with which it fell */
 	uint32_t spare, spare_root; /* a child of the table whose real fork a signal put off */
 	int asked;               /* how many setpgid on it are under way in the kernel */
@@ -119,9 +157,10 @@ struct thread {
 	pid_t tid;
 	uint32_t number;         /* as the program sees it; 0 for a main thread, whose number is its process's */
 	struct process *process; /* none where it came before its parent's event */
-	bool is_begun;           /* its first stop was seen */
-	bool is_unclaimed;       /* it stopped, and its parent's event has not come: it is in a list with others */
-	struct thread *next, *previous;
+	enum stage stage;
+	struct thread *next, *previous; /* those of its process; or other strangers */
+	int status;              /* of a stranger that has ended */
+	bool is_killed;          /* a stranger that was nobody's */
 	enum phase phase;
 	const struct call *call; /* what it makes, in the table of calls */
 	struct registers made;   /* the call as the program made it */
@@ -140,7 +179,6 @@ struct thread {
 	uint64_t tid_at;              /* where the kernel has written its number before it ran */
 	uint32_t child, child_root;   /* of a fork: its number to the caller */
 	uint64_t flags;               /* of that fork */
-	bool is_made;                 /* the real child is there */
 	bool makes_space;
 	uint32_t target;              /* of a setpgid that the kernel decides first */
 	bool lists_tasks;             /* the directory that it reads is that of threads */
@@ -157,7 +195,14 @@ struct thread *thread_of_real(pid_t tid);
 struct thread *thread_numbered(uint32_t number);
 void thread_number(struct thread *thread);
 uint32_t thread_seen(const struct thread *thread);
-void each_unclaimed(void (*act)(struct thread *thread));
+
+void stage_enlist(struct thread *thread);
+void stage_delist(struct thread *thread);
+int threads_of(const struct process *process);
+enum deed happen(struct thread *thread, enum event event);
+void stages_settle(void);
+void stages_reset(void);
+bool stages_lost(void);
 
 /* ---- table.c: the table and its log ---- */
 
@@ -224,9 +269,12 @@ int64_t call_argument(const struct thread *thread, int index);
 /* ---- forks.c ---- */
 
 void forked(struct thread *thread, pid_t real);
-void fork_lost(struct thread *thread);
+void fork_undo(struct thread *thread);
+void fork_keep(struct thread *thread);
 void give_registers_back(struct thread *thread);
-void stranger_stopped(struct thread *thread);
+const struct process *stranger_parent(const struct thread *stranger);
+bool stranger_is_process(const struct thread *stranger);
+void stranger_kill(const struct thread *stranger);
 
 /* ---- groups.c ---- */
 
@@ -258,6 +306,7 @@ extern uint64_t events;
 
 void trace(int request, pid_t tid, long data);
 void begin(struct thread *thread);
+void thread_ended(struct thread *thread, int status);
 void exec_told(struct process *process);
 void catch_up(const struct process *process, int flags);
 int supervise(pid_t init);

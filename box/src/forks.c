@@ -14,9 +14,6 @@
 /* Where clone(2) has its arguments. */
 enum { FLAGS = 0, STACK = 1, PARENT_TID = 2, CHILD_TID = MACHINE == 0 ? 3 : 4 };
 
-static int forking;     /* threads whose child is not claimed yet */
-static bool some_lost; /* a thread has ended so: its child, if the kernel has made one, is nobody's */
-
 /* The flags by which clone(2) would do what the call does. */
 static uint64_t flags_of(const struct registers *registers)
 {
@@ -72,90 +69,54 @@ enum onward enter_fork(struct thread *thread, struct registers *registers)
 	if (child < 0)
 		return answer_with(thread, child);
 	thread->child = (uint32_t)child;
-	thread->is_made = false;
-	forking++;
-	caller->forking++;
+	happen(thread, ASKS);
 	return make_child(thread, registers);
 }
 
-/* ---- children whose parent was killed before it could say whose they are ---- */
+/* ---- a fork that comes to nothing, and a child that nobody claims ---- */
 
-/* A process alone, which leads its threads: a new thread is claimed by the event of its process, which lives. */
-static void kill_process(struct thread *thread)
+/* The table's child is ended and reaped. */
+void fork_undo(struct thread *thread)
 {
-	if (!syscall(SYS_tgkill, thread->tid, thread->tid, 0))
-		kill(thread->tid, SIGKILL);
+	table_do(PIDTAB_EXIT, thread->child_root, 0, 0);
+	table_do(PIDTAB_WAIT, thread->process->root, thread->child, PIDTAB_CHILD);
+	thread->child = 0;
 }
 
-/* Kills a child whose parent is in no fork. That of a parent that is dead has another one by now. */
-static void kill_stranger(struct thread *thread)
+/* It is kept for the call that comes again. */
+void fork_keep(struct thread *thread)
+{
+	struct process *caller = thread->process;
+
+	if (caller->spare) {
+		fork_undo(thread);
+		return;
+	}
+	caller->spare = thread->child;
+	caller->spare_root = thread->child_root;
+	thread->child = 0;
+}
+
+const struct process *stranger_parent(const struct thread *stranger)
 {
 	const struct name *name;
 	struct state state;
 
-	if (forking > 0 && !read_state(thread->tid, &state))
-		return;
-	name = forking > 0 ? name_of_real(state.parent) : NULL;
-	if (!name || !name->process || name->process->ended || name->process->forking == 0)
-		kill_process(thread);
+	if (!read_state(stranger->tid, &state))
+		return NULL;
+	name = name_of_real(state.parent);
+	return name ? name->process : NULL;
 }
 
-/* Of the children that wait, those that no fork will claim are nobody's. */
-static void kill_strangers(void)
+/* A process leads its threads. A new thread ends with its process, or is claimed by it. */
+bool stranger_is_process(const struct thread *stranger)
 {
-	if (forking == 0 || some_lost)
-		each_unclaimed(kill_stranger);
+	return !syscall(SYS_tgkill, stranger->tid, stranger->tid, 0);
 }
 
-/* A child has stopped before its parent's event, which may be one that never comes. */
-void stranger_stopped(struct thread *thread)
+void stranger_kill(const struct thread *stranger)
 {
-	if (forking == 0 || some_lost)
-		kill_stranger(thread);
-}
-
-/* ---- the end of a fork ---- */
-
-/* The thread will claim no child any more. Whether it would have. */
-static bool stop_forking(struct thread *thread)
-{
-	if (!thread->child || thread->is_made)
-		return false;
-	forking--;
-	thread->process->forking--;
-	return true;
-}
-
-/* A fork of the table without one of the kernel: it is kept for the call that comes again, or is ended and reaped. */
-static void fork_failed(struct thread *thread, bool again)
-{
-	struct process *caller = thread->process;
-
-	if (!stop_forking(thread))
-		return;
-	if (again && !caller->spare) {
-		caller->spare = thread->child;
-		caller->spare_root = thread->child_root;
-	} else {
-		table_do(PIDTAB_EXIT, thread->child_root, 0, 0);
-		table_do(PIDTAB_WAIT, caller->root, thread->child, PIDTAB_CHILD);
-	}
-	thread->child = 0;
-}
-
-/* The thread is at its end, or its process has fallen: where the kernel has made the child, nobody claims it. The table drops what falls. */
-void fork_lost(struct thread *thread)
-{
-	bool is_lost = thread->child && !thread->is_made;
-
-	if (!thread->process->ended)
-		fork_failed(thread, false);
-	else
-		stop_forking(thread);
-	thread->child = 0;
-	some_lost |= is_lost;
-	if (is_lost)
-		kill_strangers();
+	kill(stranger->tid, SIGKILL);
 }
 
 /* The numbers that the kernel writes for a new process or thread are its own: in the parent's memory now, in the child's as it begins. A
@@ -219,55 +180,59 @@ static void inherit_state(struct process *parent, struct process *child, uint64_
 		parent->shares_handlers = child->shares_handlers = true;
 }
 
-/* The kernel has made a process or a thread. */
+/* The process of a child that the thread has asked for; its own, where the child is a thread. */
+static struct process *process_of_child(struct thread *thread, pid_t real)
+{
+	struct process *process;
+
+	if (thread->stage != ASKING)
+		return thread->process;
+	process = process_new(name_make(real, thread->child_root));
+	inherit_state(thread->process, process, thread->flags);
+	process->is_init = thread->makes_space;
+	return process;
+}
+
+/* The kernel has made a process or a thread. What a fallen one makes is nobody's. */
 void forked(struct thread *thread, pid_t real)
 {
-	struct process *process = thread->process;
 	struct thread *child = thread_of_real(real);
-	bool has_stopped = child;
+	bool is_thread = thread->stage != ASKING;
 
-	if (process->ended) {
-		fork_lost(thread);
+	if (thread->stage == FALLEN)
 		return;
-	}
-	if (thread->phase == IN_CALL && thread->child) {
-		process = process_new(name_make(real, thread->child_root));
-		inherit_state(thread->process, process, thread->flags);
-		process->is_init = thread->makes_space;
-		stop_forking(thread);
-		thread->is_made = true;
-	}
-	process->threads++;
+	if (!child && is_thread && syscall(SYS_tgkill, thread->process->real, real, 0))
+		return; /* its end was reported before */
 	if (!child)
-		child = thread_new(real, process);
-	child->process = process;
+		child = thread_new(real, NULL);
+	stage_delist(child);
+	child->process = process_of_child(thread, real);
+	stage_enlist(child);
 	thread_number(child);
 	tell_numbers(thread, child);
 	inherit(thread, child);
-	if (has_stopped)
-		begin(child);
-	if (forking == 0)
-		kill_strangers();
+	if (happen(child, CLAIMED) & END)
+		thread_ended(child, child->status);
+	happen(thread, TOLD);
 }
 
 int64_t leave_fork(struct thread *thread, int64_t result)
 {
 	struct process *caller = thread->process;
 
+	if (result <= 0) {
+		happen(thread, result <= -FIRST_RESTART ? DELAYED : FAILS);
+		return result;
+	}
 	thread->phase = IN_CALL;
-	if (result > 0 && !thread->is_made)
+	if (thread->stage == ASKING)
 		forked(thread, (pid_t)result);
 	thread->phase = FREE;
-	if (result > 0) {
-		if (caller->unshared)
-			caller->joined = table_do(PIDTAB_JOIN, caller->root, thread->child, 0) == 0;
-		caller->unshared = false;
-		result = thread->child;
-	} else {
-		fork_failed(thread, result <= -FIRST_RESTART);
-		if (forking == 0)
-			kill_strangers();
-	}
+	happen(thread, RETURNS);
+	if (caller->unshared)
+		caller->joined = table_do(PIDTAB_JOIN, caller->root, thread->child, 0) == 0;
+	caller->unshared = false;
+	result = thread->child;
 	thread->child = 0;
 	return result;
 }

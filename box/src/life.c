@@ -86,6 +86,8 @@ static void fall(struct process *process, struct process *init)
 	if (process->dead || process->killer == init)
 		return;
 	process->killer = init;
+	for (struct thread *thread = process->threads; thread; thread = thread->next)
+		happen(thread, FALLS);
 	kill(process->real, SIGKILL);
 }
 
@@ -150,9 +152,9 @@ static void let_go(struct process *init)
 {
 	if (has_fallen_with(init))
 		return;
-	if (init->held)
-		trace(PTRACE_CONT, init->held, 0);
-	init->held = 0;
+	for (struct thread *thread = init->threads; thread; thread = thread->next)
+		if (thread->stage == HELD)
+			happen(thread, LET_GO);
 }
 
 /* The record of a nested init goes, and nobody waits for it any more. */

@@ -148,6 +148,8 @@ void process_free(struct process *process)
 		processes = process->next;
 	if (process->next)
 		process->next->previous = process->previous;
+	while (process->threads)
+		thread_free(process->threads); /* one that was never seen */
 	memory_leave(process->memory);
 	free(process);
 }

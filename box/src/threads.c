@@ -5,34 +5,10 @@
 
 static struct thread *by_real[MOST_REAL];
 static struct thread *by_number[MOST_REAL]; /* from FIRST_THREAD on */
-static struct thread *unclaimed;            /* a list of those that stopped before their parent's event: as many as forks are under way */
 
 struct thread *thread_of_real(pid_t tid)
 {
 	return by_real[tid];
-}
-
-static void put_unclaimed(struct thread *thread)
-{
-	thread->next = unclaimed;
-	if (unclaimed)
-		unclaimed->previous = thread;
-	unclaimed = thread;
-	thread->is_unclaimed = true;
-}
-
-static void take_unclaimed(struct thread *thread)
-{
-	if (!thread->is_unclaimed)
-		return;
-	thread->is_unclaimed = false;
-	if (thread->previous)
-		thread->previous->next = thread->next;
-	else
-		unclaimed = thread->next;
-	if (thread->next)
-		thread->next->previous = thread->previous;
-	thread->next = thread->previous = NULL;
 }
 
 struct thread *thread_new(pid_t tid, struct process *process)
@@ -42,18 +18,15 @@ struct thread *thread_new(pid_t tid, struct process *process)
 	thread->tid = tid;
 	thread->process = process;
 	thread->behind_reads = thread->content = -1;
-	if (!process)
-		put_unclaimed(thread);
+	stage_enlist(thread);
 	return by_real[tid] = thread;
 }
 
-/* Its parent's event came: it is no more unclaimed. Where it is a thread beside the main one, it gets a number as the kernel gives them:
- * the next one that is free. */
+/* A thread beside the main one gets a number as the kernel gives them: the next one that is free. */
 void thread_number(struct thread *thread)
 {
 	static uint32_t cursor;
 
-	take_unclaimed(thread);
 	if (thread->tid == thread->process->real)
 		return;
 	while (by_number[cursor])
@@ -65,7 +38,7 @@ void thread_number(struct thread *thread)
 
 void thread_free(struct thread *thread)
 {
-	take_unclaimed(thread);
+	stage_delist(thread);
 	if (thread->number)
 		by_number[thread->number - FIRST_THREAD] = NULL;
 	by_real[thread->tid] = NULL;
@@ -84,12 +57,4 @@ struct thread *thread_numbered(uint32_t number)
 uint32_t thread_seen(const struct thread *thread)
 {
 	return thread->number ? thread->number : table_stat(thread->process->root, 0).levels[0];
-}
-
-void each_unclaimed(void (*act)(struct thread *thread))
-{
-	for (struct thread *thread = unclaimed, *next; thread; thread = next) {
-		next = thread->next;
-		act(thread);
-	}
 }

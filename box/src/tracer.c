@@ -45,9 +45,9 @@ void trace_first(pid_t init, struct process *process)
 {
 	if (ptrace(PTRACE_SEIZE, init, 0, options | PTRACE_O_TRACEEXIT))
 		die("ptrace");
-	process->threads = 1;
-	thread_new(init, process)->is_begun = true;
-	thread_number(thread_of_real(init));
+	thread_number(thread_new(init, process));
+	happen(thread_of_real(init), CLAIMED);
+	happen(thread_of_real(init), STOPS);
 }
 
 /* An init takes the orphans of its namespace, in the kernel too: it is made a subreaper by a call that it does not know of. The box's own is
@@ -74,7 +74,6 @@ void begin(struct thread *thread)
 	int32_t number = (int32_t)thread_seen(thread);
 	bool is_main = thread->tid == process->real, is_nested = process->is_init && is_main;
 
-	thread->is_begun = true;
 	if (is_main && thread->has_options_of_init != process->is_init)
 		trace(PTRACE_SETOPTIONS, thread->tid, options | (process->is_init ? PTRACE_O_TRACEEXIT : 0));
 	if (thread->has_call_of_parent)
@@ -93,11 +92,10 @@ static void executed(struct thread *thread)
 	trace(PTRACE_GETEVENTMSG, thread->tid, (long)&former);
 	if (former != (unsigned long)thread->tid && former < MOST_REAL && thread_of_real((pid_t)former)) {
 		thread_free(thread_of_real((pid_t)former));
-		process->threads--;
-		fork_lost(thread); /* the main one may have been within a call */
 		if (!process->ended)
-			setpgid_over(thread, -1);
+			setpgid_over(thread, -1); /* the main one may have been within a call */
 	}
+	happen(thread, EXECUTES);
 	thread->phase = FREE;
 	thread->has_no_exit = false;
 	thread->lent_count = 0;
@@ -127,32 +125,27 @@ static void leaving(struct thread *thread)
 	struct process *process = thread->process;
 	unsigned long status = 0;
 
+	happen(thread, LEAVES);
+	if (thread->stage != LEAVING)
+		return;
 	trace(PTRACE_GETEVENTMSG, thread->tid, (long)&status);
-	fork_lost(thread);
-	if (++process->leaving == process->threads && !process->ended) {
+	if (process->at[LEAVING] == threads_of(process) && !process->ended) {
 		process_ended(process, (int)status);
 		if (has_fallen_with(process))
-			process->held = thread->tid;
+			happen(thread, HOLDS);
 	}
-	if (!process->held)
-		trace(PTRACE_CONT, thread->tid, 0);
+	if (thread->stage == LEAVING)
+		happen(thread, LET_GO);
 }
 
-static void thread_ended(struct thread *thread, int status)
+void thread_ended(struct thread *thread, int status)
 {
 	struct process *process = thread->process;
 	pid_t tid = thread->tid;
 
-	if (process)
-		fork_lost(thread);
-	if (process && !process->ended)
+	if (!process->ended)
 		setpgid_over(thread, -1);
 	thread_free(thread);
-	if (!process)
-		return;
-	process->threads--;
-	if (process->leaving)
-		process->leaving--;
 	if (tid != process->real)
 		return;
 	process->dead = true;
@@ -251,9 +244,6 @@ static void event_stopped(struct thread *thread, int event, int signal)
 	case PTRACE_EVENT_EXEC:
 		executed(thread);
 		break;
-	case PTRACE_EVENT_EXIT:
-		leaving(thread);
-		break;
 	default: /* PTRACE_EVENT_STOP: by SIGTRAP it is a new thread's, or its going on; by others that of a stopped process */
 		thread->is_at_rest = signal != SIGTRAP;
 		trace(thread->is_at_rest ? PTRACE_LISTEN : thread->phase == INJECTED ? PTRACE_SYSCALL : PTRACE_CONT, thread->tid, 0);
@@ -275,23 +265,31 @@ static void stopped(struct thread *thread, int status)
 		signal_stopped(thread, signal);
 }
 
+static void has_stopped(struct thread *thread, int status)
+{
+	if (status >> 16 == PTRACE_EVENT_EXIT) {
+		stops++;
+		leaving(thread);
+	} else if (happen(thread, STOPS) & SERVE) {
+		stopped(thread, status);
+	}
+}
+
 static void handle(pid_t tid, int status)
 {
 	struct thread *thread = thread_of_real(tid);
 
 	events++;
-	if (!WIFSTOPPED(status)) {
-		if (thread)
+	if (!thread)
+		thread = thread_new(tid, NULL);
+	if (WIFSTOPPED(status)) {
+		has_stopped(thread, status);
+	} else {
+		thread->status = status;
+		if (happen(thread, ENDS) & END)
 			thread_ended(thread, status);
-	} else if (status >> 16 == PTRACE_EVENT_EXIT && (!thread || !thread->process)) {
-		trace(PTRACE_CONT, tid, 0); /* it is killed before its parent's event has come, which will not come any more */
-	} else if (!thread) {
-		stranger_stopped(thread_new(tid, NULL)); /* it waits for its parent's event */
-	} else if (thread->process && !thread->is_begun && status >> 16 != PTRACE_EVENT_EXIT) {
-		begin(thread);
-	} else if (thread->process) {
-		stopped(thread, status);
 	}
+	stages_settle();
 }
 
 /* The end of the process is fetched now, out of turn. */

@@ -54,7 +54,7 @@ static bool is_ended_by_signal(const struct thread *thread)
 
 	if (!child || child->ended || child->dead || child->gone || child->ends_unheard || parent_of(child) != caller)
 		return false;
-	if (call_argument(thread, 2) != 0 || caller->threads != 1 || caller->shares_handlers || caller->ignores_children || caller->wants_no_zombies)
+	if (call_argument(thread, 2) != 0 || threads_of(caller) != 1 || caller->shares_handlers || caller->ignores_children || caller->wants_no_zombies)
 		return false;
 	return !ptrace(PTRACE_GETSIGMASK, thread->tid, sizeof blocked, &blocked) && !(blocked >> (SIGCHLD - 1) & 1);
 }

@@ -33,30 +33,40 @@ def often(tell, name, words, times, **how):
         tell.differences(name, box)
 
 
+def orders(tell):
+    """All orders of two forks, an end and a kill, on the stages of a fork alone."""
+    program = rig.compiled("orders", "-g", "-DCHECKS_STAGES", f"-I{rig.TOP}/bindings/c", rig.TOP / "box/src/stages.c")
+    done = subprocess.run([program], capture_output=True, text=True, timeout=SECONDS, check=False)
+    if done.returncode:
+        tell.fault("orders", done.stdout + done.stderr)
+    for line in done.stdout.splitlines():
+        tell.say("orders", line)
+
+
 def storms(tell):
-    """Many that begin others all at once, that are killed while they do, and that execute meanwhile."""
-    storm = rig.compiled("storm", "-pthread")
+    """Many that begin others all at once, that are killed while they do, and that execute meanwhile. The box that looks at its state is slow."""
+    storm, box = rig.compiled("storm", "-pthread"), rig.checked_box()
     for way, count, what, before, times in STORMS:
-        often(tell, f"storm-{way}-{count}-{what}", [storm, way, str(count), what], times, before=before)
+        often(tell, f"storm-{way}-{count}-{what}", [storm, way, str(count), what], times, before=before, box=rig.BOX if before else box)
     tell.say("storms", f"{len(STORMS)} of them")
 
 
 def falls(tell):
     """An init that ends while others, or its own threads, fork: the box ends with it."""
-    storm = rig.compiled("storm", "-pthread")
+    storm, box = rig.compiled("storm", "-pthread"), rig.checked_box()
     for way, count, what in FALLS:
-        often(tell, f"{way}-{count}-{what}", [storm, way, str(count), what], TIMES)
+        often(tell, f"{way}-{count}-{what}", [storm, way, str(count), what], TIMES, box=box)
     tell.say("falls", f"{len(FALLS)} kinds, {TIMES} times each")
 
 
 def bombs(tell):
     """A fork bomb meets its limit, and the box ends with its init."""
-    storm = rig.compiled("storm", "-pthread")
+    storm, box = rig.compiled("storm", "-pthread"), rig.checked_box()
     for limit in BOMBS:
-        box = in_box([storm, "bomb", "1", "fork"], f"bomb-{limit}", SECONDS, options=("--check", "--pids-max", str(limit)))
-        if (box.output, box.status) != ("EAGAIN\n", 0):
-            tell.fault(f"bomb {limit}", f"status {box.status}, {box.output!r}")
-        tell.differences(f"bomb-{limit}", box)
+        run = in_box([storm, "bomb", "1", "fork"], f"bomb-{limit}", SECONDS, options=("--check", "--pids-max", str(limit)), box=box)
+        if (run.output, run.status) != ("EAGAIN\n", 0):
+            tell.fault(f"bomb {limit}", f"status {run.status}, {run.output!r}")
+        tell.differences(f"bomb-{limit}", run)
     tell.say("bombs", f"{len(BOMBS)} limits")
 
 

@@ -23,12 +23,21 @@ def has_kernel_namespaces():
     return subprocess.run([*KERNEL, "true"], capture_output=True, check=False).returncode == 0
 
 
-def compiled(name, *options):
-    """A C program of the tests, built in out/box."""
+def compiled(name, *more):
+    """A C program of the tests, with options and other sources, built in out/box."""
     OUT.mkdir(parents=True, exist_ok=True)
     made = OUT / name
-    subprocess.run(["cc", "-std=c11", "-O2", "-Wall", "-Wextra", "-Werror", *options, "-o", made, TESTS / f"{name}.c"], check=True)
+    subprocess.run(["cc", "-std=c11", "-O2", "-Wall", "-Wextra", "-Werror", "-o", made, TESTS / f"{name}.c", *more], check=True)
     return str(made)
+
+
+def checked_box():
+    """The box that looks at its own state behind each event."""
+    OUT.mkdir(parents=True, exist_ok=True)
+    made = OUT / "checked"
+    subprocess.run(["cc", "-std=c11", "-O1", "-g", "-DCHECKS_STAGES", f"-I{TOP}/bindings/c", "-o", made, *sorted((TOP / "box/src").glob("*.c")),
+                    TOP / "out/libpidtab.a", "-pthread"], check=True)
+    return made
 
 
 def folder():

@@ -93,9 +93,12 @@ static int fall(int count, begins *begin)
 	return 0;
 }
 
-static void *go_on_in_thread(void *word)
+static begins *threads_begin;
+
+static _Noreturn void *go_on_in_thread(void *word)
 {
-	go_on(*(begins **)word);
+	(void)word;
+	go_on(threads_begin);
 }
 
 /* The init ends while its own threads begin others. */
@@ -103,8 +106,9 @@ static int leave(int count, begins *begin)
 {
 	pthread_t thread;
 
+	threads_begin = begin;
 	for (int i = 0; i < count; i++)
-		pthread_create(&thread, NULL, go_on_in_thread, &begin);
+		pthread_create(&thread, NULL, go_on_in_thread, NULL);
 	usleep(MOMENT);
 	puts("the init ends");
 	return 0;
