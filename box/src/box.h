@@ -333,6 +333,12 @@ bool read_state(pid_t real, struct state *state);
 extern bool shows_proc;
 
 int content_open(const struct thread *thread, const char *path, const char *file, pid_t real);
+int content_of_group(const struct thread *thread, const char *path, enum kind kind, bool has_unseen);
 void content_done(struct thread *thread);
+
+/* ---- cgroups.c ---- */
+
+enum kind group_file(const struct thread *thread, const char *path, int folder, bool is_written);
+int group_open(const struct thread *thread, const char *path, int folder, enum kind kind);
 
 #endif

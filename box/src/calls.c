@@ -56,6 +56,7 @@ enum {
 #define MEMORY(argument, offset, kind) { kind, IN_MEMORY, argument, offset }
 #define RESULT(kind) .out = { { kind, IN_RESULT, 0, 0 } }
 #define QUERY(of) .enter = enter_query, .leave = leave_query, .operation = of
+#define OPENED "`cgroup.procs`, `cgroup.threads` and `tasks` are refused for writing"
 #define NONE(name, x86_64, aarch64) { #name, { x86_64, aarch64 }, PLAIN, { ALWAYS, 0, 0, 0 }, { { 0 } }, { { 0 } }, NULL, NULL, 0, NULL }
 
 const struct call calls[] = {
@@ -205,14 +206,15 @@ const struct call calls[] = {
 	{ "semctl", { 66, 191 }, KERNEL, .test = WHEN_IS(2, GETPID), RESULT(PROCESS), .note = "`GETPID`" },
 
 	/* /proc. */
-	{ "open", { 2, -1 }, KERNEL, .in = { VALUE(0, PATH) }, .enter = enter_open, .leave = leave_path },
+	{ "open", { 2, -1 }, KERNEL, .in = { VALUE(0, PATH) }, .enter = enter_open, .leave = leave_path, .note = OPENED },
+	{ "creat", { 85, -1 }, KERNEL, .in = { VALUE(0, PATH) }, .enter = enter_creat, .leave = leave_path, .note = OPENED },
 	{ "stat", { 4, -1 }, KERNEL, .in = { VALUE(0, PATH) }, .enter = enter_path, .leave = leave_path },
 	{ "lstat", { 6, -1 }, KERNEL, .in = { VALUE(0, PATH) }, .enter = enter_path, .leave = leave_path },
 	{ "access", { 21, -1 }, KERNEL, .in = { VALUE(0, PATH) }, .enter = enter_path, .leave = leave_path },
 	{ "chdir", { 80, 49 }, KERNEL, .in = { VALUE(0, PATH) }, .enter = enter_path, .leave = leave_path },
 	{ "statfs", { 137, 43 }, KERNEL, .in = { VALUE(0, PATH) }, .enter = enter_path, .leave = leave_path },
-	{ "openat", { 257, 56 }, KERNEL, .in = { VALUE(1, PATH) }, .enter = enter_open_at, .leave = leave_path },
-	{ "openat2", { 437, 437 }, KERNEL, .in = { VALUE(1, PATH) }, .enter = enter_open_at, .leave = leave_path },
+	{ "openat", { 257, 56 }, KERNEL, .in = { VALUE(1, PATH) }, .enter = enter_open_at, .leave = leave_path, .note = OPENED },
+	{ "openat2", { 437, 437 }, KERNEL, .in = { VALUE(1, PATH) }, .enter = enter_open_at, .leave = leave_path, .note = OPENED },
 	{ "newfstatat", { 262, 79 }, KERNEL, .in = { VALUE(1, PATH) }, .enter = enter_path_at, .leave = leave_path },
 	{ "statx", { 332, 291 }, KERNEL, .in = { VALUE(1, PATH) }, .enter = enter_path_at, .leave = leave_path },
 	{ "faccessat", { 269, 48 }, KERNEL, .in = { VALUE(1, PATH) }, .enter = enter_path_at, .leave = leave_path },
@@ -250,7 +252,7 @@ const struct call calls[] = {
 	NONE(exit, 60, 93), NONE(uname, 63, 160), NONE(semget, 64, 190), NONE(semop, 65, 193), NONE(shmdt, 67, 197),
 	NONE(msgget, 68, 186), NONE(msgsnd, 69, 189), NONE(msgrcv, 70, 188), NONE(flock, 73, 32), NONE(fsync, 74, 82),
 	NONE(fdatasync, 75, 83), NONE(truncate, 76, 45), NONE(ftruncate, 77, 46), NONE(getcwd, 79, 17),
-	NONE(fchdir, 81, 50), NONE(rename, 82, -1), NONE(mkdir, 83, -1), NONE(rmdir, 84, -1), NONE(creat, 85, -1),
+	NONE(fchdir, 81, 50), NONE(rename, 82, -1), NONE(mkdir, 83, -1), NONE(rmdir, 84, -1),
 	NONE(link, 86, -1), NONE(unlink, 87, -1), NONE(symlink, 88, -1), NONE(chmod, 90, -1), NONE(fchmod, 91, 52),
 	NONE(chown, 92, -1), NONE(fchown, 93, 55), NONE(lchown, 94, -1), NONE(umask, 95, 166), NONE(gettimeofday, 96, 169),
 	NONE(getrlimit, 97, 163), NONE(getrusage, 98, 165), NONE(sysinfo, 99, 179), NONE(times, 100, 153),

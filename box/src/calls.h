@@ -87,6 +87,7 @@ int64_t leave_receive_many(struct thread *, int64_t);
 enum onward enter_path(struct thread *, struct registers *);     /* proc.c */
 enum onward enter_path_at(struct thread *, struct registers *);
 enum onward enter_open(struct thread *, struct registers *);
+enum onward enter_creat(struct thread *, struct registers *);
 enum onward enter_open_at(struct thread *, struct registers *);
 enum onward enter_readlink(struct thread *, struct registers *);
 enum onward enter_readlink_at(struct thread *, struct registers *);

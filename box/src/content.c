@@ -129,29 +129,58 @@ static void write_content(FILE *to, const struct process *caller, FILE *from, co
 		write_status(to, caller, from, real);
 }
 
+/* A file with the text, whose memory is given back. */
+static int make_file(const char *name, char *text, size_t size)
+{
+	int made = memfd_create(name, MFD_CLOEXEC);
+
+	if (made >= 0 && (write(made, text, size) != (ssize_t)size || fchmod(made, 0444))) {
+		close(made);
+		made = -1;
+	}
+	free(text);
+	return made;
+}
+
 /* A descriptor of this program with the file as the thread is to see it; -1 where the kernel is to answer. */
 int content_open(const struct thread *thread, const char *path, const char *file, pid_t real)
 {
 	FILE *from = fopen(path, "re"), *to = NULL;
 	char *text = NULL;
 	size_t size = 0;
-	int made = -1;
 
 	if (from)
 		to = open_memstream(&text, &size);
 	if (to) {
 		write_content(to, thread->process, from, file, real);
 		fclose(to);
-		made = memfd_create(file + 1, MFD_CLOEXEC);
 	}
-	if (made >= 0 && (write(made, text, size) != (ssize_t)size || fchmod(made, 0444))) {
-		close(made);
-		made = -1;
-	}
-	free(text);
 	if (from)
 		fclose(from);
-	return made;
+	return to ? make_file(file + 1, text, size) : -1;
+}
+
+/* The same of a file of a control group: who cannot be seen is a 0, or is left out. */
+int content_of_group(const struct thread *thread, const char *path, enum kind kind, bool has_unseen)
+{
+	FILE *from = fopen(path, "re"), *to = NULL;
+	char *text = NULL;
+	size_t size = 0;
+	long real;
+
+	if (from)
+		to = open_memstream(&text, &size);
+	while (to && fscanf(from, "%ld", &real) == 1) {
+		int64_t number = to_number(thread->process, kind, real);
+
+		if (number || has_unseen)
+			fprintf(to, "%ld\n", number);
+	}
+	if (to)
+		fclose(to);
+	if (from)
+		fclose(from);
+	return to ? make_file("group", text, size) : -1;
 }
 
 /* The program has opened it, or could not. */

@@ -198,16 +198,20 @@ static void find_place(struct place *place, const struct thread *thread, char *p
 	walk(place, thread, path);
 }
 
+static int folder_of(const struct thread *thread, int index, bool has_folder)
+{
+	return has_folder ? (int)call_argument(thread, index - 1) : AT_FDCWD;
+}
+
 /* Where the argument with the index names a place in /proc. */
 static bool is_in_proc(struct place *place, const struct thread *thread, int index, bool has_folder)
 {
 	uint64_t at = registers_argument(&thread->made, index);
-	int folder = has_folder ? (int)call_argument(thread, index - 1) : AT_FDCWD;
 	char path[LONGEST_PATH];
 
 	if (!may_be_in_proc(thread->tid, at) || !read_path(thread->tid, at, path))
 		return false;
-	find_place(place, thread, path, folder);
+	find_place(place, thread, path, folder_of(thread, index, has_folder));
 	return place->where != ELSEWHERE;
 }
 
@@ -263,7 +267,24 @@ static const char *translated_file(const struct place *place)
 	return strncmp(place->rest, "/fdinfo/", 8) ? NULL : "/fdinfo";
 }
 
-static enum onward open_enter(struct thread *thread, struct registers *registers, int index, bool has_folder, int flags)
+/* The call opens the file of this program that the thread has been given, or else what the path names. */
+static enum onward take_file(struct thread *thread, struct registers *registers, int index, char *path)
+{
+	if (thread->content >= 0)
+		snprintf(path, LONGEST_PATH, "/proc/%d/fd/%d", getpid(), thread->content);
+	return take_path(thread, registers, index, path);
+}
+
+/* A file of a control group that has numbers. */
+static enum onward open_group(struct thread *thread, struct registers *registers, int index, char *path, int folder, enum kind kind)
+{
+	if (!room_take(thread))
+		return room_map(thread);
+	thread->content = group_open(thread, path, folder, kind);
+	return thread->content >= 0 ? take_file(thread, registers, index, path) : watch(thread, registers);
+}
+
+static enum onward proc_enter(struct thread *thread, struct registers *registers, int index, bool has_folder, int flags)
 {
 	struct place place;
 	char path[LONGEST_PATH];
@@ -279,9 +300,31 @@ static enum onward open_enter(struct thread *thread, struct registers *registers
 	if (!room_take(thread))
 		return room_map(thread);
 	thread->content = file ? content_open(thread, path, file, place.task ? place.task : place.process) : -1;
-	if (thread->content >= 0)
-		snprintf(path, sizeof path, "/proc/%d/fd/%d", getpid(), thread->content);
-	return take_path(thread, registers, index, path);
+	return take_file(thread, registers, index, path);
+}
+
+static enum onward open_enter(struct thread *thread, struct registers *registers, int index, bool has_folder, int flags)
+{
+	bool is_written = (flags & O_ACCMODE) != O_RDONLY && !(flags & O_PATH);
+	int folder = folder_of(thread, index, has_folder);
+	char path[LONGEST_PATH];
+	struct place place;
+	enum kind kind;
+
+	if (!read_path(thread->tid, registers_argument(&thread->made, index), path))
+		return GO;
+	if (is_written && is_in_proc(&place, thread, index, has_folder) && !write_place(&place, path))
+		return answer_with(thread, -ENAMETOOLONG); /* by way of a descriptor, as /proc/self/fd/5 */
+	kind = flags & O_PATH ? NO_KIND : group_file(thread, path, folder, is_written);
+	if (!kind)
+		return proc_enter(thread, registers, index, has_folder, flags);
+	return is_written ? refuse(thread) : open_group(thread, registers, index, path, folder, kind);
+}
+
+/* As open(2) with these flags. */
+enum onward enter_creat(struct thread *thread, struct registers *registers)
+{
+	return open_enter(thread, registers, 0, false, O_WRONLY | O_CREAT | O_TRUNC);
 }
 
 enum onward enter_open(struct thread *thread, struct registers *registers)

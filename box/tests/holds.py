@@ -1,6 +1,9 @@
 """What must hold under load: processes that begin and end all at once, and an end of the box that always comes."""
+import os
+import shutil
 import signal
 import subprocess
+import tempfile
 import time
 
 import rig
@@ -31,6 +34,30 @@ def often(tell, name, words, times, **how):
             tell.fault(name, f"run {run + 1}: kernel {kernel.status} {kernel.output!r}, box {box.status} {box.output!r}")
             return
         tell.differences(name, box)
+
+
+GROUPS = "/sys/fs/cgroup/pids"
+REFUSED = "read True True\n" + "".join(f"written by {it} ENOSYS ENOSYS\n" for it in ("its path", "a link", "its folder", "a descriptor", "tasks")) + (
+    "at a folder ENOSYS\nanother file opened\n")
+
+
+def groups(tell):
+    """A process beside the box is moved by no number that the program has: cgroup.procs has the program's, and is not opened for writing."""
+    if not rig.IS_ROOT or not os.path.exists(f"{GROUPS}/cgroup.procs"):
+        return tell.skip("groups", f"not root, or no control groups at {GROUPS}")
+    group, home = tempfile.mkdtemp(prefix="pidtab-box-", dir=GROUPS), rig.folder()
+    script = f'echo $$ > {group}/cgroup.procs; exec "$@"'
+    try:
+        done = subprocess.run(["sh", "-c", script, "sh", BOX, "--report", f"{home}/report", PYTHON, rig.TESTS / "inside/groups.py", group], env={"HOME": home},
+                              capture_output=True, text=True, timeout=SECONDS, check=False)
+        with open(f"{home}/report", encoding="utf-8") as report:
+            is_named = "`cgroup.procs`" in report.read()
+        if done.stdout != REFUSED or not is_named:
+            tell.fault("groups", f"{done.stdout}{done.stderr} named in the report: {is_named}")
+    finally:
+        os.rmdir(group)
+        shutil.rmtree(home)
+    return tell.say("groups", f"{len(REFUSED.splitlines())} lines")
 
 
 def orders(tell):
