@@ -102,6 +102,15 @@ static int executed(void)
 	return FAILED;
 }
 
+/* A program that begins where so many numbers were signalfds'. */
+static int behind(int count, char **words)
+{
+	for (int i = 0; i < count; i++)
+		make_signalfd(SFD_CLOEXEC);
+	execvp(words[0], words);
+	return FAILED;
+}
+
 /* ---- who has sent what a signalfd says ---- */
 
 static int files[MANY];
@@ -328,9 +337,11 @@ int main(int count, char **words)
 	} ways[] = { { "again", again }, { "executed", executed }, { "read", read_given }, { "senders", senders }, { "stacks", stacks }, { "threads", threads },
 		    { "taken", taken }, { "filters", filters } };
 
+	if (count > 3 && !strcmp(words[1], "behind"))
+		return behind(atoi(words[2]), words + 3);
 	for (size_t i = 0; count == 2 && i < sizeof ways / sizeof ways[0]; i++)
 		if (!strcmp(words[1], ways[i].name))
 			return ways[i].act();
-	fputs("usage: bytes again|executed|read|senders|stacks|threads|taken|filters\n", stderr);
+	fputs("usage: bytes again|executed|read|senders|stacks|threads|taken|filters\n       bytes behind COUNT PROGRAM [WORD ..]\n", stderr);
 	return MISUSED;
 }

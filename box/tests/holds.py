@@ -6,6 +6,7 @@ import subprocess
 import tempfile
 import time
 
+import parts
 import rig
 from rig import BOX, in_box, in_kernel
 
@@ -34,6 +35,18 @@ def often(tell, name, words, times, **how):
             tell.fault(name, f"run {run + 1}: kernel {kernel.status} {kernel.output!r}, box {box.status} {box.output!r}")
             return
         tell.differences(name, box)
+
+
+BEHIND = (0, 1, 3, 30)
+
+
+def data(tell):
+    """What programs read and write is the same, natively and in the box; also where the numbers of their descriptors were signalfds'."""
+    program, lines = rig.compiled("bytes", "-pthread"), 0
+    for count in BEHIND:
+        box = parts.compare(tell, f"data-{count}", [program, "behind", str(count), "bash", str(rig.TESTS / "inside/data.sh")])
+        lines += len(box.output.splitlines())
+    tell.say("data", f"{lines} lines with sums, behind {BEHIND} signalfds")
 
 
 GROUPS = "/sys/fs/cgroup/pids"
