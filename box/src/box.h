@@ -13,7 +13,7 @@
 
 enum {
 	MOST_REAL = 4194304,        /* the kernel's own limit of pid_max */
-	NOBODY = 0x3fffffff,        /* no process of the kernel has this number */
+	NOBODY = 0x0fffffff,        /* no process of the kernel has this number; a clock's, which has 29 bits, may */
 	FIRST_THREAD = MOST_REAL,   /* threads beside the main one: above every number of the table and of the kernel */
 	SUPERVISOR = 1,             /* the table's process 1 is this program; the program in the box is its child, 2 */
 	BOX_INIT = 2,
@@ -145,8 +145,6 @@ enum phase { FREE, IN_CALL, INJECTED, IN_INJECTED };
 /* A call of ours: what it is for. */
 enum injected { MAKE_SUBREAPER, MAP_ROOM, ADD_FILTER, ADD_FILTER_TO_ALL };
 
-enum { MOST_LENT = 8 };
-
 /* A number in the program's memory in whose place the kernel's stands during a call. */
 struct lent {
 	uint64_t at;
@@ -170,8 +168,8 @@ struct thread {
 	bool has_no_exit;        /* the call is a wait whose exit is not seen: the next stop comes right behind it */
 	uint64_t entered;        /* when, in events */
 	int64_t told;            /* what the table says of it */
-	struct lent lent[MOST_LENT];
-	int lent_count;
+	struct lent *lent;
+	int lent_count, lent_room;
 	bool has_changed_call;        /* a fork whose registers this program has changed */
 	uint64_t given_flags;         /* those that the kernel has of it */
 	bool has_call_of_parent;      /* it has not begun yet, and its registers are those of such a fork */
@@ -195,6 +193,7 @@ struct thread *thread_of_real(pid_t tid);
 struct thread *thread_numbered(uint32_t number);
 void thread_number(struct thread *thread);
 uint32_t thread_seen(const struct thread *thread);
+const struct thread *thread_named(const struct process *caller, int64_t number);
 
 void stage_enlist(struct thread *thread);
 void stage_delist(struct thread *thread);

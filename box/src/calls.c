@@ -66,8 +66,8 @@ const struct call calls[] = {
 	{ "gettid", { 186, 178 }, TABLE, RESULT(TASK), .enter = enter_gettid, .leave = leave_query, .operation = PIDTAB_GETPID,
 		.note = "the box numbers the threads beside the main one" },
 	{ "getpgrp", { 111, -1 }, TABLE, RESULT(GROUP), QUERY(PIDTAB_GETPGID) },
-	{ "getpgid", { 121, 155 }, TABLE, .in = { VALUE(0, PROCESS) }, RESULT(GROUP), QUERY(PIDTAB_GETPGID) },
-	{ "getsid", { 124, 156 }, TABLE, .in = { VALUE(0, PROCESS) }, RESULT(GROUP), QUERY(PIDTAB_GETSID) },
+	{ "getpgid", { 121, 155 }, TABLE, .in = { VALUE(0, TASK) }, RESULT(GROUP), QUERY(PIDTAB_GETPGID) },
+	{ "getsid", { 124, 156 }, TABLE, .in = { VALUE(0, TASK) }, RESULT(GROUP), QUERY(PIDTAB_GETSID) },
 
 	/* What both do: the table first, but for a setpgid of another process. */
 	{ "setpgid", { 109, 154 }, TABLE, .in = { VALUE(0, PROCESS), VALUE(1, GROUP) }, .enter = enter_setpgid, .leave = leave_setpgid },
@@ -105,7 +105,7 @@ const struct call calls[] = {
 		.note = "the box itself where it is to all" },
 	{ "tkill", { 200, 130 }, KERNEL, .in = { VALUE(0, TASK) } },
 	{ "tgkill", { 234, 131 }, KERNEL, .in = { VALUE(0, PROCESS), VALUE(1, TASK) } },
-	{ "rt_sigqueueinfo", { 129, 138 }, KERNEL, .in = { VALUE(0, PROCESS) } },
+	{ "rt_sigqueueinfo", { 129, 138 }, KERNEL, .in = { VALUE(0, TASK) } },
 	{ "rt_tgsigqueueinfo", { 297, 240 }, KERNEL, .in = { VALUE(0, PROCESS), VALUE(1, TASK) } },
 	{ "rt_sigaction", { 13, 134 }, KERNEL, .test = WHEN_IS(0, SIGCHLD), .enter = enter_sigaction,
 		.note = "of `SIGCHLD`, which may say that children leave no zombies" },
@@ -364,7 +364,7 @@ static const char *kind_word(enum kind kind)
 {
 	static const char *const words[] = {
 		[NO_KIND] = "", [PROCESS] = "process", [TASK] = "process or thread", [GROUP] = "group or session",
-		[PROCESS_OR_GROUP] = "process, or -group", [CLOCK] = "clock of a process or thread", [PATH] = "path below /proc",
+		[PROCESS_OR_GROUP] = "process or thread, or -group", [CLOCK] = "clock of a process or thread", [PATH] = "path below /proc",
 		[DIRECTORY] = "names in /proc"
 	};
 

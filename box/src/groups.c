@@ -17,10 +17,18 @@ static int64_t ask_parent(const struct process *caller)
 	return table_do(PIDTAB_GETPPID, caller->root, 0, 0);
 }
 
+/* The number of a process, where the caller may mean one of its threads. */
+static uint32_t number_of_process(const struct process *caller, int64_t number)
+{
+	const struct thread *thread = thread_named(caller, number);
+
+	return thread ? number_of(thread->process->name, caller) : (uint32_t)number;
+}
+
 static int64_t ask(const struct thread *thread)
 {
 	const struct call *call = thread->call;
-	uint32_t number = call->in[0].kind ? (uint32_t)call_argument(thread, 0) : 0;
+	uint32_t number = call->in[0].kind ? number_of_process(thread->process, call_argument(thread, 0)) : 0;
 
 	if (call->operation == PIDTAB_GETPPID)
 		return ask_parent(thread->process);
@@ -30,7 +38,7 @@ static int64_t ask(const struct thread *thread)
 enum onward enter_query(struct thread *thread, struct registers *registers)
 {
 	if (thread->call->in[0].kind)
-		registers_set_argument(registers, 0, (uint64_t)to_real(thread->process, PROCESS, call_argument(thread, 0)));
+		registers_set_argument(registers, 0, (uint64_t)to_real(thread->process, TASK, call_argument(thread, 0)));
 	return answer_or_check(thread, ask(thread), registers);
 }
 
@@ -67,6 +75,8 @@ enum onward enter_setpgid(struct thread *thread, struct registers *registers)
 	int32_t pid = (int32_t)call_argument(thread, 0), group = (int32_t)call_argument(thread, 1);
 
 	(void)registers;
+	if (thread_named(thread->process, pid))
+		return answer_with(thread, -EINVAL); /* no process */
 	thread->target = begin_asking(thread->process, pid);
 	thread->told = thread->target ? 0 : table_setpgid(thread->process->root, pid, group);
 	if (thread->told < 0 && !checking)

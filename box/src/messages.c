@@ -6,6 +6,7 @@
 #include <fcntl.h>
 #include <stddef.h>
 #include <sys/socket.h>
+#include <sys/uio.h>
 
 /* ---- F_SETOWN_EX and F_GETOWN_EX ---- */
 
@@ -79,7 +80,7 @@ enum onward enter_send(struct thread *thread, struct registers *registers)
 
 enum onward enter_send_many(struct thread *thread, struct registers *registers)
 {
-	for (uint64_t i = 0; i < registers_argument(registers, 2) && i < MOST_LENT; i++)
+	for (uint64_t i = 0; i < registers_argument(registers, 2) && i < UIO_MAXIOV; i++)
 		each_credentials(thread, registers_argument(registers, 1) + i * sizeof(struct mmsghdr), lend);
 	return thread->lent_count ? watch(thread, registers) : GO;
 }

@@ -188,11 +188,9 @@ static pid_t real_seen(const struct process *caller, enum kind kind, int64_t num
 
 static pid_t real_task(const struct process *caller, int64_t number)
 {
-	const struct thread *thread = number >= FIRST_THREAD ? thread_numbered((uint32_t)number) : NULL;
+	const struct thread *thread = thread_named(caller, number);
 
-	if (number < FIRST_THREAD)
-		return real_seen(caller, TASK, number);
-	return thread && number_of(thread->process->name, caller) ? thread->tid : NOBODY;
+	return number < FIRST_THREAD ? real_seen(caller, TASK, number) : thread ? thread->tid : NOBODY;
 }
 
 static int64_t number_of_task(const struct process *caller, int64_t real)
@@ -204,10 +202,11 @@ static int64_t number_of_task(const struct process *caller, int64_t real)
 	return number_of(name_of_real((pid_t)real), caller);
 }
 
-/* The kernel's number for one of the caller's; NOBODY where it names nobody. 0 and what is negative is the caller's own affair. */
+/* The kernel's number for one of the caller's; NOBODY where it names nobody. 0 and what is negative is the caller's own affair. To kill(2), and
+ * others that take a process or a group, a thread is as good as its process. */
 int64_t to_real(const struct process *caller, enum kind kind, int64_t number)
 {
-	if (kind == PROCESS_OR_GROUP && number < -1)
+	if (kind == PROCESS_OR_GROUP && number < -1 && number > INT32_MIN)
 		return -(int64_t)real_seen(caller, GROUP, -number);
 	if (kind == CLOCK && number < 0 && (number & 7) != CLOCK_OF_FILE) {
 		int64_t of = ~(number >> CLOCK_BITS);
@@ -215,7 +214,7 @@ int64_t to_real(const struct process *caller, enum kind kind, int64_t number)
 	}
 	if (number <= 0 || kind == CLOCK)
 		return number;
-	return kind == TASK ? real_task(caller, number) : real_seen(caller, kind, number);
+	return kind == TASK || kind == PROCESS_OR_GROUP ? real_task(caller, number) : real_seen(caller, kind, number);
 }
 
 /* The caller's number for one of the kernel's; 0 where the caller cannot see it. A signal may still name a process that is gone. */

@@ -47,7 +47,7 @@ enum onward enter_kill(struct thread *thread, struct registers *registers)
 		return answer_with(thread, kill_all(caller, signal));
 	if (pid == 0)
 		return GO;
-	if (pid > 0 && signal == 0)
+	if (pid > 0 && signal == 0 && pid < FIRST_THREAD)
 		thread->told = table_do(PIDTAB_GETPGID, caller->root, (uint32_t)pid, 0);
 	if (pid == OWN_INIT && (signal == SIGKILL || signal == SIGSTOP))
 		return answer_with(thread, 0);
@@ -59,7 +59,7 @@ int64_t leave_kill(struct thread *thread, int64_t result)
 {
 	uint32_t pid = (uint32_t)call_argument(thread, 0);
 
-	if (!checking || call_argument(thread, 1) != 0 || (int32_t)pid <= 0 || result <= -FIRST_RESTART || result == -EPERM)
+	if (!checking || call_argument(thread, 1) != 0 || (int32_t)pid <= 0 || pid >= FIRST_THREAD || result <= -FIRST_RESTART || result == -EPERM)
 		return result;
 	if (result != (thread->told < 0 ? thread->told : 0))
 		thread->told = table_do(PIDTAB_GETPGID, thread->process->root, pid, 0);

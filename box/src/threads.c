@@ -43,6 +43,7 @@ void thread_free(struct thread *thread)
 		by_number[thread->number - FIRST_THREAD] = NULL;
 	by_real[thread->tid] = NULL;
 	content_done(thread);
+	free(thread->lent);
 	if (thread->process)
 		room_give_back(thread);
 	free(thread);
@@ -51,6 +52,14 @@ void thread_free(struct thread *thread)
 struct thread *thread_numbered(uint32_t number)
 {
 	return number >= FIRST_THREAD && number - FIRST_THREAD < MOST_REAL ? by_number[number - FIRST_THREAD] : NULL;
+}
+
+/* The thread beside a main one that the caller means by the number; none where it means a process, or nobody. */
+const struct thread *thread_named(const struct process *caller, int64_t number)
+{
+	const struct thread *thread = number >= FIRST_THREAD ? thread_numbered((uint32_t)number) : NULL;
+
+	return thread && number_of(thread->process->name, caller) ? thread : NULL;
 }
 
 /* The number by which it sees itself. */

@@ -3,6 +3,7 @@
 #include "calls.h"
 
 #include <errno.h>
+#include <stdlib.h>
 
 int64_t call_argument(const struct thread *thread, int index)
 {
@@ -44,15 +45,21 @@ enum onward answer_or_check(struct thread *thread, int64_t told, const struct re
 /* Puts the kernel's number in the place of one in the program's memory, until the call is over. */
 void lend(struct thread *thread, uint64_t at, enum kind kind)
 {
-	struct lent *lent = &thread->lent[thread->lent_count];
-	int32_t real;
+	int32_t number, real;
 
-	if (thread->lent_count == MOST_LENT || !read_memory(thread->tid, at, &lent->number, sizeof lent->number))
+	for (int i = 0; i < thread->lent_count; i++)
+		if (thread->lent[i].at == at)
+			return; /* several messages may share it */
+	if (!read_memory(thread->tid, at, &number, sizeof number))
 		return;
-	real = (int32_t)to_real(thread->process, kind, lent->number);
-	lent->at = at;
-	if (real != lent->number && write_memory(thread->tid, at, &real, sizeof real))
-		thread->lent_count++;
+	real = (int32_t)to_real(thread->process, kind, number);
+	if (real == number || !write_memory(thread->tid, at, &real, sizeof real))
+		return;
+	if (thread->lent_count == thread->lent_room) {
+		thread->lent_room = thread->lent_room * 2 + 1;
+		thread->lent = need(realloc(thread->lent, (size_t)thread->lent_room * sizeof *thread->lent));
+	}
+	thread->lent[thread->lent_count++] = (struct lent){ at, number };
 }
 
 static void give_back(struct thread *thread)

@@ -19,7 +19,7 @@ X86 = os.uname().machine == "x86_64"
 NUMBERS = {"sched_setattr": (314, 274), "sched_getattr": (315, 275), "kcmp": (312, 272), "process_vm_readv": (310, 270), "tgkill": (234, 131),
            "ioprio_get": (252, 31), "ioprio_set": (251, 30), "semctl": (66, 191), "semget": (64, 190), "msgctl": (71, 187), "msgget": (68, 186),
            "msgsnd": (69, 189), "shmctl": (31, 195), "shmget": (29, 194), "shmat": (30, 196), "timer_create": (222, 107), "timer_settime": (223, 110),
-           "prctl": (157, 167), "capget": (125, 90), "signalfd4": (289, 74)}
+           "prctl": (157, 167), "sendmmsg": (307, 269), "capget": (125, 90), "signalfd4": (289, 74)}
 
 
 def call(name, *words):
@@ -94,6 +94,29 @@ def sockets():
     say("SCM_CREDENTIALS of a child", struct.unpack("3i", control[0][2])[0] == child)
     os.waitpid(child, 0)
     say("SO_PEERCRED", struct.unpack("3i", left.getsockopt(socket.SOL_SOCKET, socket.SO_PEERCRED, 12)) == me)
+
+
+def many_messages(count, shared):
+    """Credentials of more messages than a few, by one call; they may be the same bytes for all."""
+    left, right = socket.socketpair(socket.AF_UNIX, socket.SOCK_DGRAM)
+    right.setsockopt(socket.SOL_SOCKET, socket.SO_PASSCRED, 1)
+    me = (os.getpid(), os.getuid(), os.getgid())
+    credentials = struct.pack("Qii3iI", 28, socket.SOL_SOCKET, socket.SCM_CREDENTIALS, *me, 0)
+    controls = ctypes.create_string_buffer(credentials * count)
+    byte = ctypes.create_string_buffer(b"m")
+    part = ctypes.create_string_buffer(struct.pack("QQ", ctypes.addressof(byte), 1))
+    heads = b"".join(struct.pack("QQQQQQii", 0, 0, ctypes.addressof(part), 1, ctypes.addressof(controls) + (0 if shared else i * 32), 32, 0, 0) + bytes(8)
+                     for i in range(count))
+    sent = call("sendmmsg", left.fileno(), ctypes.create_string_buffer(heads), count, socket.MSG_DONTWAIT)
+    found = [struct.unpack("3i", right.recvmsg(10, 100, socket.MSG_DONTWAIT)[1][0][2]) == me for _ in range(sent)]
+    say("SCM_CREDENTIALS of many", sent, all(found), controls.raw[:32 * count] == credentials * count)
+
+
+def nobody():
+    """Numbers that nobody has, at their bounds."""
+    say("clock of nobody", [of(time.clock_gettime, (~999 << 3) | bits) for bits in (0, 1, 2, 4, 6)])
+    for pid in (-(1 << 31), -(1 << 31) + 1, (1 << 31) - 1, -999):
+        say("wait and kill", LIBC.waitpid(pid, None, 0), errno.errorcode[ctypes.get_errno()], LIBC.kill(pid, 0), errno.errorcode[ctypes.get_errno()])
 
 
 def gone_sender():
@@ -248,6 +271,8 @@ def threads():
     listed = {int(it) for it in os.listdir("/proc/self/task")}
     say("threads", len(set(numbers)), os.getpid() not in numbers, set(numbers) <= listed, os.getpid() in listed, len(listed))
     say("by number", call("tgkill", os.getpid(), numbers[0], 0), call("tgkill", os.getpid(), 999, 0), of(os.sched_getscheduler, numbers[1]))
+    say("as a process", of(os.kill, numbers[0], 0), of(os.getpgid, numbers[0]) == os.getpgrp(), of(os.getsid, numbers[0]) == os.getsid(0),
+        of(os.setpgid, numbers[0], 0), of(os.waitpid, numbers[0], 0), of(os.kill, numbers[0], signal.SIGCONT))
     say("clock", time.clock_gettime(time.pthread_getcpuclockid(threads[0].ident)) >= 0)
     for number in (numbers[0], os.getpid()):
         with open(f"/proc/self/task/{number}/status", encoding="ascii") as lines:
@@ -274,6 +299,9 @@ def main():
     scheduling(child)
     memory_and_limits(child)
     sockets()
+    many_messages(10, False)
+    many_messages(10, True)
+    nobody()
     gone_sender()
     without_leader(os.setpgrp, False)
     without_leader(os.setsid, False)
