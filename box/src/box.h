@@ -168,6 +168,7 @@ struct thread {
 	bool has_no_exit;        /* the call is a wait whose exit is not seen: the next stop comes right behind it */
 	uint64_t entered;        /* when, in events */
 	int64_t told;            /* what the table says of it */
+	struct kill_all *kill_all;    /* a kill(-1, ..) that is under way */
 	struct lent *lent;
 	int lent_count, lent_room;
 	bool has_changed_call;        /* a fork whose registers this program has changed */
@@ -281,6 +282,7 @@ void setpgid_over(struct thread *thread, int64_t result);
 
 /* ---- signals.c ---- */
 
+void kill_all_over(struct thread *thread);
 int signal_arrives(const struct thread *thread, int signal);
 
 /* ---- life.c: what ends a process in the table and in the kernel ---- */

@@ -102,7 +102,7 @@ const struct call calls[] = {
 
 	/* Signals. */
 	{ "kill", { 62, 129 }, KERNEL, .in = { VALUE(0, PROCESS_OR_GROUP) }, .enter = enter_kill, .leave = leave_kill,
-		.note = "the box itself where it is to all" },
+		.note = "to all, it is one call after another" },
 	{ "tkill", { 200, 130 }, KERNEL, .in = { VALUE(0, TASK) } },
 	{ "tgkill", { 234, 131 }, KERNEL, .in = { VALUE(0, PROCESS), VALUE(1, TASK) } },
 	{ "rt_sigqueueinfo", { 129, 138 }, KERNEL, .in = { VALUE(0, TASK) } },

@@ -6,6 +6,7 @@
 #include <signal.h>
 #include <stddef.h>
 #include <stdio.h>
+#include <stdlib.h>
 #include <string.h>
 #include <sys/ptrace.h>
 #include <sys/signalfd.h>
@@ -17,23 +18,89 @@
 /* The init of the caller's own namespace has this number there. No signal without a handler ends it from inside. */
 enum { OWN_INIT = 1 };
 
-/* kill(-1, signal) of this program, since the kernel's -1 reaches beyond the box. */
-static int64_t kill_all(const struct process *caller, int signal)
+/* kill(-1, signal) is one kill(2) after another of the caller, with his rights and his number, since the kernel's -1 reaches beyond the box. */
+struct kill_all {
+	int signal;
+	uint32_t *roots; /* who was found */
+	size_t count, next;
+	bool is_anybody;
+	int64_t result;
+};
+
+void kill_all_over(struct thread *thread)
 {
-	int64_t result = -ESRCH;
+	if (thread->kill_all)
+		free(thread->kill_all->roots);
+	free(thread->kill_all);
+	thread->kill_all = NULL;
+}
+
+static bool is_found(const struct kill_all *all, uint32_t root)
+{
+	for (size_t i = 0; i < all->count; i++)
+		if (all->roots[i] == root)
+			return true;
+	return false;
+}
+
+/* All whom the caller sees but himself and his init, and who were not found before: some may have begun meanwhile. */
+static void find_all(struct kill_all *all, const struct process *caller)
+{
 	uint64_t count;
 	const uint32_t *members = table_list(caller->root, PIDTAB_NAMESPACE_MEMBERS, 0, &count);
 
+	all->roots = need(realloc(all->roots, (all->count + count + 1) * sizeof *all->roots));
 	for (uint64_t i = 0; i < count; i++) {
 		const struct process *process = process_seen(caller, members[i]);
 
-		if (!process || process == caller || process->dead || members[i] == OWN_INIT)
-			continue;
-		if (!kill(process->real, signal))
-			result = 0;
-		else if (result == -ESRCH)
-			result = -errno;
+		if (process && process != caller && !process->dead && members[i] != OWN_INIT && !is_found(all, process->root))
+			all->roots[all->count++] = process->root;
 	}
+}
+
+static const struct process *next_of_all(struct kill_all *all)
+{
+	while (all->next < all->count) {
+		const struct process *process = process_of_root(all->roots[all->next++]);
+
+		if (process && !process->dead)
+			return process;
+	}
+	return NULL;
+}
+
+/* Turns the call into that for the next one. In the end the result is that of the kernel: that of the last one who could be reached. */
+static enum onward kill_next(struct thread *thread, struct registers *registers, int signal)
+{
+	const struct process *target;
+	int64_t result;
+
+	if (thread->kill_all && thread->kill_all->signal != signal)
+		kill_all_over(thread);
+	if (!thread->kill_all) {
+		thread->kill_all = need(calloc(1, sizeof *thread->kill_all));
+		thread->kill_all->signal = signal;
+	}
+	target = next_of_all(thread->kill_all);
+	if (!target) {
+		find_all(thread->kill_all, thread->process);
+		target = next_of_all(thread->kill_all);
+	}
+	if (target) {
+		registers_set_argument(registers, 0, (uint64_t)target->real);
+		return watch(thread, registers);
+	}
+	result = thread->kill_all->is_anybody ? thread->kill_all->result : -ESRCH;
+	kill_all_over(thread);
+	return answer_with(thread, result);
+}
+
+static int64_t killed_one(struct thread *thread, int64_t result)
+{
+	thread->kill_all->is_anybody = true;
+	if (result != -EPERM)
+		thread->kill_all->result = result == -ESRCH ? 0 : result;
+	thread->once_more = true;
 	return result;
 }
 
@@ -44,7 +111,7 @@ enum onward enter_kill(struct thread *thread, struct registers *registers)
 	int signal = (int)call_argument(thread, 1);
 
 	if (pid == -1)
-		return answer_with(thread, kill_all(caller, signal));
+		return kill_next(thread, registers, signal);
 	if (pid == 0)
 		return GO;
 	if (pid > 0 && signal == 0 && pid < FIRST_THREAD)
@@ -59,6 +126,8 @@ int64_t leave_kill(struct thread *thread, int64_t result)
 {
 	uint32_t pid = (uint32_t)call_argument(thread, 0);
 
+	if ((int32_t)pid == -1)
+		return killed_one(thread, result);
 	if (!checking || call_argument(thread, 1) != 0 || (int32_t)pid <= 0 || pid >= FIRST_THREAD || result <= -FIRST_RESTART || result == -EPERM)
 		return result;
 	if (result != (thread->told < 0 ? thread->told : 0))

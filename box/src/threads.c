@@ -44,6 +44,7 @@ void thread_free(struct thread *thread)
 	by_real[thread->tid] = NULL;
 	content_done(thread);
 	free(thread->lent);
+	kill_all_over(thread);
 	if (thread->process)
 		room_give_back(thread);
 	free(thread);

@@ -41,12 +41,12 @@ def programs(tell):
 
 def inside(tell):
     """Scripts whose lines are the same in a namespace of the kernel."""
-    for name in ("carried", "proc", "nested"):
+    for name in ("carried", "proc", "nested", "all"):
         if name == "nested" and not rig.IS_ROOT:
             tell.skip(name, "the kernel lets only root unshare")
             continue
         words = [PYTHON, str(TESTS / "inside" / f"{name}.py")]
-        kernel, box = in_kernel(words, as_root=name == "nested"), in_box(words, name)
+        kernel, box = in_kernel(words, as_root=name in ("nested", "all")), in_box(words, name, as_root=name == "all")
         if (kernel.output, kernel.status) != (box.output, box.status):
             tell.fault(name, f"kernel:\n{kernel.output}\nbox:\n{box.output}")
         tell.differences(name, box)

@@ -90,14 +90,14 @@ def in_kernel(words, seconds=60, as_root=False, stdin=None):
         shutil.rmtree(home, ignore_errors=True)
 
 
-def in_box(words, name, seconds=60, options=("--check",), box=BOX, stdin=None, before=()):
+def in_box(words, name, seconds=60, options=("--check",), box=BOX, stdin=None, before=(), as_root=False):
     """In the box, with its log, answers and report in out/box."""
     home = folder()
     OUT.mkdir(parents=True, exist_ok=True)
     base = pathlib.Path(home, "run")
     own = [*before, str(box), *options, "--log", f"{base}.log", "--answers", f"{base}.answers", "--report", f"{base}.report"]
     try:
-        output, status = start([*(AS_NOBODY if IS_ROOT else []), *own, *words], seconds, home, stdin)
+        output, status = start([*(AS_NOBODY if IS_ROOT and not as_root else []), *own, *words], seconds, home, stdin)
         for kind in ("log", "answers", "report"):
             if os.path.exists(f"{base}.{kind}"):
                 shutil.copy(f"{base}.{kind}", OUT / f"{name}.{kind}")
