@@ -176,6 +176,7 @@ struct thread {
 	bool has_call_of_parent;      /* it has not begun yet, and its registers are those of such a fork */
 	bool has_options_of_init;     /* nor yet, and its parent was an init */
 	uint64_t tid_at;              /* where the kernel has written its number before it ran */
+	uint64_t told_parent, told_child; /* of a fork: where the child's number is to be */
 	uint32_t child, child_root;   /* of a fork: its number to the caller */
 	uint64_t flags;               /* of that fork */
 	bool makes_space;
@@ -268,6 +269,12 @@ int64_t call_argument(const struct thread *thread, int index);
 
 /* ---- forks.c ---- */
 
+/* What clone(2) is given. */
+struct clone_words {
+	uint64_t flags, stack, parent_tid, child_tid, thread_area, pidfd;
+};
+
+enum onward make_by_clone(struct thread *thread, struct registers *registers, const struct clone_words *words);
 void forked(struct thread *thread, pid_t real);
 void fork_undo(struct thread *thread);
 void fork_keep(struct thread *thread);

@@ -61,6 +61,8 @@ int64_t leave_query(struct thread *, int64_t);
 int64_t leave_setpgid(struct thread *, int64_t);
 int64_t leave_setsid(struct thread *, int64_t);
 enum onward enter_fork(struct thread *, struct registers *);     /* forks.c */
+enum onward enter_clone3(struct thread *, struct registers *);   /* clone3.c */
+int64_t leave_clone3(struct thread *, int64_t);
 enum onward enter_unshare(struct thread *, struct registers *);
 int64_t leave_fork(struct thread *, int64_t);
 int64_t leave_unshare(struct thread *, int64_t);

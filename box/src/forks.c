@@ -12,52 +12,76 @@
 #include <unistd.h>
 
 /* Where clone(2) has its arguments. */
-enum { FLAGS = 0, STACK = 1, PARENT_TID = 2, CHILD_TID = MACHINE == 0 ? 3 : 4 };
+enum { FLAGS = 0, STACK = 1, PARENT_TID = 2, CHILD_TID = MACHINE == 0 ? 3 : 4, THREAD_AREA = MACHINE == 0 ? 4 : 3 };
 
-/* The flags by which clone(2) would do what the call does. */
-static uint64_t flags_of(const struct registers *registers)
+/* By which words clone(2) would do what the call does. */
+static struct clone_words words_of(const struct registers *registers)
 {
 	int64_t call = registers_call(registers);
 
 #ifdef SYS_fork
 	if (call == SYS_fork)
-		return SIGCHLD;
+		return (struct clone_words){ .flags = SIGCHLD };
 	if (call == SYS_vfork)
-		return CLONE_VFORK | CLONE_VM | SIGCHLD;
+		return (struct clone_words){ .flags = CLONE_VFORK | CLONE_VM | SIGCHLD };
 #endif
 	(void)call;
-	return registers_argument(registers, FLAGS);
+	return (struct clone_words){ .flags = registers_argument(registers, FLAGS), .stack = registers_argument(registers, STACK),
+		.parent_tid = registers_argument(registers, PARENT_TID), .child_tid = registers_argument(registers, CHILD_TID),
+		.thread_area = registers_argument(registers, THREAD_AREA), .pidfd = registers_argument(registers, PARENT_TID) };
 }
 
-/* A child that is traced by the flag costs a stop less than one by an option of the tracer. A parent in vfork(2) is only heard of by an
- * event, and a child that ends by another signal has one. */
-static enum onward make_child(struct thread *thread, struct registers *registers)
+static bool is_vfork(const struct registers *registers)
 {
-	bool is_clone = registers_call(registers) == SYS_clone, sleeps = thread->flags & CLONE_VFORK;
-	uint64_t flags = thread->flags & ~(uint64_t)CLONE_NEWPID;
+#ifdef SYS_vfork
+	return registers_call(registers) == SYS_vfork;
+#else
+	return registers_call(registers) == -1;
+#endif
+}
+
+/* The flags that clone(2) is given. A child that is traced by its flag costs a stop less than one by an option of the tracer. A parent in
+ * vfork(2) is only heard of by an event, and a child that ends by another signal has one. */
+static uint64_t flags_given(const struct clone_words *words)
+{
+	uint64_t flags = words->flags & ~(uint64_t)CLONE_NEWPID;
+
+	if ((flags & CLONE_PIDFD) && (flags & CLONE_PARENT_SETTID) && words->pidfd != words->parent_tid)
+		flags &= ~(uint64_t)CLONE_PARENT_SETTID;
+	return !(flags & CLONE_VFORK) && (flags & CSIGNAL) == SIGCHLD ? flags | CLONE_PTRACE : flags;
+}
+
+static enum onward give_words(struct thread *thread, struct registers *registers, const struct clone_words *words)
+{
+	bool is_clone = registers_call(registers) == SYS_clone;
 
 	thread->has_changed_call = false;
-	if (sleeps && !is_clone)
+	if (is_vfork(registers))
 		return watch(thread, registers);
-	if (!sleeps && (flags & CSIGNAL) == SIGCHLD)
-		flags |= CLONE_PTRACE;
-	thread->has_changed_call = !is_clone || flags != registers_argument(registers, FLAGS);
-	thread->given_flags = flags;
-	registers_set_argument(registers, FLAGS, flags);
-	for (int i = 1; i < 5 && !is_clone; i++)
-		registers_set_argument(registers, i, 0);
+	thread->given_flags = flags_given(words);
+	thread->has_changed_call = !is_clone || thread->given_flags != words->flags;
+	registers_set_argument(registers, FLAGS, thread->given_flags);
+	registers_set_argument(registers, STACK, words->stack);
+	registers_set_argument(registers, PARENT_TID, words->flags & CLONE_PIDFD ? words->pidfd : words->parent_tid);
+	registers_set_argument(registers, CHILD_TID, words->child_tid);
+	registers_set_argument(registers, THREAD_AREA, words->thread_area);
 	if (!is_clone)
 		registers_make_other(thread->tid, registers, SYS_clone);
 	return watch(thread, registers);
 }
 
-/* The table forks first: its refusal is the program's. */
-enum onward enter_fork(struct thread *thread, struct registers *registers)
+/* The table forks first: its refusal is the program's. Threads are not in it. */
+enum onward make_by_clone(struct thread *thread, struct registers *registers, const struct clone_words *words)
 {
 	struct process *caller = thread->process;
 	int64_t child = caller->spare;
 
-	thread->flags = flags_of(registers);
+	thread->flags = words->flags;
+	thread->told_parent = words->parent_tid;
+	thread->told_child = words->child_tid;
+	thread->told = 0;
+	if (words->flags & CLONE_THREAD)
+		return give_words(thread, registers, words);
 	thread->makes_space = (thread->flags & CLONE_NEWPID) || caller->unshared;
 	if (child) {
 		thread->child_root = caller->spare_root;
@@ -70,7 +94,14 @@ enum onward enter_fork(struct thread *thread, struct registers *registers)
 		return answer_with(thread, child);
 	thread->child = (uint32_t)child;
 	happen(thread, ASKS);
-	return make_child(thread, registers);
+	return give_words(thread, registers, words);
+}
+
+enum onward enter_fork(struct thread *thread, struct registers *registers)
+{
+	struct clone_words words = words_of(registers);
+
+	return make_by_clone(thread, registers, &words);
 }
 
 /* ---- a fork that comes to nothing, and a child that nobody claims ---- */
@@ -120,21 +151,23 @@ void stranger_kill(const struct thread *stranger)
 }
 
 /* The numbers that the kernel writes for a new process or thread are its own: in the parent's memory now, in the child's as it begins. A
- * thread's call did not stop before, so its arguments are read here. */
-static void tell_numbers(const struct thread *parent, struct thread *child)
+ * thread's call by clone(2) did not stop before, so its arguments are read here. */
+static void tell_numbers(struct thread *parent, struct thread *child)
 {
 	struct registers registers;
-	uint64_t flags;
+	int32_t number = (int32_t)to_number(parent->process, TASK, child->tid);
 
-	if (parent->phase == IN_CALL)
-		registers = parent->made;
-	else if (!registers_read(parent->tid, &registers))
-		return;
-	flags = parent->phase == IN_CALL ? parent->flags : registers_argument(&registers, FLAGS);
-	if (flags & CLONE_PARENT_SETTID)
-		show(parent, registers_argument(&registers, PARENT_TID), TASK);
-	if (flags & CLONE_CHILD_SETTID)
-		child->tid_at = registers_argument(&registers, CHILD_TID);
+	if (parent->phase != IN_CALL) {
+		if (!registers_read(parent->tid, &registers))
+			return;
+		parent->flags = registers_argument(&registers, FLAGS);
+		parent->told_parent = registers_argument(&registers, PARENT_TID);
+		parent->told_child = registers_argument(&registers, CHILD_TID);
+	}
+	if (parent->flags & CLONE_PARENT_SETTID)
+		write_memory(parent->tid, parent->told_parent, &number, sizeof number);
+	if (parent->flags & CLONE_CHILD_SETTID)
+		child->tid_at = parent->told_child;
 }
 
 /* The child begins with the registers and the options of its parent. */
@@ -209,6 +242,7 @@ void forked(struct thread *thread, pid_t real)
 	child->process = process_of_child(thread, real);
 	stage_enlist(child);
 	thread_number(child);
+	thread->told = child->number;
 	tell_numbers(thread, child);
 	inherit(thread, child);
 	if (happen(child, CLAIMED) & END)

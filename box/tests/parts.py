@@ -64,7 +64,7 @@ def jobs(tell):
 
 def refused(tell):
     """Each call that is refused has ENOSYS, and the report names it; but what the filter alone refuses."""
-    unseen = {"clone3", "set_robust_list"}
+    unseen = {"set_robust_list"}
     box = in_box([PYTHON, str(TESTS / "inside/refused.py")], "refused", options=())
     lines = [line.rsplit(" ", 1) for line in box.output.splitlines()]
     for name, error in lines:

@@ -19,7 +19,7 @@ X86 = os.uname().machine == "x86_64"
 NUMBERS = {"sched_setattr": (314, 274), "sched_getattr": (315, 275), "kcmp": (312, 272), "process_vm_readv": (310, 270), "tgkill": (234, 131),
            "ioprio_get": (252, 31), "ioprio_set": (251, 30), "semctl": (66, 191), "semget": (64, 190), "msgctl": (71, 187), "msgget": (68, 186),
            "msgsnd": (69, 189), "shmctl": (31, 195), "shmget": (29, 194), "shmat": (30, 196), "timer_create": (222, 107), "timer_settime": (223, 110),
-           "prctl": (157, 167), "sendmmsg": (307, 269), "capget": (125, 90), "signalfd4": (289, 74)}
+           "prctl": (157, 167), "sendmmsg": (307, 269), "clone3": (435, 435), "capget": (125, 90), "signalfd4": (289, 74)}
 
 
 def call(name, *words):
@@ -110,6 +110,38 @@ def many_messages(count, shared):
     sent = call("sendmmsg", left.fileno(), ctypes.create_string_buffer(heads), count, socket.MSG_DONTWAIT)
     found = [struct.unpack("3i", right.recvmsg(10, 100, socket.MSG_DONTWAIT)[1][0][2]) == me for _ in range(sent)]
     say("SCM_CREDENTIALS of many", sent, all(found), controls.raw[:32 * count] == credentials * count)
+
+
+SETTID, PIDFD, CHILD_SETTID, THREAD = 0x100000, 0x1000, 0x1000000, 0x10000
+
+
+def clone3(size=88, more=b"", **words):
+    """The call with these fields, all others 0."""
+    names = ("flags", "pidfd", "child_tid", "parent_tid", "exit_signal", "stack", "stack_size", "tls", "set_tid", "set_tid_size", "cgroup")
+    fields = struct.pack("11Q", *(words.get(it, 0) for it in names)) + more
+    return call("clone3", ctypes.create_string_buffer(fields), size)
+
+
+def cloned():
+    """Children by clone3, and what it refuses."""
+    told, own, descriptor = ctypes.c_int(0), ctypes.c_int(0), ctypes.c_int(-1)
+    at = ctypes.addressof
+    child = clone3(exit_signal=signal.SIGCHLD, flags=SETTID | CHILD_SETTID | PIDFD, parent_tid=at(told), child_tid=at(own), pidfd=at(descriptor))
+    if child == 0:
+        os._exit(0 if own.value == os.getpid() else 1)
+    with open(f"/proc/self/fdinfo/{descriptor.value}", encoding="ascii") as lines:
+        said = dict(line.split(":\t") for line in lines)
+    say("clone3", told.value == child, own.value, int(said["Pid"]) == child, os.waitpid(child, 0) == (child, 0))
+    os.close(descriptor.value)
+    child = clone3(size=64)
+    if child == 0:
+        os._exit(7)
+    say("clone3 without a signal", of(os.waitpid, child, 0), os.waitpid(child, -0x80000000) == (child, 7 << 8))
+    say("posix_spawn", os.waitpid(os.posix_spawn("/bin/sh", ["sh", "-c", "exit 3"], {}), 0)[1])
+    say("clone3 of a size", clone3(size=63), clone3(size=4097), clone3(size=96, more=b"1234567\0"), call("clone3", 0, 64))
+    say("clone3 of what cannot be", [clone3(**it) for it in (
+        {"flags": 1 << 40}, {"stack": 4096}, {"stack_size": 4096}, {"exit_signal": 65}, {"flags": THREAD}, {"set_tid_size": 1}, {"set_tid": 8},
+        {"set_tid": 8, "set_tid_size": 33}, {"flags": 17}, {"flags": THREAD, "exit_signal": 17})])
 
 
 def nobody():
@@ -301,6 +333,7 @@ def main():
     sockets()
     many_messages(10, False)
     many_messages(10, True)
+    cloned()
     nobody()
     gone_sender()
     without_leader(os.setpgrp, False)
