@@ -202,8 +202,16 @@ const struct call calls[] = {
 	{ "recvmmsg", { 299, 243 }, KERNEL, .out = { MEMORY(1, 0, PROCESS) }, .leave = leave_receive_many, .note = "the same" },
 	{ "msgctl", { 71, 187 }, KERNEL, .test = WHEN_IS(1, IPC_STAT), .out = { MEMORY(2, AT_SENT, PROCESS), MEMORY(2, AT_SENT + 4, PROCESS) },
 		.note = "`IPC_STAT`" },
+	{ "msgctl", { 71, 187 }, KERNEL, .test = WHEN_IS(1, MSG_STAT), .out = { MEMORY(2, AT_SENT, PROCESS), MEMORY(2, AT_SENT + 4, PROCESS) },
+		.note = "`MSG_STAT`" },
+	{ "msgctl", { 71, 187 }, KERNEL, .test = WHEN_IS(1, MSG_STAT_ANY), .out = { MEMORY(2, AT_SENT, PROCESS), MEMORY(2, AT_SENT + 4, PROCESS) },
+		.note = "`MSG_STAT_ANY`" },
 	{ "shmctl", { 31, 195 }, KERNEL, .test = WHEN_IS(1, IPC_STAT), .out = { MEMORY(2, AT_ATTACHED, PROCESS), MEMORY(2, AT_ATTACHED + 4, PROCESS) },
 		.note = "`IPC_STAT`" },
+	{ "shmctl", { 31, 195 }, KERNEL, .test = WHEN_IS(1, SHM_STAT), .out = { MEMORY(2, AT_ATTACHED, PROCESS), MEMORY(2, AT_ATTACHED + 4, PROCESS) },
+		.note = "`SHM_STAT`" },
+	{ "shmctl", { 31, 195 }, KERNEL, .test = WHEN_IS(1, SHM_STAT_ANY), .out = { MEMORY(2, AT_ATTACHED, PROCESS), MEMORY(2, AT_ATTACHED + 4, PROCESS) },
+		.note = "`SHM_STAT_ANY`" },
 	{ "semctl", { 66, 191 }, KERNEL, .test = WHEN_IS(2, GETPID), RESULT(PROCESS), .note = "`GETPID`" },
 
 	/* /proc. */

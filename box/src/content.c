@@ -69,15 +69,15 @@ static void write_status_line(FILE *to, const struct process *caller, const char
 	fputs(line, to);
 }
 
-/* How many namespaces there are to the process that a status is of is told by its line Tgid, which comes before all lists. */
+/* How many namespaces there are to the process that a status is of is told by its line Tgid, or else Pid, which come before all lists. */
 static void write_status(FILE *to, const struct process *caller, FILE *from, pid_t real)
 {
 	char line[4096];
 	uint32_t numbers[PIDTAB_LEVELS_MAX], count = 0;
 
 	while (fgets(line, sizeof line, from)) {
-		if (!strncmp(line, "Tgid:", 5))
-			count = numbers_of(name_of_real((pid_t)strtol(line + 5, NULL, 10)), caller, numbers);
+		if (!strncmp(line, "Tgid:", 5) || (count == 0 && !strncmp(line, "Pid:", 4)))
+			count = numbers_of(name_of_real((pid_t)strtol(strchr(line, ':') + 1, NULL, 10)), caller, numbers);
 		if (strncmp(line, "State:\t", 7))
 			write_status_line(to, caller, line, count);
 		else

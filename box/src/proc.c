@@ -270,8 +270,11 @@ static const char *translated_file(const struct place *place)
 /* The call opens the file of this program that the thread has been given, or else what the path names. */
 static enum onward take_file(struct thread *thread, struct registers *registers, int index, char *path)
 {
-	if (thread->content >= 0)
+	if (thread->content >= 0) {
 		snprintf(path, LONGEST_PATH, "/proc/%d/fd/%d", getpid(), thread->content);
+		if (strcmp(thread->call->name, "openat2") && strcmp(thread->call->name, "creat"))
+			registers_set_argument(registers, index + 1, registers_argument(registers, index + 1) & ~(uint64_t)O_NOFOLLOW); /* this one is a link */
+	}
 	return take_path(thread, registers, index, path);
 }
 

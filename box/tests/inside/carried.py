@@ -272,11 +272,16 @@ def ipc():
     call("shmctl", shared, 2, buffer)
     say("shm_cpid", struct.unpack_from("ii", buffer, 80) == (os.getpid(), os.getpid()))
     call("shmctl", shared, 0, None)
-    queue = call("msgget", 0, 0o1600)
+    queue, other = call("msgget", 0, 0o1600), call("shmget", 0, 4096, 0o1600)
     call("msgsnd", queue, struct.pack("l", 1) + b"x", 1, 0)
     call("msgctl", queue, 2, buffer)
     say("msg_lspid", struct.unpack_from("ii", buffer, 96) == (os.getpid(), 0))
+    for name, of_all, command in (("msgctl", 12, 11), ("msgctl", 12, 13), ("shmctl", 14, 13), ("shmctl", 14, 15)):
+        known = {"msgctl": (queue, 96, (os.getpid(), 0)), "shmctl": (other, 80, (os.getpid(), 0))}[name]
+        found = [struct.unpack_from("ii", buffer, known[1]) == known[2] for i in range(call(name, 0, of_all, buffer) + 1) if call(name, i, command, buffer) == known[0]]
+        say(name, command, found)
     call("msgctl", queue, 0, None)
+    call("shmctl", other, 0, None)
     semaphore = call("semget", 0, 1, 0o1600)
     call("semctl", semaphore, 0, 16, 3)
     say("semctl GETPID", call("semctl", semaphore, 0, 11, 0) == os.getpid())

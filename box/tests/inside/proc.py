@@ -57,6 +57,8 @@ def main():
         say("by a folder", of(lambda: os.stat(name, dir_fd=folder).st_size))
     file = os.open(f"{child}/stat", os.O_RDONLY, dir_fd=folder)
     say("opened so", os.read(file, 100).split()[0] == str(child).encode())
+    say("without a link", of(lambda: os.read(os.open(f"/proc/{child}/stat", os.O_RDONLY | os.O_NOFOLLOW), 100).split()[0]) == str(child).encode(),
+        of(os.open, "/proc/self", os.O_NOFOLLOW), of(lambda: os.close(os.open("status", os.O_NOFOLLOW, dir_fd=os.open("/proc/self", os.O_RDONLY)))))
     os.chdir(f"/proc/{child}")
     say("in its folder", stat("stat")[0] == str(child), fields("status")["PPid"] == str(me))
     os.chdir("/proc")
