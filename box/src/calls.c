@@ -56,6 +56,7 @@ enum {
 #define MEMORY(argument, offset, kind) { kind, IN_MEMORY, argument, offset }
 #define RESULT(kind) .out = { { kind, IN_RESULT, 0, 0 } }
 #define QUERY(of) .enter = enter_query, .leave = leave_query, .operation = of
+#define STATE "`IPC_STAT`, and `MSG_STAT`, `SHM_STAT` with or without `_ANY`"
 #define OPENED "`cgroup.procs`, `cgroup.threads` and `tasks` are refused for writing"
 #define NONE(name, x86_64, aarch64) { #name, { x86_64, aarch64 }, PLAIN, { ALWAYS, 0, 0, 0 }, { { 0 } }, { { 0 } }, NULL, NULL, 0, NULL }
 
@@ -80,7 +81,7 @@ const struct call calls[] = {
 	{ "clone", { 56, 220 }, TABLE, .test = WHEN_HAS(0, CLONE_THREAD, 0), RESULT(PROCESS), .enter = enter_fork, .leave = leave_fork,
 		.note = "a process; a new thread does not stop here, and the box numbers it" },
 	{ "clone3", { 435, 435 }, TABLE, RESULT(TASK), .enter = enter_clone3, .leave = leave_clone3,
-		.note = "it is made `clone`; refused with `CLONE_PARENT`, `CLONE_UNTRACED`, `CLONE_CLEAR_SIGHAND`, `CLONE_INTO_CGROUP`, `CLONE_NEWTIME`, `set_tid`" },
+		.note = "it is made `clone`; what that lacks is refused, as `CLONE_INTO_CGROUP` and `set_tid`" },
 	{ "unshare", { 272, 97 }, TABLE, .test = UNLESS_HAS(0, CLONE_NEWPID, 0), .enter = enter_unshare, .leave = leave_unshare,
 		.note = "`CLONE_NEWPID`" },
 	{ "setns", { 308, 268 }, REFUSED, .test = WHEN_IS(1, 0), .note = "of any type: it may be a PID namespace" },
@@ -201,17 +202,17 @@ const struct call calls[] = {
 	{ "recvmsg", { 47, 212 }, KERNEL, .out = { MEMORY(1, 0, PROCESS) }, .leave = leave_receive, .note = "the same" },
 	{ "recvmmsg", { 299, 243 }, KERNEL, .out = { MEMORY(1, 0, PROCESS) }, .leave = leave_receive_many, .note = "the same" },
 	{ "msgctl", { 71, 187 }, KERNEL, .test = WHEN_IS(1, IPC_STAT), .out = { MEMORY(2, AT_SENT, PROCESS), MEMORY(2, AT_SENT + 4, PROCESS) },
-		.note = "`IPC_STAT`" },
+		.note = STATE },
 	{ "msgctl", { 71, 187 }, KERNEL, .test = WHEN_IS(1, MSG_STAT), .out = { MEMORY(2, AT_SENT, PROCESS), MEMORY(2, AT_SENT + 4, PROCESS) },
-		.note = "`MSG_STAT`" },
+		.note = STATE },
 	{ "msgctl", { 71, 187 }, KERNEL, .test = WHEN_IS(1, MSG_STAT_ANY), .out = { MEMORY(2, AT_SENT, PROCESS), MEMORY(2, AT_SENT + 4, PROCESS) },
-		.note = "`MSG_STAT_ANY`" },
+		.note = STATE },
 	{ "shmctl", { 31, 195 }, KERNEL, .test = WHEN_IS(1, IPC_STAT), .out = { MEMORY(2, AT_ATTACHED, PROCESS), MEMORY(2, AT_ATTACHED + 4, PROCESS) },
-		.note = "`IPC_STAT`" },
+		.note = STATE },
 	{ "shmctl", { 31, 195 }, KERNEL, .test = WHEN_IS(1, SHM_STAT), .out = { MEMORY(2, AT_ATTACHED, PROCESS), MEMORY(2, AT_ATTACHED + 4, PROCESS) },
-		.note = "`SHM_STAT`" },
+		.note = STATE },
 	{ "shmctl", { 31, 195 }, KERNEL, .test = WHEN_IS(1, SHM_STAT_ANY), .out = { MEMORY(2, AT_ATTACHED, PROCESS), MEMORY(2, AT_ATTACHED + 4, PROCESS) },
-		.note = "`SHM_STAT_ANY`" },
+		.note = STATE },
 	{ "semctl", { 66, 191 }, KERNEL, .test = WHEN_IS(2, GETPID), RESULT(PROCESS), .note = "`GETPID`" },
 
 	/* /proc. */
@@ -373,7 +374,7 @@ static const char *kind_word(enum kind kind)
 {
 	static const char *const words[] = {
 		[NO_KIND] = "", [PROCESS] = "process", [TASK] = "process or thread", [GROUP] = "group or session",
-		[PROCESS_OR_GROUP] = "process or thread, or -group", [CLOCK] = "clock of a process or thread", [PATH] = "path below /proc",
+		[PROCESS_OR_GROUP] = "process, or -group", [CLOCK] = "clock of a process or thread", [PATH] = "path below /proc",
 		[DIRECTORY] = "names in /proc"
 	};
 

@@ -82,22 +82,21 @@ static struct settings read_words(int count, char **words)
 	return settings;
 }
 
-/* Signals that this program leaves to those in the box. */
-static const int left_alone[] = { SIGINT, SIGQUIT, SIGTTOU, SIGHUP };
+/* Signals that this program leaves to those in the box, and what they did before. */
+static struct {
+	int signal;
+	void (*former)(int);
+} left_alone[] = { { SIGINT, SIG_DFL }, { SIGQUIT, SIG_DFL }, { SIGTTOU, SIG_DFL }, { SIGHUP, SIG_DFL }, { SIGTERM, SIG_DFL } };
 
-static void each_left_alone(void (*action)(int))
-{
-	for (size_t i = 0; i < sizeof left_alone / sizeof left_alone[0]; i++)
-		signal(left_alone[i], action);
-}
+enum { LEFT_ALONE = sizeof left_alone / sizeof left_alone[0] };
 
 /* The program: it waits until it is traced, and then installs the filter. */
 static _Noreturn void be_program(int ready, char **words)
 {
 	char go;
 
-	each_left_alone(SIG_DFL);
-	signal(SIGTERM, SIG_DFL);
+	for (int i = 0; i < LEFT_ALONE; i++)
+		signal(left_alone[i].signal, left_alone[i].former);
 	if (read(ready, &go, 1) != 1 || prctl(PR_SET_CHILD_SUBREAPER, 1))
 		die("the start");
 	filter_install();
@@ -112,7 +111,8 @@ static void be_supervisor(void)
 	name_outside(getpgrp());
 	name_outside(getsid(0));
 	name_outside(getpid());
-	each_left_alone(SIG_IGN);
+	for (int i = 0; i < LEFT_ALONE; i++)
+		left_alone[i].former = signal(left_alone[i].signal, SIG_IGN);
 	ending_start();
 	if (prctl(PR_SET_CHILD_SUBREAPER, 1))
 		die("the start");

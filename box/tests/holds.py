@@ -73,6 +73,19 @@ def groups(tell):
     return tell.say("groups", f"{len(REFUSED.splitlines())} lines")
 
 
+def unseen(tell):
+    """Each number that the page says passes unseen does so, and is right in the kernel's namespace."""
+    words = ["env", f"OUTSIDE={os.readlink('/proc/self/ns/pid')}", PYTHON, str(rig.TESTS / "inside/unseen.py")]
+    box, kernel = in_box(words, "unseen", options=("--pid-max", "1000")), in_kernel(words)
+    lines = box.output.splitlines()
+    for line, other in zip(lines, kernel.output.splitlines()):
+        if not line.endswith(" True") or (other != line.replace(" True", " False") and not line.startswith("limit")):
+            tell.fault("unseen", f"box: {line}, kernel: {other}")
+    if len(lines) != 17 or box.status:
+        tell.fault("unseen", box.output)
+    tell.say("unseen", f"{len(lines)} kinds of numbers")
+
+
 def orders(tell):
     """All orders of two forks, an end and a kill, on the stages of a fork alone."""
     program = rig.compiled("orders", "-g", "-DCHECKS_STAGES", f"-I{rig.TOP}/bindings/c", rig.TOP / "box/src/stages.c")
@@ -131,8 +144,16 @@ ENDS = (
 )
 
 
+def ignored(before):
+    """The signals that a program ignores which was begun with some ignored."""
+    words = ["sh", "-c", 'trap "" INT QUIT HUP TERM; exec "$@"', "sh", *before, "grep", "SigIgn", "/proc/self/status"]
+    return subprocess.run(words, capture_output=True, text=True, check=False).stdout
+
+
 def ends(tell):
-    """SIGTERM ends the box, whatever its program does."""
+    """SIGTERM ends the box, whatever its program does. What was ignored before stays so in it."""
+    if ignored([]) != ignored([BOX]):
+        tell.fault("ignored signals", f"{ignored([])} in the box {ignored([BOX])}")
     for what, script, times, status, seconds in ENDS:
         box = subprocess.Popen([*(rig.AS_NOBODY if rig.IS_ROOT else []), BOX, PYTHON, "-c", script], stdout=subprocess.PIPE, text=True)
         box.stdout.readline()
