@@ -3,14 +3,18 @@
 #define _GNU_SOURCE
 #include "calls.h"
 
+#include <errno.h>
 #include <fcntl.h>
 #include <limits.h>
 #include <linux/magic.h>
+#include <linux/openat2.h>
 #include <string.h>
+#include <sys/stat.h>
+#include <sys/syscall.h>
 #include <sys/vfs.h>
 #include <unistd.h>
 
-enum { LONGEST_NAME = PATH_MAX + 64 };
+enum { LONGEST_NAME = PATH_MAX };
 
 static const struct {
 	const char *name;
@@ -27,59 +31,103 @@ static enum kind kind_of(const char *path)
 	return NO_KIND;
 }
 
-/* The path as this program reaches it. */
-static bool name_from_here(const struct thread *thread, const char *path, int folder, char *name)
+/* The folder that the path begins at: the program's root, its own, or that of a descriptor. None of these ways leaves the kernel's memory. */
+static int open_folder(const struct thread *thread, const char *path, int folder)
 {
-	int size;
+	char name[64];
 
 	if (path[0] == '/')
-		size = snprintf(name, LONGEST_NAME, "/proc/%d/root%s", thread->tid, path);
+		snprintf(name, sizeof name, "/proc/%d/root", thread->tid);
 	else if (folder == AT_FDCWD)
-		size = snprintf(name, LONGEST_NAME, "/proc/%d/cwd/%s", thread->tid, path);
+		snprintf(name, sizeof name, "/proc/%d/cwd", thread->tid);
 	else
-		size = snprintf(name, LONGEST_NAME, "/proc/%d/fd/%d/%s", thread->tid, folder, path);
-	return size < LONGEST_NAME;
+		snprintf(name, sizeof name, "/proc/%d/fd/%d", thread->tid, folder);
+	return open(name, O_PATH | O_CLOEXEC);
 }
 
-/* What the file is really called: a link may have led to it. */
-static bool read_name(char *name)
+static int open_path(int at, const char *path, uint64_t flags, uint64_t resolve)
 {
-	int file = open(name, O_PATH | O_CLOEXEC);
-	char link[64];
-	ssize_t size;
+	struct open_how how = { .flags = O_PATH | O_CLOEXEC | flags, .resolve = resolve | (path[0] == '/' ? RESOLVE_IN_ROOT : 0) };
 
-	if (file < 0)
-		return false;
-	snprintf(link, sizeof link, "/proc/self/fd/%d", file);
-	size = readlink(link, name, LONGEST_NAME - 1);
-	close(file);
-	name[size > 0 ? size : 0] = 0;
-	return size > 0;
+	return (int)syscall(SYS_openat2, at, path, &how, sizeof how);
 }
 
-/* Which numbers the file of a control group has that an open names; none where it is another file. One that is only read is looked at where it
- * is called so. */
-enum kind group_file(const struct thread *thread, const char *path, int folder, bool is_written)
+static bool is_link(int at, const char *path)
+{
+	int file = open_path(at, path, O_NOFOLLOW, RESOLVE_CACHED);
+	struct statx about = { .stx_mode = 0 };
+	bool is_so = file >= 0 && !statx(file, "", AT_EMPTY_PATH | AT_STATX_DONT_SYNC, STATX_TYPE, &about) && S_ISLNK(about.stx_mode);
+
+	if (file >= 0)
+		close(file);
+	return is_so;
+}
+
+/* What the path leads to. A file system whose server is a program in the box would wait for this one: so where the kernel has to ask, only a
+ * path that is called so, or is a link, is walked. */
+static int open_target(const struct thread *thread, const char *path, int folder)
+{
+	int at = open_folder(thread, path, folder), file;
+
+	if (at < 0)
+		return -1;
+	file = open_path(at, path, 0, RESOLVE_CACHED);
+	if (file < 0 && errno == EAGAIN && (kind_of(path) || is_link(at, path)))
+		file = open_path(at, path, 0, 0);
+	close(at);
+	return file;
+}
+
+/* Which numbers the file that the link of a descriptor leads to has: by what it is really called, and by its file system. */
+static enum kind kind_of_link(const char *link, bool *is_second)
 {
 	char name[LONGEST_NAME];
 	struct statfs about;
+	ssize_t size = readlink(link, name, sizeof name - 1);
+	enum kind kind;
 
+	name[size > 0 ? size : 0] = 0;
+	kind = kind_of(name);
+	if (!kind || statfs(link, &about))
+		return NO_KIND;
+	*is_second = about.f_type == CGROUP2_SUPER_MAGIC;
+	return *is_second || about.f_type == CGROUP_SUPER_MAGIC ? kind : NO_KIND;
+}
+
+/* Which numbers the file of a control group has that an open names; none where it is another file. One that is only read is looked at where it
+ * is called so. A path in /proc has the kernel's numbers, and may be the link of a descriptor. */
+enum kind group_file(const struct thread *thread, const char *path, int folder, bool is_written)
+{
+	bool is_second;
+	enum kind kind;
+	char link[64];
+	int file;
+
+	if (!strncmp(path, "/proc/", 6))
+		return kind_of_link(path, &is_second);
 	if (!is_written && !kind_of(path))
 		return NO_KIND;
-	if (!name_from_here(thread, path, folder, name) || statfs(name, &about))
+	file = open_target(thread, path, folder);
+	if (file < 0)
 		return NO_KIND;
-	if (about.f_type != CGROUP2_SUPER_MAGIC && about.f_type != CGROUP_SUPER_MAGIC)
-		return NO_KIND;
-	return read_name(name) ? kind_of(name) : NO_KIND;
+	snprintf(link, sizeof link, "/proc/self/fd/%d", file);
+	kind = kind_of_link(link, &is_second);
+	close(file);
+	return kind;
 }
 
 /* A copy with the caller's numbers. Version 2 has a 0 for who cannot be seen, and version 1 leaves him out. */
 int group_open(const struct thread *thread, const char *path, int folder, enum kind kind)
 {
-	char name[LONGEST_NAME];
-	struct statfs about;
+	int file = open_target(thread, path, folder), made;
+	bool is_second = false;
+	char link[64];
 
-	if (!name_from_here(thread, path, folder, name) || statfs(name, &about))
+	if (file < 0)
 		return -1;
-	return content_of_group(thread, name, kind, about.f_type == CGROUP2_SUPER_MAGIC);
+	snprintf(link, sizeof link, "/proc/self/fd/%d", file);
+	kind_of_link(link, &is_second);
+	made = content_of_group(thread, link, kind, is_second);
+	close(file);
+	return made;
 }
