@@ -146,7 +146,7 @@ static uint32_t root_of(pid_t real)
 {
 	const struct name *name = name_of_real(real);
 
-	return name ? name->root : 0;
+	return name ? name->root : real == 0 ? SUPERVISOR : 0; /* 0 is outside, to one in a PID namespace */
 }
 
 static void report_state(const struct process *process, const struct state *state, const struct pidtab_task *task)

@@ -78,7 +78,7 @@ def refused(tell):
 
 
 def host(tell):
-    """A process beside the box is nobody inside, by its own number."""
+    """A process beside the box is nobody inside, by its own number. In a PID namespace the box's group and session are outside."""
     own = subprocess.Popen([*(rig.AS_NOBODY if rig.IS_ROOT else []), "sleep", "100"])
     script = f"kill {own.pid}; kill -9 {own.pid}; renice 5 {own.pid}; taskset -p {own.pid}; chrt -p {own.pid}; prlimit -p {own.pid}; ls -d /proc/{own.pid}; kill -9 -1; echo end"
     box = in_box(["bash", "-c", script], "host")
@@ -87,7 +87,10 @@ def host(tell):
         tell.fault("host", f"{own.poll()} {box.output}")
     own.kill()
     own.wait()
-    tell.say("host", "a process beside the box is reached by no number")
+    within = in_kernel([str(BOX), "--check", "sh", "-c", "sleep 0.1; sleep 0.1; echo end"])
+    if (within.output, within.status) != ("end\n", 0):
+        tell.fault("host", f"the box in a namespace: {within.output}")
+    tell.say("host", "a process beside the box is reached by no number; a box in a namespace sees no difference")
 
 
 def misuse(tell):
