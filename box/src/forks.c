@@ -36,7 +36,8 @@ static bool is_vfork(const struct registers *registers)
 #ifdef SYS_vfork
 	return registers_call(registers) == SYS_vfork;
 #else
-	return registers_call(registers) == -1;
+	(void)registers;
+	return false;
 #endif
 }
 
