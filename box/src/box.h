@@ -62,7 +62,7 @@ enum stage {
 };
 
 enum event {
-	STOPS,    /* any stop but that of an end */
+	STOPS,    /* any stop except that of an end */
 	CLAIMED,  /* its parent says that it is its child */
 	ASKS,     /* the table has made a child */
 	TOLD,     /* the kernel has said which one is the child */
@@ -163,7 +163,7 @@ struct thread {
 	const struct call *call; /* what it makes, in the table of calls */
 	struct registers made;   /* the call as the program made it */
 	enum injected injected;  /* the call of ours */
-	struct registers behind; /* how it goes on behind that */
+	struct registers behind; /* how it goes on after that */
 	uint64_t put_off;        /* signals that came before such a call, a bit each */
 	bool has_no_exit;        /* the call is a wait whose exit is not seen: the next stop comes right behind it */
 	uint64_t entered;        /* when, in events */

@@ -63,8 +63,8 @@ static bool is_link(int at, const char *path)
 	return is_so;
 }
 
-/* What the path leads to. A file system whose server is a program in the box would wait for this one: so where the kernel has to ask, only a
- * path that is called so, or is a link, is walked. */
+/* What the path leads to. A file system whose server is a program in the box would wait for this one: so if the kernel has to ask, only a path
+ * that is called so, or is a link, is walked. */
 static int open_target(const struct thread *thread, const char *path, int folder)
 {
 	int at = open_folder(thread, path, folder), file;
@@ -94,8 +94,8 @@ static enum kind kind_of_link(const char *link, bool *is_second)
 	return *is_second || about.f_type == CGROUP_SUPER_MAGIC ? kind : NO_KIND;
 }
 
-/* Which numbers the file of a control group has that an open names; none where it is another file. One that is only read is looked at where it
- * is called so. A path in /proc has the kernel's numbers, and may be the link of a descriptor. */
+/* Which numbers the file of a control group has that an open names; none if it is another file. One that is only read is looked at if it is
+ * called so. A path in /proc has the kernel's numbers, and may be the link of a descriptor. */
 enum kind group_file(const struct thread *thread, const char *path, int folder, bool is_written)
 {
 	bool is_second;

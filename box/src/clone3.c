@@ -13,7 +13,7 @@ enum { LARGEST = 4096, MOST_SIGNALS = 64, MOST_LEVELS = 32 };
 static const uint64_t lacking = CLONE_CLEAR_SIGHAND | CLONE_INTO_CGROUP | CLONE_NEWTIME | CLONE_UNTRACED;
 static const uint64_t known = 0xffffffffu | CLONE_CLEAR_SIGHAND | CLONE_INTO_CGROUP;
 
-/* The structure, of any size that the kernel takes: what is behind the known fields must be 0. An errno, or 0. */
+/* The structure, of any size that the kernel takes: what follows the known fields must be 0. An errno, or 0. */
 static int read_arguments(const struct thread *thread, struct clone_args *arguments)
 {
 	uint64_t at = registers_argument(&thread->made, 0), size = registers_argument(&thread->made, 1);

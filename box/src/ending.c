@@ -13,7 +13,7 @@ enum { GRACE = 10, LAST_GRACE = 5 };
 static volatile pid_t init; /* none before it begins, and once its end is known */
 static volatile sig_atomic_t is_asked;
 
-/* What is left is killed by the kernel, as behind a tracer that was killed. */
+/* What is left is killed by the kernel, as after a tracer that was killed. */
 static void give_up(int signal)
 {
 	static const char text[] = "pidtab-box: SIGTERM: some processes did not end\n";

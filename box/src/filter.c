@@ -159,7 +159,7 @@ bool reads_stop(const struct process *process, int file)
 	return false;
 }
 
-/* How many filters a thread has, by what the kernel says of it; -1 where it does not say it. */
+/* How many filters a thread has, by what the kernel says of it; -1 if it does not say it. */
 static int filters_of(pid_t process, long thread)
 {
 	char name[64], line[256];
@@ -240,7 +240,7 @@ bool filter_for_reads(struct thread *thread, const struct registers *registers, 
 	return inject_filter(thread, registers, are_alike(process) ? ADD_FILTER_TO_ALL : ADD_FILTER);
 }
 
-/* The filter was added, or was not. Where the threads have different ones after all, the caller alone gets it: whether this follows. */
+/* The filter was added, or was not. If the threads have different ones after all, the caller alone gets it. Returns whether that follows. */
 bool filter_added(struct thread *thread, int64_t result)
 {
 	if (thread->injected == ADD_FILTER_TO_ALL && result != 0)

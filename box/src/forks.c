@@ -214,7 +214,7 @@ static void inherit_state(struct process *parent, struct process *child, uint64_
 		parent->shares_handlers = child->shares_handlers = true;
 }
 
-/* The process of a child that the thread has asked for; its own, where the child is a thread. */
+/* The process of a child that the thread has asked for; its own, if the child is a thread. */
 static struct process *process_of_child(struct thread *thread, pid_t real)
 {
 	struct process *process;

@@ -17,7 +17,7 @@ static int64_t ask_parent(const struct process *caller)
 	return table_do(PIDTAB_GETPPID, caller->root, 0, 0);
 }
 
-/* The number of a process, where the caller may mean one of its threads. */
+/* The number of a process. The caller may mean it by one of its threads. */
 static uint32_t number_of_process(const struct process *caller, int64_t number)
 {
 	const struct thread *thread = thread_named(caller, number);

@@ -9,7 +9,7 @@
 #include <sys/mman.h>
 #include <sys/syscall.h>
 
-/* A region is mapped where a thread wants room and none is free. Its first page has a mark, and each other one is the room of one thread. */
+/* A region is mapped if a thread wants room and none is free. Its first page has a mark, and each other one is the room of one thread. */
 enum { SLOTS = 7, REGION = (SLOTS + 1) * ROOM };
 
 static const char mark[] = "the room of pidtab-box";
@@ -42,7 +42,7 @@ static void add_region(struct memory *memory, uint64_t at)
 	memory->regions = region;
 }
 
-/* Behind a fork the child has the same regions, in which nobody has room. */
+/* After a fork the child has the same regions, and nobody has room in them. */
 struct memory *memory_copy(const struct memory *from)
 {
 	struct memory *memory = memory_new();

@@ -142,19 +142,19 @@ static bool may_be_claimed(const struct thread *stranger)
 	return parent && parent->at[ASKING] > 0;
 }
 
+/* A dead process keeps its number until its parent waits for it; a dead thread does not, so it is forgotten at once. */
 static void judge(struct thread *stranger)
 {
-	if (may_be_claimed(stranger))
-		return;
 	if (stranger->stage == DEAD) {
-		thread_free(stranger);
-	} else if (!stranger->is_killed && stranger_is_process(stranger)) {
+		if (stranger->is_killed || !may_be_claimed(stranger) || !stranger_is_process(stranger))
+			thread_free(stranger);
+	} else if (!stranger->is_killed && !may_be_claimed(stranger) && stranger_is_process(stranger)) {
 		stranger->is_killed = true;
 		stranger_kill(stranger);
 	}
 }
 
-/* Behind all that an event has led to. */
+/* After all that an event has led to. */
 void stages_settle(void)
 {
 	for (struct thread *thread = must_judge ? strangers : NULL, *next; thread; thread = next) {

@@ -55,7 +55,7 @@ struct thread *thread_numbered(uint32_t number)
 	return number >= FIRST_THREAD && number - FIRST_THREAD < MOST_REAL ? by_number[number - FIRST_THREAD] : NULL;
 }
 
-/* The thread beside a main one that the caller means by the number; none where it means a process, or nobody. */
+/* The thread beside a main one that the caller means by the number; none if it means a process, or nobody. */
 const struct thread *thread_named(const struct process *caller, int64_t number)
 {
 	const struct thread *thread = number >= FIRST_THREAD ? thread_numbered((uint32_t)number) : NULL;
