@@ -25,7 +25,8 @@ struct task {
 /* The init is task 0; 1 and 2 fork 3 and 4. */
 static struct task tasks[TASKS];
 static struct process made[TASKS];
-static bool in_init, make_threads; /* the forkers are threads of the init; they make threads */
+static bool in_init;      /* the forkers are threads of the init */
+static int thread_makers; /* how many of them, from the first, make threads */
 static bool has_killed, has_fallen;
 static int open_forks;   /* children of the table without one of the kernel */
 
@@ -156,6 +157,8 @@ static void thread_over(struct thread *thread)
 
 	thread_free(thread);
 	process->dead = threads_of(process) == 0;
+	if (process->is_init && process->dead && !has_fallen)
+		fall();
 	if (has_fallen && !some_live())
 		for (struct thread *held = made[INIT].threads; held; held = held->next)
 			if (held->stage == HELD)
@@ -198,6 +201,15 @@ static bool is_alive(const struct task *task)
 	return task->life == RUNS && !task->was_killed;
 }
 
+/* The end of a process's first thread is the last one that is reported. */
+static bool is_alone(void)
+{
+	for (int i = 1; i < TASKS; i++)
+		if (tasks[i].is_thread && tasks[i].life != UNMADE && tasks[i].life != REAPED)
+			return false;
+	return true;
+}
+
 static bool may_be(int number, enum choice choice)
 {
 	const struct task *task = &tasks[number];
@@ -209,15 +221,15 @@ static bool may_be(int number, enum choice choice)
 	case MAKE: /* a call that is under way may still make it where the kill is not seen any more */
 		return is_forker && task->has_asked && !task->has_made && task->life == RUNS;
 	case FAIL:
-		return is_forker && !make_threads && is_alive(task) && task->has_asked && !task->has_made;
+		return is_forker && number > thread_makers && is_alive(task) && task->has_asked && !task->has_made;
 	case DELAY:
-		return is_forker && !make_threads && is_alive(task) && task->has_asked && !task->has_made && !task->has_been_delayed;
+		return is_forker && number > thread_makers && is_alive(task) && task->has_asked && !task->has_made && !task->has_been_delayed;
 	case TELL: /* a stop may be reported after the kill, and before the stop of the end */
 		return is_forker && task->has_made && !task->has_been_told && (task->life == RUNS || task->life == (task->tells_end ? AT_END : ENDED));
 	case RETURN:
 		return is_forker && is_alive(task) && task->thread->stage == MADE;
 	case REPORT:
-		return task->life == FRESH || task->life == AT_END || task->life == ENDED;
+		return task->life == FRESH || task->life == AT_END || (task->life == ENDED && (number != INIT || is_alone()));
 	case EXIT:
 		return number == INIT && is_alive(task);
 	default: /* a forker, or a child that may not have begun */
@@ -225,22 +237,23 @@ static bool may_be(int number, enum choice choice)
 	}
 }
 
-static void ask(struct task *task)
+static void ask(int forker)
 {
-	task->has_asked = true;
-	if (make_threads)
+	tasks[forker].has_asked = true;
+	if (forker <= thread_makers)
 		return;
 	open_forks++;
-	happen(task->thread, ASKS);
+	happen(tasks[forker].thread, ASKS);
 }
 
 static void make_child(int forker)
 {
 	struct task *child = &tasks[forker + FORKERS];
+	bool is_thread = forker <= thread_makers;
 
 	tasks[forker].has_made = true;
-	*child = (struct task){ .life = FRESH, .parent = forker, .is_thread = make_threads, .tells_end = in_init };
-	if (make_threads && tasks[forker].was_killed)
+	*child = (struct task){ .life = FRESH, .parent = forker, .is_thread = is_thread, .tells_end = in_init };
+	if (is_thread && tasks[forker].was_killed)
 		kill_task(child);
 }
 
@@ -293,7 +306,7 @@ static void take(int number, enum choice choice)
 	struct task *task = &tasks[number];
 
 	switch (choice) {
-	case ASK: ask(task); break;
+	case ASK: ask(number); break;
 	case MAKE: make_child(number); break;
 	case FAIL: task->has_made = task->has_been_told = true; happen(task->thread, FAILS); break;
 	case DELAY: task->has_asked = false; task->has_been_delayed = true; happen(task->thread, DELAYED); break;
@@ -362,6 +375,8 @@ static void check_children(void)
 			explain("a child does not begin");
 		if (waits && !child->thread->process && tasks[i].life == REAPED && !made[INIT].at[ASKING])
 			explain("nobody's child lives");
+		if (child->thread && child->is_thread && child->thread->stage == DEAD)
+			explain("a dead thread is kept, and another may get its number");
 	}
 }
 
@@ -460,7 +475,9 @@ int main(void)
 	play_all("forks");
 	in_init = true;
 	play_all("forks of an init's threads");
-	make_threads = true;
-	play_all("threads of an init");
+	thread_makers = 1;
+	play_all("a thread and a fork of an init's threads");
+	thread_makers = 2;
+	play_all("threads of an init's threads");
 	return 0;
 }
