@@ -125,7 +125,8 @@ INCLUDEDIR ?= $(PREFIX)/include
 MANDIR ?= $(PREFIX)/share/man
 PYTHONDIR ?= $(PREFIX)/share/pidtab/python
 INSTALL ?= install
-PROGRAMS = pidtab-tree pidtab-check pidtab-play pidtab-replay pidtab-keep pidtab-compare pidtab-top
+PROGRAMS = pidtabctl pidtab-tree pidtab-check pidtab-play pidtab-replay pidtab-keep pidtab-compare pidtab-top
+COMPLETIONS = bash-completion/completions/pidtabctl zsh/site-functions/_pidtabctl fish/vendor_completions.d/pidtabctl.fish
 # The functions that a manual page names at its head, each of which has a manual page by its name.
 NAMED = sed -n 's/^\.Nm \(pidtab_[a-z_]*\).*/\1/p'
 FUNCTIONS = $(shell $(NAMED) man/*.3)
@@ -154,6 +155,7 @@ install: built $(if $(BUILT_LIBRARY),install-library) ## installs what is built 
 	sed -i 's|^FOLDERS = (\(.*\))$$|FOLDERS = (\1, Path("$(PYTHONDIR)"))|' $(PROGRAMS:%='$(BINARIES)/%')
 	$(INSTALL) -m 644 bindings/python/pidtab/*.py bindings/python/pidtab/py.typed '$(DESTDIR)$(PYTHONDIR)/pidtab'
 	$(INSTALL) -m 644 LICENSE '$(SHARED_FILES)'
+	for it in $(COMPLETIONS); do $(INSTALL) -D -m 644 /dev/null '$(DESTDIR)$(PREFIX)'/share/$$it && python3 -B bindings/python/bin/pidtabctl completion $${it%%[-/]*} > '$(DESTDIR)$(PREFIX)'/share/$$it || exit 1; done
 	$(INSTALL) -m 644 $(filter-out man/pidtab-box.1,$(wildcard man/*.1)) '$(DESTDIR)$(MANDIR)/man1'
 	$(INSTALL) -m 644 man/*.5 '$(DESTDIR)$(MANDIR)/man5'
 
@@ -175,7 +177,7 @@ uninstall: ## removes what these have installed, with the same variables
 	rm -f '$(DESTDIR)$(LIBDIR)/libpidtab.a' '$(DESTDIR)$(LIBDIR)/libpidtab.so' '$(DESTDIR)$(LIBDIR)/libpidtab.so.1'
 	rm -f '$(DESTDIR)$(LIBDIR)/pkgconfig/pidtab.pc' $(HEADERS:%='$(DESTDIR)$(INCLUDEDIR)/%')
 	rm -f $(call MANUALS,1) $(call MANUALS,3) $(call MANUALS,5) $(foreach it,$(FUNCTIONS),'$(DESTDIR)$(MANDIR)/man3/$(it).3')
-	rm -rf '$(DESTDIR)$(PYTHONDIR)/pidtab' '$(SHARED_FILES)'
+	rm -rf '$(DESTDIR)$(PYTHONDIR)/pidtab' '$(SHARED_FILES)' $(COMPLETIONS:%='$(DESTDIR)$(PREFIX)/share/%')
 
 .PHONY: machines machines-test
 

@@ -18,9 +18,11 @@ from tests.ways import need_library, need_program
 PREFIX = "/opt/pid tab"
 
 PROGRAM = ["bin/pidtab", "bin/pidtab-check", "bin/pidtab-compare", "bin/pidtab-keep", "bin/pidtab-play", "bin/pidtab-replay", "bin/pidtab-top",
-           "bin/pidtab-tree", "share/man/man1/pidtab-check.1", "share/man/man1/pidtab-compare.1", "share/man/man1/pidtab-keep.1",
+           "bin/pidtab-tree", "bin/pidtabctl", "share/bash-completion/completions/pidtabctl", "share/fish/vendor_completions.d/pidtabctl.fish",
+           "share/man/man1/pidtab-check.1", "share/man/man1/pidtab-compare.1", "share/man/man1/pidtab-keep.1",
            "share/man/man1/pidtab-play.1", "share/man/man1/pidtab-replay.1", "share/man/man1/pidtab-top.1", "share/man/man1/pidtab-tree.1",
-           "share/man/man1/pidtab.1", "share/man/man5/pidtab.5", "share/pidtab/LICENSE"]  # fmt: skip
+           "share/man/man1/pidtab.1", "share/man/man1/pidtabctl.1", "share/man/man5/pidtab.5", "share/pidtab/LICENSE",
+           "share/zsh/site-functions/_pidtabctl"]  # fmt: skip
 # The library has a manual page for each function, by its name, beside the pages on all of them.
 HEADERS = sorted((REPOSITORY / "bindings" / "c").glob("pidtab*.h"))
 FUNCTIONS = re.findall(r"^(?:static inline )?[a-z].*[ *](pidtab_[a-z_]+)\(", "".join(path.read_text(encoding="utf-8") for path in HEADERS), re.MULTILINE)
@@ -88,6 +90,9 @@ class Programs(Installs):
         self.assertEqual((done.returncode, done.stderr), (1, ""))
         self.assertIn("    1 group 1 session 1 control 0 live\n      2 group 1", done.stdout)
         self.assertIn("-:1:1: expected a command: the nearest is `fork`", done.stdout)
+        completion = run([binaries / "pidtabctl", "completion", "bash"], binaries)
+        self.assertEqual((self.prefix / "share/bash-completion/completions/pidtabctl").read_text(), completion)
+        self.assertIn("complete -o default -F _pidtabctl pidtabctl\n", completion)
 
     def test_folders_of_their_own(self) -> None:
         folders = {"MANDIR": "/usr/man", "PYTHONDIR": "/usr/lib/python"}
@@ -96,7 +101,8 @@ class Programs(Installs):
         placed = sorted(str(path.relative_to(self.folder)) for path in self.all_files())
         self.assertIn("usr/man/man1/pidtab-play.1", placed)
         self.assertIn("usr/lib/python/pidtab/play.py", placed)
-        self.assertEqual([it for it in placed if "opt/pid tab/share" in it], ["opt/pid tab/share/pidtab/LICENSE"])
+        shared = [f"opt/pid tab/{it}" for it in PROGRAM if it.startswith("share/") and not it.startswith("share/man/")]
+        self.assertEqual([it for it in placed if "opt/pid tab/share" in it], shared)
         self.assertEqual(self.stage("uninstall", *words).returncode, 0)
         self.assertEqual(self.all_files(), [])
 

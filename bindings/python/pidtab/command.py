@@ -8,7 +8,7 @@ from collections.abc import Callable
 from contextlib import AbstractContextManager, nullcontext
 from typing import BinaryIO
 
-from pidtab.bounds import check_seconds
+from pidtab.bounds import GREATEST_PID_MAX, LEAST_PID_MAX, check_pid_max, check_seconds
 
 STANDARD_INPUT = "-"
 
@@ -22,8 +22,18 @@ CLEAR = "\x1b[H\x1b[2J"
 
 
 def parser_of(name: str, about: str) -> argparse.ArgumentParser:
-    """Reads the words of a command line; wrong ones end the program with status 2."""
-    return argparse.ArgumentParser(prog=name, description=about, allow_abbrev=False)
+    """Reads the words of a command line; wrong ones end the program with status 2. Its sentences begin with the name, `called`."""
+    parser = argparse.ArgumentParser(prog=name, description=about, allow_abbrev=False)
+    parser.set_defaults(called=name)
+    return parser
+
+
+def pid_max_of(word: str) -> int:
+    """A `pid_max` of the command line."""
+    try:
+        return check_pid_max(int(word))
+    except ValueError:
+        raise argparse.ArgumentTypeError(f"a number from {LEAST_PID_MAX} to {GREATEST_PID_MAX}, not {word}") from None
 
 
 def seconds_of(word: str) -> float:

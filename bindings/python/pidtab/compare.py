@@ -2,6 +2,7 @@
 
 import argparse
 import re
+from collections.abc import Sequence
 
 from pidtab.command import STATUS_DONE, STATUS_FAULT, STATUS_INTERRUPTED, STATUS_USAGE, complain, finish, parser_of
 from pidtab.faults import LibraryFault, ProgramFault
@@ -43,9 +44,9 @@ def read_declared(name: str) -> dict[str, str]:
     return declared
 
 
-def read_command_line() -> argparse.Namespace:
+def read_command_line(called: str, words: Sequence[str] | None) -> argparse.Namespace:
     """The words of the command line."""
-    parser = parser_of("pidtab-compare", ABOUT)
+    parser = parser_of(called, ABOUT)
     parser.add_argument("--calls", type=names_of, default=[], metavar="NAME,..", help="only these calls, as fork,exit,'wait any'")
     parser.add_argument("--without", type=names_of, default=[], metavar="NAME,..", help="all calls but these")
     parser.add_argument("--cases", type=count_of, default=300, metavar="N", help="how many cases are tried, 300 by default")
@@ -55,7 +56,7 @@ def read_command_line() -> argparse.Namespace:
     parser.add_argument("--list", default="", metavar="COMMAND", help="a command that reads a script and writes the list, which is compared too")
     parser.add_argument("--save", metavar="FILE", help="write the script that is found there, for pidtab run")
     parser.add_argument("command", nargs=argparse.REMAINDER, metavar="COMMAND", help="the command with its words")
-    given = parser.parse_args()
+    given = parser.parse_args(words)
     # What ends the options, which is left among the rest.
     given.command = given.command[given.command[:1] == ["--"] :]
     if not given.command:
@@ -83,17 +84,17 @@ def compare(given: argparse.Namespace) -> int:
     return STATUS_DONE
 
 
-def run() -> int:
+def run(called: str = "pidtab-compare", words: Sequence[str] | None = None) -> int:
     """Compares what the command line names."""
-    given = read_command_line()
+    given = read_command_line(called, words)
     try:
         return compare(given)
     except KeyboardInterrupt:
         return STATUS_INTERRUPTED
     except OSError as fault:
-        return complain(f"pidtab-compare: {fault.filename}: {fault.strerror}", STATUS_USAGE)
+        return complain(f"{given.called}: {fault.filename}: {fault.strerror}", STATUS_USAGE)
     except (ImportError, ValueError, ProgramFault, LibraryFault) as fault:
-        return complain(f"pidtab-compare: {fault}", STATUS_USAGE)
+        return complain(f"{given.called}: {fault}", STATUS_USAGE)
 
 
 def main() -> None:

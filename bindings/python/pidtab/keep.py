@@ -3,7 +3,9 @@
 import argparse
 import signal
 import ssl
+from collections.abc import Sequence
 from contextlib import suppress
+from functools import partial
 from pathlib import Path
 from types import FrameType
 
@@ -30,9 +32,9 @@ def number_of(word: str) -> float:
     return number
 
 
-def read_command_line() -> argparse.Namespace:
+def read_command_line(called: str, words: Sequence[str] | None) -> argparse.Namespace:
     """The words of the command line."""
-    parser = parser_of("pidtab-keep", ABOUT)
+    parser = parser_of(called, ABOUT)
     parser.add_argument("--archive", type=Path, metavar="DIRECTORY", help="keep what is cut, in files in this folder, which pidtab-replay reads")
     ways = parser.add_mutually_exclusive_group()
     ways.add_argument("--check", action="store_true", help="write no snapshots, and only check those of others")
@@ -48,7 +50,7 @@ def read_command_line() -> argparse.Namespace:
     parser.add_argument("--library", metavar="PATH", help="have the table by this library")
     parser.add_argument("name", help="the name of the log")
     parser.add_argument("member", nargs="+", help="HOST:PORT of a member of etcd")
-    given = parser.parse_args()
+    given = parser.parse_args(words)
     if (given.user is None) != (given.password is None):
         parser.error("--user and --password go together")
     if (given.certificate is None) != (given.key is None) or (given.key and not given.ca):
@@ -67,10 +69,10 @@ def open_log(given: argparse.Namespace) -> EtcdLog:
     return EtcdLog(given.member, given.name, tls=tls, user=user)
 
 
-def say(text: str) -> None:
+def say(called: str, text: str) -> None:
     """Says what was done. Nobody has to read it."""
     with suppress(OSError):
-        print(f"pidtab-keep: {text}", flush=True)
+        print(f"{called}: {text}", flush=True)
 
 
 def make_keeper(given: argparse.Namespace) -> Keeper:
@@ -84,7 +86,7 @@ def make_keeper(given: argparse.Namespace) -> Keeper:
 
     # Before anything is asked: whether there is a library.
     open_table(pid_max=301).close()
-    return Keeper(log, open_table, wishes, archive, say)
+    return Keeper(log, open_table, wishes, archive, partial(say, given.called))
 
 
 def end_by_signals(keeper: Keeper) -> list[int]:
@@ -100,22 +102,22 @@ def end_by_signals(keeper: Keeper) -> list[int]:
     return came
 
 
-def run() -> int:
+def run(called: str = "pidtab-keep", words: Sequence[str] | None = None) -> int:
     """Keeps what the command line names."""
-    given = read_command_line()
+    given = read_command_line(called, words)
     try:
         keeper = make_keeper(given)
     except (ValueError, ArchiveFault) as fault:
-        return complain(f"pidtab-keep: {fault}", STATUS_USAGE)
+        return complain(f"{given.called}: {fault}", STATUS_USAGE)
     except OSError as fault:
-        return complain(f"pidtab-keep: cannot read {fault.filename or given.ca}: {fault.strerror or fault}", STATUS_USAGE)
+        return complain(f"{given.called}: cannot read {fault.filename or given.ca}: {fault.strerror or fault}", STATUS_USAGE)
     except (LibraryFault, MemoryError) as fault:
-        return complain(f"pidtab-keep: no table: {fault}", STATUS_USAGE)
+        return complain(f"{given.called}: no table: {fault}", STATUS_USAGE)
     came = end_by_signals(keeper)
     try:
         keeper.run()
     except (RuntimeError, MemoryError, NoMemory) as fault:
-        return complain(f"pidtab-keep: stopped: {fault}", STATUS_FAULT)
+        return complain(f"{given.called}: stopped: {fault}", STATUS_FAULT)
     return STATUS_INTERRUPTED if signal.SIGINT in came else STATUS_DONE
 
 

@@ -3,7 +3,7 @@
 import argparse
 import signal
 import sys
-from collections.abc import Callable, Iterable, Iterator
+from collections.abc import Callable, Iterable, Iterator, Sequence
 from contextlib import contextmanager
 
 from pidtab.bounds import DEFAULT_PID_MAX
@@ -103,7 +103,7 @@ def play_files(session: Session, given: argparse.Namespace) -> int:
         except OSError as fault:
             if isinstance(fault, BrokenPipeError):
                 raise
-            return complain(f"pidtab-play: cannot read {name}: {fault.strerror}", STATUS_USAGE)
+            return complain(f"{given.called}: cannot read {name}: {fault.strerror}", STATUS_USAGE)
         except Quit:
             break
         if given.strict and status != STATUS_DONE:
@@ -165,9 +165,9 @@ def open_session(given: argparse.Namespace) -> Session:
     return Session(opener(Process, given.pid_max, None))
 
 
-def read_command_line() -> argparse.Namespace:
+def read_command_line(called: str, words: Sequence[str] | None) -> argparse.Namespace:
     """The words of the command line."""
-    parser = parser_of("pidtab-play", ABOUT)
+    parser = parser_of(called, ABOUT)
     parser.add_argument("--strict", action="store_true", help="end at the first bad line of a script")
     parser.add_argument("--echo", action="store_true", help="write each line of a script before what it is answered")
     parser.add_argument("--pid-max", type=int, default=DEFAULT_PID_MAX, metavar="N", help="301 to 4194304, 32768 by default")
@@ -176,7 +176,7 @@ def read_command_line() -> argparse.Namespace:
     ways.add_argument("--library", metavar="PATH", help="have the table by this library")
     parser.add_argument("--serve", action="store_true", help="answer each line of standard input with one line, also `list`, `dump`, `stat` and `ask`")
     parser.add_argument("file", nargs="*", help="a script; - is standard input")
-    given = parser.parse_args()
+    given = parser.parse_args(words)
     if given.serve and (given.file or given.strict or given.echo or given.program):
         parser.error("--serve answers a program on standard input, by the library")
     return given
@@ -188,25 +188,25 @@ def run_server(given: argparse.Namespace) -> int:
         with Table(given.pid_max, given.library) as table:
             serve(table)
     except ValueError as fault:
-        return complain(f"pidtab-play: {fault}", STATUS_USAGE)
+        return complain(f"{given.called}: {fault}", STATUS_USAGE)
     except (LibraryFault, MemoryError) as fault:
-        return complain(f"pidtab-play: no table: {fault}", STATUS_USAGE)
+        return complain(f"{given.called}: no table: {fault}", STATUS_USAGE)
     except KeyboardInterrupt:
         return STATUS_INTERRUPTED
     return STATUS_DONE
 
 
-def run() -> int:
+def run(called: str = "pidtab-play", words: Sequence[str] | None = None) -> int:
     """Plays what the command line names."""
-    given = read_command_line()
+    given = read_command_line(called, words)
     if given.serve:
         return run_server(given)
     try:
         session = open_session(given)
     except ValueError as fault:
-        return complain(f"pidtab-play: {fault}", STATUS_USAGE)
+        return complain(f"{given.called}: {fault}", STATUS_USAGE)
     except (ProgramFault, LibraryFault, MemoryError) as fault:
-        return complain(f"pidtab-play: no table: {fault}", STATUS_USAGE)
+        return complain(f"{given.called}: no table: {fault}", STATUS_USAGE)
     try:
         if not given.file and sys.stdin.isatty():
             return play_prompt(session)
@@ -214,7 +214,7 @@ def run() -> int:
     except KeyboardInterrupt:
         return STATUS_INTERRUPTED
     except (ProgramFault, LibraryFault, MemoryError) as fault:
-        return complain(f"pidtab-play: {fault}", STATUS_FAULT)
+        return complain(f"{given.called}: {fault}", STATUS_FAULT)
     finally:
         session.close()
 

@@ -7,7 +7,7 @@ import argparse
 import base64
 import hashlib
 import json
-from collections.abc import Iterable, Iterator
+from collections.abc import Iterable, Iterator, Sequence
 from pathlib import Path
 from typing import NamedTuple
 
@@ -211,9 +211,9 @@ class Comparison:
         return not (self.lost or self.wrong or self.doubled or self.early)
 
 
-def read_command_line() -> argparse.Namespace:
+def read_command_line(called: str, words: Sequence[str] | None) -> argparse.Namespace:
     """The words of the command line."""
-    parser = parser_of("pidtab-replay", ABOUT)
+    parser = parser_of(called, ABOUT)
     parser.add_argument("--answers", action="append", default=[], metavar="FILE", help="rows of answers, as `Submitted.rows` has them; may be given again")
     parser.add_argument("--archive", action="append", default=[], metavar="DIRECTORY", help="read what was cut off the log, too; may be given again")
     parser.add_argument("--list", action="store_true", help="write the table that the log leaves, and nothing else")
@@ -221,7 +221,7 @@ def read_command_line() -> argparse.Namespace:
     ways.add_argument("--program", metavar="PATH", help="have the table by this program")
     ways.add_argument("--library", metavar="PATH", help="have the table by this library")
     parser.add_argument("log", help="the log; - is standard input")
-    return parser.parse_args()
+    return parser.parse_args(words)
 
 
 def open_table(given: argparse.Namespace, pid_max: int) -> Calls:
@@ -284,17 +284,17 @@ def play(given: argparse.Namespace) -> int:
     return STATUS_DONE if comparison.is_well and not replay.differing else STATUS_FAULT
 
 
-def run() -> int:
+def run(called: str = "pidtab-replay", words: Sequence[str] | None = None) -> int:
     """Plays what the command line names."""
-    given = read_command_line()
+    given = read_command_line(called, words)
     try:
         return play(given)
     except OSError as fault:
-        return complain(f"pidtab-replay: cannot read {fault.filename or given.log}: {fault.strerror}", STATUS_USAGE)
+        return complain(f"{given.called}: cannot read {fault.filename or given.log}: {fault.strerror}", STATUS_USAGE)
     except BadLog as fault:
-        return complain(f"pidtab-replay: {given.log}: {fault}", STATUS_USAGE)
+        return complain(f"{given.called}: {given.log}: {fault}", STATUS_USAGE)
     except (ProgramFault, LibraryFault, MemoryError) as fault:
-        return complain(f"pidtab-replay: no table: {fault}", STATUS_USAGE)
+        return complain(f"{given.called}: no table: {fault}", STATUS_USAGE)
 
 
 def main() -> None:

@@ -5,7 +5,7 @@ import os
 import sys
 import time
 from collections import Counter
-from collections.abc import Iterable
+from collections.abc import Iterable, Sequence
 from dataclasses import dataclass
 
 from pidtab.accounts import Accounts
@@ -125,24 +125,24 @@ def watch(followed: Followed, given: argparse.Namespace) -> None:
         time.sleep(given.every)
 
 
-def read_command_line() -> argparse.Namespace:
+def read_command_line(called: str, words: Sequence[str] | None) -> argparse.Namespace:
     """The words of the command line."""
-    parser = parser_of("pidtab-top", ABOUT)
+    parser = parser_of(called, ABOUT)
     parser.add_argument("--every", type=seconds_of, default=1.0, metavar="SECONDS", help="how long a moment is shown, 1 by default")
     parser.add_argument("--once", action="store_true", help="show one moment, also at a terminal")
     parser.add_argument("--prometheus", metavar="FILE", help="write the text format of Prometheus to this file; - is standard output, once")
     ways = parser.add_mutually_exclusive_group(required=True)
     ways.add_argument("--socket", metavar="PATH", help="the table of the service there")
     ways.add_argument("history", nargs="?", metavar="FILE", help="the file of a saved history, which may grow")
-    given = parser.parse_args()
+    given = parser.parse_args(words)
     to_file = given.prometheus not in (None, STANDARD_OUTPUT)
     given.again = not given.once and (to_file or (given.prometheus is None and sys.stdout.isatty()))
     return given
 
 
-def run() -> int:
+def run(called: str = "pidtab-top", words: Sequence[str] | None = None) -> int:
     """Shows what the command line names."""
-    given = read_command_line()
+    given = read_command_line(called, words)
     try:
         watch(follow_service(given.socket) if given.socket else follow_file(given.history), given)
     except KeyboardInterrupt:
@@ -150,11 +150,11 @@ def run() -> int:
     except BrokenPipeError:
         raise
     except OSError as fault:
-        return complain(f"pidtab-top: {fault.filename}: {fault.strerror}", STATUS_USAGE)
+        return complain(f"{given.called}: {fault.filename}: {fault.strerror}", STATUS_USAGE)
     except LibraryFault as fault:
-        return complain(f"pidtab-top: {fault}", STATUS_USAGE)
+        return complain(f"{given.called}: {fault}", STATUS_USAGE)
     except (BadHistory, BadText) as fault:
-        return complain(f"pidtab-top: {given.socket or given.history}: {fault}", STATUS_FAULT)
+        return complain(f"{given.called}: {given.socket or given.history}: {fault}", STATUS_FAULT)
     return STATUS_DONE
 
 

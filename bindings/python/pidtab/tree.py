@@ -262,9 +262,9 @@ def at_least_one(word: str) -> int:
     return int(word)
 
 
-def read_command_line() -> argparse.Namespace:
+def read_command_line(called: str, words: Sequence[str] | None) -> argparse.Namespace:
     """The words of the command line."""
-    parser = parser_of("pidtab-tree", ABOUT)
+    parser = parser_of(called, ABOUT)
     parser.add_argument("--root", type=at_least_one, metavar="NUMBER", help="only the task with this root number, and what is below it")
     parser.add_argument("--depth", type=at_least_one, metavar="N", help="only so many levels of each tree, and how many are below")
     parser.add_argument("--ascii", action="store_true", help="with lines of ASCII characters for branches")
@@ -275,7 +275,7 @@ def read_command_line() -> argparse.Namespace:
     parser.add_argument("--every", type=seconds_of, default=1.0, metavar="SECONDS", help="how long a drawing stays at least, 1 by default")
     parser.add_argument("--json", action="store_true", help="write JSON in the place of a drawing")
     parser.add_argument("--diff", nargs=2, metavar=("BEFORE", "NOW"), help="write what has changed between the lists of two files; - is standard input")
-    given = parser.parse_args()
+    given = parser.parse_args(words)
     if given.counts and given.root is not None:
         parser.error("--counts is of namespaces, which --root leaves out")
     if (given.json or given.diff) and (given.root or given.depth or given.ascii or given.counts):
@@ -333,9 +333,9 @@ def written(given: argparse.Namespace) -> Iterator[list[str]]:
         before = before or "\n" * (not given.json)
 
 
-def run() -> int:
+def run(called: str = "pidtab-tree", words: Sequence[str] | None = None) -> int:
     """Draws standard input, or the table of a service."""
-    given = read_command_line()
+    given = read_command_line(called, words)
     if not given.follow:
         # All that is made here is kept to the end.
         gc.disable()
@@ -350,11 +350,11 @@ def run() -> int:
     except BrokenPipeError:
         raise
     except OSError as fault:
-        return complain(f"pidtab-tree: cannot read {fault.filename}: {fault.strerror}", STATUS_USAGE)
+        return complain(f"{given.called}: cannot read {fault.filename}: {fault.strerror}", STATUS_USAGE)
     except BadLabels as fault:
-        return complain(f"pidtab-tree: {fault}", STATUS_USAGE)
+        return complain(f"{given.called}: {fault}", STATUS_USAGE)
     except BadList as fault:
-        return complain(f"pidtab-tree: {fault}", STATUS_FAULT)
+        return complain(f"{given.called}: {fault}", STATUS_FAULT)
     return STATUS_DONE
 
 

@@ -1,5 +1,6 @@
 """What is a bad line, by docs/SCRIPT.md and by the program, and where it goes wrong."""
 
+import json
 import os
 import random
 import subprocess
@@ -214,6 +215,13 @@ class Launcher(unittest.TestCase):
             said = launch(str(unnamed)).stdout
         self.assertEqual((done.returncode, done.stdout.decode()), (1, f"{bad}:1:8: expected a status, 0 to 255\n"))
         self.assertEqual(said, bytes(unnamed) + b":1:3: expected the id of a control group, 0 to 18446744073709551615\n")
+
+    def test_json(self) -> None:
+        done = launch("--json", script=b"frok 1\nfork 1\nexit 2 256\n")
+        self.assertEqual(done.returncode, 1)
+        first, second = (json.loads(line) for line in done.stdout.splitlines())
+        self.assertEqual(first, {"file": "-", "line": 1, "column": 1, "expected": "a command: the nearest is `fork`"})
+        self.assertEqual(second, {"file": "-", "line": 3, "column": 8, "expected": "a status, 0 to 255"})
 
     def test_wrong_words(self) -> None:
         self.assertEqual(launch("--no-such-word").returncode, 2)
