@@ -4,6 +4,7 @@ import argparse
 import io
 import os
 import sys
+import time
 from collections.abc import Callable
 from contextlib import AbstractContextManager, nullcontext
 from typing import BinaryIO
@@ -17,8 +18,12 @@ STATUS_FAULT = 1
 STATUS_USAGE = 2
 STATUS_INTERRUPTED = 130
 
-# What a terminal takes for an empty screen.
+# What a terminal takes for an empty screen, and for an empty line.
 CLEAR = "\x1b[H\x1b[2J"
+CLEAR_LINE = "\r\x1b[K"
+
+# After how many seconds a program says how far it has come, and how often.
+SILENT, OFTEN = 1.0, 0.2
 
 
 def parser_of(name: str, about: str) -> argparse.ArgumentParser:
@@ -49,6 +54,33 @@ def open_script(name: str) -> AbstractContextManager[BinaryIO]:
     if name == STANDARD_INPUT:
         return nullcontext(sys.stdin.buffer)
     return open(name, "rb")
+
+
+class Progress:
+    """Says at a terminal, on standard error, how far a long work has come; when it ends, the line is empty again."""
+
+    def __init__(self) -> None:
+        self._next = time.monotonic() + SILENT
+        self._shown = False
+
+    def __enter__(self) -> "Progress":
+        return self
+
+    def __exit__(self, *raised: object) -> None:
+        self.clear()
+
+    def say(self, text: str) -> None:
+        """Says it, if it is time to."""
+        now = time.monotonic()
+        if now >= self._next and sys.stderr.isatty():
+            print(CLEAR_LINE + text, end="", file=sys.stderr, flush=True)
+            self._next, self._shown = now + OFTEN, True
+
+    def clear(self) -> None:
+        """Takes away what it has said."""
+        if self._shown:
+            print(CLEAR_LINE, end="", file=sys.stderr, flush=True)
+            self._shown = False
 
 
 def complain(text: str, status: int) -> int:

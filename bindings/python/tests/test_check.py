@@ -1,5 +1,6 @@
 """What is a bad line, by docs/SCRIPT.md and by the program, and where it goes wrong."""
 
+import io
 import json
 import os
 import random
@@ -8,8 +9,11 @@ import sys
 import tempfile
 import unittest
 from pathlib import Path
+from unittest import mock
 
 from pidtab import Process
+from pidtab.check import find_bad
+from pidtab.command import Progress
 from pidtab.language import FORMS, Fault, judge
 from tests.pages import EXAMPLES, REPOSITORY, quoted, read_page, rows, section, stored_scripts
 from tests.ways import need_program
@@ -228,6 +232,81 @@ class Launcher(unittest.TestCase):
         done = launch("/no/such/script")
         self.assertEqual((done.returncode, done.stdout), (2, b""))
         self.assertIn(b"pidtab-check: cannot read /no/such/script", done.stderr)
+
+
+class Quick(unittest.TestCase):
+    """The program judges first, and reasons are made for bad lines alone."""
+
+    # The second and the fourth line are bad, and the last has no end.
+    LINES = (b"fork 1\n", b"frok 1\n", b"\n", b"exit 2 256\n", b"fork 1\n", b"fork 1")
+    FOUND = ("x:2:1: expected a command: the nearest is `fork`", "x:4:8: expected a status, 0 to 255")
+
+    def find(self, **variables: str) -> list[str]:
+        """What is found, with these variables."""
+        with mock.patch.dict(os.environ, variables):
+            return [str(found) for found in find_bad("x", self.LINES)]
+
+    def test_only_bad_lines_are_looked_at(self) -> None:
+        need_program()
+        with mock.patch("pidtab.check.judge", side_effect=judge) as judged:
+            self.assertEqual(self.find(), list(self.FOUND))
+        self.assertEqual([call.args[0] for call in judged.mock_calls], [b"frok 1", b"exit 2 256"])
+
+    def test_blocks_of_lines(self) -> None:
+        need_program()
+        for size in range(1, 8):
+            with mock.patch("pidtab.check.BLOCK", size):
+                self.assertEqual(self.find(), list(self.FOUND))
+
+    def test_without_a_program_that_answers(self) -> None:
+        with tempfile.TemporaryDirectory() as folder:
+            other = Path(folder) / "pidtab"
+            other.write_bytes(b"#!/bin/sh\ncat > /dev/null\necho bad line\n")
+            other.chmod(0o755)
+            no_program = Path(folder) / "text"
+            no_program.write_bytes(b"\x7fELF")
+            no_program.chmod(0o755)
+            for program in ("/no/such/program", "/bin/false", str(other), str(no_program)):
+                self.assertEqual(self.find(PIDTAB=program), list(self.FOUND), program)
+
+    def test_a_program_that_takes_less(self) -> None:
+        with tempfile.TemporaryDirectory() as folder:
+            other = Path(folder) / "pidtab"
+            other.write_bytes(b"#!/bin/sh\ngrep . | sed 's/.*/bad line/'\n")
+            other.chmod(0o755)
+            found = self.find(PIDTAB=str(other))
+        self.assertEqual(found[0], "x:1:1: expected a line that the program takes")
+        self.assertEqual((len(found), found[1]), (5, self.FOUND[0]))
+
+
+class Terminal(io.StringIO):
+    """Standard error at a terminal."""
+
+    def isatty(self) -> bool:
+        return True
+
+
+class HowFar(unittest.TestCase):
+    """A long work says how far it has come, at a terminal and after a second."""
+
+    def said(self, stream: io.StringIO) -> str:
+        """What is said of looks at these times; that at 1.1 is too soon after that at 1.0."""
+        with mock.patch("sys.stderr", stream), mock.patch("time.monotonic", side_effect=[0.0, 0.9, 1.0, 1.1, 1.3]):
+            with Progress() as progress:
+                for text in ("a", "b", "c", "d"):
+                    progress.say(text)
+        return stream.getvalue()
+
+    def test_at_a_terminal(self) -> None:
+        self.assertEqual(self.said(Terminal()), "\r\x1b[Kb\r\x1b[Kd\r\x1b[K")
+
+    def test_elsewhere(self) -> None:
+        self.assertEqual(self.said(io.StringIO()), "")
+
+    def test_the_lines_are_said(self) -> None:
+        with mock.patch("pidtab.command.SILENT", 0.0), mock.patch("sys.stderr", Terminal()) as terminal, Progress() as progress:
+            self.assertEqual(len(list(find_bad("x", [b"fork 1\n", b"frok 1\n"], progress))), 1)
+        self.assertTrue(terminal.getvalue().startswith("\r\x1b[Kx: line "), terminal.getvalue())
 
 
 if __name__ == "__main__":
