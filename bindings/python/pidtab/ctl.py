@@ -85,6 +85,7 @@ COMMANDS = {
     "replay": Command("plays the log of a table on many hosts", beside("replay")),
     "compare": Command("compares a command of yours with a table", beside("compare")),
     "keep": Command("writes snapshots of a table on many hosts", beside("keep")),
+    "whatif": Command("plays a log again under other bounds", beside("whatif")),
     "completion": Command("completes these words in bash, zsh or fish", say_completion),
     "help": Command("says what a command takes", say_help),
 }

@@ -13,13 +13,13 @@ from pathlib import Path
 from pidtab import __version__
 from pidtab.ctl import COMMANDS
 from tests.pages import REPOSITORY, displays, read_page
-from tests.ways import need_program
+from tests.ways import need_library, need_program
 
 BIN = REPOSITORY / "bindings" / "python" / "bin"
 LAUNCHER = BIN / "pidtabctl"
 
 BESIDE = ("check", "tree", "play", "top", "replay", "compare", "keep")
-ALL = {"run", "list", "work", "diff", "completion", "help", *BESIDE}
+ALL = {"run", "list", "work", "diff", "whatif", "completion", "help", *BESIDE}
 
 # The first example of docs/SCRIPT.md, and its list.
 SCRIPT = b"fork 1 new\nfork 2\nnspid 1 3\ngetppid 2\n"
@@ -134,7 +134,8 @@ class Words(Files):
 
     def test_a_difference(self) -> None:
         before = self.write("before", LIST)
-        now = self.write("now", LIST.replace(b"task 3,2 space 1 parent 2 group 1 session 1 control 0 live", b"task 3,2 space 1 parent 2 group 1 session 1 control 0 exit 7"))
+        ended = b"parent 2 group 1 session 1 control 0 "
+        now = self.write("now", LIST.replace(ended + b"live", ended + b"exit 7"))
         done = launch("diff", before, now)
         self.assertEqual((done.returncode, done.stdout.decode()), (0, "~ task 3: state live -> exited, status null -> 7\n"))
         self.assertEqual(launch("--diff", before, now, program=BIN / "pidtab-tree").stdout, done.stdout)
@@ -238,7 +239,8 @@ class Completion(Files):
         self.assertEqual((done.returncode, done.stderr), (0, b""))
         place = self.write(f"completion.{shell}", done.stdout)
         flags = {"bash": ["--norc"], "zsh": ["-f"], "fish": ["--no-config"]}[shell]
-        asked = subprocess.run([shell, *flags, "-c", code.format(file=place)], capture_output=True, text=True, check=False, env={**os.environ, "HOME": str(self.folder)})
+        home = {**os.environ, "HOME": str(self.folder)}
+        asked = subprocess.run([shell, *flags, "-c", code.format(file=place)], capture_output=True, text=True, check=False, env=home)
         self.assertEqual(asked.stderr, "")
         return asked.stdout.splitlines()
 
@@ -288,8 +290,9 @@ class Manual(unittest.TestCase):
 
     def test_its_examples(self) -> None:
         need_program()
+        need_library()
         examples = displays((REPOSITORY / "man" / "pidtabctl.1").read_text(encoding="utf-8"))
-        self.assertEqual(len(examples), 2)
+        self.assertEqual(len(examples), 3)
         for example in examples:
             command, *printed = example.splitlines()
             code = f"pidtabctl() {{ '{sys.executable}' '{LAUNCHER}' \"$@\"; }}; {command.removeprefix('$ ')}"
