@@ -8,11 +8,11 @@ from collections import Counter
 from collections.abc import Iterator, Mapping, Sequence
 from dataclasses import dataclass, field
 
-from pidtab.command import CLEAR, STATUS_DONE, STATUS_FAULT, STATUS_USAGE, complain, finish, open_script, parser_of, seconds_of
+from pidtab.command import CLEAR, STANDARD_INPUT, STATUS_DONE, STATUS_FAULT, STATUS_USAGE, complain, finish, open_script, parser_of, seconds_of
 from pidtab.listing import BadList, Control, Listing, Space, Task, read_list
 from pidtab.service import Service
 
-ABOUT = "Reads on standard input what `pidtab list` writes, and draws its processes, namespaces and control groups as trees."
+ABOUT = "Reads what `pidtab list` writes, in a file or on standard input, and draws its processes, namespaces and control groups as trees."
 COMMENT = "#"
 
 # A line of a tree, in text alone, as a table may have many: a number, the further numbers of a task, its namespace, the number of what it
@@ -275,6 +275,7 @@ def read_command_line(called: str, words: Sequence[str] | None) -> argparse.Name
     parser.add_argument("--every", type=seconds_of, default=1.0, metavar="SECONDS", help="how long a drawing stays at least, 1 by default")
     parser.add_argument("--json", action="store_true", help="write JSON in the place of a drawing")
     parser.add_argument("--diff", nargs=2, metavar=("BEFORE", "NOW"), help="write what has changed between the lists of two files; - is standard input")
+    parser.add_argument("file", nargs="?", help="the file of a list; standard input, or -, by default")
     given = parser.parse_args(words)
     if given.counts and given.root is not None:
         parser.error("--counts is of namespaces, which --root leaves out")
@@ -284,6 +285,8 @@ def read_command_line(called: str, words: Sequence[str] | None) -> argparse.Name
         parser.error("--diff has no labels")
     if given.diff and given.socket:
         parser.error("--diff is of two files, and --socket of none")
+    if given.file and (given.socket or given.diff):
+        parser.error("a FILE is one list, in the place of --socket and --diff")
     if given.follow and not given.socket:
         parser.error("--follow is of a service: --socket names it")
     return given
@@ -292,7 +295,8 @@ def read_command_line(called: str, words: Sequence[str] | None) -> argparse.Name
 def read_texts(given: argparse.Namespace) -> Iterator[str]:
     """The lists that are to be drawn: that of standard input, or of a service, where there may be more to come."""
     if given.socket is None:
-        yield sys.stdin.buffer.read().decode("latin-1")
+        with open_script(given.file or STANDARD_INPUT) as script:
+            yield script.read().decode("latin-1")
         return
     with Service(given.socket) as service:
         if given.follow:

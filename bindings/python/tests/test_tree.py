@@ -238,6 +238,19 @@ class Trees(unittest.TestCase):
                 self.assertEqual((done.returncode, done.stdout), (2, ""))
                 self.assertIn(fault, done.stderr)
 
+    def test_a_file(self) -> None:
+        with tempfile.NamedTemporaryFile("w") as file:
+            file.write(WIDE_LIST)
+            file.flush()
+            self.assertEqual(launch("", file.name).stdout, WIDE_TREE)
+            for words in (("--socket", "/no/such/socket"), ("--diff", file.name, file.name)):
+                done = launch("", *words, file.name)
+                self.assertEqual((done.returncode, done.stdout), (2, ""))
+                self.assertIn("a FILE is one list, in the place of --socket and --diff", done.stderr)
+        self.assertEqual(launch(WIDE_LIST, "-").stdout, WIDE_TREE)
+        done = launch("", "/no/such/list")
+        self.assertEqual((done.returncode, done.stderr), (2, "pidtab-tree: cannot read /no/such/list: No such file or directory\n"))
+
     def test_bad_labels(self) -> None:
         with tempfile.NamedTemporaryFile("w") as file:
             for line in ("web 1", "1", "01 web", "-1 web"):
