@@ -131,10 +131,12 @@ def read_command_line(called: str, words: Sequence[str] | None) -> argparse.Name
     parser.add_argument("--every", type=seconds_of, default=1.0, metavar="SECONDS", help="how long a moment is shown, 1 by default")
     parser.add_argument("--once", action="store_true", help="show one moment, also at a terminal")
     parser.add_argument("--prometheus", metavar="FILE", help="write the text format of Prometheus to this file; - is standard output, once")
-    ways = parser.add_mutually_exclusive_group(required=True)
+    ways = parser.add_mutually_exclusive_group()
     ways.add_argument("--socket", metavar="PATH", help="the table of the service there")
     ways.add_argument("history", nargs="?", metavar="FILE", help="the file of a saved history, which may grow")
     given = parser.parse_args(words)
+    if not given.socket and not given.history:
+        parser.error("no table: name the FILE of a saved history, or --socket PATH")
     to_file = given.prometheus not in (None, STANDARD_OUTPUT)
     given.again = not given.once and (to_file or (given.prometheus is None and sys.stdout.isatty()))
     return given

@@ -280,7 +280,7 @@ class Program(Histories):
 
     def test_misuse(self) -> None:
         for words, said in [
-            ((), "one of the arguments --socket FILE is required"),
+            ((), "pidtab-top: error: no table: name the FILE of a saved history, or --socket PATH\n"),
             (("--every", "0", "x"), "a number of seconds above 0, not 0"),
             (("--socket", "a", "b"), "not allowed with argument"),
             (("/no/such",), "pidtab-top: /no/such: No such file or directory"),
