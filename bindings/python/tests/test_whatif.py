@@ -8,8 +8,8 @@ import unittest
 from pathlib import Path
 
 from pidtab import BadHistory, Shared, Table
-from pidtab.whatif import Bound, Log, Logged, play
-from tests.pages import REPOSITORY
+from pidtab.whatif import Bound, Log, Logged, World, play
+from tests.pages import REPOSITORY, StoredScript, stored_scripts
 from tests.ways import need_library, need_shared
 
 LAUNCHER = REPOSITORY / "bindings" / "python" / "bin" / "pidtabctl"
@@ -99,6 +99,41 @@ class Bounds(unittest.TestCase):
         # Under 301, after 299 forks and the end of task 300, the next is 300 again, as numbers below are not given a second time. In the log it is 301.
         script = lines(*["fork 1"] * 299, "exit 300 0", "wait 1 pid 300", "fork 1", "exit 301 0", "wait 1 pid 301", "fork 1")
         self.assertEqual(self.rows(script, "--pid-max", "301"), [(300, 0, 0, None), (300, 0, 0, None)])
+
+
+class StoredScripts(unittest.TestCase):
+    """Bounds that are known beforehand, of all stored scripts."""
+
+    def setUp(self) -> None:
+        need_library()
+
+    def worlds(self, script: StoredScript, *bounds: Bound) -> list[World]:
+        """What comes of a script."""
+        calls = (Logged(place, line.decode("utf-8", "surrogateescape"), None) for place, line in enumerate(script.lines, start=1) if line)
+        return play(Log("line", Table(script.pid_max), calls), bounds, 0)[1]
+
+    def test_a_bound_that_is_not_met(self) -> None:
+        for script in stored_scripts():
+            was, other = (world.to_object("line") for world in self.worlds(script, Bound(4194304, None)))
+            self.assertEqual({**was, "pids_max": 4194304}, other, script.name)
+
+    def test_one_task_less_than_the_peak(self) -> None:
+        tried = 0
+        for script in stored_scripts():
+            # One before the first line.
+            counts = [1]
+            with Table(script.pid_max) as table:
+                for line in script.lines:
+                    table.answers([line.decode("utf-8", "surrogateescape")] if line else [])
+                    counts.append(table.ask.count(0))
+            was, other = self.worlds(script, Bound(max(counts) - 1, None))
+            self.assertEqual(was.peak, max(counts), script.name)
+            if max(counts) > 1 and not was.refused:
+                # The first line that makes the tasks as many as they ever are is the first that has no room.
+                assert other.first
+                self.assertEqual(other.first[0].place, counts.index(max(counts)), script.name)
+                tried += 1
+        self.assertGreater(tried, 10)
 
 
 class Words(unittest.TestCase):
