@@ -2,6 +2,7 @@
 
 import json
 import subprocess
+import sys
 from collections.abc import Iterable, Iterator, Sequence
 from contextlib import suppress
 from itertools import islice
@@ -77,10 +78,12 @@ def find_bad(name: str, lines: Iterable[bytes], progress: Progress | None = None
 
 def check(name: str, as_json: bool) -> int:
     """Says what is bad in a script: the exit status."""
-    status = STATUS_DONE
+    status, at_terminal = STATUS_DONE, sys.stdout.isatty()
     with open_script(name) as script, Progress() as progress:
         for found in find_bad(name, script, progress):
-            progress.clear()
+            if at_terminal:
+                # Both may be one terminal.
+                progress.clear()
             print(found.to_json() if as_json else found)
             status = STATUS_FAULT
     return status

@@ -1,6 +1,7 @@
 """The script language, as docs/SCRIPT.md has it: which lines are good, and what a bad one should have been."""
 
 import difflib
+import functools
 import re
 from dataclasses import dataclass
 
@@ -74,6 +75,7 @@ def say_words(wanted: list[str]) -> str:
     return " or ".join(dict.fromkeys(said))
 
 
+@functools.lru_cache(maxsize=1000)
 def say_command(word: bytes) -> str:
     """What to say of a word that is no command."""
     if word.startswith(b"#"):

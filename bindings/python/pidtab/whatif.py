@@ -8,7 +8,7 @@ from typing import Any, NamedTuple
 
 from pidtab.blocks import follow_file
 from pidtab.bounds import DEFAULT_PID_MAX, check_range
-from pidtab.command import STANDARD_INPUT, STATUS_DONE, STATUS_FAULT, STATUS_USAGE, complain, open_script, parser_of, pid_max_of
+from pidtab.command import STANDARD_INPUT, STATUS_DONE, STATUS_FAULT, STATUS_USAGE, Progress, complain, open_script, parser_of, pid_max_of
 from pidtab.faults import BadHistory, LibraryFault, Refusal
 from pidtab.language import FORMS, fits
 from pidtab.native import GREATEST_ID, GREATEST_PID, ROOT_INIT
@@ -232,6 +232,13 @@ def play(log: Log, bounds: Sequence[Bound], control: int) -> tuple[int, list[Wor
     return made, [was, *others]
 
 
+def watched(log: Log, name: str, progress: Progress) -> Iterator[Logged]:
+    """The calls of a log, of which a terminal shows how many were made."""
+    for call in log.calls:
+        progress.say(f"{name}: {log.places} {call.place}")
+        yield call
+
+
 def bounds_of(given: argparse.Namespace) -> list[Bound]:
     """Each limit with each `pid_max`."""
     if not given.pids_max and not given.pid_max:
@@ -275,7 +282,8 @@ def read_command_line(called: str, words: Sequence[str] | None) -> argparse.Name
 def report(given: argparse.Namespace) -> int:
     """Plays the log, and says what has come of it."""
     log = read_log(given.file, given.logged_pid_max)
-    made, worlds = play(log, bounds_of(given), given.control)
+    with Progress() as progress:
+        made, worlds = play(log._replace(calls=watched(log, given.file, progress)), bounds_of(given), given.control)
     if not worlds[0].has_control:
         return complain(f"{given.called}: {given.file}: no call makes the control group {given.control}", STATUS_FAULT)
     if given.json:
