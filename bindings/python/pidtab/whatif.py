@@ -122,9 +122,10 @@ class World:
     def note(self, answer: str, here: str | None) -> None:
         """Notes which task or control group here is the one that the log has made."""
         made, words = answer.split(" "), (here or "").split(" ")
+        if "child" in (made[0], words[0]):
+            self._differs = self._differs or made != words
         if made[0] == "child":
             self._roots[int(made[3])] = int(words[3]) if words[0] == "child" else None
-            self._differs = self._differs or made != words
         elif made[0] == "control" and words[0] == "control":
             self._controls[int(made[1])] = int(words[1])
             if int(made[1]) == self.control and self.bound.pids_max is not None:

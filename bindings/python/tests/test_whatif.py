@@ -81,6 +81,11 @@ class Bounds(unittest.TestCase):
         # The group 5 is below it, and made behind the limit that is set for it; the group 1 has its limit of 0 in line 11.
         self.assertEqual(self.rows(lines(*GROUPS), "--control", "5", "--pids-max", "1"), [(2, 1, 0, 11), (1, 2, 0, 8)])
 
+    def test_a_fork_that_the_log_refuses(self) -> None:
+        # Under 2, line 4 forks task 2. In the log nobody has that number, so line 5 does not end it, and line 7 has no room.
+        script = lines("mk 0", "limit 1 1", "move 1 1", "fork 1", "exit 2 0", "wait 1 any", "fork 1")
+        self.assertEqual(self.rows(script, "--control", "1", "--pids-max", "2"), [(1, 2, 0, 4), (2, 1, 0, 7)])
+
     def test_the_root(self) -> None:
         # What the root refuses it refuses here too, so the last fork is refused by the bound of 2.
         self.assertEqual(self.rows(lines("limit 0 9", "rm 0", "fork 1", "fork 1"), "--pids-max", "2"), [(3, 0, 0, None), (2, 1, 0, 4)])
