@@ -1,6 +1,6 @@
 -- Places of which some are vacant: what is seen of them, and of one that is written.
-use Rattle.std.proofs.Common.{inl, inr, false, zero, suc, ◌≡◌, ◌≢◌, ℕ, ◌<◌, ◌≤◌, ◌==◌, ◌++◌, List, [], ◌∷◌, length, map, get_or, set, Option, Some, None, if◌then◌else◌, sym, ap, ◌∙◌, arith}
-use Rattle.std.proofs.lemmas.List.{get_or_past, get_or-set_same, get_or-set_other, length-map, map-set, map-append}
+use Rattle.std.proofs.Common.{inl, inr, false, zero, suc, ◌≡◌, ◌≢◌, ℕ, ◌<◌, ◌≤◌, ◌==◌, List, [], ◌∷◌, length, map, get_or, set, Option, Some, None, if◌then◌else◌, sym, ap, ◌∙◌, arith}
+use Rattle.std.proofs.lemmas.List.{get_or_past, get_or-set_same, get_or-set_other, length-map, map-set}
 use Rattle.std.proofs.lemmas.Bool.{cases_lt}
 use Rattle.std.proofs.lemmas.Bool.Decides.{nat_tests}
 
@@ -56,7 +56,3 @@ module _ {X Y : Type 0} (size : X → ℕ) (of : X → Y) where
 
   pub slot-set_other : (places : List X) (k s : ℕ) (y : X) → s ≢ k → get_or (map show (set places k y)) s None ≡ get_or (map show places) s None
   slot-set_other places k s y differs = ap (λ l. get_or l s None) (map-set show places k y) ∙ get_or-set_other (map show places) k s (show y) None differs
-
-  -- and a new one
-  pub slots-new : (places : List X) (y : X) → 0 < size y → map show (places ++ y ∷ []) ≡ map show places ++ Some (of y) ∷ []
-  slots-new places y some = map-append show places (y ∷ []) ∙ ap (λ o. map show places ++ o ∷ []) (show-some y some)

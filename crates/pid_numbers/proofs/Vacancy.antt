@@ -2,11 +2,11 @@
 use Rattle.std.proofs.Common.{◌≡◌, ◌≢◌, inl, inr, ℕ, suc, ◌+◌, ◌-◌, ◌<◌, ◌≤◌, ◌++◌, List, [], ◌∷◌, length, get_or, set, Option, Some, None, true, false, refl, sym, ap, ◌∙◌, arith}
 use Rattle.std.specs.Prelude.{nat_eq}
 use Rattle.std.specs.List.{list_any, AllByRecursion, IsDistinct as IsApart}
-use Rattle.std.proofs.lemmas.List.{length-append, get_or_append_left, get_or-append_right, get_or_default, length-set, get_or_past, get_or-set_same, get_or-set_other}
+use Rattle.std.proofs.lemmas.List.{length-append, get_or_append_left, get_or-append_right, length-set, get_or_past, get_or-set_same, get_or-set_other}
 use Rattle.std.proofs.lemmas.Map.Steps.{length-le_from_distinct_below}
 use Rattle.std.proofs.lemmas.Bool.{cases_eq, cases_lt, ne_eqb}
 use Rattle.ns_tree.specs.Tree.{IsDistinct}
-use Rattle.pid_numbers.specs.Vacancy.{next_place, AreVacant}
+use Rattle.pid_numbers.specs.Vacancy.{AreVacant}
 
 -- where a number of a list stands
 place_in : (ks : List ℕ) (q : ℕ) → list_any (nat_eq q) ks ≡ true → (j : ℕ) × (j < length ks) × (get_or ks j 0 ≡ q)
@@ -119,11 +119,6 @@ module _ {X : Type 0} where
     pub vacant-last : (key < length slots) × (at_key slots key ≡ None)
     vacant-last = let e = v.each (length rest) (omega (arith, long)) in rw end at e
 
-    pub next-last : {Y : Type 0} (places : List Y) → next_place places keys ≡ key
-    next-last {Y} places =
-        let l : length keys - 1 ≡ length rest = omega (arith, long) in
-        ap (λ i. get_or keys i (length places)) l ∙ get_or_default keys (length rest) (length places) 0 (omega (arith, long)) ∙ end
-
     pub one-less : (x : X) → AreVacant (set slots key (Some x)) rest room
     one-less x = record {
       each = λ j lt.
@@ -145,51 +140,6 @@ module _ {X : Type 0} where
           (λ e. v.distinct i j lo (omega (arith, lt, long)) (before i (omega (arith, lo, lt)) ∙ e ∙ sym (before j lt)));
       rooms = let n = length-set slots key (Some x) in let r = v.rooms in omega (arith, n, r);
     }
-
-  -- or to a new place, where there is none
-  module _ (slots : List (Option X)) (x : X) where
-    pub at-new : get_or (slots ++ Some x ∷ []) (length slots) None ≡ Some x
-    at-new =
-        let zero_is : length slots - length slots ≡ 0 = omega arith in
-        get_or-append_right slots (Some x ∷ []) (length slots) (length slots) None refl (omega arith) ∙ ap (λ i. get_or (Some x ∷ []) i None) zero_is
-
-    pub at-old : (s : ℕ) → s ≢ length slots → get_or (slots ++ Some x ∷ []) s None ≡ get_or slots s None
-    at-old s differs = elim (cases_lt s (length slots)) [
-      | inl lt ↦ get_or_append_left slots (Some x ∷ []) None s lt
-      | inr past ↦ (let l = length-append slots (Some x ∷ []) in get_or_past (slots ++ Some x ∷ []) s None (omega (arith, past, l, differs)) ∙ sym (get_or_past slots s None past))
-    ]
-
-    -- no place was vacant, and none is
-    pub none-vacant : (keys : List ℕ) (room room' : ℕ) → AreVacant slots keys room → keys ≡ [] → length slots < room' → AreVacant (slots ++ Some x ∷ []) keys room'
-    none-vacant keys room room' v none more = record {
-      each = λ j lt. absurd (let l = ap length none in omega (arith, l, lt));
-      all = λ s lt empty. absurd (elim (cases_eq s (length slots)) [
-        | inl same ↦ no_value (sym (ap (at_key (slots ++ Some x ∷ [])) same) ∙ empty) at-new
-        | inr differs ↦
-            let r = v.all s (omega (arith, lt, length-append slots (Some x ∷ []), differs)) (sym (at-old s differs) ∙ empty) in
-            omega (arith, ap length none, r.1)
-      ]);
-      distinct = λ i j lo lt e. (let l = ap length none in omega (arith, l, lt));
-      rooms = let l = length-append slots (Some x ∷ []) in omega (arith, l, more);
-    }
-
-  -- no places
-  pub no-places : (room : ℕ) → AreVacant {X = X} [] [] room
-  no-places room = record {
-    each = λ j lt. absurd (omega (arith, lt));
-    all = λ s lt none. absurd (omega (arith, lt));
-    distinct = λ i j lo lt e. (omega (arith, lt));
-    rooms = omega arith;
-  }
-
-  -- nothing has the key of what comes next
-  pub next-vacant : {Y : Type 0} (places : List Y) (slots : List (Option X)) (keys : List ℕ) (room : ℕ) → length places ≡ length slots → AreVacant slots keys room → get_or slots (next_place places keys) None ≡ None
-  next-vacant {Y} places slots keys room len v = elim (cases_lt 0 (length keys)) [
-    | inl some ↦
-        let is = get_or_default keys (length keys - 1) (length places) 0 (omega (arith, some)) in
-        ap (at_key slots) is ∙ (v.each (length keys - 1) (omega (arith, some))).1
-    | inr none ↦ get_or_past slots (next_place places keys) None (let past = get_or_past keys (length keys - 1) (length places) (omega (arith, none)) in omega (arith, past, len))
-  ]
 
   -- where the same places are filled, the same ones are vacant
   pub vacant-as : (old new : List (Option X)) (keys : List ℕ) (room : ℕ) → AreVacant old keys room → length new ≡ length old
