@@ -221,11 +221,11 @@ THREADED = $(TESTED) -fsanitize=thread
 lib: ## * proves and builds the library for C, with its header, in out/ (some 40 minutes from nothing, 18 behind `make build`)
 	$(need_rt)
 	@mkdir -p out
-	@if grep -qs '^not proved' out/library.txt; then rm -f out/library.txt out/libpidtab.*; fi
-	@tools/prove pidtab_c out/lib.log rt lib || { echo 'make lib failed: see out/lib.log' >&2; exit 1; }
-	@$(MAKE) -s out/libpidtab.a out/libpidtab.so.1 > out/link.log 2>&1 || { echo 'make lib failed: see out/link.log' >&2; exit 1; }
+	@if grep -qs '^not proved' out/library.txt; then rm -f out/library.txt out/libpidtab.* out/liblog_turns.a; fi
+	@for it in log_turns pidtab_c; do tools/prove $$it out/lib.log rt lib || { echo 'make lib failed: see out/lib.log' >&2; exit 1; }; done
+	@$(MAKE) -s out/liblog_turns.a out/libpidtab.a out/libpidtab.so.1 > out/link.log 2>&1 || { echo 'make lib failed: see out/link.log' >&2; exit 1; }
 	$(put_beside)
-	@tools/report out/library.txt out/libpidtab.a out/libpidtab.so.1
+	@tools/report out/library.txt out/libpidtab.a out/libpidtab.so.1 out/liblog_turns.a
 
 # What is beside the library in out/.
 define put_beside
@@ -239,14 +239,18 @@ UNPROVED_OUT = out/unproved
 try-lib: ## * compiles the library for C without proofs, in out/: do not rely on it (some 4 minutes)
 	$(need_rt)
 	@echo 'this library is not proved, `make lib` proves it: compiling takes some four minutes' >&2
-	@rm -rf out/library.txt out/libpidtab.* && mkdir -p $(UNPROVED_OUT)
-	@{ tools/unproved pidtab_c $(UNPROVED_OUT)/libpidtab_c.a && \
+	@rm -rf out/library.txt out/libpidtab.* out/liblog_turns.a && mkdir -p $(UNPROVED_OUT)
+	@{ tools/unproved log_turns $(UNPROVED_OUT)/liblog_turns.a && tools/unproved pidtab_c $(UNPROVED_OUT)/libpidtab_c.a && \
 		$(MAKE) -s OUT=$(UNPROVED_OUT) LIBRARY=$(UNPROVED_OUT)/libpidtab_c.a $(UNPROVED_OUT)/libpidtab.a $(UNPROVED_OUT)/libpidtab.so.1; } > out/try-lib.log 2>&1 \
 		|| { echo 'make try-lib failed: see out/try-lib.log' >&2; exit 1; }
-	@cp $(UNPROVED_OUT)/libpidtab.a $(UNPROVED_OUT)/libpidtab.so.1 out
+	@cp $(UNPROVED_OUT)/liblog_turns.a $(UNPROVED_OUT)/libpidtab.a $(UNPROVED_OUT)/libpidtab.so.1 out
 	$(put_beside)
 	@echo 'not proved: `make try-lib` has compiled it' > out/library.txt
 	@echo out/libpidtab.a
+
+# The machine that the service's log is driven by, as it is proved. It needs nothing else.
+out/liblog_turns.a: crates/log_turns/out/liblog_turns.a
+	cp $< $@
 
 # The proved functions by other names, under which guard.c, guard_record.c and guard_replica.c call them.
 $(OUT)/proved.a: $(LIBRARY) bindings/c/renamed.syms
@@ -451,7 +455,7 @@ service: ## builds pidtabd, one table for all processes of a host, over what `ma
 	@command -v cargo > /dev/null || { echo 'no cargo: the service needs Rust 1.89 or later' >&2; exit 1; }
 	@for it in $(CRATES); do ls -d $(CRATES_FROM)/$$it-[0-9]* > /dev/null 2>&1 \
 		|| { echo "no crate $$it: on Debian, apt-get install librust-$$it-dev" >&2; exit 1; }; done
-	@test -e out/libpidtab.a || { echo 'no library out/libpidtab.a: build it with `make lib`' >&2; exit 1; }
+	@for it in libpidtab liblog_turns; do test -e out/$$it.a || { echo "no library out/$$it.a: build it with \`make lib\`" >&2; exit 1; }; done
 	@mkdir -p out/service
 	@cd service && RUSTFLAGS="$${RUSTFLAGS:-} --remap-path-prefix=$(CURDIR)=." cargo build --release --offline --quiet > ../out/service.log 2>&1 || { echo 'make service failed: see out/service.log' >&2; exit 1; }
 	@tools/report out/service.txt $(SERVICE)

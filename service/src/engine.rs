@@ -68,7 +68,6 @@ pub struct Engine {
     pub snapshot: u64,
     pub replayed: u64,
     pub left_out: u64,
-    pub is_compacting: bool,
     directory: Option<Directory>,
     blocks: Blocks,
     batch: Vec<u8>,
@@ -167,7 +166,6 @@ impl Engine {
             snapshot: opened.snapshot,
             replayed: opened.replayed,
             left_out,
-            is_compacting: false,
             directory,
             blocks,
             batch: Vec::new(),
@@ -202,7 +200,7 @@ impl Engine {
     /// One that lives too briefly for a snapshot would start ever later.
     fn snapshot_if_long(&mut self) {
         let size = self.replayed * Blocks::HEAD as u64;
-        if let Some(log) = self.log.as_mut().filter(|it| size >= self.keep.segment || it.bytes >= self.keep.segment) {
+        if let Some(log) = self.log.as_mut().filter(|it| size >= self.keep.segment || it.bytes() >= self.keep.segment) {
             log.want_turn();
         }
     }
@@ -215,10 +213,18 @@ impl Engine {
         self.book.foresee(&mut self.table, call);
         self.table.make(seat, call, &mut self.last).map_err(Refused::Table)?;
         let reply = self.last.reply();
+        let before = self.batch.len();
         let put = self.blocks.put_made(&self.last, &mut self.batch);
         put.expect("each call that was made, and its reply, have a place in the form");
+        self.take(before);
         self.note(seat, call, &reply);
         Ok(reply)
+    }
+
+    /// What the batch has from there on is a call.
+    fn take(&mut self, from: usize) {
+        let size = self.batch.len() - from;
+        self.log.iter_mut().for_each(|it| it.take(size));
     }
 
     /// A call that was made and is in the batch.
@@ -239,17 +245,16 @@ impl Engine {
         self.table.stat(caller, number)
     }
 
-    /// Writes what was recorded. It is never written again: it stays in `written` until it is taken, however many turns that takes.
+    /// Has written what was recorded. What is written stays in `written` until it is taken, however many turns that takes.
     pub fn commit(&mut self) -> Result<Committed, Fault> {
-        if !self.batch.is_empty() {
-            let done = self.log.as_mut().map_or(Ok(Committed::Done), |it| it.commit(&self.batch))?;
-            if done != Committed::Done {
-                return Ok(done);
-            }
+        let done = self.log.as_mut().map_or(Ok(Committed::Done), |it| it.commit(&self.batch))?;
+        if !self.batch.is_empty() && self.log.as_ref().is_none_or(Log::has_answered) {
             self.move_batch();
         }
-        self.turn_over_when_due()?;
-        Ok(Committed::Done)
+        if let Some((closed, blocks)) = self.log.as_mut().and_then(Log::take_begun) {
+            self.compact(&closed, blocks);
+        }
+        Ok(done)
     }
 
     /// The batch is written.
@@ -286,21 +291,21 @@ impl Engine {
 
     /// Whether the log goes on in a new file behind the next commit.
     pub fn is_to_turn(&self) -> bool {
-        !self.is_compacting && self.log.as_ref().is_some_and(Log::is_to_turn)
+        self.log.as_ref().is_some_and(Log::is_to_turn)
     }
 
-    fn turn_over_when_due(&mut self) -> Result<(), Fault> {
-        let is_due = self.is_to_turn();
-        let Some(log) = self.log.as_mut().filter(|_| is_due) else { return Ok(()) };
-        if let Some((Closed { base, bytes }, blocks)) = log.turn_over(self.made, self.pid_max)? {
-            self.blocks = blocks;
-            self.head = head_bytes(self.pid_max, self.made);
-            self.is_compacting = true;
-            self.replica.order(Order::Current { base: self.made });
-            self.replica.order(Order::File { base, bytes });
-            self.replica.order(Order::Snapshot);
-        }
-        Ok(())
+    /// Whether a snapshot is in work, or older files go away.
+    pub fn is_compacting(&self) -> bool {
+        self.log.as_ref().is_some_and(Log::is_compacting)
+    }
+
+    /// The log goes on in a new file, and the second table makes a snapshot of what is before.
+    fn compact(&mut self, closed: &Closed, blocks: Blocks) {
+        self.blocks = blocks;
+        self.head = head_bytes(self.pid_max, self.made);
+        self.replica.order(Order::Current { base: self.made });
+        self.replica.order(Order::File { base: closed.base, bytes: closed.bytes });
+        self.replica.order(Order::Snapshot);
     }
 
     /// What is due by the clock.
@@ -323,7 +328,7 @@ impl Engine {
 
     fn order_saved(&mut self) {
         match &self.log {
-            Some(log) => self.replica.order(Order::File { base: log.base, bytes: log.bytes }),
+            Some(log) => self.replica.order(Order::File { base: log.base, bytes: log.bytes() }),
             None => self.replica.order(Order::Blocks(std::mem::take(&mut self.loose))),
         }
     }
@@ -331,14 +336,28 @@ impl Engine {
     /// What the second table has done; a text is given back.
     pub fn take_report(&mut self) -> Option<Report> {
         let report = self.replica.reports.try_recv().ok()?;
-        if let Report::Snapshot(done) = &report {
-            self.is_compacting = false;
-            match done {
-                Ok(ordinal) => self.snapshot = *ordinal,
-                Err(fault) => eprintln!("pidtabd: no snapshot was made, and the log goes on: {fault}"),
+        match &report {
+            Report::Named(base) => self.log.iter_mut().for_each(|it| it.is_named(*base)),
+            Report::Snapshot(done) => self.note_snapshot(done),
+            Report::Dropped(done) => {
+                self.log.iter_mut().for_each(Log::has_dropped);
+                done.iter().for_each(|fault| eprintln!("pidtabd: older files stay: {fault}"));
             }
+            Report::Text { .. } | Report::Told { .. } => {}
         }
         Some(report)
+    }
+
+    /// What is before a snapshot goes away, if `current` names the log behind it.
+    fn note_snapshot(&mut self, done: &Result<u64, Fault>) {
+        match done {
+            Ok(ordinal) => self.snapshot = *ordinal,
+            Err(fault) => eprintln!("pidtabd: no snapshot was made, and the log goes on: {fault}"),
+        }
+        let ordinal = done.as_ref().ok().copied();
+        if let Some(below) = self.log.as_mut().and_then(|it| it.is_compacted(ordinal)) {
+            self.replica.order(Order::Drop { below });
+        }
     }
 
     /// All that was recorded is on the disk.
@@ -357,8 +376,10 @@ impl Engine {
     /// Makes the call at the front of a leader's blocks again, and records it: how many bytes it has.
     pub fn follow(&mut self, blocks: &mut Blocks, bytes: &[u8]) -> Result<usize, Fault> {
         let made = self.table.replay(blocks, bytes).map_err(|fault| fault.to_string())?;
+        let before = self.batch.len();
         let put = self.blocks.put(made.worker, made.call, &made.reply, &mut self.batch);
         put.map_err(|error| error.to_string())?;
+        self.take(before);
         self.note(made.worker, made.call, &made.reply);
         Ok(made.size)
     }
@@ -379,7 +400,7 @@ impl Engine {
         let (log, blocks, source) = self.keep_adopted(text, stamp - 1, pid_max, wake.clone())?;
         (self.log, self.blocks, self.replica) = (log, blocks, Replica::start(source, wake));
         (self.table, self.pid_max, self.made, self.saved) = (table, pid_max, stamp - 1, stamp - 1);
-        (self.snapshot, self.is_compacting) = (self.made, false);
+        self.snapshot = self.made;
         self.batch.clear();
         self.loose.clear();
         self.read_book(&std::collections::HashMap::new())
@@ -399,8 +420,9 @@ impl Engine {
         };
         let (path, keep) = (directory.snapshot(made), &self.keep);
         directory.write(&path, &[text]).map_err(crate::directory::fault_at(&path))?;
-        let (log, blocks) = Log::open(directory.again()?, keep.sync, keep.segment, None, made, pid_max, wake)?;
-        if let Err(error) = directory.put_away(made, keep.archive) {
+        let (mut log, blocks) = Log::open(directory.again()?, keep.sync, keep.segment, None, made, pid_max, wake)?;
+        let dropped = log.is_compacted(Some(made)).map_or(Ok(()), |below| directory.put_away(below, keep.archive));
+        if let Err(error) = dropped {
             eprintln!("pidtabd: {}: older files stay: {error}", directory.path.display());
         }
         Ok((Some(log), blocks, Source::Directory { directory: directory.again()?, archive: keep.archive }))

@@ -84,9 +84,9 @@ fn log(service: &Service) -> Fields {
     vec![
         field("fsync", engine.keep.sync.word()),
         field("segment", log.base),
-        field("segment_bytes", log.bytes),
+        field("segment_bytes", log.bytes()),
         field("snapshot", engine.snapshot),
-        field("compacting", u8::from(engine.is_compacting)),
+        field("compacting", u8::from(engine.is_compacting())),
         field("commits", log.commits),
         field("largest_commit_bytes", log.largest),
         field("write_retries", log.retries),

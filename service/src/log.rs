@@ -1,23 +1,29 @@
 //! The log: one file that grows, and goes on in a new one when it is long enough. A syncer has it on the disk each second, where that is wanted.
 //!
+//! What is done next, and what becomes of it if it fails, says the machine of `crates/log_turns`, which is proved: [`Log::act`] does a step to the
+//! files, and tells what came of it.
+//!
 //! Where each batch is synced, small ones are written over zeroes that are on the disk already: so a sync has their bytes to write, and neither a
-//! new length of the file nor a new block. At most [`BATCH`] bytes are written between two syncs then, by which the recovery knows a batch that a
-//! loss of power has cut.
+//! new length of the file nor a new block. The machine has at most [`BATCH`] bytes written between two syncs then, by which the recovery knows a batch
+//! that a loss of power has cut.
 use crate::directory::{fault_at, Directory, Fault, SEATS};
 use crate::recover::End;
 use crate::syncer::Syncer;
+use log_turns::{Step, Turns};
 use pidtab::{Blocks, Head};
 use std::fs::{self, File, OpenOptions};
 use std::io;
 use std::os::unix::fs::{FileExt, OpenOptionsExt};
 use std::sync::Arc;
 
-/// So many bytes are written between two syncs, where each batch is synced.
+/// So many bytes are written between two syncs, where each batch is synced: as many as the machine has written.
 pub const BATCH: usize = 1 << 20;
 /// A batch that is longer makes the file grow as it is written: its own bytes are what it waits for.
 const SMALL: usize = 1 << 14;
 /// So many zeroes are written ahead.
 const AHEAD: u64 = 1 << 22;
+/// So many bytes of the file are before the first call.
+const HEAD: u64 = Blocks::HEAD as u64;
 
 /// When what was written is brought to the disk.
 #[derive(Clone, Copy, Debug, PartialEq)]
@@ -45,7 +51,7 @@ pub enum Committed {
     Waits(Fault),
 }
 
-/// How far the file is on its way to a new one.
+/// How far the file is on its way to a new one: another thread syncs most of it before.
 #[derive(Clone, Copy, PartialEq)]
 enum Turn {
     Goes,
@@ -59,14 +65,20 @@ pub struct Log {
     file: Arc<File>,
     sync: Sync,
     segment: u64,
+    pid_max: u32,
     pub base: u64,
-    pub bytes: u64,
-    /// So many bytes of the batch are in the file already, as a write has failed behind them.
-    written: usize,
+    turns: Turns,
     /// How long the file is, with the zeroes that were written ahead.
     length: u64,
     turn: Turn,
     syncer: Syncer,
+    /// So much was written when the other thread was told to sync.
+    ordered: u64,
+    /// Why a step has failed last.
+    why: Fault,
+    /// The log that was begun last, whole or not.
+    beside: u64,
+    begun: Option<(Closed, Blocks)>,
     pub commits: u64,
     pub largest: u64,
     pub retries: u64,
@@ -89,24 +101,28 @@ impl Log {
         pid_max: u32,
         wake: impl Fn() + Send + 'static,
     ) -> Result<(Log, Blocks), Fault> {
-        let place = directory.log(end.as_ref().map_or(made, |it| it.base));
+        let base = end.as_ref().map_or(made, |it| it.base);
         let opened = match &end {
             Some(end) => go_on(&directory, end),
             None => begin(&directory, made, pid_max).and_then(|begun| directory.set_current(made).map(|_| begun)),
         };
-        let (file, blocks) = opened.map_err(fault_at(&place))?;
-        let (base, bytes) = end.map_or((made, Blocks::HEAD as u64), |it| (it.base, it.bytes));
+        let (file, blocks) = opened.map_err(fault_at(&directory.log(base)))?;
+        let (length, is_named) = (end.map_or(HEAD, |it| it.bytes), directory.current()? == Some(base));
         let log = Log {
             directory,
             file: Arc::new(file),
             sync,
             segment,
+            pid_max,
             base,
-            bytes,
-            written: 0,
-            length: bytes,
+            turns: Turns::begin(made, length - HEAD, sync == Sync::Always, is_named),
+            length,
             turn: Turn::Goes,
             syncer: Syncer::start(wake),
+            ordered: 0,
+            why: Fault::new(),
+            beside: base,
+            begun: None,
             commits: 0,
             largest: 0,
             retries: 0,
@@ -114,33 +130,104 @@ impl Log {
         Ok((log, blocks))
     }
 
-    /// Writes the batch, and syncs it where that is always done. Behind a write that failed, the same batch goes on where that one stopped.
-    pub fn commit(&mut self, batch: &[u8]) -> Result<Committed, Fault> {
-        if self.sync == Sync::Always && self.written == 0 && batch.len() <= SMALL {
-            self.write_ahead(self.bytes + batch.len() as u64);
-        }
-        while self.written < batch.len() {
-            match self.write_piece(batch) {
-                Ok(0) => return Ok(self.waits(io::ErrorKind::WriteZero.into())),
-                Ok(count) => self.written += count,
-                Err(error) if error.kind() == io::ErrorKind::Interrupted => continue,
-                Err(error) => return Ok(self.waits(error)),
-            }
-            if self.sync == Sync::Always {
-                self.sync_here()?;
-            }
-        }
-        if self.sync != Sync::Always {
-            self.syncer.wrote();
-        }
-        self.count(batch.len());
-        Ok(Committed::Done)
+    /// How long the log is, without what is not written whole.
+    pub fn bytes(&self) -> u64 {
+        HEAD + self.turns.size()
     }
 
-    /// Writes what is left of the batch, or as much as may be written before a sync.
-    fn write_piece(&self, batch: &[u8]) -> io::Result<usize> {
-        let end = batch.len().min(self.written + BATCH);
-        self.file.write_at(&batch[self.written..end], self.bytes + self.written as u64)
+    /// A call is behind the batch, and has so many bytes. None is, once the log ends.
+    pub fn take(&mut self, size: usize) {
+        assert!(self.turns.take(size as u64), "no call is made once the log ends");
+    }
+
+    /// Whether all that was taken may be answered.
+    pub fn has_answered(&self) -> bool {
+        self.turns.has_answered()
+    }
+
+    /// Has the batch written, and synced where that is always done: all calls that were taken and not answered. Where that has failed before, it goes
+    /// on from what is written.
+    pub fn commit(&mut self, batch: &[u8]) -> Result<Committed, Fault> {
+        self.turns.retry();
+        if self.is_to_turn() {
+            self.turn = Turn::Goes;
+            self.turns.turn();
+        }
+        self.go_on(batch)
+    }
+
+    /// Does what is next, until nothing is, or nothing can be done.
+    fn go_on(&mut self, batch: &[u8]) -> Result<Committed, Fault> {
+        loop {
+            let step = self.turns.next();
+            match step {
+                Step::Rest | Step::Ended => return Ok(Committed::Done),
+                Step::Wait => return Ok(Committed::Waits(self.why.clone())),
+                Step::Lost => return Err(self.why.clone()),
+                _ => {}
+            }
+            match self.act(step, batch) {
+                Ok(size) => self.turns.done(size as u64),
+                Err(why) => {
+                    self.why = why;
+                    self.turns.failed();
+                }
+            }
+        }
+    }
+
+    /// Does a step to the files: how many bytes it has written.
+    fn act(&mut self, step: Step, batch: &[u8]) -> Result<usize, Fault> {
+        match step {
+            Step::Cut { to } => self.cut(HEAD + to).map_err(self.fault())?,
+            Step::Write { at, size } => return self.write(batch, at, size),
+            Step::Sync => self.sync_here()?,
+            Step::Answer { .. } => self.count(batch.len()),
+            Step::Close => {
+                self.cut(self.bytes()).map_err(self.fault())?;
+                self.sync_here()?;
+            }
+            Step::Begin { first } => self.begin(first)?,
+            Step::Undo => self.undo()?,
+            Step::Rest | Step::Wait | Step::Lost | Step::Ended => {}
+        }
+        Ok(0)
+    }
+
+    fn fault<T: std::fmt::Display>(&self) -> impl Fn(T) -> Fault {
+        fault_at(&self.directory.log(self.base))
+    }
+
+    /// Nothing is in the file from there on.
+    fn cut(&mut self, end: u64) -> io::Result<()> {
+        if self.length != end {
+            self.file.set_len(end)?;
+            self.length = end;
+        }
+        Ok(())
+    }
+
+    /// Writes what is left of the batch, or a part: how many bytes.
+    fn write(&mut self, batch: &[u8], at: u64, size: u64) -> Result<usize, Fault> {
+        if self.sync == Sync::Always && batch.len() <= SMALL {
+            self.write_ahead(HEAD + at + size);
+        }
+        let from = batch.len() - self.turns.unwritten() as usize;
+        let rest = &batch[from..from + size as usize];
+        let done = loop {
+            match self.file.write_at(rest, HEAD + at) {
+                Err(error) if error.kind() == io::ErrorKind::Interrupted => {}
+                Ok(0) => break Err(io::ErrorKind::WriteZero.into()),
+                done => break done,
+            }
+        };
+        // The file may be longer than that, whatever has failed.
+        self.length = self.length.max(HEAD + at + size);
+        self.retries += u64::from(done.is_err());
+        if done.is_ok() && self.sync != Sync::Always {
+            self.syncer.wrote();
+        }
+        done.map_err(self.fault())
     }
 
     /// Has zeroes in the file to that place at least. Without room for them the batch is written all the same, or has no room either.
@@ -155,19 +242,11 @@ impl Log {
 
     /// A batch is written, with all that it waits for.
     fn count(&mut self, size: usize) {
-        self.written = 0;
-        self.bytes += size as u64;
-        self.length = self.length.max(self.bytes);
         self.commits += 1;
         self.largest = self.largest.max(size as u64);
-        if self.bytes >= self.segment && self.turn == Turn::Goes {
-            self.turn = Turn::Wanted;
+        if self.bytes() >= self.segment {
+            self.want_turn();
         }
-    }
-
-    fn waits(&mut self, error: io::Error) -> Committed {
-        self.retries += 1;
-        Committed::Waits(fault_at(&self.directory.log(self.base))(error))
     }
 
     /// What is not on the disk must not be answered, and nobody knows what a failed sync has left.
@@ -176,7 +255,7 @@ impl Log {
     }
 
     fn lost(&self, error: &io::Error) -> Fault {
-        fault_at(&self.directory.log(self.base))(format!("fdatasync: {error}: ending, with unsaved calls unanswered"))
+        self.fault()(format!("fdatasync: {error}: ending, with unsaved calls unanswered"))
     }
 
     /// The file is turned over as soon as it can be.
@@ -189,7 +268,7 @@ impl Log {
     /// Ten times a second, and when the other thread has synced: what it has done, and what is due. The file is synced by that thread before it
     /// is turned over, so that little is left to sync here.
     pub fn tick(&mut self) -> Result<(), Fault> {
-        while self.syncer.take_done().map_err(|error| self.lost(&error))? {
+        while self.take_synced()? {
             if self.turn == Turn::Syncs {
                 self.turn = Turn::Synced;
             }
@@ -197,11 +276,25 @@ impl Log {
         let is_due = self.sync == Sync::EverySecond && self.syncer.is_due();
         if self.syncer.is_idle() && (is_due || self.turn == Turn::Wanted) {
             self.syncer.order(&self.file);
+            self.ordered = self.turns.written();
             if self.turn == Turn::Wanted {
                 self.turn = Turn::Syncs;
             }
         }
         Ok(())
+    }
+
+    /// Whether the other thread has synced what was written when it was told to.
+    fn take_synced(&mut self) -> Result<bool, Fault> {
+        match self.syncer.take_done() {
+            Ok(false) => return Ok(false),
+            Ok(true) => self.turns.sync_to(self.ordered),
+            Err(error) => {
+                self.turns.lose();
+                return Err(self.lost(&error));
+            }
+        }
+        Ok(true)
     }
 
     /// The sync behind which what is written in this turn is on the disk; none where nobody waits for one.
@@ -215,42 +308,72 @@ impl Log {
 
     /// Whether the log is to go on in a new file now.
     pub fn is_to_turn(&self) -> bool {
-        self.turn == Turn::Synced
+        self.turn == Turn::Synced && !self.is_compacting()
     }
 
-    /// Goes on in a new file, all of the old one being on the disk. None where nothing is new, or no file can be begun: then it is tried again.
-    pub fn turn_over(&mut self, made: u64, pid_max: u32) -> Result<Option<(Closed, Blocks)>, Fault> {
-        self.turn = Turn::Goes;
-        if made == self.base {
-            return Ok(None);
-        }
-        self.close()?;
-        let place = self.directory.log(made);
-        let (file, blocks) = match begin(&self.directory, made, pid_max) {
-            Ok(begun) => begun,
-            Err(error) => {
-                eprintln!("pidtabd: {}: cannot be begun, and the log goes on in its file: {error}", place.display());
-                // Its name must be gone before the old file has a call more, or a start would find two logs with that call.
-                fs::remove_file(&place).or_else(unless_missing).map_err(fault_at(&place))?;
-                self.directory.sync().map_err(fault_at(&place))?;
-                return Ok(None);
-            }
-        };
-        let closed = Closed { base: self.base, bytes: self.bytes };
-        self.file = Arc::new(file);
-        (self.base, self.bytes) = (made, Blocks::HEAD as u64);
-        self.length = self.bytes;
+    /// Whether a snapshot is in work, or older files go away.
+    pub fn is_compacting(&self) -> bool {
+        self.turns.is_compacting()
+    }
+
+    /// Goes on in a new file, all of the old one being on the disk.
+    fn begin(&mut self, first: u64) -> Result<(), Fault> {
+        self.beside = first;
+        let place = self.directory.log(first);
+        let (file, blocks) = begin(&self.directory, first, self.pid_max).map_err(|error| {
+            eprintln!("pidtabd: {}: cannot be begun, and the log goes on in its file: {error}", place.display());
+            fault_at(&place)(error)
+        })?;
+        let closed = Closed { base: self.base, bytes: self.bytes() };
+        self.begun = Some((closed, blocks));
+        (self.file, self.base, self.length) = (Arc::new(file), first, HEAD);
         self.syncer.has_synced();
-        Ok(Some((closed, blocks)))
+        Ok(())
+    }
+
+    /// The new file must be gone before the old one has a call more, or a start would find two logs with that call.
+    fn undo(&self) -> Result<(), Fault> {
+        let place = self.directory.log(self.beside);
+        fs::remove_file(&place).or_else(unless_missing).map_err(fault_at(&place))?;
+        self.directory.sync().map_err(fault_at(&place))
+    }
+
+    /// The log before, if this one was begun since this was asked, and the checksum to go on with.
+    pub fn take_begun(&mut self) -> Option<(Closed, Blocks)> {
+        self.begun.take()
+    }
+
+    /// `current` names that log, on the disk too.
+    pub fn is_named(&mut self, base: u64) {
+        if base == self.base {
+            self.turns.name();
+        }
+    }
+
+    /// The snapshot of that many calls is whole, or none could be made. It gives the ordinal below which files are needed no more.
+    pub fn is_compacted(&mut self, ordinal: Option<u64>) -> Option<u64> {
+        if ordinal == Some(self.base) {
+            self.turns.compact();
+            if self.turns.may_drop() {
+                return ordinal;
+            }
+        }
+        self.turns.rest();
+        None
+    }
+
+    /// Older files are gone, or stay until they go with others.
+    pub fn has_dropped(&mut self) {
+        self.turns.rest();
     }
 
     /// All is on the disk, and nothing behind it.
     pub fn close(&mut self) -> Result<(), Fault> {
-        if self.length > self.bytes {
-            self.file.set_len(self.bytes).map_err(fault_at(&self.directory.log(self.base)))?;
-            self.length = self.bytes;
+        self.turns.stop();
+        match self.go_on(&[])? {
+            Committed::Done => Ok(()),
+            Committed::Waits(why) => Err(why),
         }
-        self.sync_here()
     }
 }
 

@@ -15,8 +15,10 @@ pub enum Order {
     File { base: u64, bytes: u64 },
     /// Goes on with these blocks, where nothing is kept.
     Blocks(Vec<u8>),
-    /// Writes the snapshot, and takes away what it makes needless.
+    /// Writes the snapshot.
     Snapshot,
+    /// Takes away what the snapshot of that many calls makes needless.
+    Drop { below: u64 },
     /// Tells its text, or its list.
     Text { is_dump: bool, ordinal: u64 },
     /// Answers a query of that connection.
@@ -40,6 +42,10 @@ pub enum Told {
 
 /// What the thread has done.
 pub enum Report {
+    /// `current` names that log.
+    Named(u64),
+    /// Older files are gone, or why not.
+    Dropped(Option<Fault>),
     /// The ordinal of the new snapshot.
     Snapshot(Result<u64, Fault>),
     Text {
@@ -116,10 +122,8 @@ struct Copy {
 impl Copy {
     fn follow(&mut self, order: Order) -> Option<Report> {
         match order {
-            Order::Current { base } => {
-                self.name_current(base);
-                None
-            }
+            Order::Current { base } => self.name_current(base).then_some(Report::Named(base)),
+            Order::Drop { below } => Some(Report::Dropped(self.put_away(below).err())),
             Order::File { base, bytes } => {
                 self.go_on(|it| it.go_on(base, bytes));
                 None
@@ -146,14 +150,20 @@ impl Copy {
         }
     }
 
-    /// `current` only tells a directory that has lost its newest file: if it cannot be written, it names the log before, or this one, and both are
-    /// there.
-    fn name_current(&self, base: u64) {
-        let Source::Directory { directory, .. } = &self.source else { return };
-        if let Err(error) = directory.set_current(base) {
+    /// Whether `current` names that log. If it cannot be written, it names the log before, or this one, and both stay there.
+    fn name_current(&self, base: u64) -> bool {
+        let Source::Directory { directory, .. } = &self.source else { return false };
+        let named = directory.set_current(base);
+        if let Err(error) = &named {
             let path = directory.path.display();
             eprintln!("pidtabd: {path}/current: cannot be written, and the log goes on: {error}");
         }
+        named.is_ok()
+    }
+
+    fn put_away(&self, below: u64) -> Result<(), Fault> {
+        let Source::Directory { directory, archive } = &self.source else { return Ok(()) };
+        directory.put_away(below, *archive).map_err(fault_at(&directory.path))
     }
 
     /// A second table that has failed, and has said so, is made again of the files.
@@ -216,12 +226,11 @@ impl Copy {
 
     fn snapshot(&mut self) -> Result<u64, Fault> {
         let text = self.text(true);
-        let (State::Kept(recovery), Source::Directory { directory, archive }) = (&self.state, &self.source) else {
+        let (State::Kept(recovery), Source::Directory { directory, .. }) = (&self.state, &self.source) else {
             return text.and(Err("nothing is kept".to_owned()));
         };
         let path = directory.snapshot(recovery.made);
         directory.write(&path, &[text?.as_bytes()]).map_err(fault_at(&path))?;
-        directory.put_away(recovery.made, *archive).map_err(fault_at(&directory.path))?;
         Ok(recovery.made)
     }
 }

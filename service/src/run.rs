@@ -396,12 +396,13 @@ impl Service {
         if conn.rights != Rights::All {
             return conn.out.line(no_permission(conn.rights));
         }
+        let is_compacting = self.engine.is_compacting();
         match &mut self.engine.log {
             None => conn.out.line("-ERR nothing is kept: there is no --dir"),
-            Some(_) if self.engine.is_compacting && !waits => conn.out.line("-BUSY a snapshot is in work"),
+            Some(_) if is_compacting && !waits => conn.out.line("-BUSY a snapshot is in work"),
             Some(log) => {
                 log.want_turn();
-                let word = if self.engine.is_compacting { "scheduled" } else { "started" };
+                let word = if is_compacting { "scheduled" } else { "started" };
                 conn.out.line(&format!("+Background saving {word}"));
             }
         }
