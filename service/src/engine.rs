@@ -200,7 +200,7 @@ impl Engine {
     /// One that lives too briefly for a snapshot would start ever later.
     fn snapshot_if_long(&mut self) {
         let size = self.replayed * Blocks::HEAD as u64;
-        if let Some(log) = self.log.as_mut().filter(|it| size >= self.keep.segment || it.bytes() >= self.keep.segment) {
+        if let Some(log) = self.log.as_mut().filter(|it| size >= self.keep.segment || it.bytes >= self.keep.segment) {
             log.want_turn();
         }
     }
@@ -328,7 +328,7 @@ impl Engine {
 
     fn order_saved(&mut self) {
         match &self.log {
-            Some(log) => self.replica.order(Order::File { base: log.base, bytes: log.bytes() }),
+            Some(log) => self.replica.order(Order::File { base: log.base, bytes: log.bytes }),
             None => self.replica.order(Order::Blocks(std::mem::take(&mut self.loose))),
         }
     }

@@ -84,7 +84,7 @@ fn log(service: &Service) -> Fields {
     vec![
         field("fsync", engine.keep.sync.word()),
         field("segment", log.base),
-        field("segment_bytes", log.bytes()),
+        field("segment_bytes", log.bytes),
         field("snapshot", engine.snapshot),
         field("compacting", u8::from(engine.is_compacting())),
         field("commits", log.commits),

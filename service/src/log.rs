@@ -67,6 +67,8 @@ pub struct Log {
     segment: u64,
     pid_max: u32,
     pub base: u64,
+    /// How long the log is, with all that is answered and nothing else.
+    pub bytes: u64,
     turns: Turns,
     /// How long the file is, with the zeroes that were written ahead.
     length: u64,
@@ -115,6 +117,7 @@ impl Log {
             segment,
             pid_max,
             base,
+            bytes: length,
             turns: Turns::begin(made, length - HEAD, sync == Sync::Always, is_named),
             length,
             turn: Turn::Goes,
@@ -128,11 +131,6 @@ impl Log {
             retries: 0,
         };
         Ok((log, blocks))
-    }
-
-    /// How long the log is, without what is not written whole.
-    pub fn bytes(&self) -> u64 {
-        HEAD + self.turns.size()
     }
 
     /// A call is behind the batch, and has so many bytes. None is, once the log ends.
@@ -184,7 +182,7 @@ impl Log {
             Step::Sync => self.sync_here()?,
             Step::Answer { .. } => self.count(batch.len()),
             Step::Close => {
-                self.cut(self.bytes()).map_err(self.fault())?;
+                self.cut(self.bytes).map_err(self.fault())?;
                 self.sync_here()?;
             }
             Step::Begin { first } => self.begin(first)?,
@@ -242,9 +240,10 @@ impl Log {
 
     /// A batch is written, with all that it waits for.
     fn count(&mut self, size: usize) {
+        self.bytes += size as u64;
         self.commits += 1;
         self.largest = self.largest.max(size as u64);
-        if self.bytes() >= self.segment {
+        if self.bytes >= self.segment {
             self.want_turn();
         }
     }
@@ -324,9 +323,9 @@ impl Log {
             eprintln!("pidtabd: {}: cannot be begun, and the log goes on in its file: {error}", place.display());
             fault_at(&place)(error)
         })?;
-        let closed = Closed { base: self.base, bytes: self.bytes() };
+        let closed = Closed { base: self.base, bytes: self.bytes };
         self.begun = Some((closed, blocks));
-        (self.file, self.base, self.length) = (Arc::new(file), first, HEAD);
+        (self.file, self.base, self.bytes, self.length) = (Arc::new(file), first, HEAD, HEAD);
         self.syncer.has_synced();
         Ok(())
     }

@@ -187,11 +187,6 @@ impl Turns {
         self.written
     }
 
-    /// So many bytes of calls are behind the log's head.
-    pub fn size(&self) -> u64 {
-        self.written - self.start
-    }
-
     /// So many bytes of calls were taken, and are not written.
     pub fn unwritten(&self) -> u64 {
         self.end - self.written
