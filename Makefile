@@ -465,7 +465,8 @@ service: ## builds pidtabd, one table for all processes of a host, over what `ma
 service-test: service built ## tests pidtabd: kills, losses of power, damage, planted faults, clients of Redis (10 to 30 minutes)
 	@$(CC) -std=c11 -O2 -Wall -Wextra -Werror -Ibindings/c -o out/service/check service/tests/check.c out/libpidtab.a
 	@for it in power flaky; do $(CC) -std=gnu11 -O2 -Wall -Wextra -Werror -shared -fPIC -o out/service/$$it.so service/tests/$$it.c -ldl || exit 1; done
-	@{ (cd service && cargo test --release --offline --quiet) && cd service/tests && \
+	@{ (cd service && cargo test --release --offline --quiet && cd log_turns && CARGO_TARGET_DIR=../target cargo test --release --offline --quiet) && \
+		cd service/tests && \
 		PIDTAB='$(abspath $(PIDTAB))' python3 -W ignore -B -m unittest discover -v -s . -t . && ./planted; } > out/service-test.log 2>&1 \
 		|| { echo 'make service-test failed: see out/service-test.log' >&2; exit 1; }
 	@grep -E '^Ran |skipped|: found' out/service-test.log

@@ -10,14 +10,14 @@
 //!                    stuck: who was to be answered in this turn waits, other calls too; queries are answered by the second table
 //! ```
 //!
-//! - A call is batched once, written once, and answered behind that. What was written stays in `written` until followers have it.
-//! - By `everysec` a thread syncs each second what was written. A sync that fails ends the process: nobody is answered any more.
-//! - Turning: the log is synced beside, the leases are marked with the place and synced, and a new file is synced, with its name, before a call is in
-//!   it. If that fails, its name is taken away, and the log goes on in its file. The second table makes the snapshot, and then the older files go.
-//! - Adopting, of a follower: the leases are forgotten, the leader's text is the snapshot, a new log begins, and texts that were ordered are ordered anew.
-//! - Stopping: what is batched is written, or waited for up to 5 s; then the zeroes behind the end are cut off, and the log is synced.
-//!
-//! A start from any of these, and from each place between two writes, has all that was answered.
+//! - Which of these is next, and when the log turns to a new file, says the machine that [`Log`] drives. What was written stays in `written` until
+//!   followers have it.
+//! - By `everysec` a thread syncs each second what was written.
+//! - Turning: the log is synced beside, and the leases are marked with the place and synced, before the machine is asked to. The second table names the
+//!   new log in `current` and makes the snapshot, and then the older files go.
+//! - Adopting, of a follower: the leases are forgotten, the leader's text is the snapshot, a new log and a new machine begin, and texts that were ordered
+//!   are ordered anew.
+//! - Stopping: what is batched is written, or waited for up to 5 s; then the machine ends the log.
 use crate::book::Book;
 use crate::directory::{new_identity, Directory, Fault, SEATS};
 use crate::log::{Closed, Committed, Log, Sync};

@@ -252,7 +252,10 @@ mod tests {
         assert!(turns.take(48));
         turns.turn();
         let steps = [48, 0, 0, 0].map(|size| does(&mut turns, size));
-        assert_eq!(steps, [Step::Write { at: 0, size: 48 }, Step::Answer { calls: 8 }, Step::Close, Step::Begin { first: 8 }]);
+        assert_eq!(
+            steps,
+            [Step::Write { at: 0, size: 48 }, Step::Answer { calls: 8 }, Step::Close, Step::Begin { first: 8 }]
+        );
         assert!(turns.is_compacting() && !turns.may_drop());
         assert!(turns.take(48));
         turns.stop();
