@@ -185,11 +185,12 @@ uninstall: ## removes what these have installed, with the same variables
 TARGETS = x86_64-unknown-linux-gnu aarch64-unknown-linux-gnu
 machines: js ## * proves and builds for aarch64, riscv64, and any Linux by musl, into out/machines (15 minutes); what has no compiler here is skipped
 	@mkdir -p out/machines
-	@{ for target in $(TARGETS); do for crate in pidtab pidtab_c; do tools/module $$target $$crate || exit 1; done; done && \
+	@{ for target in $(TARGETS); do for crate in pidtab pidtab_c log_turns; do tools/module $$target $$crate || exit 1; done; done && \
 		for it in $$(packaging/machine names); do \
 			tools/report out/machines/$$it.txt $(foreach file,pidtab libpidtab.a libpidtab.so.1,out/machines/$$it/$(file)) -- packaging/machine build $$it || exit 1; done && \
 		packaging/machine source && \
-		tools/report out/machines/source.txt out/machines/source/pidtab.[Sc] -- grep '^logic=' $(TARGETS:%=out/module/%/pidtab_c.verdict); } > out/machines.log 2>&1 \
+		tools/report out/machines/source.txt out/machines/source/pidtab.[Sc] out/machines/source/log_turns.S -- \
+			grep '^logic=' $(foreach it,pidtab_c log_turns,$(TARGETS:%=out/module/%/$(it).verdict)); } > out/machines.log 2>&1 \
 		|| { echo 'make machines failed: see out/machines.log' >&2; exit 1; }
 	@packaging/machine names > /dev/null
 

@@ -1,15 +1,17 @@
-"""pidtab.S: the proved functions for each machine, as the assembler that the compiler made of them, by the names under which bindings/c calls them."""
+"""pidtab.S and log_turns.S: proved functions for each machine, as the assembler that the compiler made of them; pidtab.S by the names under which
+bindings/c calls them."""
 
 import re
 
 HEAD = """\
-/* The proved functions of pidtab, as the compiler of their checker made them: assembler for any C compiler that takes that of GNU, as gcc and clang.
+/* The proved functions of {crate}, as the compiler of their checker made them: assembler for any C compiler that takes that of GNU, as gcc and clang.
  *
- * For x86-64 and aarch64 the checker has proved the crate pidtab_c for just this machine. For riscv64 the proved module for x86-64 was compiled again.
- * GATE.txt says which commit was proved. Only Linux is meant. guard.c and its like, beside this file, are around these functions.
+ * For x86-64 and aarch64 the checker has proved the crate for just this machine. For riscv64 the proved module for x86-64 was compiled again. GATE.txt says
+ * which commit was proved. Only Linux is meant.{around}
  */
 """
-OTHERS = '#else\n#error "pidtab.S is for Linux on x86-64, aarch64 and riscv64"\n#endif\n'
+AROUND = " guard.c and its like, beside this file, are around these functions."
+OTHERS = '#else\n#error "this is for Linux on x86-64, aarch64 and riscv64"\n#endif\n'
 # What names the file, the compiler, and extensions of riscv64 by names that older assemblers do not know. None is part of the code.
 UNWANTED = re.compile(r"^\s*\.(?:file|ident|attribute)\b.*\n", re.MULTILINE)
 
@@ -20,12 +22,14 @@ def read_names(text):
 
 
 def rename(text, names):
-    """The assembler with other names."""
+    """The assembler with other names, if there are any."""
+    if not names:
+        return text
     return re.sub(r"(?<![\w$])(?:%s)(?![\w$])" % "|".join(names), lambda it: names[it[0]], text)
 
 
-def join(parts, names):
-    """One text of the assembler for machines by their macros: the first that is defined counts."""
+def join(crate, parts, names):
+    """One text of the assembler of a crate for machines by their macros: the first that is defined counts."""
     words = ["#if", *["#elif"] * (len(parts) - 1)]
     texts = [f"{word} defined({macro})\n{rename(UNWANTED.sub('', text), names)}" for word, (macro, text) in zip(words, parts.items())]
-    return HEAD + "".join(texts) + OTHERS
+    return HEAD.format(crate=crate, around=AROUND if names else "") + "".join(texts) + OTHERS

@@ -46,6 +46,11 @@ def check_report(file, target, commit, wanted):
             raise Fault(f"{path} is not the file of {file}: run `make {target}`")
 
 
+def sources_in(folder):
+    """What there is of proved functions as sources."""
+    return sorted(it for name in ("pidtab.[Sc]", "log_turns.S") for it in folder.glob(name))
+
+
 def check_headers(source, library):
     """Finds that the headers beside the library are those of this commit."""
     for header in sorted(library.glob("*.h")):
@@ -79,7 +84,7 @@ class Built:
         for it in found:
             it.check(source)
         reports = [("gate.txt", "test", [program]), ("library.txt", "lib", host.libraries)]
-        reports += [(*PARTS[name], sorted(path.parent.glob("pidtab.[Sc]")) if name == "assembler" else [path]) for name, path in more.items()]
+        reports += [(*PARTS[name], sources_in(path.parent) if name == "assembler" else [path]) for name, path in more.items()]
         reports += [(f"machines/{it.machine.name}.txt", "machines", [it.program, *it.libraries]) for it in found[1:]]
         gate = gate_text(source, given, reports)
         return [dataclasses.replace(it, gate=gate) for it in found]

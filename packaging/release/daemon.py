@@ -4,7 +4,7 @@ import json
 import pathlib
 import shutil
 
-from release.crate import copy, lay_out
+from release.crate import COMPILER, copy, lay_out
 from release.faults import run
 from release.files import settle, write_tarball, write_text
 
@@ -21,14 +21,28 @@ README = """\
     cargo build --release --offline
 
 builds `target/release/pidtabd`. It takes Rust 1.89 or later, a C compiler, and neither a network nor Rattle. `pidtab` is the table with its
-package for Rust, and `vendor` has the crates, each with its licence, as Debian has them. The manual page `pidtabd.8`, the units for systemd and
+package for Rust, `log_turns` is what its log does next, which is proved, and `vendor` has the crates, each with its licence, as Debian has them. The manual page `pidtabd.8`, the units for systemd and
 `GATE.txt`, which says what was proved, lie beside.
 """
 
 
 def is_possible(assembler):
-    """Whether the library is there as sources, and so are the crates."""
-    return bool(assembler and assembler.is_file() and shutil.which("cargo") and all(any(CRATES.glob(f"{name}-[0-9]*")) for name in NAMED))
+    """Whether the library is there as sources, and so are the machine of the log and the crates."""
+    has_sources = bool(assembler and assembler.is_file() and machine_beside(assembler).is_file())
+    return has_sources and bool(shutil.which("cargo")) and all(any(CRATES.glob(f"{name}-[0-9]*")) for name in NAMED)
+
+
+def machine_beside(assembler):
+    """What the log does next, as assembler."""
+    return assembler.with_name("log_turns.S")
+
+
+def add_machine(source, built, stage):
+    """Puts the machine of the log into the folder `log_turns`, which is compiled by the crate `cc`."""
+    copy(source, "service/log_turns", ["src/lib.rs"], stage)
+    write_text(stage / "Cargo.toml", source.read("service/log_turns/Cargo.toml") + COMPILER)
+    write_text(stage / "build.rs", source.read("packaging/portable/log_turns.rs"))
+    write_text(stage / "log_turns.S", machine_beside(built.assembler).read_text(encoding="utf-8"))
 
 
 def crates_of(folder):
@@ -55,6 +69,7 @@ def make(source, built, parts):
     stage = parts.parent / "daemon"
     lay_out(source, built, stage / "pidtab")
     copy(source, "service", [it for it in source.below("service") if it.startswith("src/")], stage)
+    add_machine(source, built, stage / "log_turns")
     write_text(stage / "Cargo.toml", source.read("service/Cargo.toml").replace('"../bindings/rust"', '"pidtab"'))
     for it in BESIDE:
         write_text(stage / pathlib.Path(it).name, source.read(it))
