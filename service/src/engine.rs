@@ -26,9 +26,13 @@ use crate::replica::{loose_blocks, Asker, Order, Query, Replica, Report, Source}
 use pidtab::{Blocks, Call, Error, Head, Made, Reply, Stat, Table};
 use std::path::PathBuf;
 use std::sync::Arc;
+use std::time::{Duration, Instant};
 
 /// So many bytes of calls are kept in memory, where nothing is kept on the disk, before the second table makes them.
 const LOOSE: usize = 1 << 20;
+
+/// So long the name of the last log is waited for at the end.
+const LAST_NAME: Duration = Duration::from_secs(2);
 
 /// What is kept, and how.
 #[derive(Clone, Debug)]
@@ -336,8 +340,13 @@ impl Engine {
     /// What the second table has done; a text is given back.
     pub fn take_report(&mut self) -> Option<Report> {
         let report = self.replica.reports.try_recv().ok()?;
-        match &report {
-            Report::Named(base) => self.log.iter_mut().for_each(|it| it.is_named(*base)),
+        self.note_report(&report);
+        Some(report)
+    }
+
+    fn note_report(&mut self, report: &Report) {
+        match report {
+            Report::Named { base, is_done } => self.log.iter_mut().for_each(|it| it.note_name(*base, *is_done)),
             Report::Snapshot(done) => self.note_snapshot(done),
             Report::Dropped(done) => {
                 self.log.iter_mut().for_each(Log::has_dropped);
@@ -345,7 +354,6 @@ impl Engine {
             }
             Report::Text { .. } | Report::Told { .. } => {}
         }
-        Some(report)
     }
 
     /// What is before a snapshot goes away, if `current` names the log behind it.
@@ -365,7 +373,19 @@ impl Engine {
         if let Committed::Waits(why) = self.commit()? {
             return Err(format!("{why}: ending, with unsaved calls unanswered"));
         }
-        self.log.as_mut().map_or(Ok(()), Log::close)
+        self.log.as_mut().map_or(Ok(()), Log::close)?;
+        self.await_name();
+        Ok(())
+    }
+
+    /// `current` names the last log, so that a start would miss it. It is waited for a while, as the second table may have much to do.
+    fn await_name(&mut self) {
+        let end = Instant::now() + LAST_NAME;
+        while self.log.as_ref().is_some_and(Log::is_naming) {
+            let rest = end.saturating_duration_since(Instant::now());
+            let Ok(report) = self.replica.reports.recv_timeout(rest) else { return };
+            self.note_report(&report);
+        }
     }
 
     /// The checksum behind all that was recorded, which a follower goes on from.

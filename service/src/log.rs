@@ -81,6 +81,8 @@ pub struct Log {
     /// The log that was begun last, whole or not.
     beside: u64,
     begun: Option<(Closed, Blocks)>,
+    /// Whether `current` is to name the log that was begun last, and nothing is known of that yet.
+    is_naming: bool,
     pub commits: u64,
     pub largest: u64,
     pub retries: u64,
@@ -126,6 +128,7 @@ impl Log {
             why: Fault::new(),
             beside: base,
             begun: None,
+            is_naming: false,
             commits: 0,
             largest: 0,
             retries: 0,
@@ -325,6 +328,7 @@ impl Log {
         })?;
         let closed = Closed { base: self.base, bytes: self.bytes };
         self.begun = Some((closed, blocks));
+        self.is_naming = true;
         (self.file, self.base, self.bytes, self.length) = (Arc::new(file), first, HEAD, HEAD);
         self.syncer.has_synced();
         Ok(())
@@ -342,9 +346,18 @@ impl Log {
         self.begun.take()
     }
 
-    /// `current` names that log, on the disk too.
-    pub fn is_named(&mut self, base: u64) {
-        if base == self.base {
+    /// Whether `current` is to name the log, and it has not been tried.
+    pub fn is_naming(&self) -> bool {
+        self.is_naming
+    }
+
+    /// `current` names that log, on the disk too, or it could not be written.
+    pub fn note_name(&mut self, base: u64, is_done: bool) {
+        if base != self.base {
+            return;
+        }
+        self.is_naming = false;
+        if is_done {
             self.turns.name();
         }
     }

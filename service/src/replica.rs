@@ -42,8 +42,8 @@ pub enum Told {
 
 /// What the thread has done.
 pub enum Report {
-    /// `current` names that log.
-    Named(u64),
+    /// Whether `current` names that log.
+    Named { base: u64, is_done: bool },
     /// Older files are gone, or why not.
     Dropped(Option<Fault>),
     /// The ordinal of the new snapshot.
@@ -122,7 +122,7 @@ struct Copy {
 impl Copy {
     fn follow(&mut self, order: Order) -> Option<Report> {
         match order {
-            Order::Current { base } => self.name_current(base).then_some(Report::Named(base)),
+            Order::Current { base } => Some(Report::Named { base, is_done: self.name_current(base) }),
             Order::Drop { below } => Some(Report::Dropped(self.put_away(below).err())),
             Order::File { base, bytes } => {
                 self.go_on(|it| it.go_on(base, bytes));

@@ -571,7 +571,7 @@ impl Service {
                     self.deliver(is_dump, ordinal, text);
                 }
                 Report::Told { asker, told } => self.tell(asker, told),
-                Report::Named(_) | Report::Snapshot(_) | Report::Dropped(_) => {}
+                Report::Named { .. } | Report::Snapshot(_) | Report::Dropped(_) => {}
             }
         }
         self.follow_leader()?;
