@@ -43,7 +43,10 @@ pub enum Told {
 /// What the thread has done.
 pub enum Report {
     /// Whether `current` names that log.
-    Named { base: u64, is_done: bool },
+    Named {
+        base: u64,
+        is_done: bool,
+    },
     /// Older files are gone, or why not.
     Dropped(Option<Fault>),
     /// The ordinal of the new snapshot.
