@@ -212,7 +212,8 @@ dist-test: ## installs each part of out/dist without a network, uses it, and mak
 
 .PHONY: lib try-lib
 
-# The library is made of the archive that the checker proves and builds; its parts are in bindings/c. What the tools say is in out/lib.log and out/link.log.
+# The library is made of the archive that the checker proves and builds; its parts are in bindings/c. What the tools say is in out/lib.log, out/turns.log and
+# out/link.log.
 LIBRARY = crates/pidtab_c/out/libpidtab_c.a
 OBJCOPY ?= objcopy
 TESTED = -std=c11 -D_GNU_SOURCE -O1 -g -Wall -Wextra -Werror -pthread
@@ -223,7 +224,8 @@ lib: ## * proves and builds the library for C, with its header, in out/ (some 40
 	$(need_rt)
 	@mkdir -p out
 	@if grep -qs '^not proved' out/library.txt; then rm -f out/library.txt out/libpidtab.* out/liblog_turns.a; fi
-	@for it in log_turns pidtab_c; do tools/prove $$it out/lib.log rt lib || { echo 'make lib failed: see out/lib.log' >&2; exit 1; }; done
+	@tools/prove pidtab_c out/lib.log rt lib || { echo 'make lib failed: see out/lib.log' >&2; exit 1; }
+	@tools/prove log_turns out/turns.log rt lib || { echo 'make lib failed: see out/turns.log' >&2; exit 1; }
 	@$(MAKE) -s out/liblog_turns.a out/libpidtab.a out/libpidtab.so.1 > out/link.log 2>&1 || { echo 'make lib failed: see out/link.log' >&2; exit 1; }
 	$(put_beside)
 	@tools/report out/library.txt out/libpidtab.a out/libpidtab.so.1 out/liblog_turns.a
