@@ -11,14 +11,14 @@ mod audits;
 mod desk;
 mod difference;
 mod fault;
+mod held;
 mod jobs;
 mod replies;
 mod result;
 mod serve;
-mod turns;
 
 pub use audits::audit;
-pub use desk::{Desk, Gate, OpenGate, SeatDesk};
+pub use desk::{Desk, Gate, OpenGate, SeatDesk, Turns};
 pub use difference::Audit;
 pub use fault::RunFault;
 pub use jobs::work;
