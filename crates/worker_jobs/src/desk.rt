@@ -35,7 +35,7 @@ pub trait Desk {
 }
 
 /// A desk that takes several calls in one go, and lets no other worker in between.
-pub trait Turns: Desk {
+pub(crate) trait Turns: Desk {
     /// Makes the calls in order, and adds the receipt of each call that has one. It returns how many have none.
     fn turn<R: Wait + Clock>(&mut self, rt: &R, calls: &[Call], receipts: &mut Vec<Receipt>) -> u64
         requires room { length receipts.old.items + length calls.now ≤ vec_capacity receipts.old }

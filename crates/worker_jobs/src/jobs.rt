@@ -1,5 +1,5 @@
 //! One worker's job: calls made in order, at any desk. [`crate::run_workers`] has each worker's
-//! thread call [`work`], or [`work_in_turns`] where the gate is open; a test may call both at a desk of its own.
+//! thread call [`work`], or [`work_in_turns`] where the gate is open; a test may call [`work`] at a desk of its own.
 ghost use Rattle.std.specs.Prelude.{◌≡◌, ◌+◌, ◌≤◌, ◌<◌, ℕ, List, length, vec_capacity, OnOk, OnErr};
 ghost use Rattle.worker_jobs.specs.Job.{Answered, DoesJob, IsServed};
 
@@ -67,7 +67,7 @@ pub fn work<D: Desk, G: Gate, R: Wait + Clock>(
 
 /// Makes the calls in order, as [`work`] does, in turns of 64: so a worker takes the lock once for each 64. It makes no
 /// call if there is no memory for the receipts.
-pub fn work_in_turns<D: Turns, R: Wait + Clock>(
+pub(crate) fn work_in_turns<D: Turns, R: Wait + Clock>(
     rt: &R,
     alloc: Global,
     desk: &mut D,

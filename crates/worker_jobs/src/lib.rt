@@ -18,7 +18,7 @@ mod result;
 mod serve;
 
 pub use audits::audit;
-pub use desk::{Desk, Gate, OpenGate, SeatDesk, Turns};
+pub use desk::{Desk, Gate, OpenGate, SeatDesk};
 pub use difference::Audit;
 pub use fault::RunFault;
 pub use jobs::work;
