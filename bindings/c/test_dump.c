@@ -49,6 +49,29 @@ static void each_status(void)
 	CHECK(strcmp(pidtab_fault_text(0), "no fault") == 0 && strcmp(pidtab_fault_text(13), "no fault") == 0);
 }
 
+/* The root init alone, before a call with the stamp 2^63. The digest is that of sha256sum(1). */
+static const char GREAT_STAMP[] =
+	"pidtab table 1 pid-max 32768 stamp 9223372036854775808\n"
+	"task 1@0 parent - group 1@0 session 1@0 control 0 children 0 live\n"
+	"space 0 parent - cursor 2\n"
+	"control 0 parent - limit max\n"
+	"end sha256 e81e30cff33e8f53b1eeec4e07ffdc63b6466761b73d73453335b04d9987910c\n";
+
+/* An id that an int64_t has no place for is no errno: the call says so, and leaves no group. */
+static void great_ids(void)
+{
+	struct pidtab table = PIDTAB_INIT;
+	struct pidtab_fault fault = UNTOLD;
+	uint64_t ids[2] = { 7, 7 }, count = 7;
+
+	CHECK(pidtab_load(&table, GREAT_STAMP, sizeof GREAT_STAMP - 1, &fault) == PIDTAB_DONE);
+	CHECK(pidtab_mk(&table, 0) == -PIDTAB_SPENT);
+	CHECK(pidtab_inside(&table, PIDTAB_CONTROLS, 0, 0, ids, 2, &count) == PIDTAB_DONE && count == 0);
+	CHECK(pidtab_count(&table, 0) == 1 && pidtab_fork(&table, 1, 0, NULL) == 2);
+	CHECK(answers(&table, "mk 0", "control 9223372036854775812"));
+	CHECK(pidtab_close(&table) == PIDTAB_DONE);
+}
+
 /* Saves the table and loads it again, in place. The text stays as it is. */
 static void save_and_load(struct pidtab *table)
 {
@@ -199,6 +222,7 @@ static void want_of_memory(void)
 int main(void)
 {
 	each_status();
+	great_ids();
 	for (uint64_t seed = 1; seed <= 8; seed++)
 		calls_go_on(seed, seed % 2 ? 301 : 32768, 2000, 20 + (int)seed);
 	calls_go_on(9, 32768, 600, 1);

@@ -8,3 +8,4 @@ pub mod Seen
 pub mod Fates
 pub mod Standing
 pub mod Watching
+pub mod Reckoning

@@ -3,5 +3,6 @@ pub mod Touched
 pub mod Changes
 pub mod Whom
 pub mod Belonging
+pub mod Reckoned
 pub mod Spaces
 pub mod Distinct

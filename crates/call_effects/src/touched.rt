@@ -4,7 +4,7 @@ ghost use Rattle.std.specs.Prelude.{◌≡◌, ◌+◌, ◌<◌, ◌≤◌, ℕ,
 ghost use Rattle.{
   pid_types.specs.{Membership.{IsIn}, Sound.{IsBelow, IsRising, IsSound}, State.{State}, Step.{step}},
   translate.specs.Relations.{relations_at},
-  call_effects.specs.Effects.{AreEffects},
+  call_effects.specs.{Effects.{AreEffects}, Reckoned.{IsReckoned, Reckons}},
   call_effects.specs.Touched.{is_touching, most_in, most_of, AreWatched, KeepsParents, Touches, Watches},
 };
 
@@ -98,6 +98,7 @@ impl Touched {
         requires there { (n : ℕ) → IsIn n numbers.now → IsSome (relations_at table.now.rows n) }
         ensures watches { IfOk result (λ w. (new : State) → IsSound new → Touches table.now new numbers.now
             → KeepsParents table.now new → Watches table.now new w) }
+        ensures reckoned { IfOk result (IsReckoned table.now numbers.now) }
         ensures few { IfOk result (λ w. most_of w ≤ most_in table.now) }
     {
         table.laws();
@@ -128,6 +129,7 @@ impl Touched {
     pub fn before(table: &PidTable, stamp: u64, call: Call) -> Result<Touched, AllocError>
         requires { IsBelow stamp table.now }
         ensures watches { IfOk result (Watches table.now (step table.now stamp call).state) }
+        ensures reckons { IfOk result (Reckons table.now stamp call) }
         ensures few { IfOk result (λ w. most_of w ≤ most_in table.now) }
         ensures touching { IfOk result (λ w. 0 < most_of w → IsTrue (is_touching call)) }
         ensures err { OnErr result (IsTrue (is_touching call)) }

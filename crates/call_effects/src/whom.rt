@@ -4,7 +4,7 @@
 ghost use Rattle.std.specs.Prelude.{◌≡◌, ◌↔◌, true, IfOk, Some};
 ghost use Rattle.pid_types.specs.{Exit.{is_init}, Names.{live_row}, Sound.{IsBelow}, Step.{step}};
 ghost use Rattle.pid_types.specs.declared.plain.Row.{Row};
-ghost use Rattle.call_effects.specs.Touched.{is_touching, Touches};
+ghost use Rattle.call_effects.specs.{Reckoned.{IsTouching}, Touched.{is_touching, Touches}};
 ghost use Rattle.call_effects.specs.Whom.{none_or_one, root_seen, target_seen, IsRootList};
 ghost use Rattle.pid_types.specs.declared.call.Call.TheVariants as calls;
 
@@ -102,7 +102,9 @@ fn touched_by_exit(
     status: u8,
 ) -> Result<Vec<Pid>, AllocError>
     requires { IsBelow stamp table.now }
-    ensures { IfOk result (λ r. Touches table.now (step table.now stamp (calls.Exit caller status)).state r.items) }
+    ensures touches { IfOk result (λ r.
+        Touches table.now (step table.now stamp (calls.Exit caller status)).state r.items) }
+    ensures just { IfOk result (λ r. IsTouching table.now stamp (calls.Exit caller status) r.items) }
 {
     table.laws();
     if !would_be_done(table, stamp, Call::Exit { caller, status }) {
@@ -126,7 +128,9 @@ fn touched_by_wait(
     which: Which,
 ) -> Result<Vec<Pid>, AllocError>
     requires { IsBelow stamp table.now }
-    ensures { IfOk result (λ r. Touches table.now (step table.now stamp (calls.Wait caller which)).state r.items) }
+    ensures touches { IfOk result (λ r.
+        Touches table.now (step table.now stamp (calls.Wait caller which)).state r.items) }
+    ensures just { IfOk result (λ r. IsTouching table.now stamp (calls.Wait caller which) r.items) }
 {
     table.laws();
     let mut reply = Reply::Done;
@@ -146,8 +150,9 @@ fn touched_by_setpgid(
     pgid: i32,
 ) -> Result<Vec<Pid>, AllocError>
     requires { IsBelow stamp table.now }
-    ensures { IfOk result (λ r.
+    ensures touches { IfOk result (λ r.
         Touches table.now (step table.now stamp (calls.SetPgid caller pid pgid)).state r.items) }
+    ensures just { IfOk result (λ r. IsTouching table.now stamp (calls.SetPgid caller pid pgid) r.items) }
 {
     table.laws();
     list_one(table, target_root(table, caller, pid))
@@ -156,7 +161,8 @@ fn touched_by_setpgid(
 /// Whom a `setsid` may touch.
 fn touched_by_setsid(table: &PidTable, stamp: u64, caller: Pid) -> Result<Vec<Pid>, AllocError>
     requires { IsBelow stamp table.now }
-    ensures { IfOk result (λ r. Touches table.now (step table.now stamp (calls.SetSid caller)).state r.items) }
+    ensures touches { IfOk result (λ r. Touches table.now (step table.now stamp (calls.SetSid caller)).state r.items) }
+    ensures just { IfOk result (λ r. IsTouching table.now stamp (calls.SetSid caller) r.items) }
 {
     table.laws();
     list_one(table, root_of(table, caller, 0))
@@ -165,7 +171,8 @@ fn touched_by_setsid(table: &PidTable, stamp: u64, caller: Pid) -> Result<Vec<Pi
 /// Whom the call may touch, by their root numbers in rising order. The error is want of memory.
 pub(crate) fn touched_by(table: &PidTable, stamp: u64, call: Call) -> Result<Vec<Pid>, AllocError>
     requires { IsBelow stamp table.now }
-    ensures { IfOk result (λ r. Touches table.now (step table.now stamp call).state r.items) }
+    ensures touches { IfOk result (λ r. Touches table.now (step table.now stamp call).state r.items) }
+    ensures just { IfOk result (λ r. IsTouching table.now stamp call r.items) }
 {
     table.laws();
     match call {

@@ -6,7 +6,8 @@ use Rattle.pid_types.specs.Step.{may_grow}
 use Rattle.translate.specs.Pages.{with_front}
 use Rattle.kept_table.specs.Chronicle.{Chronicle, next_stamp}
 use Rattle.call_effects.specs.Effects.{AreEffects}
-use Rattle.call_effects.specs.Touched.{is_touching, most_in}
+use Rattle.call_effects.specs.Reckoned.{Reckons}
+use Rattle.call_effects.specs.Touched.{is_touching, most_in, most_of, Watching}
 use Rattle.call_effects.specs.declared.effect.Effect.{Effect}
 use Rattle.foreign_numbers.specs.Effects.{effect_numbers}
 use Rattle.foreign_numbers.specs.declared.effects.EffectNumbers.{EffectNumbers}
@@ -29,9 +30,13 @@ pub record TellsEffects (old new : State) (before after : List EffectNumbers) (c
   pub not_done : status ≢ DONE → after ≡ before
   pub counted : status ≢ DONE → status ≢ NO_ROOM → count ≡ count_before
 
--- the room may be too short for a call that may touch a task; the count says which would do: never more than what all that there is takes
-pub record WantsRoom (state : State) (call : Call) (room count : ℕ) : Type 0 where
+-- the room may be too short for a call that may touch a task; the count says which would do, and is a function of the state and the call:
+-- what can become of all that it may touch
+pub record WantsRoom (state : State) (stamp : ℕ) (call : Call) (room count : ℕ) : Type 0 where
   pub short : room < count
+  pub touched : Watching
+  pub reckoned : Reckons state stamp call touched
+  pub enough : count ≡ most_of touched
   pub most : count ≤ most_in state
   pub touching : IsTrue (is_touching call)
 

@@ -1,5 +1,5 @@
 -- What C's functions find and leave of a record.
-use Rattle.std.specs.Prelude.{◌≡◌, ◌≢◌, ◌↔◌, ◌<◌, ◌≤◌, ◌⊎◌, ℕ, [], ◌∷◌, length, Option, Some, None, IsSome, IsTrue, option_map}
+use Rattle.std.specs.Prelude.{◌≡◌, ◌≢◌, ◌↔◌, ◌<◌, ◌≤◌, ◌⊎◌, ℕ, [], ◌∷◌, length, Option, Some, None, IsSome, IsTrue, option_map, false}
 use Rattle.pid_types.specs.declared.call.Call.{Call}
 use Rattle.pid_types.specs.Settings.{HasGoodPidMax}
 use Rattle.pid_types.specs.Step.{may_grow}
@@ -88,7 +88,9 @@ pub record IsCut (c d : Chronicle) : Type 0 where
 abbrev pub Cuts : Option Chronicle → Option Chronicle → Type 0
 Cuts old new = Has old (λ c. Has new (λ d. IsCut c d))
 
--- the history was cut away where the status is DONE, and else all stays as it was
+-- the history was cut away where the status is DONE, and else all stays as it was; there is no memory only where the opening moves on by no
+-- calls
 pub record CutsIfDone (c d : Chronicle) (status : ℕ) : Type 0 where
   pub done : status ≡ DONE → IsCut c d
   pub not_done : status ≢ DONE → d ≡ c
+  pub no_memory : status ≡ NO_MEMORY → c.by_steps ≡ false

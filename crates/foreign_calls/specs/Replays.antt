@@ -1,6 +1,7 @@
 -- Saved entries, whose calls are made again.
-use Rattle.std.specs.Prelude.{◌≡◌, ◌≢◌, ◌<◌, ◌≤◌, ◌⊎◌, ℕ, List, [], ◌∷◌, length, take, slice_get, Some, None}
+use Rattle.std.specs.Prelude.{◌≡◌, ◌≢◌, ◌<◌, ◌≤◌, ◌⊎◌, ℕ, List, [], ◌∷◌, length, take, slice_get, Some, None, IsTrue}
 use Rattle.pid_types.specs.declared.call.Call.{Call}
+use Rattle.pid_types.specs.Step.{may_grow}
 use Rattle.kept_table.specs.Calls.{after_recorded, outcome}
 use Rattle.kept_table.specs.Chronicle.{Chronicle}
 use Rattle.saved_form.specs.declared.numbers.ReplyNumbers.{ReplyNumbers}
@@ -32,6 +33,10 @@ ReplaysSaved c (saved ∷ rest) d = (m : Chronicle) × IsSameAgain c saved m × 
 -- the numbers say no call, or there is no such worker
 abbrev pub CannotMake : Chronicle → EntryNumbers → Type 0
 CannotMake c saved = (call_of saved.call ≡ None) ⊎ (length c.cut ≤ saved.worker)
+
+-- the entry's call may need memory for what it makes
+abbrev pub MayNeedMemory : EntryNumbers → Type 0
+MayNeedMemory saved = Has (call_of saved.call) (λ made. IsTrue (may_grow made))
 
 -- those before the place had the saved replies, and nothing else was made
 abbrev pub StopsBefore : Chronicle → List EntryNumbers → ℕ → Chronicle → Type 0

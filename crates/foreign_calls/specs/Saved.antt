@@ -1,8 +1,10 @@
 -- What C is told of a text that no table is loaded from, and what a record is that goes on from one.
 use Rattle.std.specs.Prelude.{◌≡◌, ◌≢◌, ◌<◌, ◌≤◌, ℕ, List, length, sum, true}
+use Rattle.pid_types.specs.Sound.{IsBelow}
 use Rattle.pid_types.specs.State.{State}
+use Rattle.table_build.specs.Tables.{IsOfTables}
 use Rattle.table_text.specs.Texts.{text_of}
-use Rattle.table_text.specs.Ranges.{IsWord}
+use Rattle.table_text.specs.Ranges.{IsWord, IsStateOfWords}
 use Rattle.table_text.specs.Reading.{IsHeldState, IsNoText}
 use Rattle.table_load.specs.declared.fault.RestoreFault.{RestoreFault}
 use Rattle.table_load.specs.declared.fault.RestoreFault.TheVariants as why
@@ -37,6 +39,19 @@ pub record TellsFault (text : List ℕ) (fault : FaultNumbers) (status : ℕ) : 
   pub refused : status ≡ BAD_TEXT → IsTextOfNoTable text
   pub form : status ≡ BAD_TEXT → fault.kind ≤ 2 → IsNoText text
   pub none : status ≢ BAD_TEXT → fault ≡ no_fault
+
+-- the state and the stamp are those of a table, and all numbers of it have a place in a text
+pub record IsLoadable (stamp : ℕ) (state : State) : Type 0 where
+  pub word : IsWord stamp
+  pub held : IsHeldState state
+  pub table : IsOfTables state
+  pub below : IsBelow stamp state
+
+-- a text of such a state is not refused, and of it no other state is read
+pub record Loads (stamp : ℕ) (state : State) (text : List ℕ) : Type 0 where
+  pub taken : IsTextOfNoTable text → ⊥
+  pub same : (stamp' : ℕ) (state' : State) → IsWord stamp' → IsStateOfWords state' → text ≡ text_of stamp' state'
+      → (stamp' ≡ stamp) × (state' ≡ state)
 
 -- a count for each worker of a record
 pub record HasWorkers (counts : List ℕ) : Type 0 where

@@ -2,7 +2,7 @@
 ghost use Rattle.std.specs.Prelude.{◌≡◌, ◌≢◌, ◌↔◌, [], ◌∷◌, map, length};
 ghost use Rattle.{
   translate.specs.Pages.{with_front},
-  kept_table.specs.Calls.{outcome},
+  kept_table.specs.{Calls.{outcome}, Chronicle.{next_stamp}},
   foreign_numbers.specs.Effects.{effect_numbers},
   stamped_table.specs.Stamped.{after_call, reply_to},
   foreign_calls.specs.{Effects.{MayWant, RecordsTold, TellsEffects, WantsRoom}, Held.{IsDoneOr}},
@@ -41,7 +41,7 @@ pub fn call_told_table(
     ensures not_done { result ≢ DONE → held.new ≡ held.old }
     ensures reply { TellsReply (reply_to held.old made) reply.old reply.new result }
     ensures effects { TellsEffects held.old.state held.new.state room.old room.new count.old count.new result }
-    ensures no_room { result ≡ NO_ROOM → WantsRoom held.old.state made (length room.old) count.new }
+    ensures no_room { result ≡ NO_ROOM → WantsRoom held.old.state held.old.stamp made (length room.old) count.new }
     ensures spent { (result ≡ SPENT) ↔ IsSpent held.old.stamp }
     ensures no_memory { result ≡ NO_MEMORY → MayWant made }
     ensures statuses { IsDoneOr result (SPENT ∷ NO_MEMORY ∷ NO_ROOM ∷ []) }
@@ -78,7 +78,8 @@ pub fn call_told_on(
     ensures records { RecordsTold held.old worker made ordinal.old ordinal.new result held.new }
     ensures reply { TellsReply (outcome held.old made).reply reply.old reply.new result }
     ensures effects { TellsEffects held.old.present held.new.present room.old room.new count.old count.new result }
-    ensures no_room { result ≡ NO_ROOM → WantsRoom held.old.present made (length room.old) count.new }
+    ensures no_room { result ≡ NO_ROOM
+        → WantsRoom held.old.present (next_stamp held.old) made (length room.old) count.new }
 {
     if worker as usize >= held.workers() {
         return OUT_OF_RANGE;

@@ -8,6 +8,7 @@ pub mod ask;
 pub mod effects;
 pub mod history;
 pub mod inside;
+pub mod laws;
 pub mod many_calls;
 pub mod number_calls;
 pub mod page;

@@ -1,9 +1,9 @@
 //! Saved entries on a record: their calls are made again, and their replies compared.
-ghost use Rattle.std.specs.Prelude.{◌≡◌, ◌≢◌, ◌↔◌, [], ◌∷◌, IsTrue, length, slice_get};
+ghost use Rattle.std.specs.Prelude.{◌≡◌, ◌≢◌, ◌+◌, ◌<◌, ◌≤◌, ◌↔◌, [], ◌∷◌, IsTrue, length, slice_get};
 ghost use Rattle.{
   kept_table.specs.Chronicle.{next_stamp},
   foreign_calls.specs.{Held.{IsDoneOr}, Records.{Has, roomless}},
-  foreign_calls.specs.Replays.{IsSameAgain, IsOtherNow, ReplaysSaved, CannotMake, StopsBefore, StopsAt},
+  foreign_calls.specs.Replays.{IsSameAgain, IsOtherNow, ReplaysSaved, CannotMake, MayNeedMemory, StopsBefore, StopsAt},
 };
 
 use crate::read::EntryNumbers;
@@ -26,6 +26,8 @@ fn replay_one(held: &mut Kept, saved: &EntryNumbers) -> u32
     ensures not_made { result ≢ DONE → result ≢ DIFFERS → roomless held.new ≡ roomless held.old }
     ensures out_of_range { (result ≡ OUT_OF_RANGE) ↔ CannotMake held.old saved.now }
     ensures spent { result ≢ OUT_OF_RANGE → (result ≡ SPENT) ↔ (next_stamp held.old ≡ u64.MAX) }
+    ensures no_memory { result ≡ NO_MEMORY → 0 < held.old.room → MayNeedMemory saved.now }
+    ensures room { held.old.room ≤ held.new.room + 1 }
     ensures statuses { IsDoneOr result (DIFFERS ∷ OUT_OF_RANGE ∷ SPENT ∷ NO_MEMORY ∷ []) }
 {
     let Some(made) = read_call(&saved.call) else {
@@ -55,6 +57,8 @@ pub fn replay_on(held: &mut Kept, saved: &[EntryNumbers], place: &mut usize) -> 
         ↔ Has (slice_get saved.now place.new) (λ n. CannotMake held.new n) }
     ensures spent { result ≢ DONE → result ≢ DIFFERS → result ≢ OUT_OF_RANGE
         → (result ≡ SPENT) ↔ (next_stamp held.new ≡ u64.MAX) }
+    ensures no_memory { result ≡ NO_MEMORY → place.new < held.old.room
+        → Has (slice_get saved.now place.new) MayNeedMemory }
     ensures statuses { IsDoneOr result (DIFFERS ∷ OUT_OF_RANGE ∷ SPENT ∷ NO_MEMORY ∷ []) }
 {
     for i in 0..saved.len() {

@@ -6,7 +6,8 @@ ghost use Rattle.{
   table_text.specs.{Reading.{saved_state, IsNoText}, Texts.{text_of}},
   kept_table.specs.{Calls.{resumed}, Chronicle.{next_stamp}},
   foreign_calls.specs.{Held.{Opens}, Records.{Has}},
-  foreign_calls.specs.Saved.{no_fault, HasWorkers, HasTooManyCalls, TellsTooManyCalls, IsResumed, TellsFault},
+  foreign_calls.specs.Saved.{no_fault, IsLoadable, HasWorkers, HasTooManyCalls, TellsTooManyCalls},
+  foreign_calls.specs.Saved.{IsResumed, TellsFault},
 };
 
 use crate::record::{MOST_WORKERS, PidtabRecord};
@@ -32,8 +33,12 @@ fn stamp_of(held: &Kept) -> u64
 
 /// The text of the present state, with the stamp of the next call. The error is want of memory.
 pub fn present_dump(alloc: Global, held: &Kept) -> Result<Vec<u8>, AllocError>
-    ensures { IfOk result (λ text. text.items ≡ text_of (next_stamp held.now) held.now.present) }
+    ensures text { IfOk result (λ text. text.items ≡ text_of (next_stamp held.now) held.now.present) }
+    ensures loadable { OnOk result (IsLoadable (next_stamp held.now) held.now.present) }
 {
+    // What both say of the table is what can be loaded.
+    let _total = held.total();
+    let _bound = held.present().pid_max();
     dump_table(alloc, held.present(), stamp_of(held))
 }
 

@@ -2,7 +2,7 @@
 ghost use Rattle.std.specs.Prelude.{◌≡◌, ◌≢◌, ◌≤◌, ◌↔◌, ◌⊎◌, [], ◌∷◌, IfOk, IfErr};
 ghost use Rattle.{
   table_load.specs.{declared.fault.RestoreFault.TheVariants.{NoMemory}, Faults.{IsOfForm}, Texts.{IsTextOfNoTable}},
-  table_text.specs.{Reading.{IsNoText}, Texts.{text_of}},
+  table_text.specs.{Ranges.{IsWord, IsStateOfWords}, Reading.{IsNoText}, Texts.{text_of}},
   foreign_calls.specs.{Held.{Opens}, Records.{Has}, Saved.{no_fault, fault_numbers, TellsFault}},
   stamped_table.specs.Stamped.{IsInOrder},
 };
@@ -64,6 +64,7 @@ pub fn put_fault(found: RestoreFault, fault: &mut FaultNumbers) -> u32
 /// The table on the heap that the text says.
 fn boxed_load(alloc: Global, text: &[u8]) -> Result<Box<StampedTable>, RestoreFault>
     ensures text { IfOk result (λ held. text.now ≡ text_of held.value.stamp held.value.state) }
+    ensures words { IfOk result (λ held. IsWord held.value.stamp × IsStateOfWords held.value.state) }
     ensures sound { IfOk result (λ held. IsInOrder held.value) }
     ensures form { IfErr result (λ fault. IsOfForm fault → IsNoText text.now) }
     ensures refused { IfErr result (λ fault. fault ≢ RestoreFault.NoMemory → IsTextOfNoTable text.now) }
@@ -80,6 +81,7 @@ impl Pidtab {
     pub fn load(&mut self, alloc: Global, text: &[u8], fault: &mut FaultNumbers) -> u32
         ensures opens { Opens self.old.handle.held self.new.handle.held result (BAD_TEXT ∷ NO_MEMORY ∷ []) }
         ensures done { result ≡ DONE → Has self.new.handle.held (λ s. text.now ≡ text_of s.stamp s.state) }
+        ensures words { result ≡ DONE → Has self.new.handle.held (λ s. IsWord s.stamp × IsStateOfWords s.state) }
         ensures sound { result ≡ DONE → Has self.new.handle.held (λ s. IsInOrder s) }
         ensures fault { TellsFault text.now fault.new result }
     {

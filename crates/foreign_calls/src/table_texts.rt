@@ -1,10 +1,11 @@
 //! The texts of a table without a history, and the table that was loaded from one.
-ghost use Rattle.std.specs.Prelude.{◌≡◌, IfOk};
+ghost use Rattle.std.specs.Prelude.{◌≡◌, IfOk, OnOk};
 ghost use Rattle.{
   pid_types.specs.Sound.{IsSound, IsBelow},
   stamped_table.specs.Stamped.{IsInOrder},
   table_lines.specs.Listed.{list_of_state},
   table_text.specs.Texts.{text_of},
+  foreign_calls.specs.Saved.{IsLoadable},
 };
 
 use stamped_table::StampedTable;
@@ -25,8 +26,12 @@ pub fn list_of(alloc: Global, held: &StampedTable) -> Result<Vec<u8>, AllocError
 
 /// The text of the table, with the stamp of its next call. The error is want of memory.
 pub fn dump_of(alloc: Global, held: &StampedTable) -> Result<Vec<u8>, AllocError>
-    ensures { IfOk result (λ text. text.items ≡ text_of held.now.stamp held.now.state) }
+    ensures text { IfOk result (λ text. text.items ≡ text_of held.now.stamp held.now.state) }
+    ensures loadable { OnOk result (IsLoadable held.now.stamp held.now.state) }
 {
+    held.laws();
+    // What this says of the bound is a part of what can be loaded.
+    let _bound = held.table().pid_max();
     dump_table(alloc, held.table(), held.stamp())
 }
 

@@ -9,7 +9,7 @@ use Rattle.pid_types.specs.Sound.{IsSound, IsBelow}
 use Rattle.pid_types.specs.State.{State}
 use Rattle.pid_types.specs.Step.{step}
 use Rattle.kept_past.specs.Opening.{Held}
-use Rattle.kept_past.specs.Past.{GoesOn, IsCutOnce, IsPast, Past, caught_up, past_of}
+use Rattle.kept_past.specs.Past.{GoesOn, IsCutOnce, IsPast, Past, Waiting, caught_up, first_starves, past_of}
 use Rattle.kept_past.proofs.Along.{state_after-append, state_after-push}
 
 -- a sound state is held, and no entry
@@ -36,19 +36,19 @@ begins held ring lag stamp room next state seen past is none same sound below =
     (subst (λ (s : State). IsBelow (stamp + lag) s) (sym same) (subst (λ (n : ℕ). IsBelow n state) (sym (ap (λ (p : Past). p.stamp) is)) below))
 
 -- a snapshot is held in place of another, and no entry
-pub anew : (held : Option Held) (before ring : List Entry) (lag stamp more room : ℕ) (next : Held) (state : State) (seen : Past) → past_of held before lag stamp room ≡ seen → seen.lag ≡ 0 → more ≡ length before
+pub anew : (held : Option Held) (before ring : List Entry) (lag stamp more room : ℕ) (next : Held) (state : State) (seen : Past) → past_of held before lag stamp room ≡ seen → seen.waits.many ≡ 0 → more ≡ length before
     → ring ≡ [] → next.state ≡ state → IsSound state → IsBelow (seen.stamp + length seen.entries) state → IsPast (Some next) ring lag (stamp + more)
 anew held before ring lag stamp more room next state seen is zero many none same sound below =
-    let no_lag : lag ≡ 0 = ap (λ (p : Past). p.lag) is ∙ zero in
+    let no_lag : lag ≡ 0 = ap (λ (p : Past). p.waits.many) is ∙ zero in
     let at : seen.stamp + length seen.entries ≡ stamp + more + lag =
     omega (arith, no_lag, many, ap (λ (p : Past). p.stamp) is, ap (λ (p : Past). length p.entries) is, length-drop lag before) in
     holds next ring lag (stamp + more) no_lag none
     (subst IsSound (sym same) sound)
     (subst (λ (s : State). IsBelow (stamp + more + lag) s) (sym same) (subst (λ (n : ℕ). IsBelow n state) at below))
 
-past-is : (p : Past) (o o' : Option State) (f f' : Bool) (es es' : List Entry) (s s' l r : ℕ) → p ≡ (let x : Past = record { opening = o; is_fixed = f; entries = es; stamp = s; lag = l; room = r } in x) → o ≡ o' → f ≡ f' → es ≡ es' → s ≡ s'
-    → p ≡ (let x : Past = record { opening = o'; is_fixed = f'; entries = es'; stamp = s'; lag = l; room = r } in x)
-past-is p o o' f f' es es' s s' l r is a b c d = is ∙ rw (a, b, c, d) refl
+past-is : (p : Past) (o o' : Option State) (f f' : Bool) (es es' : List Entry) (s s' : ℕ) (w : Waiting) (r : ℕ) → p ≡ (let x : Past = record { opening = o; is_fixed = f; entries = es; stamp = s; waits = w; room = r } in x) → o ≡ o' → f ≡ f' → es ≡ es' → s ≡ s'
+    → p ≡ (let x : Past = record { opening = o'; is_fixed = f'; entries = es'; stamp = s'; waits = w; room = r } in x)
+past-is p o o' f f' es es' s s' w r is a b c d = is ∙ rw (a, b, c, d) refl
 
 -- nothing is held, or a snapshot: so no call waits
 none_waits : (held : Option Held) (ring : List Entry) (lag stamp room : ℕ) (state : State) (seen : Past) → IsPast held ring lag stamp → past_of held ring lag stamp room ≡ seen
@@ -80,6 +80,14 @@ exchanged held ring lag stamp room next state seen past is (inr fixed) below sam
       fixed = λ _. zero;
     }
 
+-- where no call waits, whatever is held makes no difference to what waits
+same_waits : (held : Option Held) (next : Held) (ring : List Entry) (lag : ℕ) → lag ≡ 0
+    → (let w : Waiting = record { many = lag; may_starve = first_starves (Some next) (take lag ring) } in w) ≡ record { many = lag; may_starve = first_starves held (take lag ring) }
+same_waits None next ring lag zero = ap (λ (b : Bool). let w : Waiting = record { many = lag; may_starve = b } in w) (ap (λ n. first_starves (Some next) (take n ring)) zero)
+same_waits (Some held) next ring lag zero =
+    ap (λ (b : Bool). let w : Waiting = record { many = lag; may_starve = b } in w)
+    (ap (λ n. first_starves (Some next) (take n ring)) zero ∙ sym (ap (λ n. first_starves (Some held) (take n ring)) zero))
+
 -- and so only what is held is another
 pub exchanged-is : (held : Option Held) (ring : List Entry) (lag stamp room : ℕ) (next : Held) (state : State) (seen : Past) → IsPast held ring lag stamp → past_of held ring lag stamp room ≡ seen
     → (seen.opening ≡ None) ⊎ (seen.is_fixed ≡ true) × (seen.opening ≡ Some state) → next.state ≡ state → next.is_fixed ≡ false
@@ -91,11 +99,11 @@ exchanged-is held ring lag stamp room next state seen past is which same moves =
     moves
     (ap (λ (p : Past). p.entries) is)
     (ap (λ (p : Past). p.stamp) is)
-    ∙ (ap (λ (l : ℕ). record seen { opening = Some state; is_fixed = false; lag = l; room = room }) (ap (λ (p : Past). p.lag) is) ∙ ap (λ (r : ℕ). record seen { opening = Some state; is_fixed = false; room = r }) (ap (λ (p : Past). p.room) is))
+    ∙ (ap (λ (w : Waiting). record seen { opening = Some state; is_fixed = false; waits = w; room = room }) (same_waits held next ring lag zero ∙ ap (λ (p : Past). p.waits) is) ∙ ap (λ (r : ℕ). record seen { opening = Some state; is_fixed = false; room = r }) (ap (λ (p : Past). p.room) is))
 
 -- one entry more waits
 cut-once : (held : Option Held) (ring : List Entry) (lag stamp room : ℕ) (first : Entry) (seen new : Past) → IsPast held ring lag stamp → past_of held ring lag stamp room ≡ seen → lag < length ring → first ≡ get_or ring lag first
-    → new ≡ record (past_of held ring (lag + 1) stamp room) { lag = new.lag; room = new.room } → IsCutOnce first.worker seen new
+    → new ≡ record (past_of held ring (lag + 1) stamp room) { waits = new.waits; room = new.room } → IsCutOnce first.worker seen new
 cut-once None ring lag stamp room first seen new past is within at left = absurd (omega (arith, within, ap length (past.bare refl)))
 cut-once (Some held) ring lag stamp room first seen new past is within at left =
     let before : State = state_after held.state stamp (calls_of (take lag ring)) in
@@ -121,7 +129,7 @@ worker_of e = e.worker
 cut-there : (held : Option Held) (ring : List Entry) (lag stamp room worker : ℕ) (seen new : Past) → IsPast held ring lag stamp → past_of held ring lag stamp room ≡ seen
     → Some worker ≡ option_map worker_of (slice_get ring lag)
     → ((x : Entry) × (lag < length ring) × (slice_get ring lag ≡ Some x) × (get_or ring lag x ≡ x)) ⊎ ((length ring ≤ lag) × (slice_get ring lag ≡ None))
-    → new ≡ record (past_of held ring (lag + 1) stamp room) { lag = new.lag; room = new.room } → IsCutOnce worker seen new
+    → new ≡ record (past_of held ring (lag + 1) stamp room) { waits = new.waits; room = new.room } → IsCutOnce worker seen new
 cut-there held ring lag stamp room worker seen new past is whose (inl at) left =
     subst (λ (w : ℕ). IsCutOnce w seen new) (sym (same_Some _ _ (whose ∙ ap (option_map worker_of) at.2)))
     (cut-once held ring lag stamp room at.0 seen new past is at.1 (sym at.3) left)
@@ -131,14 +139,14 @@ cut-there held ring lag stamp room worker seen new past is whose (inr past_end) 
 -- one entry more waits, the first of those that are kept
 pub cut-first : (held : Option Held) (ring : List Entry) (lag stamp room worker : ℕ) (seen new : Past) → IsPast held ring lag stamp → past_of held ring lag stamp room ≡ seen
     → Some worker ≡ option_map worker_of (slice_get ring lag)
-    → new ≡ record (past_of held ring (lag + 1) stamp room) { lag = new.lag; room = new.room } → IsCutOnce worker seen new
+    → new ≡ record (past_of held ring (lag + 1) stamp room) { waits = new.waits; room = new.room } → IsCutOnce worker seen new
 cut-first held ring lag stamp room worker seen new past is whose left = cut-there held ring lag stamp room worker seen new past is whose (slice_get_cases ring lag).1 left
 
 -- all entries wait
 pub cut-all : (held : Option Held) (ring : List Entry) (lag stamp all room : ℕ) (present : State) (seen new : Past) → IsPast held ring lag stamp → past_of held ring lag stamp room ≡ seen → all ≡ length ring → seen.opening ≢ None
     → ((opening : State) → seen.opening ≡ Some opening → present ≡ state_after opening seen.stamp (calls_of seen.entries))
-    → new ≡ record (past_of held ring all stamp room) { lag = new.lag; room = new.room }
-    → new ≡ (let x : Past = record { opening = Some present; is_fixed = seen.is_fixed; entries = []; stamp = seen.stamp + length seen.entries; lag = new.lag; room = new.room } in x)
+    → new ≡ record (past_of held ring all stamp room) { waits = new.waits; room = new.room }
+    → new ≡ (let x : Past = record { opening = Some present; is_fixed = seen.is_fixed; entries = []; stamp = seen.stamp + length seen.entries; waits = new.waits; room = new.room } in x)
 cut-all None ring lag stamp all room present seen new past is many some ends left = absurd (some (sym (ap (λ (p : Past). p.opening) is)))
 cut-all (Some held) ring lag stamp all room present seen new past is many some ends left =
     let before : State = state_after held.state stamp (calls_of (take lag ring)) in

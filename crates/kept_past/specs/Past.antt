@@ -1,21 +1,44 @@
 -- What a record keeps of its past, as its other parts see it.
-use Rattle.std.specs.Prelude.{◌≡◌, ◌+◌, ◌≤◌, ℕ, Bool, true, false, not, List, [], ◌∷◌, take, drop, length, Option, None, Some, IfSome}
+use Rattle.std.specs.Prelude.{◌≡◌, ◌⊎◌, ◌+◌, ◌-◌, ◌≤◌, ◌||◌, ℕ, Bool, true, false, not, List, [], ◌∷◌, take, drop, length, Option, None, Some, IfSome}
 use Rattle.pid_types.specs.declared.entry.Entry.{Entry}
 use Rattle.pid_types.specs.Replay.{state_after, calls_of}
 use Rattle.pid_types.specs.Sound.{IsSound, IsBelow}
 use Rattle.pid_types.specs.State.{State}
-use Rattle.pid_types.specs.Step.{step}
+use Rattle.pid_types.specs.Step.{step, may_grow}
+use Rattle.pid_types.specs.declared.call.Call.{Call}
 use Rattle.kept_past.specs.Opening.{Held}
 
+-- how many entries that were cut away wait for their calls, and whether the first of these calls may find no memory
+pub record Waiting : Type 0 where
+  pub many : ℕ
+  pub may_starve : Bool
+
+abbrev pub nobody_waits : Waiting
+nobody_waits = record { many = 0; may_starve = false }
+
 -- the state that the kept entries begin in, or none where that is the present one, and whether no call can be made on what holds it; these
--- entries; the stamp of the first of them; how many entries that were cut away wait for their calls; and for how many more there is room
+-- entries; the stamp of the first of them; what waits; and for how many more entries there is room
 pub record Past : Type 0 where
   pub opening : Option State
   pub is_fixed : Bool
   pub entries : List Entry
   pub stamp : ℕ
-  pub lag : ℕ
+  pub waits : Waiting
   pub room : ℕ
+
+-- of the calls that waited at most so many were made; fewer only if the next one may find no memory
+abbrev pub IsCaughtUp : ℕ → Waiting → Waiting → Type 0
+IsCaughtUp most old new = (new.many ≡ old.many - most) ⊎ (new.may_starve ≡ true)
+
+-- whether a call on what is held may find no memory: for what it makes, or for the table that it needs first
+abbrev pub starves_at : Held → Call → Bool
+starves_at held call = held.is_new || may_grow call
+
+-- the same of the first of some entries
+abbrev pub first_starves : Option Held → List Entry → Bool
+first_starves None waiting = false
+first_starves (Some held) [] = false
+first_starves (Some held) (e ∷ waiting) = starves_at held e.call
 
 -- the state that is held, once the calls that wait are made on it
 abbrev pub caught_up : Option Held → ℕ → List Entry → Option State
@@ -44,7 +67,7 @@ past_of held ring lag stamp room = record {
   is_fixed = held_fixed held;
   entries = drop lag ring;
   stamp = stamp + lag;
-  lag = lag;
+  waits = record { many = lag; may_starve = first_starves held (take lag ring) };
   room = room;
 }
 
@@ -59,7 +82,7 @@ pub record IsCutOnce (worker : ℕ) (old new : Past) : Type 0 where
     opening = Some (step opening old.stamp first.call).state;
     entries = new.entries;
     stamp = old.stamp + 1;
-    lag = new.lag;
+    waits = new.waits;
     room = new.room;
   }
 

@@ -4,14 +4,14 @@
 //! in two steps. From the first on it is no longer kept, and it waits at the front of the ring. In the second its call
 //! is made on what is held, and it is dropped. Contracts see the state that the calls which wait will lead to. So
 //! nothing is seen of the second step, which may find no memory.
-ghost use Rattle.std.specs.Prelude.{◌≡◌, ◌≢◌, ◌+◌, ◌-◌, ◌<◌, ◌≤◌, ◌^◌, ◌↔◌, IsTrue, IfOk, IfSome, OnOk, OnErr, ◌⊎◌};
-ghost use Rattle.std.specs.Prelude.{ℕ, true, false, not, List, [], ◌∷◌, ◌++◌, length, slice_get, Some, None};
-ghost use Rattle.std.specs.Option.{option_map};
+ghost use Rattle.std.specs.Prelude.{◌≡◌, ◌≢◌, ◌+◌, ◌-◌, ◌<◌, ◌≤◌, ◌^◌, ◌↔◌, ◌⊎◌, Some, None, IfOk, IfSome, OnOk, OnErr};
+ghost use Rattle.std.specs.Prelude.{ℕ, true, false, not, List, [], ◌∷◌, ◌++◌, length, slice_get, option_map, IsTrue};
 ghost use Rattle.{
   pid_types.specs.declared.{call.Call.TheVariants.{NsPid}, entry.Entry.{Entry}, reply.ShortReply.TheVariants.{Refused}},
   pid_types.specs.{Replay.{state_after, calls_of}, Short.{list_reply, reply_of}, Shown.{Shows}, Sound.{IsBelow}},
   pid_types.specs.{State.{State, root_state}, Step.{step, may_grow}, Written.{IsWritten}},
-  kept_past.specs.{Stored.{replies_of, IsToldOf, TellsIfShort}, Past.{held_fixed, moves_or, opening_of, IsCutOnce}},
+  kept_past.specs.Stored.{replies_of, IsToldOf, TellsIfShort},
+  kept_past.specs.Past.{held_fixed, moves_or, nobody_waits, opening_of, IsCaughtUp, IsCutOnce},
   model_laws.specs.Refusals.{is_query},
   pid_table.specs.Lists.{answers_list},
   translate.specs.Zeroes.{HasZeroesBehind},
@@ -75,7 +75,7 @@ impl History {
           is_fixed = false;
           entries = [];
           stamp = stamp;
-          lag = 0;
+          waits = nobody_waits;
           room = result.room;
         } }
     {
@@ -277,9 +277,10 @@ impl History {
         ensures entry { OnOk result (self.new ≡ record self.old {
           entries = self.old.entries
               ++ record { worker = worker; call = call; reply = (step table.old stamp call).reply } ∷ [];
-          lag = self.new.lag;
+          waits = self.new.waits;
           room = self.new.room;
         }) }
+        ensures moved { OnOk result (IsCaughtUp STEPS self.old.waits self.new.waits) }
         ensures room { self.old.room ≤ self.new.room + 1 }
         ensures err { OnErr result (table.new ≡ table.old) }
         ensures none { OnErr result (self.new ≡ self.old) }
@@ -303,9 +304,10 @@ impl History {
         ensures entry { (stamp : ℕ) → self.new ≡ record self.old {
           entries = self.old.entries
               ++ record { worker = worker; call = query; reply = (step table.now stamp query).reply } ∷ [];
-          lag = self.new.lag;
+          waits = self.new.waits;
           room = self.new.room;
         } }
+        ensures moved { IsCaughtUp STEPS self.old.waits self.new.waits }
         ensures room { self.old.room ≤ self.new.room + 1 }
     {
         self.catch_up_some();
@@ -335,9 +337,10 @@ impl History {
             call = NsPid caller target;
             reply = (step table.now stamp (NsPid caller target)).reply;
           } ∷ [];
-          lag = self.new.lag;
+          waits = self.new.waits;
           room = self.new.room;
         } }
+        ensures moved { IsCaughtUp STEPS self.old.waits self.new.waits }
         ensures room { self.old.room ≤ self.new.room + 1 }
     {
         let told = enter_list(table, &mut self.ring, worker, caller, target, numbers);
@@ -350,6 +353,7 @@ impl History {
     pub fn cut_first(&mut self) -> Option<usize>
         requires { self.old.stamp + length self.old.entries < 2 ^ 64 }
         ensures cut { IfSome result (λ worker. IsCutOnce worker self.old self.new) }
+        ensures moved { result ≢ None → IsCaughtUp (STEPS - 1) self.old.waits self.new.waits }
         ensures room { self.old.room ≤ self.new.room }
         ensures none { result ≡ None → self.new ≡ self.old }
         ensures some { (result ≡ None) ↔ ((self.old.is_fixed ≡ true) ⊎ (self.old.entries ≡ [])) }
@@ -376,11 +380,13 @@ impl History {
           is_fixed = self.old.is_fixed;
           entries = [];
           stamp = self.old.stamp + length self.old.entries;
-          lag = self.new.lag;
+          waits = self.new.waits;
           room = self.new.room;
         }) }
+        ensures moved { OnOk result ((self.new.waits.many ≡ 0) ⊎ (self.new.waits.may_starve ≡ true)) }
         ensures room { self.old.room ≤ self.new.room }
         ensures err { OnErr result (self.new ≡ self.old) }
+        ensures fixed { OnErr result (self.old.is_fixed ≡ true) }
     {
         if is_fixed(&self.held) {
             return self.copy(table);
@@ -399,7 +405,7 @@ impl History {
           is_fixed = false;
           entries = [];
           stamp = stamp;
-          lag = 0;
+          waits = nobody_waits;
           room = self.new.room;
         } }
     {
@@ -411,7 +417,8 @@ impl History {
     #[inline(always)]
     fn catch_up_some(&mut self)
         requires { self.old.stamp < 2 ^ 64 }
-        ensures same { self.new ≡ record self.old { lag = self.new.lag; room = self.new.room } }
+        ensures same { self.new ≡ record self.old { waits = self.new.waits; room = self.new.room } }
+        ensures moved { IsCaughtUp STEPS self.old.waits self.new.waits }
         ensures room { self.old.room ≤ self.new.room }
     {
         if self.lag > 0 {
@@ -423,7 +430,8 @@ impl History {
     #[inline(never)]
     fn catch_up(&mut self, most: usize)
         requires { self.old.stamp < 2 ^ 64 }
-        ensures same { self.new ≡ record self.old { lag = self.new.lag; room = self.new.room } }
+        ensures same { self.new ≡ record self.old { waits = self.new.waits; room = self.new.room } }
+        ensures moved { IsCaughtUp most self.old.waits self.new.waits }
         ensures room { self.old.room ≤ self.new.room }
     {
         for _ in 0..most {
@@ -436,9 +444,11 @@ impl History {
     /// Makes the first call that waits on what is held, and drops its entry. The error is want of memory, and then it
     /// waits on.
     fn move_on(&mut self) -> Result<(), AllocError>
-        requires waits { 0 < self.old.lag }
+        requires waits { 0 < self.old.waits.many }
         requires fits { self.old.stamp < 2 ^ 64 }
-        ensures ok { OnOk result (self.new ≡ record self.old { lag = self.old.lag - 1; room = self.new.room }) }
+        ensures ok { OnOk result (self.new ≡ record self.old { waits = self.new.waits; room = self.new.room }) }
+        ensures fewer { OnOk result (self.new.waits.many + 1 ≡ self.old.waits.many) }
+        ensures starves { OnErr result (self.old.waits.may_starve ≡ true) }
         ensures room { self.old.room ≤ self.new.room }
         ensures err { OnErr result (self.new ≡ self.old) }
     {
@@ -459,7 +469,7 @@ impl History {
 
     /// Holds a snapshot of the present state in place of another, and drops all entries. The error is want of memory.
     fn copy(&mut self, table: &PidTable) -> Result<(), AllocError>
-        requires none_waits { self.old.lag ≡ 0 }
+        requires none_waits { self.old.waits.many ≡ 0 }
         requires below { IsBelow (self.old.stamp + length self.old.entries) table.now }
         requires fits { self.old.stamp + length self.old.entries < 2 ^ 64 }
         ensures ok { OnOk result (self.new ≡ record {
@@ -467,7 +477,7 @@ impl History {
           is_fixed = true;
           entries = [];
           stamp = self.old.stamp + length self.old.entries;
-          lag = 0;
+          waits = nobody_waits;
           room = self.new.room;
         }) }
         ensures room { self.old.room ≤ self.new.room }
@@ -496,7 +506,8 @@ fn is_fixed(held: &Option<Opening>) -> bool
 /// The table's state, which may be the root init's, to be held. The error is want of memory.
 fn opening_at(table: &PidTable, config: &Config, is_root: bool) -> Result<Opening, AllocError>
     requires { IsTrue is_root → table.now ≡ root_state config.now.pid_max }
-    ensures { IfOk result (λ opening. opening ≡ record { state = table.now; is_fixed = not is_root }) }
+    ensures { IfOk result (λ opening. opening
+        ≡ record { state = table.now; is_fixed = not is_root; is_new = is_root }) }
 {
     if is_root {
         return Ok(Opening::root(*config));

@@ -1,7 +1,7 @@
 //! The state that a record's kept history begins in.
-ghost use Rattle.std.specs.Prelude.{◌≡◌, IfOk, OnOk, OnErr, true, false};
+ghost use Rattle.std.specs.Prelude.{◌≡◌, IfOk, OnOk, OnErr, IsTrue, true, false};
 ghost use Rattle.pid_types.specs.{Shown.{Shows}, Sound.{IsBelow}, State.{root_state}, Step.{step}};
-ghost use Rattle.kept_past.specs.Opening.{held_in, state_shown, IsHeldWell};
+ghost use Rattle.kept_past.specs.{Opening.{held_in, state_shown, IsHeldWell}, Past.{starves_at}};
 
 use model_laws::laws::nothing_changes;
 use pid_table::{PidTable, is_query};
@@ -42,7 +42,7 @@ impl Model for Opening {
 impl Opening {
     /// The state with the root init alone. It takes no memory.
     pub(crate) fn root(config: Config) -> Opening
-        ensures { result ≡ record { state = root_state config.pid_max; is_fixed = false } }
+        ensures { result ≡ record { state = root_state config.pid_max; is_fixed = false; is_new = true } }
     {
         Opening {
             form: Form::Root(config),
@@ -51,7 +51,7 @@ impl Opening {
 
     /// The state of a table that is given.
     pub(crate) fn table(table: PidTable) -> Opening
-        ensures { result ≡ record { state = table; is_fixed = false } }
+        ensures { result ≡ record { state = table; is_fixed = false; is_new = false } }
     {
         Opening {
             form: Form::Table(table),
@@ -60,7 +60,7 @@ impl Opening {
 
     /// The table's present state, as a snapshot. The error is want of memory.
     pub(crate) fn copy(table: &PidTable) -> Result<Opening, AllocError>
-        ensures { IfOk result (λ opening. opening ≡ record { state = table.now; is_fixed = true }) }
+        ensures { IfOk result (λ opening. opening ≡ record { state = table.now; is_fixed = true; is_new = false }) }
     {
         let plain = table.snapshot()?;
         Ok(Opening {
@@ -91,8 +91,12 @@ impl Opening {
     pub(crate) fn make(&mut self, alloc: Global, stamp: u64, call: Call) -> Result<(), AllocError>
         requires below { IsBelow stamp self.old.state }
         requires moves { self.old.is_fixed ≡ false }
-        ensures ok { OnOk result (self.new ≡ record self.old { state = (step self.old.state stamp call).state }) }
+        ensures ok { OnOk result (self.new ≡ record self.old {
+          state = (step self.old.state stamp call).state;
+          is_new = self.new.is_new;
+        }) }
         ensures err { OnErr result (self.new ≡ self.old) }
+        ensures starves { OnErr result (IsTrue (starves_at self.old call)) }
     {
         nothing_changes();
         if is_query(&call) {
@@ -120,9 +124,12 @@ fn make_in(form: &mut Form, alloc: Global, stamp: u64, call: Call) -> Result<(),
     requires below { IsBelow stamp (held_in form.old).state }
     requires moves { (held_in form.old).is_fixed ≡ false }
     requires well { IsHeldWell form.old }
-    ensures ok { OnOk result
-        (held_in form.new ≡ record (held_in form.old) { state = (step (held_in form.old).state stamp call).state }) }
+    ensures ok { OnOk result (held_in form.new ≡ record (held_in form.old) {
+      state = (step (held_in form.old).state stamp call).state;
+      is_new = (held_in form.new).is_new;
+    }) }
     ensures err { OnErr result (held_in form.new ≡ held_in form.old) }
+    ensures starves { OnErr result (IsTrue (starves_at (held_in form.old) call)) }
     ensures well { IsHeldWell form.new }
 {
     let mut reply = Reply::Done;

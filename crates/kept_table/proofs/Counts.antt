@@ -13,7 +13,7 @@ use Rattle.model_laws.specs.StepLaws.{BoundStays, RootStateIsSound, RunsKeepSoun
 use Rattle.pid_types.specs.Sound.{IsSound, IsBelow}
 use Rattle.kept_table.specs.Calls.{counted, resumed}
 use Rattle.kept_table.specs.Chronicle.{Chronicle, IsKept, by_worker, next_stamp, total, recorded}
-use Rattle.kept_past.specs.Past.{Past, opening_of}
+use Rattle.kept_past.specs.Past.{Past, Waiting, nobody_waits, opening_of}
 use Rattle.kept_table.specs.Whole.{IsKeptCounted, IsKeptWhole, one_of, room_of, told}
 use Rattle.kept_table.proofs.Invariant.{kept-new, kept-resumed, kept-entry, kept-checkpoint}
 use Rattle.kept_table.proofs.Totals.{sum_of_noughts}
@@ -73,7 +73,7 @@ pub resumed-is : (config : Settings) (state : State) (stamp first : ℕ) (counts
 resumed-is config state stamp first counts cut calls past bound starts at cuts all none empty = rw (bound, starts, at, cuts, all, none, empty) refl
 
 pub whole-resumed : (config : Settings) (state : State) (stamp first : ℕ) (counts cut calls : List ℕ) (past : Past) → IsSound state → IsBelow stamp state → sum counts < stamp → stamp < 2 ^ 64 → config.pid_max ≡ state.pid_max → config.first_stamp ≡ stamp - first → first ≡ sum counts → cut ≡ counts → calls ≡ counts
-    → past ≡ record { opening = None; is_fixed = false; entries = []; stamp = stamp; lag = 0; room = past.room }
+    → past ≡ record { opening = None; is_fixed = false; entries = []; stamp = stamp; waits = nobody_waits; room = past.room }
     → IsKeptWhole past calls (told config true past first cut state calls)
 whole-resumed config state stamp first counts cut calls past sound below fewer fits bound starts at cuts all bare =
     subst (λ c. IsKeptWhole past calls c) (sym (resumed-is config state stamp first counts cut calls past bound starts at cuts all (ap (λ (p : Past). p.opening) bare) (ap (λ (p : Past). p.entries) bare))) (record {
@@ -135,8 +135,8 @@ opening_stays None old new some = absurd (some refl)
 opening_stays (Some state) old new some = refl
 
 -- the same where a state is held
-pub whole-push : (past next : Past) (config : Settings) (resumed : Bool) (first lag room : ℕ) (cut calls calls' : List ℕ) (old present : State) (e : Entry) → past.opening ≢ None
-    → IsKeptWhole past calls (told config resumed past first cut old calls) → next ≡ record past { entries = past.entries ++ e ∷ []; lag = lag; room = room } → e.worker < length cut → (next_stamp (told config resumed past first cut old calls) + 1) < 2 ^ 64
+pub whole-push : (past next : Past) (config : Settings) (resumed : Bool) (first : ℕ) (waits : Waiting) (room : ℕ) (cut calls calls' : List ℕ) (old present : State) (e : Entry) → past.opening ≢ None
+    → IsKeptWhole past calls (told config resumed past first cut old calls) → next ≡ record past { entries = past.entries ++ e ∷ []; waits = waits; room = room } → e.worker < length cut → (next_stamp (told config resumed past first cut old calls) + 1) < 2 ^ 64
     → (let o : Outcome = record { state = present; reply = e.reply } in o) ≡ step old (next_stamp (told config resumed past first cut old calls)) e.call
     → ((w : ℕ) → slice_index calls' w ≡ slice_index calls w + one_of e.worker w) → sum calls' ≡ sum calls + 1 → length calls' ≡ length calls
     → IsKeptWhole next calls' (told config resumed next first cut present calls')
@@ -156,8 +156,8 @@ room-stays None held' room room' is le = omega arith
 room-stays (Some state) held' room room' is le = subst (λ (z : Option State). room ≤ room_of z room' + 1) (sym is) le
 
 -- the record with one call more, which leaves the state
-pub counted-query : (past next : Past) (config : Settings) (resumed : Bool) (first lag room : ℕ) (cut calls calls' : List ℕ) (present : State) (entries : List Entry) (c : Chronicle) (before : ℕ)
-    → next ≡ record past { entries = entries; lag = lag; room = room } → sum calls' ≡ sum calls + 1
+pub counted-query : (past next : Past) (config : Settings) (resumed : Bool) (first : ℕ) (waits : Waiting) (room : ℕ) (cut calls calls' : List ℕ) (present : State) (entries : List Entry) (c : Chronicle) (before : ℕ)
+    → next ≡ record past { entries = entries; waits = waits; room = room } → sum calls' ≡ sum calls + 1
     → told config resumed past first cut present calls ≡ record c { room = before }
     → told config resumed next first cut present calls' ≡ counted c next.entries present (room_of next.opening next.room)
 counted-query past next config resumed first lag room cut calls calls' present entries c before are all seen =

@@ -15,7 +15,7 @@ use Rattle.model_laws.specs.StepLaws.{BoundStays, RunsKeepSoundness}
 use Rattle.kept_table.specs.Calls.{after_recorded, counted, entry_of, outcome, IsWithoutFirst}
 use Rattle.kept_table.specs.Chronicle.{Chronicle, IsKept, by_worker, first_kept_stamp}
 use Rattle.kept_table.specs.Whole.{IsKeptCounted, IsKeptWhole, is_fresh, one_of, room_of, told}
-use Rattle.kept_past.specs.Past.{IsCutOnce, Past, moves_or, opening_of}
+use Rattle.kept_past.specs.Past.{IsCutOnce, Past, Waiting, moves_or, opening_of}
 use Rattle.kept_past.proofs.Along.{state_after-append}
 use Rattle.kept_table.proofs.Counts.{counted-cut, recorded-cut}
 use Rattle.kept_table.proofs.Invariant.{kept-once}
@@ -141,8 +141,8 @@ pub without-room : (n room : ℕ) (c d : Chronicle) → IsWithoutFirst n c d →
 without-room n room c d w = record { gone = w.gone; many = w.many; were = w.were; left = w.left; workers = w.workers; counts = w.counts }
 
 -- all are cut away: the present state is the opening
-pub whole-all : RunsKeepSoundness → BoundStays → (past next : Past) (config : Settings) (resumed fixed : Bool) (first first' stamp lag room : ℕ) (cut cut' calls : List ℕ) (present : State) → IsKeptWhole past calls (told config resumed past first cut present calls)
-    → next ≡ record { opening = Some present; is_fixed = fixed; entries = []; stamp = stamp; lag = lag; room = room } → first' ≡ first + length past.entries → stamp ≡ past.stamp + length past.entries → cut' ≡ calls
+pub whole-all : RunsKeepSoundness → BoundStays → (past next : Past) (config : Settings) (resumed fixed : Bool) (first first' stamp : ℕ) (waits : Waiting) (room : ℕ) (cut cut' calls : List ℕ) (present : State) → IsKeptWhole past calls (told config resumed past first cut present calls)
+    → next ≡ record { opening = Some present; is_fixed = fixed; entries = []; stamp = stamp; waits = waits; room = room } → first' ≡ first + length past.entries → stamp ≡ past.stamp + length past.entries → cut' ≡ calls
     → IsKeptWhole next calls (told config resumed next first' cut' present calls)
 whole-all law stays past next config resumed fixed first first' stamp lag room cut cut' calls present k left firsts stamps same =
     subst (λ (p : Past). IsKeptWhole p calls (told config resumed p first' cut' present calls)) (sym left) (record {
@@ -153,8 +153,8 @@ whole-all law stays past next config resumed fixed first first' stamp lag room c
     })
 
 -- the same where no state is held then
-pub whole-bare : RunsKeepSoundness → BoundStays → (past next : Past) (config : Settings) (resumed : Bool) (first first' stamp lag room : ℕ) (cut cut' calls : List ℕ) (present : State) → IsKeptWhole past calls (told config resumed past first cut present calls)
-    → next ≡ record { opening = None; is_fixed = false; entries = []; stamp = stamp; lag = lag; room = room } → first' ≡ first + length past.entries → stamp ≡ config.first_stamp + first' → cut' ≡ calls
+pub whole-bare : RunsKeepSoundness → BoundStays → (past next : Past) (config : Settings) (resumed : Bool) (first first' stamp : ℕ) (waits : Waiting) (room : ℕ) (cut cut' calls : List ℕ) (present : State) → IsKeptWhole past calls (told config resumed past first cut present calls)
+    → next ≡ record { opening = None; is_fixed = false; entries = []; stamp = stamp; waits = waits; room = room } → first' ≡ first + length past.entries → stamp ≡ config.first_stamp + first' → cut' ≡ calls
     → IsKeptWhole next calls (told config resumed next first' cut' present calls)
 whole-bare law stays past next config resumed first first' stamp lag room cut cut' calls present k left firsts stamps same =
     subst (λ (p : Past). IsKeptWhole p calls (told config resumed p first' cut' present calls)) (sym left) (record {

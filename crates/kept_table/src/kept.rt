@@ -9,7 +9,7 @@ ghost use Rattle.{
   pid_types.specs.{Sound.{IsBelow}, Step.{step, may_grow}, Short.{list_reply, reply_of}, Written.{IsWritten}},
   pid_types.specs.declared.call.Call.TheVariants.{NsPid},
   translate.specs.{Zeroes.{HasZeroesBehind}, Stat.{stat_at, glimpse_in, IsSeen}},
-  call_effects.specs.Touched.{is_touching, most_in, most_of, Watches},
+  call_effects.specs.{Reckoned.{Reckons}, Touched.{is_touching, most_in, most_of, Watches}},
   kept_past.specs.Stored.{TellsIfShort},
   kept_table.specs.Calls.{begun, resumed, outcome, entry_of, after_recorded, counted, cut_at, IsWithoutFirst, to_cut},
   kept_table.specs.Calls.{to_cut_once},
@@ -370,6 +370,7 @@ impl Kept {
     /// changes. An error is `Spent`, where the stamps are used up, or want of memory.
     pub fn touched(&self, call: Call) -> Result<Touched, CallFault>
         ensures before { IfOk result (Watches self.now.present (outcome self.now call).state) }
+        ensures reckons { IfOk result (Reckons self.now.present (next_stamp self.now) call) }
         ensures few { IfOk result (λ w. most_of w ≤ most_in self.now.present) }
         ensures touching { IfOk result (λ w. 0 < most_of w → IsTrue (is_touching call)) }
         ensures spent { (result ≡ Err CallFault.Spent) ↔ (next_stamp self.now ≡ u64.MAX) }
@@ -421,6 +422,7 @@ impl Kept {
         ensures workers { length self.new.cut ≡ length self.old.cut }
         ensures room { self.old.room ≤ self.new.room }
         ensures err { OnErr result (self.new ≡ self.old) }
+        ensures by_steps { OnErr result (self.old.by_steps ≡ false) }
     {
         soundness_is_kept();
         bound_stays();

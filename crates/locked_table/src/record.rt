@@ -5,7 +5,7 @@
 //! call, and by the numbers of a list, until a [`Record::checkpoint`] empties it. [`Record::make_call_keeping`] bounds
 //! it.
 ghost use Rattle.std.specs.Prelude.{◌≡◌, ℕ, ◌+◌, ◌^◌, ◌<◌, ◌≤◌, [], ◌∷◌, ◌++◌, ◌↔◌, IsTrue, IfOk, OnOk, OnErr, IsOk};
-ghost use Rattle.std.specs.{Prelude.{IfSome, Some, None, Err, ◌≢◌, ◌⊎◌, true, length, sum}, Option.{option_map}};
+ghost use Rattle.std.specs.{Prelude.{IfSome, Some, None, Err, ◌≢◌, ◌⊎◌, true, false, length, sum}, Option.{option_map}};
 ghost use Rattle.{
   pid_types.specs.{declared.plain.Control.{Control}, Membership.{IsIn}, Shown.{Shows}, Sound.{IsBelow}},
   pid_types.specs.{Step.{may_grow}, declared.entry.Entry.{Entry}},
@@ -251,6 +251,7 @@ impl<L: Ledger, const N: usize> Record<L, N> {
             ((worker : ℕ) → worker < N → recorded self.new worker ≡ recorded self.old worker) }
         ensures room { self.old.room ≤ self.new.room }
         ensures err { OnErr result (self.new ≡ self.old) }
+        ensures by_steps { OnErr result (self.old.by_steps ≡ false) }
     {
         self.kept.checkpoint()
     }

@@ -1,2 +1,3 @@
+pub mod Audits
 pub mod Made
 pub mod MadeLaws

@@ -134,6 +134,7 @@ pub fn run_for_table<S: Source, K: Sink>(
     ensures err { IfErr result (Leaves may_grow MOST_READS (start_of config.now)
         (S.remaining source.old) (S.remaining source.new) (K.contents sink.old) (K.contents sink.new)
         (S.has_failed source.new)) }
+    ensures stopped { result ≡ Err Write → HasStopped (K.has_failed sink.new) (K.is_full sink.new) }
 {
     let mut table = match ScriptTable::new(alloc, config) {
         Ok(table) => table,

@@ -2,8 +2,9 @@
 //!
 //! [`run_workers`] is the one door. It takes the jobs as lists of calls, so what a job makes cannot
 //! be named later in it but by luck: ids and numbers depend on which worker comes first.
-ghost use Rattle.std.specs.Prelude.{◌≡◌, false, ℕ, ◌<◌, length, vec_len, slice_index_or, IfOk, OnOk};
-ghost use Rattle.worker_jobs.specs.{Job.{Fulfils}, Receipts.{IsAudited}};
+ghost use Rattle.std.specs.Prelude.{◌≡◌, ◌≢◌, false, ℕ, ◌<◌, length, vec_len, IfErr, IfOk, OnOk};
+ghost use Rattle.worker_jobs.specs.{Job.{IsNoAudit}, Receipts.{IsAudited}};
+ghost use Rattle.pid_workers.specs.Audits.{AreFulfilled, HasDiscrepancy, TellsAudit, TellsGateOfEach};
 
 use locked_table::{Record, Shared};
 use pid_types::call::Call;
@@ -42,9 +43,10 @@ fn finish_all<
     requires parts { (blank.parts ≡ L.parts) × (L.parts ≡ N) × (0 < N) }
     requires jobs { length jobs.now ≡ N }
     ensures works { IfOk result (λ f. vec_len f.works ≡ N) }
-    ensures jobs { IfOk result (λ f. (w : ℕ) (d : _) (j : _) → w < N
-        → Fulfils (slice_index_or jobs.now w j).items (slice_index_or f.works.items w d).receipts.items
-        (slice_index_or f.works.items w d).refused) }
+    ensures jobs { IfOk result (λ f. AreFulfilled jobs.now f.works.items) }
+    ensures told { OnOk result (TellsGateOfEach (G.opens gate.now) (G.was_before gate.now) (G.was_after gate.now)
+        jobs.now) }
+    ensures no_audit { IfErr result IsNoAudit }
 {
     let (shared, seats) = Shared::<L, N>::open(alloc, blank, config)?;
     let (seats, works) = serve_jobs(rt, alloc, &shared, gate, seats, jobs)?;
@@ -64,6 +66,8 @@ fn check_finished<L: Ledger, const N: usize>(
     ensures fresh { OnOk result (finished.now.kept.is_resumed ≡ false) }
     ensures kept { OnOk result (finished.now.kept.first_kept ≡ 0) }
     ensures audited { OnOk result (IsAudited N finished.now.kept finished.now.works.items) }
+    ensures at_odds { IfErr result (λ fault. (w p : ℕ) → fault ≡ RunFault.Audit w p
+        → HasDiscrepancy config.now finished.now.kept finished.now.works.items w p) }
 {
     // Never so. But no contract can name what stood behind the lock, and the answer promises all three.
     if finished.kept.config() != *config
@@ -116,9 +120,10 @@ pub fn run_workers<
     ensures fresh { IfOk result (λ f. f.kept.is_resumed ≡ false) }
     ensures kept { IfOk result (λ f. f.kept.first_kept ≡ 0) }
     ensures works { IfOk result (λ f. vec_len f.works ≡ N) }
-    ensures jobs { IfOk result (λ f. (w : ℕ) (d : _) (j : _) → w < N
-        → Fulfils (slice_index_or jobs.now w j).items (slice_index_or f.works.items w d).receipts.items
-        (slice_index_or f.works.items w d).refused) }
+    ensures jobs { IfOk result (λ f. AreFulfilled jobs.now f.works.items) }
+    ensures told { OnOk result (TellsGateOfEach (G.opens gate.now) (G.was_before gate.now) (G.was_after gate.now)
+        jobs.now) }
+    ensures audit { IfErr result (TellsAudit config.now jobs.now) }
     ensures audited { IfOk result (λ f. IsAudited N f.kept f.works.items) }
 {
     let finished = finish_all::<L, G, R, N>(rt, alloc, blank, config, jobs, gate)?;

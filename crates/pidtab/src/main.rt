@@ -4,6 +4,7 @@
 #![tactic(auto)]
 
 use pid_commands::{Fault, Status, WordsFault, run_answer, say_fault, say_usage};
+use pid_types::device::{FromReader, ToWriter};
 use pid_words::read_words;
 use std::io::ErrorKind;
 use std::process::ExitCode;
@@ -11,13 +12,16 @@ use std::rt::Env;
 use std::{env, io};
 
 fn main(rt: HostRuntime) -> ExitCode {
-    let mut errors = rt.stderr();
+    let mut stderr = rt.stderr();
+    let mut errors = ToWriter::new(&mut stderr);
+    // What prints holds no byte back, so nothing is to be flushed.
+    let mut stdout = io::writer(&rt);
     let status = match given_words(&rt) {
         Ok(words) => run_answer(
             &rt,
             read_words(rt.alloc(), words.as_slice()),
-            rt.reader(),
-            &mut io::writer(&rt),
+            &mut FromReader::new(rt.reader()),
+            &mut ToWriter::new(&mut stdout),
             &mut errors,
         ),
         Err(WordsFault::Usage) => say_usage(&mut errors),

@@ -51,7 +51,7 @@ pub extern "C" fn pidtab_call_told(
         ↔ Has table.old.handle.held (λ s. IsSpent s.stamp) × IsSome (call_of call.now) }
     ensures no_memory { result ≡ NO_MEMORY → (made : Call) × (call_of call.now ≡ Some made) × MayWant made }
     ensures no_room { result ≡ NO_ROOM → (made : Call) × (call_of call.now ≡ Some made)
-        × Has table.old.handle.held (λ s. WantsRoom s.state made (length effects.old) count.new) }
+        × Has table.old.handle.held (λ s. WantsRoom s.state s.stamp made (length effects.old) count.new) }
 {
     if !table.is_open {
         return CLOSED;
@@ -91,7 +91,7 @@ pub extern "C" fn pidtab_record_call_told(
     ensures no_memory { result ≡ NO_MEMORY → (made : Call) × (call_of call.now ≡ Some made)
         × Has table.old.handle.held (λ c. 0 < c.room → MayWant made) }
     ensures no_room { result ≡ NO_ROOM → (made : Call) × (call_of call.now ≡ Some made)
-        × Has table.old.handle.held (λ c. WantsRoom c.present made (length effects.old) count.new) }
+        × Has table.old.handle.held (λ c. WantsRoom c.present (next_stamp c) made (length effects.old) count.new) }
 {
     if !table.is_open {
         return CLOSED;

@@ -1,5 +1,5 @@
 //! The history of a record, for C: how many calls were recorded, the kept entries, and cutting them away.
-ghost use Rattle.std.specs.Prelude.{◌≡◌, ◌≢◌, ◌+◌, ◌≤◌, ◌↔◌, ◌⊎◌, [], ◌∷◌, None, IfSome, length};
+ghost use Rattle.std.specs.Prelude.{◌≡◌, ◌≢◌, ◌+◌, ◌≤◌, ◌↔◌, ◌⊎◌, [], ◌∷◌, None, false, IfSome, length};
 ghost use Rattle.{
   kept_table.specs.{Calls.{to_cut, IsWithoutFirst}, Chronicle.{total, recorded, recorded_by_all, kept_entry}},
   kept_table.specs.Promise.{KeepsPromise},
@@ -104,6 +104,7 @@ pub extern "C" fn pidtab_record_entry(
 pub extern "C" fn pidtab_record_checkpoint(table: &mut PidtabRecord) -> u32
     ensures changes { ChangesIfDone table.old.handle.held table.new.handle.held result (NO_MEMORY ∷ []) }
     ensures done { result ≡ DONE → Cuts table.old.handle.held table.new.handle.held }
+    ensures no_memory { result ≡ NO_MEMORY → Has table.old.handle.held (λ c. c.by_steps ≡ false) }
 {
     if !table.is_open {
         return CLOSED;
@@ -121,6 +122,7 @@ pub extern "C" fn pidtab_record_checkpoint_at(table: &mut PidtabRecord, seen: u6
     ensures done { result ≡ DONE → Cuts table.old.handle.held table.new.handle.held }
     ensures seen { result ≡ DONE → Has table.old.handle.held (λ c. total c ≡ seen) }
     ensures again { (result ≡ AGAIN) ↔ Has table.old.handle.held (λ c. total c ≢ seen) }
+    ensures no_memory { result ≡ NO_MEMORY → Has table.old.handle.held (λ c. c.by_steps ≡ false) }
 {
     if !table.is_open {
         return CLOSED;

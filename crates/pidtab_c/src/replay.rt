@@ -1,9 +1,9 @@
 //! Saved entries on a record, for C: their calls are made again, and their replies compared.
-ghost use Rattle.std.specs.Prelude.{◌≡◌, ◌≢◌, ◌↔◌, [], ◌∷◌, None, length, slice_get};
+ghost use Rattle.std.specs.Prelude.{◌≡◌, ◌≢◌, ◌<◌, ◌↔◌, [], ◌∷◌, None, length, slice_get};
 ghost use Rattle.{
   kept_table.specs.Chronicle.{next_stamp},
   foreign_calls.specs.{Held.{NeedsOpen}, Records.{Has, roomless}},
-  foreign_calls.specs.Replays.{ReplaysSaved, CannotMake, StopsBefore, StopsAt},
+  foreign_calls.specs.Replays.{ReplaysSaved, CannotMake, MayNeedMemory, StopsBefore, StopsAt},
 };
 
 use foreign_calls::read::EntryNumbers;
@@ -38,6 +38,8 @@ pub extern "C" fn pidtab_record_replay(
         ↔ Has table.new.handle.held (λ d. Has (slice_get saved.now place.new) (λ n. CannotMake d n)) }
     ensures spent { result ≢ DONE → result ≢ DIFFERS → result ≢ OUT_OF_RANGE
         → (result ≡ SPENT) ↔ Has table.new.handle.held (λ d. next_stamp d ≡ u64.MAX) }
+    ensures no_memory { result ≡ NO_MEMORY → Has table.old.handle.held (λ c. place.new < c.room
+        → Has (slice_get saved.now place.new) MayNeedMemory) }
 {
     if !table.is_open {
         return CLOSED;

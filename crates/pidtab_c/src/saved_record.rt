@@ -4,7 +4,7 @@ ghost use Rattle.{
   table_text.specs.Texts.{text_of},
   kept_table.specs.Chronicle.{next_stamp},
   foreign_calls.specs.{Held.{OnlyReads, Opens}, Records.{Has}, Rooms.{PutsText}},
-  foreign_calls.specs.Saved.{HasWorkers, HasTooManyCalls, TellsTooManyCalls, IsResumed, TellsFault},
+  foreign_calls.specs.Saved.{HasWorkers, HasTooManyCalls, IsLoadable, TellsTooManyCalls, IsResumed, TellsFault},
 };
 
 use foreign_calls::record::PidtabRecord;
@@ -29,6 +29,7 @@ pub extern "C" fn pidtab_record_dump(
     ensures reads { OnlyReads table.old.handle.held table.new.handle.held result (NO_ROOM ∷ NO_MEMORY ∷ []) }
     ensures text { PutsText table.old.handle.held (λ c. text_of (next_stamp c) c.present)
         room.old room.new size.old size.new result }
+    ensures loadable { result ≡ DONE → Has table.old.handle.held (λ c. IsLoadable (next_stamp c) c.present) }
 {
     if !table.is_open {
         return CLOSED;

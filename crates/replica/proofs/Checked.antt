@@ -1,5 +1,5 @@
 -- What is said of the digest of a writer.
-use Rattle.std.proofs.Common.{◌≡◌, ◌<◌, ◌⊎◌, inl, inr, ℕ, Bool, true, false, eqb, nat_eq, List, Option, Some, None, Result, Err, refl, sym, ap, ◌∙◌, subst}
+use Rattle.std.proofs.Common.{◌≡◌, ◌<◌, ◌⊎◌, inl, inr, ℕ, Bool, true, false, eqb, nat_eq, List, Option, Some, None, Result, Ok, Err, IfErr, OnErr, refl, sym, ap, ◌∙◌, subst}
 use Rattle.std.specs.List.{starts_with}
 use Rattle.std.specs.Map.{lookup}
 use Rattle.hex.specs.Hex.{encode_lower}
@@ -11,7 +11,7 @@ use Rattle.replica.specs.declared.outcome.ReplicaFault.TheVariants as fault
 use Rattle.replica.specs.declared.outcome.Applied.{Applied}
 use Rattle.replica.specs.declared.outcome.Outcome.{Outcome}
 use Rattle.replica.specs.Log.{Log}
-use Rattle.replica.specs.Replicas.{Replica, at, checked, is_before, judged, may_come, replica_of, sequence_of, session_in_entry, used}
+use Rattle.replica.specs.Replicas.{MakesFront, Replica, at, checked, is_before, judged, lines_at, may_come, replica_of, sequence_of, session_in_entry, used}
 use Rattle.replica.specs.Applied.{Enters, IsLookedAt, IsNext, Refuses, StopsApplying}
 use Rattle.replica.specs.Laws.{Applies}
 use Rattle.stamped_table.specs.Stamped.{Stamped}
@@ -61,11 +61,17 @@ pub looked_at : (position : ℕ) (table : Stamped) (inside log : Log) → inside
 looked_at position table inside log same whole rises =
     subst (λ (l : Log). IsLookedAt position (replica_of l table)) same (record { whole = whole; rises = rises })
 
+-- calls that found no memory
+pub stops_calls : {A : Type 0} (r : Result A ReplicaFault) (e : LogEntry) (old new : Replica) (before after : List ℕ) → IfErr r (λ f. f ≡ fault.Torn)
+    → OnErr r (new.log.torn ≡ true) → OnErr r (MakesFront (lines_at e) old.table new.table) → IfErr r (StopsApplying e old before new after)
+stops_calls (Ok what) e old new before after is torn front = tt
+stops_calls (Err f) e old new before after is torn front = subst (StopsApplying e old before new after) (sym is) (torn, front)
+
 -- there was no memory for what the next entry says
 pub stopped : (position : ℕ) (bytes : List ℕ) (old : Replica) (before : List ℕ) (new : Replica) (after : List ℕ) (entry : LogEntry) (e : ReplicaFault)
     → IsNext position bytes old entry → StopsApplying entry old before new after e → Refuses position bytes old before new after e
 stopped position bytes old before new after entry fault.NoMemory next stops = (subst (IsNext position bytes old) stops.0 next, stops.1)
-stopped position bytes old before new after entry fault.Torn next stops = (stops, inr (entry, next))
+stopped position bytes old before new after entry fault.Torn next stops = inr (stops.0, (entry, next, stops.1))
 stopped position bytes old before new after entry fault.NotRising next stops = absurd stops
 stopped position bytes old before new after entry fault.NoEntry next stops = absurd stops
 stopped position bytes old before new after entry fault.OtherSettings next stops = absurd stops

@@ -5,7 +5,7 @@ use Rattle.replica.specs.declared.outcome.Outcome.{Outcome}
 use Rattle.replica.specs.declared.outcome.ReplicaFault.{ReplicaFault}
 use Rattle.replica.specs.declared.outcome.ReplicaFault.TheVariants.{NotRising, NoEntry, OtherSettings, Missing, Diverged, NoMemory, Torn}
 use Rattle.replica.specs.Log.{Log}
-use Rattle.replica.specs.Replicas.{Replica, answers_at, checked, entered, may_come, outcome_at}
+use Rattle.replica.specs.Replicas.{Replica, MakesFront, answers_at, checked, entered, lines_at, may_come, outcome_at}
 
 -- a log that has not begun
 pub record IsNewLog (pid_max model : ℕ) (log : Log) : Type 0 where
@@ -45,10 +45,11 @@ pub record ChangesNothing (old : Replica) (before : List ℕ) (new : Replica) (a
   pub replica : new ≡ old
   pub answers : after ≡ before
 
--- there was no memory: nothing has changed of a session that was to open, or the replica is torn
+-- there was no memory: nothing has changed of a session that was to open; or the replica is torn, and of the entry's lines some were made,
+-- from the first on
 abbrev pub StopsApplying : LogEntry → Replica → List ℕ → Replica → List ℕ → ReplicaFault → Type 0
 StopsApplying e old before new after NoMemory = (e ≡ Opened) × ChangesNothing old before new after
-StopsApplying e old before new after Torn = new.log.torn ≡ true
+StopsApplying e old before new after Torn = (new.log.torn ≡ true) × MakesFront (lines_at e) old.table new.table
 StopsApplying e old before new after NotRising = ⊥
 StopsApplying e old before new after NoEntry = ⊥
 StopsApplying e old before new after OtherSettings = ⊥
@@ -75,4 +76,5 @@ Refuses position bytes old before new after Diverged =
     IsLookedAt position old × IsAtOdds bytes old Diverged × ChangesNothing old before new after
 Refuses position bytes old before new after NoMemory = IsNext position bytes old Opened × ChangesNothing old before new after
 Refuses position bytes old before new after Torn =
-    (new.log.torn ≡ true) × ((old.log.torn ≡ true) ⊎ ((e : LogEntry) × IsNext position bytes old e))
+    (old.log.torn ≡ true) × ChangesNothing old before new after
+    ⊎ (new.log.torn ≡ true) × ((e : LogEntry) × IsNext position bytes old e × MakesFront (lines_at e) old.table new.table)

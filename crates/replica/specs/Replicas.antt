@@ -1,5 +1,5 @@
 -- A replica, and what an entry of the log makes of it.
-use Rattle.std.specs.Prelude.{ℕ, ◌+◌, ◌^◌, ◌-◌, ◌==◌, ◌&&◌, ◌||◌, not, nat_le, min, Bool, true, false, List, [], ◌∷◌, ◌++◌, length, take, filter, codes, nat_eq, nat_lt, Option, Some, None, Result, Ok, Err, if◌then◌else◌}
+use Rattle.std.specs.Prelude.{ℕ, ◌≡◌, ◌+◌, ◌^◌, ◌-◌, ◌==◌, ◌&&◌, ◌||◌, not, nat_le, min, Bool, true, false, List, [], ◌∷◌, ◌++◌, length, take, filter, codes, nat_eq, nat_lt, Option, Some, None, Result, Ok, Err, if◌then◌else◌}
 use Rattle.std.specs.Map.{lookup}
 use Rattle.std.specs.List.{starts_with}
 use Rattle.hex.specs.Hex.{encode_lower}
@@ -46,6 +46,10 @@ after_line t (says.Call call) = if is_spent t then t else after_call t call
 abbrev pub after_lines : Stamped → List (List ℕ) → Stamped
 after_lines t [] = t
 after_lines t (line ∷ lines) = after_lines (after_line t (parsed line)) lines
+
+-- some of the lines were made, from the first on, and nothing else
+abbrev pub MakesFront : List (List ℕ) → Stamped → Stamped → Type 0
+MakesFront lines t t' = (n : ℕ) × (t' ≡ after_lines t (take n lines))
 
 abbrev pub answers_to : Stamped → List (List ℕ) → List ℕ
 answers_to t [] = []

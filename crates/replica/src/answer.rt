@@ -1,5 +1,5 @@
 //! The answer to one line.
-ghost use Rattle.std.specs.Prelude.{◌≡◌, codes, IfOk, OnOk};
+ghost use Rattle.std.specs.Prelude.{◌≡◌, codes, IfOk, OnErr, OnOk};
 ghost use Rattle.pid_script.specs.{Answers.{answer_of, lent}, Reading.{parsed}};
 ghost use Rattle.replica.specs.Replicas.{after_line, answer_to};
 
@@ -38,6 +38,7 @@ fn answer_call(
 ) -> Result<ArrayVec<u8, LONGEST_ANSWER>, AllocError>
     ensures answer { IfOk result (λ text. text.items ≡ answer_to table.old (Line.Call call)) }
     ensures after { OnOk result (table.new ≡ after_line table.old (Line.Call call)) }
+    ensures err { OnErr result (table.new ≡ table.old) }
 {
     let mut reply = Reply::Done;
     match table.make(call, &mut reply) {
@@ -54,6 +55,7 @@ pub(crate) fn answer_line(
 ) -> Result<ArrayVec<u8, LONGEST_ANSWER>, AllocError>
     ensures answer { IfOk result (λ text. text.items ≡ answer_to table.old (parsed line.now)) }
     ensures after { OnOk result (table.new ≡ after_line table.old (parsed line.now)) }
+    ensures err { OnErr result (table.new ≡ table.old) }
 {
     match parse_line(line) {
         Line::Empty => Ok(ArrayVec::new()),

@@ -1,9 +1,9 @@
 //! The lines of an entry, made one after the other.
-ghost use Rattle.std.specs.Prelude.{◌≡◌, ◌++◌, List, ℕ, IfOk, OnOk};
+ghost use Rattle.std.specs.Prelude.{◌≡◌, ◌++◌, List, [], ◌∷◌, ℕ, IfOk, OnErr, OnOk};
 ghost use Rattle.{
   sha2.specs.{Hashers.{Holds256}, Sha256.{sha256}},
   pid_script.specs.{Reading.{parsed}, Script.{with_newline}},
-  replica.specs.{Reading.{lines_in}, Replicas.{after_line, after_lines, answer_to, answers_to, dialogue}},
+  replica.specs.{Reading.{lines_in}, Replicas.{after_line, after_lines, answer_to, answers_to, dialogue, MakesFront}},
 };
 
 use crate::answer::answer_line;
@@ -39,6 +39,7 @@ fn make_line(
     ensures after { OnOk result (table.new ≡ after_line table.old (parsed line.now)) }
     ensures answer { OnOk result (answers.new.items
         ≡ answers.old.items ++ with_newline (answer_to table.old (parsed line.now))) }
+    ensures err { OnErr result (MakesFront (line.now ∷ []) table.old table.new) }
     ensures hashed { OnOk result ((m : List ℕ) → Holds256 hasher.old m
         → Holds256 hasher.new ((m ++ with_newline line.now)
         ++ with_newline (answer_to table.old (parsed line.now)))) }
@@ -58,6 +59,7 @@ pub(crate) fn make_lines(
 ) -> Result<(), AllocError>
     ensures after { OnOk result (table.new ≡ after_lines table.old (lines_in lines.now)) }
     ensures answer { OnOk result (answers.new.items ≡ answers.old.items ++ answers_to table.old (lines_in lines.now)) }
+    ensures err { OnErr result (MakesFront (lines_in lines.now) table.old table.new) }
     ensures hashed { OnOk result ((m : List ℕ) → Holds256 hasher.old m
         → Holds256 hasher.new (m ++ dialogue table.old (lines_in lines.now))) }
 {
@@ -78,6 +80,7 @@ pub(crate) fn digest_behind(
 ) -> Result<[u8; 32], AllocError>
     ensures after { OnOk result (table.new ≡ after_lines table.old (lines_in lines.now)) }
     ensures answer { OnOk result (answers.new.items ≡ answers.old.items ++ answers_to table.old (lines_in lines.now)) }
+    ensures err { OnErr result (MakesFront (lines_in lines.now) table.old table.new) }
     ensures digest { IfOk result (λ digest. digest ≡ sha256 (before.now ++ dialogue table.old (lines_in lines.now))) }
 {
     let mut hasher = Sha256::new();

@@ -5,7 +5,7 @@ ghost use Rattle.{
   sha2.specs.Sha256.{sha256},
   replica.specs.{Entries.{IsWord64, entry_text}, Reading.{lines_in}, Told.{told_entry}, Replicas.{answers_to, called}},
   replica.specs.Replicas.{checked, made, made_answers, may_come, outcome_of, replica_of, sequence_of, session_in_entry},
-  replica.specs.{Replicas.{used}, Applied.{Enters, IsNewLog, StopsApplying, Refuses}, Laws.{Applies}},
+  replica.specs.{Replicas.{used, MakesFront}, Applied.{Enters, IsNewLog, StopsApplying, Refuses}, Laws.{Applies}},
   replica.specs.{HeadReading.{log_of, words_of_settings, words_of_state}, Snapshots.{IsSized}},
   hex.specs.Hex.{IsBytes},
 };
@@ -293,6 +293,7 @@ impl Replica {
         ensures answers { OnOk result (answers.new.items ≡ answers.old.items
             ++ answers_to (replica_of self.old table.old).table (lines_in lines.now)) }
         ensures torn { OnErr result (self.new.torn ≡ true) }
+        ensures front { OnErr result (MakesFront (lines_in lines.now) table.old table.new) }
     {
         let Ok(digest) = digest_behind(table, answers, &self.digest, lines) else {
             self.torn = true;
@@ -324,6 +325,7 @@ impl Replica {
             ++ made_answers (replica_of self.old table.old) (lines_in lines.now) what) }
         ensures fault { IfErr result (λ fault. fault ≡ ReplicaFault.Torn) }
         ensures torn { OnErr result (self.new.torn ≡ true) }
+        ensures front { OnErr result (MakesFront (lines_in lines.now) table.old table.new) }
     {
         let outcome = outcome_behind(self.sessions.last(session), sequence);
         if outcome != Outcome::Made {
@@ -395,7 +397,8 @@ impl Replica {
     /// The faults are looked for in this order, but for want of memory. Each but `Torn` says that nothing has changed.
     ///
     /// - `Torn`: there was no memory amid the calls of this entry or for its digest, or for those of an entry before.
-    ///   The table and the replica have to be made anew from the log.
+    ///   Some of this entry's calls may be made then, from the first on; of a later entry none is. The table and the
+    ///   replica have to be made anew from the log.
     /// - `NotRising`: the position is not behind that of the last entry.
     /// - `NoEntry`: the bytes are the text of no entry.
     /// - `OtherSettings`: the first entry is not the settings of this replica in form 1 or 2, or a log of form 1 has an

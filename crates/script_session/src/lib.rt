@@ -4,6 +4,6 @@
 #![tactic(auto)]
 
 pub mod job;
-mod outbox;
+pub mod outbox;
 pub mod session;
 pub mod tally;

@@ -6,7 +6,7 @@
 
 ghost use Rattle.std.specs.Prelude.{◌≡◌, ◌≢◌, ◌+◌, ◌<◌, ◌≤◌, ◌↔◌, IfOk, IfErr, OnOk, OnErr, Err, IsTrue, length, false};
 ghost use Rattle.{
-  call_effects.specs.Touched.{is_touching, most_in, most_of, Watches},
+  call_effects.specs.{Reckoned.{Reckons}, Touched.{is_touching, most_in, most_of, Watches}},
   model_laws.specs.Refusals.{is_query},
   pid_table.specs.Lists.{answers_list},
   pid_types.specs.declared.call.Call.TheVariants.{NsPid},
@@ -235,6 +235,7 @@ impl StampedTable {
     /// error is `Spent`, where the stamps are used up, or want of memory.
     pub fn touched(&self, call: Call) -> Result<Touched, CallFault>
         ensures before { IfOk result (Watches self.now.state (after_call self.now call).state) }
+        ensures reckons { IfOk result (Reckons self.now.state self.now.stamp call) }
         ensures few { IfOk result (λ w. most_of w ≤ most_in self.now.state) }
         ensures touching { IfOk result (λ w. 0 < most_of w → IsTrue (is_touching call)) }
         ensures spent { (result ≡ Err CallFault.Spent) ↔ (self.now.stamp ≡ u64.MAX) }

@@ -1,53 +1,65 @@
--- A job that is one call longer, and a list that is one element longer.
-use Rattle.std.proofs.Common.{◌≡◌, ℕ, ◌+◌, List, [], ◌∷◌, ◌++◌, length, take, get_or, ◌<◌, refl, sym, ap, ◌∙◌, subst, arith, inl, inr, length-append}
-use Rattle.std.specs.Prelude.{Result}
-use Rattle.std.proofs.lemmas.List.{take_more, map-append, get_or_append_left, flat_map_more}
+-- What a desk has served, and a list that is one element longer.
+use Rattle.std.proofs.Common.{◌≡◌, ℕ, ◌+◌, List, [], ◌∷◌, ◌++◌, length, map, take, get_or, ◌<◌, refl, sym, ap, ◌∙◌, subst, arith, inl, inr, Ok, Err, append_assoc, append-nil, length-append}
+use Rattle.std.specs.Prelude.{Result, All}
+use Rattle.std.proofs.lemmas.List.{take_more, map-append, get_or_append_left}
+use Rattle.std.proofs.lemmas.List.Elements.{All-nil, All-cons, All-head, All-tail, All-append}
+use Rattle.std.proofs.lemmas.Grind.{flat_map-append}
 use Rattle.std.proofs.lemmas.Bool.{cases_lt}
 use Rattle.pid_types.specs.declared.call.Call.{Call}
 use Rattle.pid_types.specs.declared.entry.Receipt.{Receipt}
 use Rattle.pid_types.specs.declared.reply.CallFault.{CallFault}
-use Rattle.worker_jobs.specs.Job.{IsPartOf, calls_received, Fulfils, Answered, receipt_in, IsServed}
+use Rattle.worker_jobs.specs.Job.{IsPartOf, calls_received, Fulfils, Answered, receipt_in, receipts_given, IsOfCall, IsServed}
 
--- one more that is left out
-pub left_out : (xs ys : List Call) (y : Call) → IsPartOf xs ys → IsPartOf xs (ys ++ y ∷ [])
+-- a part of calls is one of more calls
+left_out : (xs ys : List Call) (y : Call) → IsPartOf xs ys → IsPartOf xs (y ∷ ys)
 left_out [] ys y h = tt
-left_out (x ∷ xs) [] y h = absurd h
-left_out (x ∷ xs) (z ∷ ys) y (inl h) = inl (h.0, left_out xs ys y h.1)
-left_out (x ∷ xs) (z ∷ ys) y (inr h) = inr (left_out (x ∷ xs) ys y h)
+left_out (x ∷ xs) ys y h = inr h
 
--- one more that is kept
-pub taken_in : (xs ys : List Call) (y : Call) → IsPartOf xs ys → IsPartOf (xs ++ y ∷ []) (ys ++ y ∷ [])
-taken_in [] [] y h = inl (refl, tt)
-taken_in [] (z ∷ ys) y h = inr (taken_in [] ys y tt)
-taken_in (x ∷ xs) [] y h = absurd h
-taken_in (x ∷ xs) (z ∷ ys) y (inl h) = inl (h.0, taken_in xs ys y h.1)
-taken_in (x ∷ xs) (z ∷ ys) y (inr h) = inr (taken_in (x ∷ xs) ys y h)
+-- the receipts that were given are of a part of the calls
+part_served : (answers : List Answered) → All IsOfCall answers → IsPartOf (calls_received (receipts_given answers)) (map (λ (a : Answered). a.0) answers)
+part_served [] own = tt
+part_served ((call, Ok receipt) ∷ answers) own = inl (All-head IsOfCall (call, Ok receipt) answers own, part_served answers (All-tail IsOfCall (call, Ok receipt) answers own))
+part_served ((call, Err fault) ∷ answers) own =
+    left_out (calls_received (receipts_given answers)) (map (λ (a : Answered). a.0) answers) call (part_served answers (All-tail IsOfCall (call, Err fault) answers own))
 
--- one more call is refused
-pub one_refused : (calls : List Call) (i : ℕ) (d : Call) (receipts : List Receipt) (refused : ℕ) → i < length calls → Fulfils (take i calls) receipts refused → Fulfils (take (i + 1) calls) receipts (refused + 1)
-one_refused calls i d receipts refused below h =
-    let more : take (i + 1) calls ≡ take i calls ++ get_or calls i d ∷ [] = take_more calls i d below in
-    subst (λ cs. Fulfils cs receipts (refused + 1)) (sym more) (record {
-      counted = omega (arith, h.counted, length-append (take i calls) (get_or calls i d ∷ []));
-      in_order = left_out (calls_received receipts) (take i calls) (get_or calls i d) h.in_order;
-    })
+-- a desk that served the calls has fulfilled them
+pub fulfilled : (calls : List Call) (answers : List Answered) (receipts : List Receipt) (refused : ℕ) → IsServed calls answers [] receipts refused → Fulfils calls receipts refused
+fulfilled calls answers receipts refused h =
+    subst (λ rs. Fulfils calls rs refused) (sym h.given)
+    (subst (λ cs. Fulfils cs (receipts_given answers) refused) h.each (record { counted = h.counted ∙ ap length (sym h.each); in_order = part_served answers h.own }))
 
--- one more call has a receipt
-pub one_answered : (calls : List Call) (i : ℕ) (d : Call) (receipts : List Receipt) (refused : ℕ) (r : Receipt) → i < length calls → r.call ≡ get_or calls i d → Fulfils (take i calls) receipts refused → Fulfils (take (i + 1) calls) (receipts ++ r ∷ []) refused
-one_answered calls i d receipts refused r below is h =
-    let more : take (i + 1) calls ≡ take i calls ++ get_or calls i d ∷ [] = take_more calls i d below in
-    let last : calls_received (receipts ++ r ∷ []) ≡ calls_received receipts ++ get_or calls i d ∷ [] = map-append (λ (x : Receipt). x.call) receipts (r ∷ []) ∙ ap (λ (c : Call). calls_received receipts ++ c ∷ []) is in
-    subst (λ cs. Fulfils cs (receipts ++ r ∷ []) refused) (sym more) (record {
-      counted = omega (arith, h.counted, length-append (take i calls) (get_or calls i d ∷ []), length-append receipts (r ∷ []));
-      in_order = subst (λ xs. IsPartOf xs (take i calls ++ get_or calls i d ∷ [])) (sym last) (taken_in (calls_received receipts) (take i calls) (get_or calls i d) h.in_order);
-    })
+-- no call
+pub served_none : (receipts : List Receipt) → IsServed [] [] receipts receipts 0
+served_none receipts = record { each = refl; given = sym (append-nil receipts); counted = refl; own = All-nil IsOfCall }
 
--- one more call is made
-pub one_made : (calls : List Call) (i : ℕ) (d : Call) (answers : List Answered) (receipts receipts' : List Receipt) (answer : Result Receipt CallFault) → i < length calls → receipts' ≡ receipts ++ receipt_in answer → IsServed (take i calls) answers receipts → IsServed (take (i + 1) calls) (answers ++ (get_or calls i d, answer) ∷ []) receipts'
-one_made calls i d answers receipts receipts' answer below more h = record {
-  each = map-append (λ (a : Answered). a.0) answers ((get_or calls i d, answer) ∷ []) ∙ (ap (λ (cs : List Call). cs ++ get_or calls i d ∷ []) h.each ∙ sym (take_more calls i d below));
-  given = more ∙ (ap (λ (rs : List Receipt). rs ++ receipt_in answer) h.given ∙ flat_map_more (λ (a : Answered). receipt_in a.1) [] answers (get_or calls i d, answer));
-}
+-- one call, which has a receipt
+pub served_one : (call : Call) (receipt : Receipt) (receipts : List Receipt) → receipt.call ≡ call → IsServed (call ∷ []) ((call, Ok receipt) ∷ []) receipts (receipts ++ receipt ∷ []) 0
+served_one call receipt receipts is = record { each = refl; given = refl; counted = refl; own = All-cons IsOfCall (call, Ok receipt) [] is (All-nil IsOfCall) }
+
+-- one call, which was refused
+pub refused_one : (call : Call) (fault : CallFault) (receipts : List Receipt) → IsServed (call ∷ []) ((call, Err fault) ∷ []) receipts receipts 1
+refused_one call fault receipts = record { each = refl; given = sym (append-nil receipts); counted = refl; own = All-cons IsOfCall (call, Err fault) [] tt (All-nil IsOfCall) }
+
+-- calls, and then more
+pub served_more : (xs ys : List Call) (told more : List Answered) (p q r : List Receipt) (m n : ℕ) → IsServed xs told p q m → IsServed ys more q r n → IsServed (xs ++ ys) (told ++ more) p r (m + n)
+served_more xs ys told more p q r m n first second =
+    let all : receipts_given (told ++ more) ≡ receipts_given told ++ receipts_given more = flat_map-append (λ (x : Answered). receipt_in x.1) told more in
+    record {
+      each = map-append (λ (a : Answered). a.0) told more ∙ (ap (λ (cs : List Call). cs ++ map (λ (a : Answered). a.0) more) first.each ∙ ap (λ (cs : List Call). xs ++ cs) second.each);
+      given = second.given ∙ (ap (λ (rs : List Receipt). rs ++ receipts_given more) first.given ∙ (append_assoc p (receipts_given told) (receipts_given more) ∙ ap (λ (rs : List Receipt). p ++ rs) (sym all)));
+      counted = omega (arith, first.counted, second.counted, ap length all, length-append (receipts_given told) (receipts_given more), length-append xs ys);
+      own = All-append IsOfCall told more first.own second.own;
+    }
+
+-- one call more, with its answer
+pub served_next : (calls : List Call) (i : ℕ) (d : Call) (answers : List Answered) (answer : Result Receipt CallFault) (p q r : List Receipt) (m n k : ℕ) → i < length calls → k ≡ m + n
+    → IsServed (take i calls) answers p q m → IsServed (get_or calls i d ∷ []) ((get_or calls i d, answer) ∷ []) q r n
+    → IsServed (take (i + 1) calls) (answers ++ (get_or calls i d, answer) ∷ []) p r k
+served_next calls i d answers answer p q r m n k below sum first second =
+    let one : List Call = get_or calls i d ∷ [] in
+    let told : List Answered = (get_or calls i d, answer) ∷ [] in
+    subst (λ c. IsServed (take (i + 1) calls) (answers ++ told) p r c) (sym sum)
+    (subst (λ cs. IsServed cs (answers ++ told) p r (m + n)) (sym (take_more calls i d below)) (served_more (take i calls) one answers told p q r m n first second))
 
 -- what holds below a number, and at it
 pub below_more : (P : ℕ → Type 0) (n : ℕ) → ((k : ℕ) → k < n → P k) → P n → (k : ℕ) → k < n + 1 → P k

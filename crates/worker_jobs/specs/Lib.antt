@@ -1,4 +1,3 @@
 pub mod AtSeat
 pub mod Job
 pub mod Receipts
-pub mod Turns

@@ -1,7 +1,9 @@
 //! Where a worker makes its calls, and what may hold it.
-ghost use Rattle.std.specs.Prelude.{◌≡◌, ◌++◌, ◌∷◌, [], ℕ, List, IfOk, ⊤};
-ghost use Rattle.worker_jobs.specs.Job.{Answered};
+ghost use Rattle.std.specs.Prelude.{◌≡◌, ◌≤◌, ◌+◌, ◌++◌, ◌∷◌, [], ℕ, Bool, false, List, length, vec_capacity, IfOk, ⊤};
+ghost use Rattle.worker_jobs.specs.Job.{Answered, IsServed};
 
+use crate::held::HeldDesk;
+use crate::jobs::make_calls;
 use locked_table::{Receipt, Seat, Shared};
 use pid_types::call::Call;
 use pid_types::reply::CallFault;
@@ -32,6 +34,17 @@ pub trait Desk {
     ghost made_more: { (a b c : Self) (xs ys : List Answered) → made a b xs → made b c ys → made a c (xs ++ ys) };
 }
 
+/// A desk that takes several calls in one go, and lets no other worker in between.
+pub(crate) trait Turns: Desk {
+    /// Makes the calls in order, and adds the receipt of each call that has one. It returns how many have none.
+    fn turn<R: Wait + Clock>(&mut self, rt: &R, calls: &[Call], receipts: &mut Vec<Receipt>) -> u64
+        requires room { length receipts.old.items + length calls.now ≤ vec_capacity receipts.old }
+        ensures room { vec_capacity receipts.old ≤ vec_capacity receipts.new }
+        ensures worker { Self.worker self.new ≡ Self.worker self.old }
+        ensures made { (answers : List Answered) × Self.made self.old self.new answers
+            × IsServed calls.now answers receipts.old.items receipts.new.items result };
+}
+
 /// Is told before and after each call of a worker, and may hold the worker there. The calls of a
 /// worker are counted from 1.
 ///
@@ -51,8 +64,12 @@ pub trait Gate {
     fn after<R: Wait + Clock>(&self, rt: &R, worker: usize, k: u64)
         ensures { was_after self.now worker k };
 
+    // Whether it never holds a worker.
+    ghost opens: { Self → Bool } = { λ _. false };
+
     /// Whether it never holds a worker. Then a thread makes its worker's calls in turns, and tells it of none.
-    fn is_open(&self) -> bool;
+    fn is_open(&self) -> bool
+        ensures { result ≡ opens self.now };
 }
 
 /// A gate that holds nobody.
@@ -60,6 +77,10 @@ pub trait Gate {
 pub struct OpenGate;
 
 impl Gate for OpenGate {
+    ghost use Rattle.std.specs.Prelude.{true};
+
+    ghost opens = { λ _. true };
+
     fn before<R: Wait + Clock>(&self, _rt: &R, _worker: usize, _k: u64) {}
 
     fn after<R: Wait + Clock>(&self, _rt: &R, _worker: usize, _k: u64) {}
@@ -89,5 +110,19 @@ impl<'a, L: Ledger, const N: usize> Desk for SeatDesk<'a, L, N> {
 
     fn call<R: Wait>(&mut self, rt: &R, call: Call) -> Result<Receipt, CallFault> {
         self.shared.call(rt, &mut self.seat, call)
+    }
+}
+
+impl<'a, L: Ledger, const N: usize> Turns for SeatDesk<'a, L, N> {
+    fn turn<R: Wait + Clock>(
+        &mut self,
+        rt: &R,
+        calls: &[Call],
+        receipts: &mut Vec<Receipt>,
+    ) -> u64 {
+        let worker = self.seat.worker();
+        let mut guard = self.shared.lock(rt);
+        let mut desk = HeldDesk::new(&mut guard, &mut self.seat);
+        make_calls(rt, &mut desk, &OpenGate, worker, calls, receipts)
     }
 }

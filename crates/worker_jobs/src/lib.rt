@@ -11,11 +11,11 @@ mod audits;
 mod desk;
 mod difference;
 mod fault;
+mod held;
 mod jobs;
 mod replies;
 mod result;
 mod serve;
-mod turns;
 
 pub use audits::audit;
 pub use desk::{Desk, Gate, OpenGate, SeatDesk};

@@ -1,13 +1,12 @@
 //! A thread for each job, at one shared table: started, and joined.
-ghost use Rattle.std.specs.Prelude.{◌≡◌, ℕ, ◌<◌, length, vec_len, slice_index_or, IfOk};
+ghost use Rattle.std.specs.Prelude.{◌≡◌, ℕ, ◌+◌, ◌<◌, length, vec_len, slice_index_or, IfErr, IfOk, OnOk};
 ghost use Rattle.locked_table.specs.SeatState.{AreSeats};
-ghost use Rattle.worker_jobs.specs.Job.{Fulfils};
+ghost use Rattle.worker_jobs.specs.Job.{DoesJob, Fulfils, IsNoAudit, TellsGate};
 
-use crate::desk::{Gate, SeatDesk};
+use crate::desk::{Gate, SeatDesk, Turns};
 use crate::fault::RunFault;
-use crate::jobs::work;
+use crate::jobs::{work, work_in_turns};
 use crate::result::Work;
-use crate::turns::work_in_turns;
 use locked_table::{Seat, Shared};
 use pid_types::call::Call;
 use std::alloc::{AllocError, Global};
@@ -25,18 +24,41 @@ pub struct Done<L: Ledger, const N: usize> {
 }
 
 /// The promise of a worker's thread.
-#[derive(Clone, Copy)]
-struct DoneOf<'a> {
+#[derive(Drop)]
+struct DoneOf<'a, G: Gate> {
     worker: usize,
     calls: &'a [Call],
+    gate: &'a G,
 }
 
-impl<'a, L: Ledger, const N: usize> Promise<Done<L, N>> for DoneOf<'a> {
+impl<'a, L: Ledger, G: Gate, const N: usize> Promise<Done<L, N>> for DoneOf<'a, G> {
     ghost kept_by = { λ p r. (r.seat.worker ≡ p.worker)
-        × IfOk r.work (λ w. Fulfils p.calls.now w.receipts.items w.refused) };
+        × IfOk r.work (λ w. Fulfils p.calls.now w.receipts.items w.refused
+        × TellsGate (G.opens p.gate.now) (G.was_before p.gate.now) (G.was_after p.gate.now) p.worker p.calls.now) };
 }
 
-/// One worker's whole job.
+/// One worker's whole job, at its desk: in turns where the gate is open.
+fn serve_at<D: Turns, G: Gate, R: Wait + Clock>(
+    rt: &R,
+    alloc: Global,
+    desk: &mut D,
+    gate: &G,
+    worker: usize,
+    calls: &[Call],
+) -> Result<Work, AllocError>
+    ensures does { DoesJob (D.Desk.made desk.old desk.new) (D.Desk.worker desk.old) (D.Desk.worker desk.new)
+        calls.now result }
+    ensures told { OnOk result
+        (TellsGate (G.opens gate.now) (G.was_before gate.now) (G.was_after gate.now) worker calls.now) }
+{
+    if gate.is_open() {
+        work_in_turns(rt, alloc, desk, calls)
+    } else {
+        work(rt, alloc, desk, gate, worker, calls)
+    }
+}
+
+/// One worker's whole job, at the shared table.
 fn serve<L: Ledger, G: Gate, R: Wait + Clock, const N: usize>(
     rt: &R,
     alloc: Global,
@@ -47,15 +69,13 @@ fn serve<L: Ledger, G: Gate, R: Wait + Clock, const N: usize>(
 ) -> Done<L, N>
     ensures worker { result.seat.worker ≡ seat.worker }
     ensures work { IfOk result.work (λ w. Fulfils calls.now w.receipts.items w.refused) }
+    ensures told { OnOk result.work
+        (TellsGate (G.opens gate.now) (G.was_before gate.now) (G.was_after gate.now) seat.worker calls.now) }
+    ensures counted { IfOk result.work (λ w. result.seat.calls ≡ seat.calls + length w.receipts.items) }
 {
-    if gate.is_open() {
-        let mut seat = seat;
-        let work = work_in_turns(rt, alloc, shared, &mut seat, calls);
-        return Done { seat, work };
-    }
     let worker = seat.worker();
     let mut desk = SeatDesk { shared, seat };
-    let work = work(rt, alloc, &mut desk, gate, worker, calls);
+    let work = serve_at(rt, alloc, &mut desk, gate, worker, calls);
     let SeatDesk { shared: _, seat } = desk;
     Done { seat, work }
 }
@@ -76,15 +96,23 @@ fn start<
     gate: &'s G,
     seat: Seat<L, N>,
     calls: &'s [Call],
-) -> Result<PromisedHandle<Done<L, N>, DoneOf<'s>>, RunFault>
+) -> Result<PromisedHandle<Done<L, N>, DoneOf<'s, G>>, RunFault>
     ensures worker { IfOk result (λ h. h.promise.worker ≡ seat.worker) }
     ensures calls { IfOk result (λ h. h.promise.calls.now ≡ calls.now) }
+    ensures gate { IfOk result (λ h. h.promise.gate.now ≡ gate.now) }
+    ensures no_audit { IfErr result IsNoAudit }
 {
     let worker = seat.worker();
-    let promise = DoneOf { worker, calls };
+    let promise = DoneOf {
+        worker,
+        calls,
+        gate,
+    };
     let job = move || -> Done<L, N>
         ensures { (result.seat.worker ≡ seat.worker)
-            × IfOk result.work (λ w. Fulfils calls.entry.now w.receipts.items w.refused) }
+            × IfOk result.work (λ w. Fulfils calls.entry.now w.receipts.items w.refused
+            × TellsGate (G.opens gate.entry.now) (G.was_before gate.entry.now) (G.was_after gate.entry.now) seat.worker
+            calls.entry.now) }
     { serve(rt, alloc, shared, gate, seat, calls) };
     match scope.spawn_with(promise, job) {
         Ok(child) => Ok(child),
@@ -108,7 +136,7 @@ fn start_all<
     gate: &'s G,
     seats: Vec<Seat<L, N>>,
     jobs: &'s [Vec<Call>],
-) -> Result<Vec<PromisedHandle<Done<L, N>, DoneOf<'s>>>, RunFault>
+) -> Result<Vec<PromisedHandle<Done<L, N>, DoneOf<'s, G>>>, RunFault>
     requires seats { AreSeats N seats.items }
     requires jobs { length jobs.now ≡ N }
     ensures len { IfOk result (λ handles. vec_len handles ≡ N) }
@@ -116,6 +144,9 @@ fn start_all<
         → (slice_index_or handles.items k d).promise.worker ≡ k) }
     ensures calls { IfOk result (λ handles. (k : ℕ) (d : _) (j : _) → k < N
         → (slice_index_or handles.items k d).promise.calls.now ≡ (slice_index_or jobs.now k j).items) }
+    ensures gate { IfOk result (λ handles. (k : ℕ) (d : _) → k < N
+        → (slice_index_or handles.items k d).promise.gate.now ≡ gate.now) }
+    ensures no_audit { IfErr result IsNoAudit }
 {
     let mut handles = Vec::with_capacity(alloc, jobs.len())?;
     let mut worker = 0usize;
@@ -148,7 +179,10 @@ fn serve_all<
     ensures each { IfOk result (λ dones. (w : ℕ) (d : _) (j : _) → w < N
         → ((slice_index_or dones.items w d).seat.worker ≡ w)
         × IfOk (slice_index_or dones.items w d).work (λ x. Fulfils
-        (slice_index_or jobs.now w j).items x.receipts.items x.refused)) }
+        (slice_index_or jobs.now w j).items x.receipts.items x.refused
+        × TellsGate (G.opens gate.now) (G.was_before gate.now) (G.was_after gate.now) w
+        (slice_index_or jobs.now w j).items)) }
+    ensures no_audit { IfErr result IsNoAudit }
 {
     thread::scope(
         thread::scope_env(),
@@ -159,7 +193,10 @@ fn serve_all<
                 × ((w : ℕ) (d : _) (j : _) → w < N
                 → ((slice_index_or dones.items w d).seat.worker ≡ w)
                 × IfOk (slice_index_or dones.items w d).work
-                (λ x. Fulfils (slice_index_or jobs.entry.now w j).items x.receipts.items x.refused))) }
+                (λ x. Fulfils (slice_index_or jobs.entry.now w j).items x.receipts.items x.refused
+                × TellsGate (G.opens gate.entry.now) (G.was_before gate.entry.now) (G.was_after gate.entry.now) w
+                (slice_index_or jobs.entry.now w j).items)))
+                × IfErr result IsNoAudit }
         {
             let handles = start_all(scope, rt, alloc, shared, gate, seats, jobs)?;
             match thread::join_promised(rt, handles) {
@@ -215,6 +252,10 @@ pub fn serve_jobs<
     ensures jobs { IfOk result (λ r. (w : ℕ) (d : _) (j : _) → w < N
         → Fulfils (slice_index_or jobs.now w j).items (slice_index_or r.1.items w d).receipts.items
         (slice_index_or r.1.items w d).refused) }
+    ensures told { OnOk result ((w : ℕ) (j : _) → w < N
+        → TellsGate (G.opens gate.now) (G.was_before gate.now) (G.was_after gate.now) w
+        (slice_index_or jobs.now w j).items) }
+    ensures no_audit { IfErr result IsNoAudit }
 {
     let dones = serve_all(rt, alloc, shared, gate, seats, jobs)?;
     let (seats, works) = part(alloc, dones)?;

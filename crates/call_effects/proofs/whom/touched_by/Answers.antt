@@ -4,8 +4,8 @@ use Rattle.call_effects.specs.Touched.{Touches}
 use Rattle.call_effects.proofs.Touching.{is_plain, untouched}
 use Rattle.call_effects.proofs.whom.touched_by.Goals as goal
 
-pub returns-in_default : goal.returns-in_default
-returns-in_default c =
+pub returns-in_default-clause-touches : goal.returns-in_default-clause-touches
+returns-in_default-clause-touches c =
     let s = c.args.table.now in
     let none = c.in_default in
     subst (Touches s (step s c.args.stamp c.args.call).state) (sym c.new.ensures.items)

@@ -1,11 +1,12 @@
 use Rattle.std.proofs.Common.{◌≡◌, ◌++◌, ◌∙◌, None, rules, subst}
+use Rattle.std.proofs.lemmas.Result.{err_from_is_err_and, on_err_weaker}
 use Rattle.sha2.specs.Hashers.{Holds256}
 use Rattle.pid_script.specs.Reading.{cut, parsed}
 use Rattle.pid_script.specs.Script.{with_newline}
 use Rattle.replica.proofs.Parted.{shorter}
 use Rattle.replica.proofs.Written.{on_ok}
 use Rattle.replica.specs.Replicas.{answer_to}
-use Rattle.replica.proofs.Turns.{after_more, answers_more, dialogue_more, after_last, answers_last, dialogue_last}
+use Rattle.replica.proofs.Turns.{front_step, front_cut, front_last, after_more, answers_more, dialogue_more, after_last, answers_last, dialogue_last}
 use Rattle.replica.proofs.lines.make_lines.Goals as goal
 
 pub loop-line-smaller : goal.loop-line-smaller
@@ -21,6 +22,7 @@ loop-line-preserved c =
     let made = c.in_ok-make_line.ensures in
     record {
       after = after_more now next bs line after made.after c.in-Some.ensures ∙ c.loop-line.invariant.after;
+      front = λ t front. c.loop-line.invariant.front t (front_step now next bs line after made.after c.in-Some.ensures t front);
       answer =
           answers_more now next bs line after made.after c.in-Some.ensures c.loop-line.answers.items c.make_line.new.answers.items made.answer
           ∙ c.loop-line.invariant.answer;
@@ -31,6 +33,17 @@ loop-line-preserved c =
             dialogue_more now next bs line after made.after c.in-Some.ensures before.0 ∙ before.2,
           );
     }
+
+pub returns-in_err-make_line-clause-err : goal.returns-in_err-make_line-clause-err
+returns-in_err-make_line-clause-err c =
+    let p = err_from_is_err_and c.from_residual.result c.from_residual.ensures.1 in
+    rw p.1 (c.loop-line.invariant.front c.make_line.new.table (front_cut c.loop-line.table c.make_line.new.table c.loop-line.rest.now c.in-Some.line.now c.in-Some.after.now c.in-Some.ensures c.in_err-make_line.ensures.err))
+
+pub returns-clause-err : goal.returns-clause-err
+returns-clause-err c =
+    let none : None ≡ cut 10 c.loop-line.rest.now = search rules in
+    on_err_weaker c.make_line-2.result
+    (λ front. c.loop-line.invariant.front c.make_line-2.new.table (front_last c.loop-line.table c.make_line-2.new.table c.loop-line.rest.now none front)) c.make_line-2.ensures.err
 
 pub returns-clause-after : goal.returns-clause-after
 returns-clause-after c =

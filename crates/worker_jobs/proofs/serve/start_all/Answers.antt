@@ -24,4 +24,7 @@ loop-seat-preserved g c =
           subst (λ xs. (get_or xs k d).promise.calls.now ≡ (get_or c.args.jobs.now k j).items) (sym all)
           (each_more (λ i h. h.promise.calls.now ≡ (get_or c.args.jobs.now i j).items) c.loop-seat.handles.items c.in_ok-child.child c.loop-seat.worker len (λ i e less. was.7 i e j less)
           (c.in_ok-child.ensures.calls ∙ (c.as_slice-calls.ensures.value ∙ ap (λ v. v.items) (c.index-jobs-worker.is ∙ get_or_default c.args.jobs.now c.loop-seat.worker c.index-jobs-worker.result j below))) k d lt)),
+      (λ k d lt.
+          subst (λ xs. (get_or xs k d).promise.gate.now ≡ c.args.gate.now) (sym all)
+          (each_more (λ i h. h.promise.gate.now ≡ c.args.gate.now) c.loop-seat.handles.items c.in_ok-child.child c.loop-seat.worker len was.8 c.in_ok-child.ensures.gate k d lt)),
     )

@@ -13,3 +13,4 @@ invariant-loop-seat g l =
     × (g.row.N ≤ vec_capacity l.handles)
     × ((k : ℕ) (d : _) → k < l.worker → (get_or (vec_items l.handles) k d).promise.worker ≡ k)
     × ((k : ℕ) (d : _) (j : _) → k < l.worker → (get_or (vec_items l.handles) k d).promise.calls.now ≡ (get_or l.jobs k j).items)
+    × ((k : ℕ) (d : _) → k < l.worker → (get_or (vec_items l.handles) k d).promise.gate.now ≡ l.gate)

@@ -43,3 +43,17 @@ returns-clause-few c =
     (subst (λ n. n ≤ length c.in_ok-tasks.tasks.items) sessions.ok.0 (subst (λ ts. vec_len sessions ≤ length ts) c.deref-2.ensures.value c.in_ok-sessions.ensures.few))
     (subst (λ ts. AreListedFrom (flat_map watched_spaces ts) 0 l.0) c.deref-3.ensures.value l.1) l.2
     (subst (λ ids. AreWatchedSpaces c.args.table.now ids c.in_ok-spaces.spaces.items) c.deref-4.ensures.value c.in_ok-spaces.ensures)
+
+pub returns-clause-reckoned : goal.returns-clause-reckoned
+returns-clause-reckoned c =
+    let l = c.in_ok-ids.ensures in
+    record {
+      tasks = c.in_ok-tasks.ensures;
+      groups = subst (λ ts. AreListedFrom (map (owner_by Group) ts) 0 c.in_ok-groups.groups.items) c.deref.ensures.value c.in_ok-groups.ensures.listed;
+      sessions = subst (λ ts. AreListedFrom (map (owner_by Session) ts) 0 c.in_ok-sessions.sessions.items) c.deref-2.ensures.value c.in_ok-sessions.ensures.listed;
+      own = l.0;
+      own_spaces = subst (λ ts. AreListedFrom (flat_map watched_spaces ts) 0 l.0) c.deref-3.ensures.value l.1;
+      ids = c.in_ok-ids.ids.items;
+      all_spaces = l.2;
+      spaces = subst (λ ids. AreWatchedSpaces c.args.table.now ids c.in_ok-spaces.spaces.items) c.deref-4.ensures.value c.in_ok-spaces.ensures;
+    }

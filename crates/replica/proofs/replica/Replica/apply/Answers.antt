@@ -1,9 +1,10 @@
-use Rattle.std.proofs.Common.{refl, sym, inr, subst, ◌∙◌}
+use Rattle.std.proofs.Common.{refl, sym, ap, inr, subst, ◌∙◌}
 use Rattle.replica.specs.Told.{told_entry}
-use Rattle.replica.specs.Replicas.{replica_of}
+use Rattle.replica.specs.Replicas.{Replica, replica_of}
 use Rattle.replica.specs.Applied.{IsLookedAt, IsNext, Refuses}
 use Rattle.replica.proofs.Checked.{applies, at_odds, looked_at, stopped}
 use Rattle.replica.proofs.Heads.{failed}
+use Rattle.replica.proofs.Turns.{entered_front}
 use Rattle.replica.proofs.replica.Replica.apply.Goals as goal
 
 pub returns-in_default-clause-err : goal.returns-in_default-clause-err
@@ -61,7 +62,8 @@ returns-in_err-keep-clause-err c =
       agrees = sym c.check.ensures ∙ c.in_default-check.is;
     } in
     failed (Refuses c.args.position c.args.bytes.now old before new after) c.from_residual-in_err-keep.result c.in_err-keep.field-0.0 c.from_residual-in_err-keep.ensures.1
-    (subst (Refuses c.args.position c.args.bytes.now old before new after) (sym c.in_err-keep.ensures.fault) (c.in_err-keep.ensures.torn, inr (told_entry c.in-Ok.entry, next)))
+    (subst (Refuses c.args.position c.args.bytes.now old before new after) (sym c.in_err-keep.ensures.fault)
+    (inr (c.in_err-keep.ensures.torn, (told_entry c.in-Ok.entry, next, entered_front c.args.position old (told_entry c.in-Ok.entry) c.enter.new.table (ap (λ (r : Replica). r.table) c.in_ok-outcome.ensures.ok.made)))))
 
 pub returns-clause-ok : goal.returns-clause-ok
 returns-clause-ok c =
