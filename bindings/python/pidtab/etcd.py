@@ -74,14 +74,12 @@ def hang_up(connection: http.client.HTTPConnection) -> None:
 class Etcd:
     """The members of a cluster, which are tried in turn. Threads may share it.
 
-    It has no lock, which a fork might leave taken: two threads at once may lose a turn, or note an earlier revision, and neither does harm.
+    It has no lock, which a fork might leave taken: two threads at once may lose a turn, which does no harm.
     """
 
     def __init__(self, members: Sequence[Member], tls: ssl.SSLContext | None, user: tuple[str, str] | None, timeout: float) -> None:
         self.members = members
         self.timeout = timeout
-        # The greatest revision that a member has told of.
-        self.revision = 0
         self._tls = tls
         self._user = user
         self._token = ""
@@ -124,7 +122,6 @@ class Etcd:
         if self._cluster and cluster and cluster != self._cluster:
             raise LogFault("the members are not those of one etcd cluster")
         self._cluster = cluster or self._cluster
-        self.revision = max(self.revision, revision)
         return revision
 
     def fault_of(self, told: JSON) -> Exception:

@@ -4,11 +4,13 @@ import heapq
 import re
 import ssl
 from collections.abc import Iterator, Sequence
+from functools import partial
 from typing import NamedTuple
 
 from pidtab.bounds import check_seconds
 from pidtab.etcd import JSON, Etcd, decode, encode, read_member
-from pidtab.etcd_cells import EtcdCells, cut_entries, entry_key, put_of, read_entries_to
+from pidtab.etcd_cells import EtcdCells, cut_entries, read_entries_to
+from pidtab.etcd_guard import HEAD, MARK, Guard, Newest, put_of
 from pidtab.etcd_watch import Compacted, EtcdWatch
 from pidtab.faults import LogFault
 from pidtab.log import CutLog, Following, Progress
@@ -28,7 +30,6 @@ LONGEST_PAGE = 10_000
 # Behind the log's name: a revision that was before that of the entry, and something that no other entry has.
 KEY = re.compile(rb"([0-9a-f]{16})-[0-9a-f]{16}")
 NAME = re.compile(r"[^:\x00-\x1f\x7f]{1,200}")
-MARK = b"~mark"
 # Before the names of all cells, and behind what is read as the log.
 END = b"~n"
 
@@ -115,6 +116,7 @@ class EtcdLog(CutLog):
         self.name = name
         self._etcd = etcd
         self.prefix = name.encode() + b":"
+        self.guard = Guard(etcd, self.prefix, name)
         # Behind each key of the log, but those of its cells.
         self.last = self.prefix + END
 
@@ -122,25 +124,26 @@ class EtcdLog(CutLog):
         return f"<pidtab.EtcdLog {self.name!r} at {', '.join(map(str, self._etcd.members))}>"
 
     def append(self, entry: bytes) -> int:
-        """Puts an entry behind all others, by one put at one member."""
-        before = self._etcd.revision
-        return check_later(self._put(entry_key(self._etcd, self.prefix), entry), before)
+        """Puts an entry behind all others, by one transaction at one member; nothing where etcd has not what was read of it here."""
+        return self.guard.append(entry)
 
     def follow(self, after: int) -> "EtcdFollowing":
         """All entries behind the revision, and then each that comes."""
         return EtcdFollowing(self, self._etcd, after)
 
     def end(self) -> int:
-        """The revision of etcd now, by a read that a majority confirms."""
-        return self._etcd.note(self._etcd.ask("/v3/kv/range", {"key": encode(self.prefix + MARK), "keys_only": True})["header"])
+        """The position of the newest entry, or, of a log without a head, the revision of etcd now: by a read that a majority confirms."""
+        revision, head = self.guard.look()
+        return head or revision
 
     def mark(self) -> int:
-        """The same, by a put of a key that is none of an entry, and which each follower sees."""
-        return self._put(self.prefix + MARK, b"")
+        """The same. Each follower sees the head; in a log without one it sees a put of a key that is none of an entry."""
+        _, head = self.guard.look()
+        return head or self.guard.ask(lambda _: [put_of(self.prefix + MARK, b"")]).revision
 
     def cells(self, at: int = 0) -> EtcdCells:
         """The cells, as keys behind `NAME:~`; all as at one revision, if that is named."""
-        return EtcdCells(self._etcd, self.prefix, at)
+        return EtcdCells(self.guard, at)
 
     def entries_to(self, position: int) -> Iterator[Sequence[tuple[int, bytes]]]:
         """The entries up to a revision, in the order of their keys."""
@@ -148,22 +151,23 @@ class EtcdLog(CutLog):
 
     def cut(self, position: int) -> int:
         """Deletes the entries up to a revision, by a transaction for some of them at a time."""
-        return cut_entries(self._etcd, self.prefix, position)
-
-    def _put(self, key: bytes, value: bytes) -> int:
-        return self._etcd.note(self._etcd.ask("/v3/kv/put", {"key": encode(key), "value": encode(value)})["header"])
+        return cut_entries(self.guard, position)
 
     def read(self, kv: JSON) -> Found | None:
-        """An entry as etcd has it; None for the mark."""
+        """An entry as etcd has it; None for the mark and the head."""
         key = decode(kv["key"])[len(self.prefix) :]
-        if key == MARK:
+        if key == HEAD:
+            self.guard.note_head(kv)
+        if key in (HEAD, MARK):
             return None
         form, revision = KEY.fullmatch(key), int(kv["create_revision"])
         if form is None or int(form[1], 16) >= revision:
             raise LogFault(f"the log {self.name} has a key that is none of an entry: {key[:60]!r}")
         if int(kv.get("version", 1)) != 1:
             raise LogFault(f"the entry at revision {revision} was overwritten")
-        return Found(revision, decode(kv.get("value", "")), int(form[1], 16))
+        hint = int(form[1], 16)
+        self.guard.note_entry(Newest(revision, key, hint))
+        return Found(revision, decode(kv.get("value", "")), hint)
 
     def page(self, start: bytes, at: int, most: int, keys_only: bool = False) -> tuple[JSON, int]:
         """Some keys from the start on, as they are at a revision, and about how many bytes they are."""
@@ -174,20 +178,14 @@ class EtcdLog(CutLog):
         return page, 1 + sum(len(it.get("value", "")) + len(it["key"]) for it in page.get("kvs", []))
 
 
-def append_all(etcd: Etcd, puts: Sequence[tuple[EtcdLog, bytes]]) -> int:
-    """Puts an entry into each of some logs in one step, as `append` does into one: the position, which is the same in all."""
+def append_all(etcd: Etcd, puts: Sequence[tuple[EtcdLog, bytes]]) -> list[int]:
+    """Puts an entry into each of some logs in one step, as `append` does into one: the positions; 0 of a log into which nothing was put."""
     if len(puts) == 1:
-        return puts[0][0].append(puts[0][1])
-    before = etcd.revision
-    told = etcd.ask("/v3/kv/txn", {"success": [put_of(entry_key(etcd, log.prefix), entry) for log, entry in puts]})
-    return check_later(etcd.note(told["header"]), before)
-
-
-def check_later(position: int, before: int) -> int:
-    """Sees to it that an entry is behind all that etcd had told of before."""
-    if position <= before:
-        raise LogFault(f"etcd has made an entry at revision {position}, behind revision {before}: it was set back")
-    return position
+        return [puts[0][0].append(puts[0][1])]
+    bodies = [log.guard.body(log.guard.newest, partial(log.guard.entry_steps, entry)) for log, entry in puts]
+    told = etcd.ask("/v3/kv/txn", {"success": [{"request_txn": it} for it in bodies]})
+    revision = etcd.note(told["header"])
+    return [revision if it["response_txn"].get("succeeded") else 0 for it in told["responses"]]
 
 
 class EtcdFollowing(Following):
@@ -252,6 +250,8 @@ class Events:
     def _check_deleted(self, key: bytes, revision: str) -> None:
         """Sees to it that what was deleted is behind a snapshot. The follower had it before."""
         form = KEY.fullmatch(key)
+        if key == HEAD:
+            raise LogFault(f"the head of the log {self._log.name} was deleted, at revision {revision}: open it again, and it goes on without")
         if key != MARK and not (form and self._is_cut(int(form[1], 16))):
             raise LogFault(f"an entry of the log {self._log.name} was deleted, at revision {revision}")
 
@@ -268,12 +268,13 @@ def read_behind(log: EtcdLog, after: int) -> Iterator[Progress]:
     They are read by their keys, in the order of these: no entry has a revision up to that in its key. So what was read up to a key has all entries
     up to there.
     """
-    at, most = log.end(), FIRST_PAGE
+    (at, _), most = log.guard.look(), FIRST_PAGE
     loaded = load_behind(log.cells(at), after)
     if loaded is not None:
         yield Progress(loaded[0], (), loaded[1])
         after = loaded[0]
     start = first_behind(log, after, at)
+    newest = after
     waiting: list[Found] = []
     while True:
         page, size = log.page(start, at, most)
@@ -282,7 +283,10 @@ def read_behind(log: EtcdLog, after: int) -> Iterator[Progress]:
         for it in found:
             if it.revision > after:
                 heapq.heappush(waiting, it)
+                newest = max(newest, it.revision)
         is_last = not page.get("more")
+        if is_last:
+            check_newest(log, kvs, newest)
         bound = at if is_last else max([after, *(it.hint for it in found)])
         ready = []
         while waiting and waiting[0].revision <= bound:
@@ -293,6 +297,14 @@ def read_behind(log: EtcdLog, after: int) -> Iterator[Progress]:
             return
         start = decode(kvs[-1]["key"]) + b"\0"
         most = max(1, min(LONGEST_PAGE, 2 * most, most * PAGE_BYTES // size))
+
+
+def check_newest(log: EtcdLog, last: Sequence[JSON], newest: int) -> None:
+    """Sees to it that the newest entry is that of the head, which is among the last keys. One by hand has no value, and is of no entry."""
+    for kv in last:
+        revision = int(kv["mod_revision"])
+        if decode(kv["key"]) == log.prefix + HEAD and kv.get("value") and revision > newest:
+            raise LogFault(f"the newest entry of the log {log.name}, at revision {revision}, was deleted")
 
 
 def first_behind(log: EtcdLog, after: int, at: int) -> bytes:

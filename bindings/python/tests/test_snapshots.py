@@ -15,7 +15,7 @@ from pidtab.machine import Machine
 from pidtab.replay import Replay, join, read_archive
 from pidtab.snapshot import PIECE_BYTES, Snapshot, pack, read_snapshot, sum_of, unpack, write_snapshot
 from pidtab.snapshots import AGREED, SERVED, is_agreed, piece_name, put_sum, read_served
-from tests.keeping import LONG, MANY, Crash, Keeping, StillLog, announces, deletes, first_kept
+from tests.keeping import LONG, MANY, Crash, Keeping, StillLog, announces, cuts, first_kept
 from tests.stand_in import StandIn
 
 
@@ -80,8 +80,7 @@ class Cuts(Keeping):
         came: list[int] = []
 
         def before(path: str, body: JSON) -> None:
-            # Not where pieces that are left are taken away.
-            if deletes(body) and body.get("compare") and len(came) < 2:
+            if cuts(body) and len(came) < 2:
                 came.append(self.put_late(table))
 
         keeper.log._etcd.before = before  # type: ignore[attr-defined]

@@ -1,0 +1,133 @@
+"""All transactions on a log in etcd. Each is done only where etcd has what this host has read of it: so none is done where etcd was set back."""
+
+import secrets
+from collections.abc import Callable, Sequence
+from typing import NamedTuple
+
+from pidtab.etcd import JSON, Etcd, decode, encode
+from pidtab.faults import LogFault
+from pidtab.log import Cell
+from pidtab.snapshots import SERVED, served_of
+
+# Behind the log's name: the key that each entry puts too, and which so has the revision of the newest one; and the mark.
+HEAD = b"~head"
+MARK = b"~mark"
+
+# Before the names of all cells.
+BEFORE_CELLS = b"~"
+
+
+class Newest(NamedTuple):
+    """The newest entry that was read here: the revision at which it was made, its key, and the revision in that."""
+
+    revision: int
+    key: bytes
+    hint: int
+
+
+class Steps(NamedTuple):
+    """What a transaction has answered: whether its own compares held, and so its steps were done, and the revision then."""
+
+    done: bool
+    answers: Sequence[JSON]
+    revision: int
+
+
+# The steps of a transaction that is behind a revision.
+MakeSteps = Callable[[int], list[JSON]]
+
+
+def compare(key: bytes, target: str, name: str, number: int, result: str = "EQUAL", **range_end: str) -> JSON:
+    """Compares a number that etcd has of a key; 0 is where it is not there."""
+    return {"key": encode(key), "target": target, "result": result, name: number, **range_end}
+
+
+def put_of(key: bytes, value: bytes) -> JSON:
+    """Puts a value."""
+    return {"request_put": {"key": encode(key), "value": encode(value)}}
+
+
+def range_of(key: bytes, **wishes: object) -> JSON:
+    """Reads a key."""
+    return {"request_range": {"key": encode(key), **wishes}}
+
+
+class Guard:
+    """What one process has read of a log, and the transactions that compare it. Threads may share it.
+
+    A put behind the newest entry that was read has a later revision than that one, so its key is a good one, also if etcd is restored meanwhile.
+    """
+
+    def __init__(self, etcd: Etcd, prefix: bytes, name: str) -> None:
+        self.etcd = etcd
+        self.prefix = prefix
+        self.newest: Newest | None = None
+        self._name = name
+        # What was read of the head: its revision, and how often it was put.
+        self._head = (0, 0)
+
+    def ask(self, make_steps: MakeSteps, compares: Sequence[JSON] = ()) -> Steps:
+        """Does steps in one transaction. A LogFault where etcd has not what was read of it: then nothing is done."""
+        while True:
+            newest = self.newest
+            told = self.etcd.ask("/v3/kv/txn", self.body(newest, make_steps, compares))
+            revision = self.etcd.note(told["header"])
+            if told.get("succeeded") or self._is_there(newest, told.get("responses", [])):
+                return Steps(bool(told.get("succeeded")), told.get("responses", []), revision)
+
+    def body(self, newest: Newest | None, make_steps: MakeSteps, compares: Sequence[JSON] = ()) -> JSON:
+        """A transaction, also as a step of another one. Where it is not done, it reads why."""
+        if newest is None:
+            return {"compare": list(compares), "success": make_steps(0)}
+        why = [range_of(self.prefix + newest.key, keys_only=True), range_of(self.prefix + BEFORE_CELLS + SERVED.encode())]
+        is_there = compare(self.prefix + newest.key, "CREATE", "create_revision", newest.revision)
+        return {"compare": [*compares, is_there], "success": make_steps(newest.revision), "failure": why}
+
+    def entry_steps(self, entry: bytes, behind: int) -> list[JSON]:
+        """Puts an entry, and with it the head, if the log has one: it gets one with its first entry. The head comes first, and is read first."""
+        key = b"%016x-" % behind + secrets.token_hex(8).encode()
+        head = put_of(self.prefix + HEAD, key)
+        if_there = {"compare": [compare(self.prefix + HEAD, "VERSION", "version", 0, "GREATER")], "success": [head]}
+        if not behind:
+            empty = compare(self.prefix, "CREATE", "create_revision", 0, range_end=encode(self.prefix + BEFORE_CELLS))
+            if_there = {"compare": [empty], "success": [head], "failure": [{"request_txn": if_there}]}
+        return [{"request_txn": if_there}, put_of(self.prefix + key, entry)]
+
+    def append(self, entry: bytes) -> int:
+        """Puts an entry behind all others: its revision."""
+        return self.ask(lambda behind: self.entry_steps(entry, behind)).revision
+
+    def look(self) -> tuple[int, int]:
+        """The revision of etcd now, by a read that a majority confirms; and that of the head, or 0 where the log has none."""
+        told = self.ask(lambda _: [range_of(self.prefix + HEAD, keys_only=True)])
+        kvs = told.answers[0]["response_range"].get("kvs", [])
+        return told.revision, int(kvs[0]["mod_revision"]) if kvs else 0
+
+    def note_entry(self, newest: Newest) -> None:
+        """Notes an entry that was read."""
+        if self.newest is None or newest.revision > self.newest.revision:
+            self.newest = newest
+
+    def note_head(self, kv: JSON) -> None:
+        """Notes the head that was read. Each entry puts it once: if it was not put once more since, etcd may be another one, and is asked before that."""
+        revision, version = int(kv["mod_revision"]), int(kv["version"])
+        before, count = self._head
+        if revision <= before:
+            return
+        if count and version != count + 1:
+            self.look()
+        self._head = (revision, version)
+
+    def _is_there(self, newest: Newest | None, answers: Sequence[JSON]) -> bool:
+        """Whether etcd has what was read of it; False where a keeper has cut it, and the transaction is to be done without it."""
+        if newest is None:
+            return True
+        entry, served = (it["response_range"].get("kvs", []) for it in answers)
+        if entry and int(entry[0]["create_revision"]) == newest.revision:
+            return True
+        if newest.hint >= served_of(Cell(SERVED, decode(served[0].get("value", "")) if served else None, 0)).cut:
+            words = f"the log {self._name} has the entry of revision {newest.revision} no more"
+            raise LogFault(f"{words}: etcd was set back to an earlier state, or the entry was deleted; nothing was put")
+        if self.newest == newest:
+            self.newest = None
+        return False
