@@ -129,12 +129,20 @@ func freePort(t *testing.T) string {
 // keys are the keys of the log's entries.
 func keys(t *testing.T, log *EtcdLog) (all []string) {
 	t.Helper()
-	told, err := log.client.Get(background, log.prefix, clientv3.WithRange(log.last))
+	told, err := log.client.Get(background, log.prefix, clientv3.WithRange(log.prefix+cellMark))
 	check(t, err)
 	for _, kv := range told.Kvs {
 		all = append(all, string(kv.Key))
 	}
 	return all
+}
+
+// isMarked is whether the log has a mark, which a read puts into a log without a head.
+func isMarked(t *testing.T, log *EtcdLog) bool {
+	t.Helper()
+	told, err := log.client.Get(background, log.prefix+markName)
+	check(t, err)
+	return len(told.Kvs) > 0
 }
 
 func TestEtcd(t *testing.T) {
@@ -155,15 +163,7 @@ func TestEtcd(t *testing.T) {
 		check(t, err)
 	}
 	same(t, one, two, host(t, etcd.log("web")))
-	// A mark is one key, however often it is put.
-	log := etcd.log("web")
-	marks := 0
-	for _, key := range keys(t, log) {
-		if strings.HasPrefix(key, "web:~") {
-			marks++
-		}
-	}
-	equal(t, marks, 1)
+	equal(t, isMarked(t, etcd.log("web")), false)
 	// Another log is another table.
 	equal(t, forked(t, host(t, etcd.log("we"))), 2)
 }
@@ -238,12 +238,10 @@ func untilLed(t *testing.T, it *member) {
 func TestAnEntryIsPutOnce(t *testing.T) {
 	etcd := startEtcd(t)
 	log := etcd.log("web")
-	key, err := log.entryKey(0)
-	check(t, err)
-	first, err := log.put(background, key, []byte(settings), 0)
+	first, err := log.put(background, "0123456789abcdef", settings)
 	check(t, err)
 	put(t, log, "open")
-	again, err := log.put(background, key, []byte(settings), 0)
+	again, err := log.put(background, "0123456789abcdef", settings)
 	check(t, err)
 	equal(t, again, first)
 	equal(t, len(keys(t, log)), 2)
@@ -290,13 +288,32 @@ func walk(t *testing.T, log *EtcdLog, after, last uint64) (all []Entry) {
 func fillLog(t *testing.T, log *EtcdLog, count int) (all []Entry) {
 	t.Helper()
 	for number := 0; number < count; number++ {
-		if number%3 == 0 {
-			log.revision.Store(int64(number % 5))
+		if number > 5 {
+			// A host that has read this one last, or one of long ago.
+			last := number - 1
+			if number%3 == 0 {
+				last = number % 5
+			}
+			log.newest.Store(newestAt(t, log, all[last].Position))
 		}
 		data := fmt.Sprintf("entry %d", number)
 		all = append(all, Entry{put(t, log, data), []byte(data)})
 	}
 	return all
+}
+
+// newestAt is an entry, for a host that has read no later one.
+func newestAt(t *testing.T, log *EtcdLog, position uint64) *newest {
+	t.Helper()
+	told, err := log.client.Get(background, log.prefix, clientv3.WithRange(log.prefix+cellMark))
+	check(t, err)
+	for _, kv := range told.Kvs {
+		if hint, isEntry := log.hintOf(kv.Key); isEntry && uint64(kv.CreateRevision) == position {
+			return &newest{string(kv.Key), hint, kv.CreateRevision}
+		}
+	}
+	t.Fatal("no entry", position)
+	return nil
 }
 
 // A follower gets each entry once and in order, wherever it begins and however long etcd's history is.
@@ -450,16 +467,6 @@ func TestAKeyThatIsNoneOfAnEntry(t *testing.T) {
 	_, err := log.client.Put(background, "web:hello", "hello")
 	check(t, err)
 	isFault(t, openFails(t, log, Options{}), `the log web has a key that is none of an entry: "hello"`)
-}
-
-// A backup that was restored is older than what hosts know.
-func TestAnEtcdThatWasSetBack(t *testing.T) {
-	etcd := startEtcd(t)
-	log := etcd.log("web")
-	put(t, log, settings)
-	log.revision.Store(1000)
-	_, err := log.Append(background, []byte("open"))
-	isFault(t, err, "etcd has made an entry at revision 3, behind revision 1000: it was set back")
 }
 
 func TestMembersOfTwoClusters(t *testing.T) {
