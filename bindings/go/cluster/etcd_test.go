@@ -126,10 +126,11 @@ func freePort(t *testing.T) string {
 	return listener.Addr().String()
 }
 
-// keys are the keys of the log's entries.
+// keys are the keys of the log's entries, in the order of these.
 func keys(t *testing.T, log *EtcdLog) (all []string) {
 	t.Helper()
-	told, err := log.client.Get(background, log.prefix, clientv3.WithRange(log.prefix+cellMark))
+	byPosition := clientv3.WithSort(clientv3.SortByCreateRevision, clientv3.SortAscend)
+	told, err := log.client.Get(background, log.prefix, clientv3.WithRange(log.prefix+cellMark), byPosition)
 	check(t, err)
 	for _, kv := range told.Kvs {
 		all = append(all, string(kv.Key))

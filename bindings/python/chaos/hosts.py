@@ -57,9 +57,14 @@ class Child:
             self.note({"what": "killed", "life": self.life})
         else:
             self.note({"what": "fault", "why": f"{self.life} has ended by itself, with status {self._child.returncode}"})
-        self._child.kill()
-        self._child.wait()
-        self._child = None
+        self.give_up()
+
+    def give_up(self) -> None:
+        """Ends it, however it is."""
+        if self._child is not None:
+            self._child.kill()
+            self._child.wait()
+            self._child = None
 
     def begin(self, words: list[object], **streams: Any) -> "subprocess.Popen[str]":
         """Begins a life."""
@@ -129,8 +134,12 @@ class Keeper(Child):
     def __init__(self, network: Network, place: int, number: int, folder: Path, note: Note, members: list[str]) -> None:
         super().__init__(network, place, f"k{number}", folder, note)
         self._members = members
-        self._archive = folder / "archives" / self.name
-        self._archive.mkdir(parents=True)
+        self.put_into(folder / "archives" / self.name)
+
+    def put_into(self, archive: Path) -> None:
+        """Has its next life put into this folder what it cuts."""
+        self._archive = archive
+        archive.mkdir(parents=True)
 
     def start(self) -> None:
         """Begins a life, if it does not run."""

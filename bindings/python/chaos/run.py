@@ -39,7 +39,7 @@ LONGEST_BEGIN, LONGEST_END = 120.0, 150.0
 # The disks are in memory, of which they take no more.
 DISKS = "size=2400m"
 
-TOOLS = {"etcd": "etcd-server", "ip": "iproute2", "nsenter": "util-linux", "mkfs.ext4": "e2fsprogs", "mount": "mount", "truncate": "coreutils"}
+TOOLS = {"etcd": "etcd-server", "etcdctl": "etcd-client", "ip": "iproute2", "nsenter": "util-linux", "mkfs.ext4": "e2fsprogs", "mount": "mount", "truncate": "coreutils"}
 
 
 def what_is_missing(given: argparse.Namespace) -> str:
@@ -81,18 +81,21 @@ class Run:
         recorder = Recorder(network, members, self.folder / "log")
         hosts = [Host(network, COUNT + it, it, self.folder, self.note, members.names) for it in range(HOSTS)]
         keepers = [Keeper(network, COUNT + HOSTS + it, it, self.folder, self.note, members.names) for it in range(KEEPERS)]
-        world = World(self.random, network, members, hosts, keepers, recorder)
+        is_well, verdict = self.run(World(self.random, network, members, hosts, keepers, recorder))
+        (self.folder / "verdict").write_text(verdict + "\n")
+        print(f"chaos, {self.given.seconds:g} s, seed {self.given.seed}: {verdict}", flush=True)
+        return 0 if is_well else 1
+
+    def run(self, world: World) -> tuple[bool, str]:
+        """Runs in a world: whether all was well, and the verdict."""
         with self.notes_faults():
             self.begin(world)
             self.make_troubles(world)
         with self.notes_faults():
             self.heal(world)
             self.end(world)
-        self.note({"what": "switch", "said": network.close()})
-        is_well, verdict = judge(self.folder, os.environ["PIDTAB"])
-        (self.folder / "verdict").write_text(verdict + "\n")
-        print(f"chaos, {self.given.seconds:g} s, seed {self.given.seed}: {verdict}", flush=True)
-        return 0 if is_well else 1
+        self.note({"what": "switch", "said": world.network.close()})
+        return judge(self.folder, os.environ["PIDTAB"])
 
     @contextmanager
     def notes_faults(self) -> Iterator[None]:
@@ -200,6 +203,7 @@ def read_command_line() -> argparse.Namespace:
     parser.add_argument("--seconds", type=float, default=180.0, help="for so long there are troubles")
     parser.add_argument("--seed", type=int, default=1, help="another one has other troubles")
     parser.add_argument("--troubles", type=lambda it: it.split(","), default=[], help="names of troubles, with commas; all by default")
+    parser.add_argument("--way", default="restored_ahead", help="how etcd goes back, of chaos.set_back: restored, or alone, and with _ahead")
     parser.add_argument("--member", action="append", default=[], help="a word more for each member of etcd")
     given = parser.parse_args()
     given.troubles = given.troubles or list(all_troubles())
@@ -209,7 +213,7 @@ def read_command_line() -> argparse.Namespace:
     return given
 
 
-def main() -> int:
+def main(kind: type[Run] = Run) -> int:
     """Runs what the command line names."""
     given = read_command_line()
     for name in ("PIDTAB", "PIDTAB_LIBRARY"):
@@ -225,7 +229,7 @@ def main() -> int:
     given.folder = given.folder.absolute()
     make_folder(given.folder)
     try:
-        status = run_alone(lambda: Run(given).go())
+        status = run_alone(lambda: kind(given).go())
     finally:
         with suppress(OSError):
             os.rmdir(given.folder / "disks")

@@ -20,6 +20,8 @@ from cluster.etcds import LONGEST, Etcds, need_etcd, text64
 from cluster.load import table_kind
 from cluster.relay import HOST, Relay
 from pidtab import EtcdLog, LogFault, NotKnown, Process, Replicated, Table, find_library, find_program
+from pidtab.etcd_cells import read_keys
+from pidtab.etcd_guard import Newest
 from pidtab.etcd_log import TIMEOUT
 from pidtab.replay import read_log
 from tests.pages import displays, fenced, read_page, section
@@ -305,8 +307,9 @@ class Refusals(Cluster):
             table.fork(1)
 
     def keys(self, etcds: Etcds) -> list[str]:
-        """The keys of the log's entries."""
-        return [it["key"] for it in etcds.ask("/v3/kv/range", {"key": text64("web:"), "range_end": text64("web;")})["kvs"]]
+        """The keys of the log's entries, in the order of these."""
+        told = etcds.ask("/v3/kv/range", {"key": text64("web:"), "range_end": text64("web:~"), "sort_target": "CREATE", "sort_order": "ASCEND"})
+        return [it["key"] for it in told["kvs"]]
 
     def test_a_log_that_was_changed(self) -> None:
         etcds = self.start(count=1)
@@ -388,8 +391,7 @@ class Refusals(Cluster):
             self.assertEqual(two.ask(now=True).children(1, start=number), (number,))
             self.assertEqual(two.ask(now=True).space(0).init, 1)
         self.assertEqual(one.mk(), 59)
-        marks = etcds.ask("/v3/kv/range", {"key": text64("web:~mark")})
-        self.assertEqual(len(marks["kvs"]), 1)
+        self.assertNotIn("kvs", etcds.ask("/v3/kv/range", {"key": text64("web:~mark")}))
 
 
 class Walks(Cluster):
@@ -424,10 +426,20 @@ class Walks(Cluster):
         entries = []
         self.wait_for_answer(log)
         for number in range(count):
-            if number % 3 == 0:
-                log._etcd.revision = number % 5
+            if number > 5:
+                # A host that has read the one before, or one of long ago.
+                self.read_up_to(log, entries[number % 5 if number % 3 == 0 else -1][0])
             entries.append((log.append(b"entry %d" % number), b"entry %d" % number))
         return entries
+
+    def read_up_to(self, log: EtcdLog, position: int) -> None:
+        """Has a log have read no later entry than one."""
+        log.guard.newest = None
+        for page in read_keys(log.guard.etcd, log.prefix, log.prefix + b"~", 1000):
+            for it in page:
+                if it.revision == position:
+                    key = it.name[len(log.prefix) :]
+                    log.guard.newest = Newest(position, key, int(key[:16], 16))
 
     def test_each_beginning(self) -> None:
         etcds = self.start(count=1)

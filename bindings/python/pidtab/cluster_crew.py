@@ -56,7 +56,7 @@ class Feed(Crew):
         self.wished = False
         self.ended = False
         self._crew = crew
-        self._events = Events(log)
+        self._events = Events(log, 0)
         # Whether it reads its keys by itself. Meanwhile nothing is taken out of the inbox.
         self._reads = False
         self._reading, self._sending = replica.make_backoff(), replica.make_backoff()
@@ -154,7 +154,7 @@ class Feed(Crew):
 
     def _read_all(self) -> None:
         self.replica.replay()
-        for progress in read_behind(self.log, self.replica.seen):
+        for progress in read_behind(self._events, self.replica.seen):
             self.replica.take(progress)
             if self.replica.stopped:
                 return

@@ -1,6 +1,7 @@
 """All transactions on a log in etcd. Each is done only where etcd has what this host has read of it: so none is done where etcd was set back."""
 
 import secrets
+from collections import deque
 from collections.abc import Callable, Sequence
 from typing import NamedTuple
 
@@ -13,6 +14,9 @@ from pidtab.snapshots import SERVED, served_of
 HEAD = b"~head"
 MARK = b"~mark"
 
+# Of so many entries the head is known, for who follows anew from one of them.
+HEADS_KEPT = 64
+
 # Before the names of all cells.
 BEFORE_CELLS = b"~"
 
@@ -23,6 +27,17 @@ class Newest(NamedTuple):
     revision: int
     key: bytes
     hint: int
+
+
+class Head(NamedTuple):
+    """The head as it was read: its revision, and the key of the entry that has put it."""
+
+    revision: int
+    key: bytes
+
+
+class Behind(OSError):
+    """The newest entry that was read here is cut: this host has to read on before it puts anything."""
 
 
 class Steps(NamedTuple):
@@ -63,17 +78,16 @@ class Guard:
         self.prefix = prefix
         self.newest: Newest | None = None
         self._name = name
-        # What was read of the head: its revision, and how often it was put.
-        self._head = (0, 0)
+        # Of the head what was read last, the later one behind the earlier one.
+        self._heads: deque[Head] = deque(maxlen=HEADS_KEPT)
 
     def ask(self, make_steps: MakeSteps, compares: Sequence[JSON] = ()) -> Steps:
-        """Does steps in one transaction. A LogFault where etcd has not what was read of it: then nothing is done."""
-        while True:
-            newest = self.newest
-            told = self.etcd.ask("/v3/kv/txn", self.body(newest, make_steps, compares))
-            revision = self.etcd.note(told["header"])
-            if told.get("succeeded") or self._is_there(newest, told.get("responses", [])):
-                return Steps(bool(told.get("succeeded")), told.get("responses", []), revision)
+        """Does steps in one transaction. Where etcd has not what was read of it, nothing is done: a LogFault, or a `Behind`."""
+        newest = self.newest
+        told = self.etcd.ask("/v3/kv/txn", self.body(newest, make_steps, compares))
+        if newest is not None and not told.get("succeeded"):
+            self._check_there(newest, *(it["response_range"].get("kvs", []) for it in told["responses"]))
+        return Steps(bool(told.get("succeeded")), told.get("responses", []), self.etcd.note(told["header"]))
 
     def body(self, newest: Newest | None, make_steps: MakeSteps, compares: Sequence[JSON] = ()) -> JSON:
         """A transaction, also as a step of another one. Where it is not done, it reads why."""
@@ -97,9 +111,19 @@ class Guard:
         """Puts an entry behind all others: its revision."""
         return self.ask(lambda behind: self.entry_steps(entry, behind)).revision
 
-    def look(self) -> tuple[int, int]:
-        """The revision of etcd now, by a read that a majority confirms; and that of the head, or 0 where the log has none."""
-        told = self.ask(lambda _: [range_of(self.prefix + HEAD, keys_only=True)])
+    def look(self, reads_on: bool = False) -> tuple[int, int]:
+        """The revision of etcd now, by a read that a majority confirms; and that of the head, or 0 where the log has none.
+
+        Who `reads_on` from there may be behind a cut.
+        """
+        read = range_of(self.prefix + HEAD, keys_only=True)
+        try:
+            told = self.ask(lambda _: [read])
+        except Behind:
+            if not reads_on:
+                raise
+            answer = self.etcd.ask("/v3/kv/txn", {"success": [read]})
+            told = Steps(True, answer["responses"], self.etcd.note(answer["header"]))
         kvs = told.answers[0]["response_range"].get("kvs", [])
         return told.revision, int(kvs[0]["mod_revision"]) if kvs else 0
 
@@ -108,26 +132,23 @@ class Guard:
         if self.newest is None or newest.revision > self.newest.revision:
             self.newest = newest
 
-    def note_head(self, kv: JSON) -> None:
-        """Notes the head that was read. Each entry puts it once: if it was not put once more since, etcd may be another one, and is asked before that."""
-        revision, version = int(kv["mod_revision"]), int(kv["version"])
-        before, count = self._head
-        if revision <= before:
-            return
-        if count and version != count + 1:
-            self.look()
-        self._head = (revision, version)
+    def note_head(self, head: Head) -> None:
+        """Notes the head that was read."""
+        if not self._heads or head.revision > self._heads[-1].revision:
+            self._heads.append(head)
 
-    def _is_there(self, newest: Newest | None, answers: Sequence[JSON]) -> bool:
-        """Whether etcd has what was read of it; False where a keeper has cut it, and the transaction is to be done without it."""
-        if newest is None:
-            return True
-        entry, served = (it["response_range"].get("kvs", []) for it in answers)
+    def head_at(self, revision: int) -> Head | None:
+        """The head as who has read up to a revision has it, if that is known."""
+        return max((it for it in tuple(self._heads) if it.revision <= revision), default=None)
+
+    def set_back(self, what: str) -> LogFault:
+        """What is raised where etcd has not what was read of it."""
+        return LogFault(f"the log {self._name} has {what}: etcd was set back to an earlier state, or the entry was deleted; nothing was put")
+
+    def _check_there(self, newest: Newest, entry: Sequence[JSON], served: Sequence[JSON]) -> None:
+        """Sees to it that etcd has what was read of it: it may be cut by a keeper."""
         if entry and int(entry[0]["create_revision"]) == newest.revision:
-            return True
-        if newest.hint >= served_of(Cell(SERVED, decode(served[0].get("value", "")) if served else None, 0)).cut:
-            words = f"the log {self._name} has the entry of revision {newest.revision} no more"
-            raise LogFault(f"{words}: etcd was set back to an earlier state, or the entry was deleted; nothing was put")
-        if self.newest == newest:
-            self.newest = None
-        return False
+            return
+        if newest.hint < served_of(Cell(SERVED, decode(served[0].get("value", "")) if served else None, 0)).cut:
+            raise Behind(f"the log was cut behind entry {newest.revision}, and this host reads on first")
+        raise self.set_back(f"the entry of revision {newest.revision} no more")

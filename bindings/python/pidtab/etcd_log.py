@@ -10,7 +10,7 @@ from typing import NamedTuple
 from pidtab.bounds import check_seconds
 from pidtab.etcd import JSON, Etcd, decode, encode, read_member
 from pidtab.etcd_cells import EtcdCells, cut_entries, read_entries_to
-from pidtab.etcd_guard import HEAD, MARK, Guard, Newest, put_of
+from pidtab.etcd_guard import HEAD, MARK, Guard, Head, Newest, put_of
 from pidtab.etcd_watch import Compacted, EtcdWatch
 from pidtab.faults import LogFault
 from pidtab.log import CutLog, Following, Progress
@@ -156,8 +156,6 @@ class EtcdLog(CutLog):
     def read(self, kv: JSON) -> Found | None:
         """An entry as etcd has it; None for the mark and the head."""
         key = decode(kv["key"])[len(self.prefix) :]
-        if key == HEAD:
-            self.guard.note_head(kv)
         if key in (HEAD, MARK):
             return None
         form, revision = KEY.fullmatch(key), int(kv["create_revision"])
@@ -195,7 +193,7 @@ class EtcdFollowing(Following):
         self._log = log
         self._seen = after
         self._closed = False
-        self._events = Events(log)
+        self._events = Events(log, after)
         self._watch = EtcdWatch(etcd, log.prefix, log.last)
         self._steps = self._walk()
 
@@ -213,7 +211,7 @@ class EtcdFollowing(Following):
 
     def _walk(self) -> Iterator[Progress]:
         if not self._seen:
-            yield from read_behind(self._log, self._seen)
+            yield from read_behind(self._events, self._seen)
         quiet = 0
         while not self._closed:
             try:
@@ -224,51 +222,75 @@ class EtcdFollowing(Following):
                 quiet += 1
                 yield Progress(self._seen)
             except Compacted:
-                yield from read_behind(self._log, self._seen)
+                yield from read_behind(self._events, self._seen)
             # Others may write to etcd, so that its revision alone does not say that nothing was missed.
             if quiet and quiet % QUIET_TIMES == 0 and self._log.end() > self._seen:
                 self._log.mark()
 
 
 class Events:
-    """Reads what a watch tells of a log, for one follower."""
+    """Reads what a watch tells of a log, for one follower, which is at a position."""
 
-    def __init__(self, log: EtcdLog) -> None:
-        self._log = log
+    def __init__(self, log: EtcdLog, after: int) -> None:
+        self.log = log
         # Only entries with an earlier revision in their keys may be deleted.
         self._cut = 0
+        self._head = log.guard.head_at(after)
 
     def read(self, event: JSON) -> Sequence[tuple[int, bytes]]:
         """The entry of an event, if it has one."""
         kv = event["kv"]
+        key = decode(kv["key"])[len(self.log.prefix) :]
         if event.get("type") == "DELETE":
-            self._check_deleted(decode(kv["key"])[len(self._log.prefix) :], kv["mod_revision"])
+            self._check_deleted(key, kv["mod_revision"])
             return ()
-        found = self._log.read(kv)
+        if key == HEAD:
+            self._follow_head(event)
+        found = self.log.read(kv)
         return () if found is None else ((found.revision, found.data),)
+
+    def take_head(self, head: Head) -> None:
+        """Begins behind a head."""
+        self._head = head
+        self.log.guard.note_head(head)
+
+    def _follow_head(self, event: JSON) -> None:
+        """Sees to it that a head comes behind the one that was read last: before its entry, and none is left out. The last one has that entry's key."""
+        last = self._head
+        if last is None or "prev_kv" not in event:
+            self.log.guard.look()
+        elif head_of(event["prev_kv"]) != last:
+            raise self.log.guard.set_back(f"another entry behind that of revision {last.revision}")
+        self.take_head(head_of(event["kv"]))
 
     def _check_deleted(self, key: bytes, revision: str) -> None:
         """Sees to it that what was deleted is behind a snapshot. The follower had it before."""
         form = KEY.fullmatch(key)
         if key == HEAD:
-            raise LogFault(f"the head of the log {self._log.name} was deleted, at revision {revision}: open it again, and it goes on without")
+            raise LogFault(f"the head of the log {self.log.name} was deleted, at revision {revision}: open it again, and it goes on without")
         if key != MARK and not (form and self._is_cut(int(form[1], 16))):
-            raise LogFault(f"an entry of the log {self._log.name} was deleted, at revision {revision}")
+            raise LogFault(f"an entry of the log {self.log.name} was deleted, at revision {revision}")
 
     def _is_cut(self, hint: int) -> bool:
         """Whether an entry with this revision in its key may be one that is cut."""
         if hint >= self._cut:
-            self._cut = read_served(self._log.cells()).cut
+            self._cut = read_served(self.log.cells()).cut
         return hint < self._cut
 
 
-def read_behind(log: EtcdLog, after: int) -> Iterator[Progress]:
+def head_of(kv: JSON) -> Head:
+    """The head, as etcd has it."""
+    return Head(int(kv["mod_revision"]), decode(kv.get("value", "")))
+
+
+def read_behind(events: Events, after: int) -> Iterator[Progress]:
     """All that is behind a position, as it is at one revision: a snapshot, where what was there is cut or much, and then all entries.
 
     They are read by their keys, in the order of these: no entry has a revision up to that in its key. So what was read up to a key has all entries
     up to there.
     """
-    (at, _), most = log.guard.look(), FIRST_PAGE
+    log, most = events.log, FIRST_PAGE
+    at, _ = log.guard.look(reads_on=True)
     loaded = load_behind(log.cells(at), after)
     if loaded is not None:
         yield Progress(loaded[0], (), loaded[1])
@@ -286,7 +308,7 @@ def read_behind(log: EtcdLog, after: int) -> Iterator[Progress]:
                 newest = max(newest, it.revision)
         is_last = not page.get("more")
         if is_last:
-            check_newest(log, kvs, newest)
+            read_head(events, kvs, newest)
         bound = at if is_last else max([after, *(it.hint for it in found)])
         ready = []
         while waiting and waiting[0].revision <= bound:
@@ -299,12 +321,14 @@ def read_behind(log: EtcdLog, after: int) -> Iterator[Progress]:
         most = max(1, min(LONGEST_PAGE, 2 * most, most * PAGE_BYTES // size))
 
 
-def check_newest(log: EtcdLog, last: Sequence[JSON], newest: int) -> None:
-    """Sees to it that the newest entry is that of the head, which is among the last keys. One by hand has no value, and is of no entry."""
+def read_head(events: Events, last: Sequence[JSON], newest: int) -> None:
+    """Takes the head, which is among the last keys, and sees to it that its entry is there. One by hand has no value, and is of no entry."""
     for kv in last:
-        revision = int(kv["mod_revision"])
-        if decode(kv["key"]) == log.prefix + HEAD and kv.get("value") and revision > newest:
-            raise LogFault(f"the newest entry of the log {log.name}, at revision {revision}, was deleted")
+        if decode(kv["key"]) == events.log.prefix + HEAD:
+            head = head_of(kv)
+            if head.key and head.revision > newest:
+                raise LogFault(f"the newest entry of the log {events.log.name}, at revision {head.revision}, was deleted")
+            events.take_head(head)
 
 
 def first_behind(log: EtcdLog, after: int, at: int) -> bytes:

@@ -45,8 +45,9 @@ class Version(NamedTuple):
 class Watcher:
     """The far end of a watch."""
 
-    def __init__(self, end: socket.socket, start: bytes, before: bytes, first: int) -> None:
+    def __init__(self, end: socket.socket, start: bytes, before: bytes, first: int, find_last: "Callable[[Version], Version]") -> None:
         self._end = end
+        self._find_last = find_last
         self._start, self._before = start, before
         # A watch of what has not been yet waits for it.
         self._first = first
@@ -68,8 +69,12 @@ class Watcher:
         """Says what of some changes is its own."""
         own = [it for it in versions if self._start <= it.key < self._before and it.revision >= self._first]
         if own:
-            events: list[JSON] = [{"kv": it.shown()} | ({"type": "DELETE"} if it.value is None else {}) for it in own]
-            self.say({"header": header, "events": events})
+            self.say({"header": header, "events": [self._event(it) for it in own]})
+
+    def _event(self, version: Version) -> JSON:
+        event: JSON = {"kv": version.shown()} | ({"type": "DELETE"} if version.value is None else {})
+        last = self._find_last(version)
+        return event if last.value is None else {**event, "prev_kv": last.shown()}
 
 
 class MemoryEtcd:
@@ -117,7 +122,7 @@ class MemoryEtcd:
         near, far = socket.socketpair()
         near.settimeout(IDLE)
         first = int(asked["start_revision"])
-        watcher = Watcher(far, decode(asked["key"]), decode(asked["range_end"]), first)
+        watcher = Watcher(far, decode(asked["key"]), decode(asked["range_end"]), first, lambda it: self._now(it.key, it.revision - 1))
         with self._lock:
             watcher.say({"header": self._header(), "created": True})
             if first < self._compacted:

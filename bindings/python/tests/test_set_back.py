@@ -7,7 +7,9 @@ from collections.abc import Sequence
 from pidtab import LogFault, NotKnown, Replicated
 from pidtab.etcd import JSON, decode, encode
 from pidtab.etcd_guard import HEAD
+from pidtab.keeper import Keeper
 from pidtab.log_form import FORM, MODEL, Settings, write_settings
+from pidtab.snapshots import read_served
 from tests.keeping import Keeping, StillLog, cuts
 from tests.memory_etcd import cluster_in, log_in
 from tests.stand_in import StandIn
@@ -145,23 +147,49 @@ class SetBack(Keeping):
 
 
 class Cut(Keeping):
-    """A host whose newest entry was cut is no host of an etcd that was set back."""
+    """A host whose newest entry was cut, and which puts nothing before it has read on."""
 
-    def test_a_host_that_stood_still(self) -> None:
+    def stand_still(self) -> tuple[Replicated, Replicated, StillLog, Keeper]:
+        """A host, one that hears nothing from now on, and a keeper."""
         table, still, keeper = self.open(), self.open(StillLog), self.keep()
         log = still.log
         assert isinstance(log, StillLog)
         self.fill(table)
         still.catch_up()
+        still.fork(1)
         log.hears.clear()
         self.store.close()
+        return table, still, log, keeper
+
+    def test_a_host_that_stood_still(self) -> None:
+        table, still, log, keeper = self.stand_still()
         for _ in range(2):
             self.save_twice(table, keeper)
         asked = still.submit(["fork 1"])
-        self.wait_until(lambda: log.guard.newest is None)
+        self.wait_until(lambda: "this host reads on first" in str(still._replica.trouble))
         log.hears.set()
         self.assertRegex(asked.result()[0], "^child ")
         self.check_same(table, still, self.open())
+
+    def test_etcd_was_set_back_meanwhile(self) -> None:
+        # It seems to be cut, by its number; and the watch tells that it is another entry that follows.
+        table, still, log, keeper = self.stand_still()
+        self.fill(table)
+        still_at = still.position
+        self.store.set_back(still_at - 10)
+        new, again = self.open(), self.keep()
+        for _ in range(2):
+            self.save_twice(new, again)
+        self.assertGreater(read_served(log.cells()).cut, still_at)
+        before = self.positions()
+        asked = still.submit(["fork 1"])
+        self.wait_until(lambda: "this host reads on first" in str(still._replica.trouble))
+        log.hears.set()
+        with self.assertRaisesRegex(NotKnown, "has another entry behind that of revision [0-9]+: etcd was set back"):
+            asked.result()
+        self.assertEqual(still.position, still_at)
+        self.assertEqual(self.positions(), before)
+        self.check_same(new, self.open())
 
 
 class Heads(Keeping):
