@@ -100,13 +100,13 @@ func (log *EtcdLog) put(ctx context.Context, chance, entry string) (uint64, erro
 
 // Follow hands on all entries behind the revision, and then each that comes.
 func (log *EtcdLog) Follow(ctx context.Context, after uint64, take func(Progress) error) error {
-	walk := &etcdWalk{log: log, take: take, seen: int64(after)}
+	walk := &etcdWalk{log: log, take: take, seen: int64(after), head: log.headAt(int64(after))}
 	return walk.run(ctx)
 }
 
 // End is the position of the newest entry, or, of a log without a head, the revision of etcd now: by a read that a majority confirms.
 func (log *EtcdLog) End(ctx context.Context) (uint64, error) {
-	revision, head, err := log.look(ctx)
+	revision, head, err := log.look(ctx, false)
 	if head > 0 {
 		return uint64(head), err
 	}
@@ -115,7 +115,7 @@ func (log *EtcdLog) End(ctx context.Context) (uint64, error) {
 
 // Mark is the same. Each follower sees the head; in a log without one it sees a put of a key that is none of an entry.
 func (log *EtcdLog) Mark(ctx context.Context) (uint64, error) {
-	_, head, err := log.look(ctx)
+	_, head, err := log.look(ctx, false)
 	if head > 0 || err != nil {
 		return uint64(head), err
 	}

@@ -36,6 +36,7 @@ type etcdWalk struct {
 	seen int64
 	cut  int64 // only entries with an earlier revision in their keys may be deleted
 	last int64 // the revision of the newest entry that was read
+	head *headRead
 }
 
 // run goes on until something fails.
@@ -121,7 +122,7 @@ func (it *foundHeap) upTo(revision int64) []Entry {
 //
 // They are read in the order of their keys. No entry has a revision up to that in its key. So what was read up to a key has all entries up to there.
 func (it *etcdWalk) readKeys(ctx context.Context) error {
-	at, _, err := it.log.look(ctx)
+	at, _, err := it.log.look(ctx, true)
 	if err != nil {
 		return err
 	}
@@ -148,12 +149,12 @@ func (it *etcdWalk) readPages(ctx context.Context, start string, at int64) error
 		if err != nil {
 			return err
 		}
-		bound, err := it.push(ctx, &waiting, page, after)
+		bound, err := it.push(&waiting, page, after)
 		if err != nil {
 			return err
 		}
 		if !page.More {
-			bound, err = at, it.checkNewest(page)
+			bound, err = at, it.readHead(page)
 		}
 		if err == nil {
 			err = it.hand(Progress{Position: uint64(bound), Entries: waiting.upTo(bound)})
@@ -166,10 +167,10 @@ func (it *etcdWalk) readPages(ctx context.Context, start string, at int64) error
 }
 
 // push keeps the entries of a page that are behind the place; up to which revision all have come.
-func (it *etcdWalk) push(ctx context.Context, waiting *foundHeap, page page, after int64) (int64, error) {
+func (it *etcdWalk) push(waiting *foundHeap, page page, after int64) (int64, error) {
 	bound := after
 	for _, kv := range page.Kvs {
-		hint, isEntry, err := it.readKey(ctx, kv.Key, kv.CreateRevision, kv.ModRevision, kv.Version)
+		hint, isEntry, err := it.readKey(kv.Key, kv.CreateRevision, kv.Version)
 		if err != nil {
 			return 0, err
 		}
@@ -184,27 +185,48 @@ func (it *etcdWalk) push(ctx context.Context, waiting *foundHeap, page page, aft
 }
 
 // readKey notes a key that was read: the revision in that of an entry, and whether it is one.
-func (it *etcdWalk) readKey(ctx context.Context, key []byte, made, changed, version int64) (int64, bool, error) {
-	if it.log.isMark(key) {
+func (it *etcdWalk) readKey(key []byte, revision, version int64) (int64, bool, error) {
+	if it.log.isMark(key) || it.log.isHead(key) {
 		return 0, false, nil
 	}
-	if it.log.isHead(key) {
-		return 0, false, it.log.noteHead(ctx, changed, version)
-	}
-	hint, err := it.log.checkEntry(key, made, version)
-	if it.last < made {
-		it.last = made
+	hint, err := it.log.checkEntry(key, revision, version)
+	if it.last < revision {
+		it.last = revision
 	}
 	return hint, err == nil, err
 }
 
-// checkNewest sees to it that the newest entry is that of the head, which is in the last page. One by hand has no value, and is of no entry.
-func (it *etcdWalk) checkNewest(page page) error {
+// readHead takes the head, which is in the last page, and sees to it that its entry is there. One by hand has no value, and is of no entry.
+func (it *etcdWalk) readHead(page page) error {
 	for _, kv := range page.Kvs {
-		if it.log.isHead(kv.Key) && len(kv.Value) > 0 && kv.ModRevision > it.last && kv.ModRevision > it.seen {
+		if !it.log.isHead(kv.Key) {
+			continue
+		}
+		if len(kv.Value) > 0 && kv.ModRevision > it.last && kv.ModRevision > it.seen {
 			return LogFault{Why: fmt.Sprintf("the newest entry of the log %s, at revision %d, was deleted", it.log.name, kv.ModRevision)}
 		}
+		it.takeHead(kv.ModRevision, kv.Value)
 	}
+	return nil
+}
+
+// takeHead goes on behind a head.
+func (it *etcdWalk) takeHead(revision int64, key []byte) {
+	it.head = &headRead{revision, string(key)}
+	it.log.noteHead(it.head)
+}
+
+// followHead sees to it that a head comes behind the one that was read last: before its entry, and none is left out. The last one has that entry's key.
+func (it *etcdWalk) followHead(ctx context.Context, event *clientv3.Event) error {
+	last, before := it.head, event.PrevKv
+	if last == nil || before == nil {
+		if _, _, err := it.log.look(ctx, false); err != nil {
+			return err
+		}
+	} else if before.ModRevision != last.revision || string(before.Value) != last.key {
+		return it.log.setBack(fmt.Sprintf("another entry behind that of revision %d", last.revision))
+	}
+	it.takeHead(event.Kv.ModRevision, event.Kv.Value)
 	return nil
 }
 
@@ -273,7 +295,7 @@ func (it *etcdWalk) watch(ctx context.Context) error {
 	// A member that hangs makes no watch.
 	quiet := time.AfterFunc(it.log.timeout(), cancel)
 	defer quiet.Stop()
-	for told := range watcher.Watch(within, it.log.prefix, clientv3.WithRange(it.log.last), clientv3.WithRev(it.seen+1)) {
+	for told := range watcher.Watch(within, it.log.prefix, it.wish()...) {
 		quiet.Stop()
 		if err := it.handTold(ctx, told); err != nil {
 			return err
@@ -287,6 +309,11 @@ func (it *etcdWalk) watch(ctx context.Context) error {
 		return errQuiet
 	}
 	return errors.New("etcd: the watch has ended")
+}
+
+// wish is what a watch is asked for: what comes behind the place, and what it was before.
+func (it *etcdWalk) wish() []clientv3.OpOption {
+	return []clientv3.OpOption{clientv3.WithRange(it.log.last), clientv3.WithRev(it.seen + 1), clientv3.WithPrevKV()}
 }
 
 // handTold hands on what a watch tells.
@@ -326,7 +353,10 @@ func (it *etcdWalk) readEvent(ctx context.Context, event *clientv3.Event) (*Entr
 	if event.Type == clientv3.EventTypeDelete {
 		return nil, it.checkDeleted(ctx, kv.Key, kv.ModRevision)
 	}
-	if _, isEntry, err := it.readKey(ctx, kv.Key, kv.CreateRevision, kv.ModRevision, kv.Version); !isEntry {
+	if it.log.isHead(kv.Key) {
+		return nil, it.followHead(ctx, event)
+	}
+	if _, isEntry, err := it.readKey(kv.Key, kv.CreateRevision, kv.Version); !isEntry {
 		return nil, err
 	}
 	return &Entry{uint64(kv.CreateRevision), kv.Value}, nil

@@ -2,6 +2,7 @@ package cluster
 
 import (
 	"context"
+	"errors"
 	"fmt"
 
 	clientv3 "go.etcd.io/etcd/client/v3"
@@ -24,8 +25,14 @@ func (it *newest) behind() int64 {
 	return it.revision
 }
 
-// A headRead is what was read of the head: its revision, and how often it was put.
-type headRead struct{ revision, version int64 }
+// A headRead is the head as it was read: its revision, and the key of the entry that has put it.
+type headRead struct {
+	revision int64
+	key      string
+}
+
+// errBehind says that the newest entry that was read here is cut: this host has to read on before it puts anything.
+var errBehind = errors.New("pidtab: the log was cut behind what this host has read, and it reads on first")
 
 // A transaction has what is to hold, what is done then, and what is read where it does not hold.
 type transaction struct {
@@ -33,55 +40,63 @@ type transaction struct {
 	done, otherwise []clientv3.Op
 }
 
-// transact does a transaction, which is behind a revision, if etcd has what was read of it here. A LogFault where it has not: then nothing is done.
-func (log *EtcdLog) transact(ctx context.Context, plan func(behind int64) transaction) (*clientv3.TxnResponse, error) {
-	ctx, cancel := log.within(ctx)
-	defer cancel()
-	for {
-		newest := log.newest.Load()
-		it := plan(newest.behind())
-		if newest != nil {
-			it.holds = append(it.holds, clientv3.Compare(clientv3.CreateRevision(newest.key), "=", newest.revision))
-			it.otherwise = append(it.otherwise, clientv3.OpGet(newest.key, clientv3.WithKeysOnly()), clientv3.OpGet(log.prefix+cellMark+servedCell))
-		}
-		told, err := log.client.Txn(ctx).If(it.holds...).Then(it.done...).Else(it.otherwise...).Commit()
-		if err != nil {
-			return nil, log.faultOf(err)
-		}
-		if err := log.note(told.Header.ClusterId); err != nil {
-			return nil, err
-		}
-		if isThere, err := log.isThere(newest, told); isThere || err != nil {
-			return told, err
-		}
-	}
+// readOf reads a key, by a read that a majority confirms.
+func readOf(key string, wishes ...clientv3.OpOption) clientv3.Op {
+	return clientv3.OpGet(key, wishes...)
 }
 
-// isThere is whether etcd has what was read of it, by what a transaction answers; false where a keeper has cut it, and the same is done without it.
-func (log *EtcdLog) isThere(newest *newest, told *clientv3.TxnResponse) (bool, error) {
-	if told.Succeeded || newest == nil {
-		return true, nil
+// transact does a transaction, which is behind a revision. Where etcd has not what was read of it, nothing is done: a LogFault, or errBehind.
+func (log *EtcdLog) transact(ctx context.Context, plan func(behind int64) transaction) (*clientv3.TxnResponse, error) {
+	newest := log.newest.Load()
+	it := plan(newest.behind())
+	if newest != nil {
+		it.holds = append(it.holds, clientv3.Compare(clientv3.CreateRevision(newest.key), "=", newest.revision))
+		it.otherwise = append(it.otherwise, readOf(newest.key, clientv3.WithKeysOnly()), readOf(log.prefix+cellMark+servedCell))
 	}
-	why := told.Responses[len(told.Responses)-2:]
-	for _, kv := range why[0].GetResponseRange().Kvs {
+	told, err := log.commit(ctx, it)
+	if err == nil && newest != nil && !told.Succeeded {
+		err = log.checkThere(newest, told)
+	}
+	return told, err
+}
+
+// commit does a transaction as it is.
+func (log *EtcdLog) commit(ctx context.Context, it transaction) (*clientv3.TxnResponse, error) {
+	ctx, cancel := log.within(ctx)
+	defer cancel()
+	told, err := log.client.Txn(ctx).If(it.holds...).Then(it.done...).Else(it.otherwise...).Commit()
+	if err != nil {
+		return nil, log.faultOf(err)
+	}
+	return told, log.note(told.Header.ClusterId)
+}
+
+// checkThere sees to it that etcd has what was read of it: it may be cut by a keeper. What was read then are the entry and the snapshots that serve.
+func (log *EtcdLog) checkThere(newest *newest, told *clientv3.TxnResponse) error {
+	read := told.Responses[len(told.Responses)-2:]
+	for _, kv := range read[0].GetResponseRange().Kvs {
 		if kv.CreateRevision == newest.revision {
-			return true, nil
+			return nil
 		}
 	}
 	var text []byte
-	for _, kv := range why[1].GetResponseRange().Kvs {
+	for _, kv := range read[1].GetResponseRange().Kvs {
 		text = kv.Value
 	}
 	all, err := readServed(text)
 	if err != nil {
-		return false, err
+		return err
 	}
-	if newest.hint >= int64(all.cut()) {
-		const words = "the log %s has the entry of revision %d no more: etcd was set back to an earlier state, or the entry was deleted; nothing was put"
-		return false, LogFault{Why: fmt.Sprintf(words, log.name, newest.revision)}
+	if newest.hint < int64(all.cut()) {
+		return errBehind
 	}
-	log.newest.CompareAndSwap(newest, nil)
-	return false, nil
+	return log.setBack(fmt.Sprintf("the entry of revision %d no more", newest.revision))
+}
+
+// setBack is what is said where etcd has not what was read of it.
+func (log *EtcdLog) setBack(what string) LogFault {
+	const words = "the log %s has %s: etcd was set back to an earlier state, or the entry was deleted; nothing was put"
+	return LogFault{Why: fmt.Sprintf(words, log.name, what)}
 }
 
 // putHead puts the head with an entry, if the log has one: it gets one with its first entry.
@@ -95,11 +110,14 @@ func (log *EtcdLog) putHead(key string, behind int64) clientv3.Op {
 	return clientv3.OpTxn([]clientv3.Cmp{isEmpty}, put, []clientv3.Op{ifThere})
 }
 
-// look is the revision of etcd now, by a read that a majority confirms, and that of the head, or 0 where the log has none.
-func (log *EtcdLog) look(ctx context.Context) (revision, head int64, err error) {
-	told, err := log.transact(ctx, func(int64) transaction {
-		return transaction{done: []clientv3.Op{clientv3.OpGet(log.prefix+headName, clientv3.WithKeysOnly())}}
-	})
+// look is the revision of etcd now, by a read that a majority confirms, and that of the head, or 0 where the log has none. Who reads on from there may be
+// behind a cut.
+func (log *EtcdLog) look(ctx context.Context, readsOn bool) (revision, head int64, err error) {
+	it := transaction{done: []clientv3.Op{readOf(log.prefix+headName, clientv3.WithKeysOnly())}}
+	told, err := log.transact(ctx, func(int64) transaction { return it })
+	if readsOn && errors.Is(err, errBehind) {
+		told, err = log.commit(ctx, it)
+	}
 	if err != nil {
 		return 0, 0, err
 	}
@@ -118,17 +136,19 @@ func (log *EtcdLog) noteEntry(it *newest) {
 	}
 }
 
-// noteHead notes the head that was read. Each entry puts it once: if it was not put once more since, etcd may be another one, and is asked before that.
-func (log *EtcdLog) noteHead(ctx context.Context, revision, version int64) error {
-	before := log.head.Load()
-	if before != nil && revision <= before.revision {
-		return nil
-	}
-	if before != nil && version != before.version+1 {
-		if _, _, err := log.look(ctx); err != nil {
-			return err
+// noteHead notes the head that was read, for who follows the log anew.
+func (log *EtcdLog) noteHead(it *headRead) {
+	for before := log.head.Load(); before == nil || before.revision < it.revision; before = log.head.Load() {
+		if log.head.CompareAndSwap(before, it) {
+			return
 		}
 	}
-	log.head.Store(&headRead{revision, version})
+}
+
+// headAt is the head as who has read up to a revision has it; nil where that is not known.
+func (log *EtcdLog) headAt(revision int64) *headRead {
+	if it := log.head.Load(); it != nil && it.revision <= revision {
+		return it
+	}
 	return nil
 }

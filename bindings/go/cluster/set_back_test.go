@@ -139,7 +139,7 @@ func TestALogOfAnEarlierRelease(t *testing.T) {
 	check(t, err)
 	same(t, one, two)
 	equal(t, isMarked(t, log), true)
-	_, head, err := log.look(background)
+	_, head, err := log.look(background, false)
 	check(t, err)
 	equal(t, head, int64(0))
 	_, err = log.client.Put(background, "web:~head", "")
@@ -171,6 +171,10 @@ func TestANewestEntryThatWasCut(t *testing.T) {
 	_, err = log.client.Put(background, "web:~snapshots", announce(5)+"\n"+announce(6))
 	check(t, err)
 	_, err = log.Append(background, []byte("open"))
+	equal(t, err, errBehind)
+	// It is not behind once it has read on.
+	_, _, err = log.look(background, true)
 	check(t, err)
-	equal(t, log.newest.Load() == nil, true)
+	log.newest.Store(newestAt(t, log, 9))
+	put(t, log, "open")
 }

@@ -83,8 +83,12 @@ class Run:
         keepers = [Keeper(network, COUNT + HOSTS + it, it, self.folder, self.note, members.names) for it in range(KEEPERS)]
         is_well, verdict = self.run(World(self.random, network, members, hosts, keepers, recorder))
         (self.folder / "verdict").write_text(verdict + "\n")
-        print(f"chaos, {self.given.seconds:g} s, seed {self.given.seed}: {verdict}", flush=True)
+        print(f"chaos, {self.title()}, seed {self.given.seed}: {verdict}", flush=True)
         return 0 if is_well else 1
+
+    def title(self) -> str:
+        """What kind of run it is."""
+        return f"{self.given.seconds:g} s"
 
     def run(self, world: World) -> tuple[bool, str]:
         """Runs in a world: whether all was well, and the verdict."""

@@ -44,6 +44,9 @@ class State(NamedTuple):
 class SetBack(Run):
     """One run, in a folder: first with hosts of the old etcd, and then with new ones of the other."""
 
+    def title(self) -> str:
+        return str(self.given.way)
+
     def run(self, world: World) -> tuple[bool, str]:
         """Runs, and judges."""
         before, after = (make_part(self.folder / it) for it in ("before", "after"))
@@ -163,7 +166,7 @@ class SetBack(Run):
             if not is_well:
                 faults.add(*first_of(verdict))
         said = f"before: {verdicts[0][1]}; behind: {verdicts[1][1]}"
-        return (False, f"{faults.say()}; {said}") if faults.found else (True, f"well, {self.given.way}: {said}")
+        return (False, f"{faults.say()}; {said}") if faults.found else (True, f"well: {said}")
 
 
 def make_part(folder: Path) -> Path:

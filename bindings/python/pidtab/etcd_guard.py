@@ -7,7 +7,7 @@ from typing import NamedTuple
 
 from pidtab.etcd import JSON, Etcd, decode, encode
 from pidtab.faults import LogFault
-from pidtab.log import Cell
+from pidtab.log import Behind, Cell
 from pidtab.snapshots import SERVED, served_of
 
 # Behind the log's name: the key that each entry puts too, and which so has the revision of the newest one; and the mark.
@@ -34,10 +34,6 @@ class Head(NamedTuple):
 
     revision: int
     key: bytes
-
-
-class Behind(OSError):
-    """The newest entry that was read here is cut: this host has to read on before it puts anything."""
 
 
 class Steps(NamedTuple):

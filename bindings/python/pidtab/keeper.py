@@ -4,6 +4,7 @@ import queue
 import random
 import time
 from collections.abc import Callable
+from contextlib import suppress
 from functools import partial
 from typing import NamedTuple, TypeVar
 
@@ -12,7 +13,7 @@ from pidtab.backoff import Backoff
 from pidtab.bounds import DEFAULT_PID_MAX, check_pid_max
 from pidtab.calls import Calls
 from pidtab.faults import LogFault
-from pidtab.log import CutLog, Following, Progress
+from pidtab.log import Behind, CutLog, Following, Progress
 from pidtab.log_form import FORM, MODEL, SNAP, Announced, Settings, read_announced, read_entry
 from pidtab.machine import table_of, text_of
 from pidtab.machines import AnyMachine, open_machine
@@ -160,6 +161,11 @@ class Keeper:
                 raise Ended
             try:
                 return step()
+            except Behind:
+                # Nobody else follows the log here.
+                with suppress(OSError):
+                    self.advance()
+                    continue
             except OSError as fault:
                 self.say_trouble(f"{fault}")
             self.pause(backoff.next())

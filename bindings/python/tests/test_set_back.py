@@ -171,6 +171,15 @@ class Cut(Keeping):
         self.assertRegex(asked.result()[0], "^child ")
         self.check_same(table, still, self.open())
 
+    def test_a_keeper_that_stood_still(self) -> None:
+        table, still, keeper = self.open(), self.keep(), self.keep()
+        self.save_twice(table, still)
+        still.drop_following()
+        for _ in range(2):
+            self.save_twice(table, keeper)
+        self.assertIsNotNone(still.save())
+        self.check_same(table, self.open())
+
     def test_etcd_was_set_back_meanwhile(self) -> None:
         # It seems to be cut, by its number; and the watch tells that it is another entry that follows.
         table, still, log, keeper = self.stand_still()
