@@ -5,6 +5,7 @@ put anything more, and new hosts have to open the log that is left and go on wit
 one as others are.
 """
 
+import base64
 import json
 import os
 import shutil
@@ -16,7 +17,7 @@ from pathlib import Path
 from typing import NamedTuple
 
 from chaos.hosts import Host
-from chaos.judge import Faults, judge
+from chaos.judge import NAMES, Faults, judge
 from chaos.members import PLACES, text64
 from chaos.record import Row, read_rows
 from chaos.recorder import Recorder
@@ -54,7 +55,7 @@ class SetBack(Run):
             self.begin(world)
             time.sleep(BEFORE)
             state = self.go_back(world)
-            self.wait_for_ends(world)
+            self.wait_for_ends(world, state)
             self.split(world, state, before, after)
             self.go_on(world, state, after)
         return self.judge_both(before, after)
@@ -102,18 +103,27 @@ class SetBack(Run):
         world.members.send(member, signal.SIGSTOP)
         return lambda: world.members.start(member, "--force-new-cluster")
 
-    def wait_for_ends(self, world: World) -> None:
-        """Waits until each old host has said that it has noticed, and ends it."""
-        end = time.monotonic() + NOTICED
+    def wait_for_ends(self, world: World, state: State) -> None:
+        """Waits until each old host that has lost something has said that it has noticed; and ends all old ones."""
+        places = places_of(read_rows(self.folder / "log"))
         old = [it for it in world.hosts if it.lives == 1]
-        while time.monotonic() < end and not all(map(self.has_noticed, old)):
+        losers = [it for it in old if self.newest(it, places) > state.left_at]
+        self.note({"what": "losers", "lives": [it.life for it in losers]})
+        end = time.monotonic() + NOTICED
+        while time.monotonic() < end and not all(map(self.has_noticed, losers)):
             time.sleep(0.2)
-        for it in old:
+        for it in losers:
             if not self.has_noticed(it):
                 self.note({"what": "unnoticed", "life": it.life})
-            it.give_up()
-        for keeper in world.keepers:
-            keeper.give_up()
+            if any(goes_on(row, state.lost_at, places) for row in read_rows(self.folder / "rows" / it.life)):
+                self.note({"what": "goes on", "life": it.life})
+        for child in [*old, *world.keepers]:
+            child.give_up()
+
+    def newest(self, host: Host, places: dict[str, int]) -> int:
+        """The last revision at which a host has read something, as far as its answers say."""
+        rows = read_rows(self.folder / "rows" / host.life)
+        return max((places.get(it["id"], 0) for it in rows if it["what"] == "answered"), default=0)
 
     def has_noticed(self, host: Host) -> bool:
         """Whether a host has stopped, and has said why."""
@@ -126,8 +136,6 @@ class SetBack(Run):
             rows = read_rows(self.folder / "rows" / life)
             write_rows(before / "rows" / life, [it for it in rows if time_of(it) <= state.lost_at and WORDS not in it.get("why", "")])
             write_rows(after / "rows" / life, [it for it in rows if it["what"] == "asked"])
-            if any(goes_on(it, state.lost_at) for it in rows):
-                self.note({"what": "goes on", "life": life})
         log = read_rows(self.folder / "log")
         write_rows(before / "log", log)
         write_rows(before / "left", [{"at": it} for it in left_of(log)])
@@ -188,11 +196,21 @@ def first_of(verdict: str) -> tuple[str, str]:
     return kind.rpartition(" ")[0], rest.partition(")")[0]
 
 
-def goes_on(row: Row, lost_at: int) -> bool:
-    """Whether a host has had an answer of the log behind a time."""
+def places_of(log: Iterable[Row]) -> dict[str, int]:
+    """Where each batch is first, by its name."""
+    places: dict[str, int] = {}
+    for row in log:
+        for line in base64.b64decode(row.get("value", "")).split(b"\n"):
+            if line.startswith(NAMES):
+                places.setdefault(line.decode("utf-8", "replace"), row["at"])
+    return places
+
+
+def goes_on(row: Row, lost_at: int, places: dict[str, int]) -> bool:
+    """Whether a host has had an answer that is not of the old etcd, of which some may still have been on their way."""
     if row["what"] == "read":
         return bool(row["now"]) and row["t0"] > lost_at
-    return row["what"] == "answered" and row["t1"] > lost_at
+    return row["what"] == "answered" and row["t1"] > lost_at and row["id"] not in places
 
 
 def time_of(row: Row) -> int:

@@ -70,6 +70,8 @@ class Etcds:
         self._relays = [Relay(port) for port in self._peers] if relayed else []
         # Where a member is called by the others.
         self._called = [it.port for it in self._relays] or self._peers
+        # The places of those that belong to the cluster.
+        self._places = list(range(count))
         self._running: dict[int, subprocess.Popen[bytes]] = {}
         for place in range(count):
             self.start(place)
@@ -92,10 +94,36 @@ class Etcds:
 
     def _identity(self, place: int) -> dict[str, str]:
         """Which member of which cluster one is."""
-        called = [f"http://{HOST}:{port}" for port in self._called]
-        cluster = ",".join(f"m{it}={url}" for it, url in enumerate(called))
+        called = {it: f"http://{HOST}:{self._called[it]}" for it in self._places}
+        cluster = ",".join(f"m{it}={url}" for it, url in called.items())
         folder = str(self._folder / f"m{place}")
         return {"name": f"m{place}", "data-dir": folder, "initial-advertise-peer-urls": called[place], "initial-cluster": cluster}
+
+    def replace(self, place: int) -> None:
+        """Has a member leave the cluster, and a new one take its place, at another address."""
+        other, new = next(it for it in self._places if it != place), len(self._clients)
+        self._insist("/v3/cluster/member/remove", {"ID": self._status(place)["header"]["member_id"]}, other)
+        self.kill(place)
+        self._places.remove(place)
+        client, peer = free_ports(2)
+        self._clients.append(client)
+        self._peers.append(peer)
+        self._insist("/v3/cluster/member/add", {"peerURLs": [f"http://{HOST}:{peer}"]}, other)
+        self._places.append(new)
+        self.start(new, "--initial-cluster-state=existing")
+        self.wait_until_ready()
+
+    def _insist(self, path: str, body: dict[str, Any], place: int) -> None:
+        """Asks a member until it does it: a change of the members may have to wait until others know each other."""
+        end = time.monotonic() + LONGEST
+        while True:
+            try:
+                self.ask(path, body, place, timeout=5.0)
+                return
+            except OSError:
+                if time.monotonic() > end:
+                    raise
+                time.sleep(0.5)
 
     def save(self, backup: Path) -> None:
         """Writes a backup of all."""
@@ -149,12 +177,12 @@ class Etcds:
         for relay in self._relays:
             relay.close()
 
-    def ask(self, path: str, body: dict[str, Any], place: int = 0, token: str = "") -> dict[str, Any]:
+    def ask(self, path: str, body: dict[str, Any], place: int = 0, token: str = "", timeout: float = LONGEST) -> dict[str, Any]:
         """What a member answers."""
         headers = {"Authorization": token} if token else {}
         url = f"{self._scheme}://{self.members[place]}{path}"
         request = urllib.request.Request(url, json.dumps(body).encode(), headers)
-        with urllib.request.urlopen(request, timeout=LONGEST, context=self._tls) as reply:
+        with urllib.request.urlopen(request, timeout=timeout, context=self._tls) as reply:
             told: dict[str, Any] = json.load(reply)
             return told
 

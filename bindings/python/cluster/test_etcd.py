@@ -13,7 +13,7 @@ import unittest
 from collections.abc import Callable, Sequence
 from contextlib import suppress
 from pathlib import Path
-from typing import TypeVar
+from typing import Any, TypeVar
 from unittest import mock
 
 from cluster.etcds import LONGEST, Etcds, need_etcd, text64
@@ -103,9 +103,9 @@ class Cluster(unittest.TestCase):
         self.addCleanup(etcds.stop)
         return etcds
 
-    def open(self, members: Sequence[str], patience: float = 30.0, timeout: float = TIMEOUT) -> Replicated:
+    def open(self, members: Sequence[str], patience: float = 30.0, timeout: float = TIMEOUT, **wishes: Any) -> Replicated:
         """A host in this process."""
-        table = Replicated(EtcdLog(members, "web", timeout=timeout), table=table_kind(), patience=patience)
+        table = Replicated(EtcdLog(members, "web", timeout=timeout, **wishes), table=table_kind(), patience=patience)
         self.addCleanup(table.close)
         return table
 
@@ -277,7 +277,7 @@ class Losses(Cluster):
         relays = [Relay(int(it.partition(":")[2])) for it in others]
         for it in relays:
             self.addCleanup(it.close)
-        far = self.open([etcds.members[lone], *(f"{HOST}:{it.port}" for it in relays)], patience=3, timeout=1)
+        far = self.open([etcds.members[lone], *(f"{HOST}:{it.port}" for it in relays)], patience=3, timeout=1, sync=False)
         near = self.open(others)
         self.assertEqual((near.fork(1).root, self.count(far)), (2, 2))
         etcds.cut_off(lone)
@@ -490,13 +490,18 @@ class Walks(Cluster):
 
 
 def add_users(etcds: Etcds) -> None:
-    """Has members ask for users, of whom one may use the log `web`, as docs/CLUSTER.md has it."""
+    """Has members ask for users, of whom one may use the log `web`, as docs/CLUSTER.md has it, and another may read it."""
+    log = {"key": text64("web:"), "range_end": text64("web;")}
+    for name, password, kind in (("web", "word", "READWRITE"), ("reader", "read", "READ")):
+        for path, body in [
+            ("/v3/auth/user/add", {"name": name, "password": password}), ("/v3/auth/role/add", {"name": name}),
+            ("/v3/auth/user/grant", {"user": name, "role": name}),
+            ("/v3/auth/role/grant", {"name": name, "perm": {"permType": kind, **log}}),
+        ]:  # fmt: skip
+            etcds.ask(path, body)
     for path, body in [
         ("/v3/auth/user/add", {"name": "root", "password": "secret"}), ("/v3/auth/role/add", {"name": "root"}),
-        ("/v3/auth/user/grant", {"user": "root", "role": "root"}), ("/v3/auth/user/add", {"name": "web", "password": "word"}),
-        ("/v3/auth/role/add", {"name": "web"}), ("/v3/auth/user/grant", {"user": "web", "role": "web"}),
-        ("/v3/auth/role/grant", {"name": "web", "perm": {"permType": "READWRITE", "key": text64("web:"), "range_end": text64("web;")}}),
-        ("/v3/auth/enable", {}),
+        ("/v3/auth/user/grant", {"user": "root", "role": "root"}), ("/v3/auth/enable", {}),
     ]:  # fmt: skip
         etcds.ask(path, body)
 

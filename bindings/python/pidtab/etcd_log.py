@@ -8,7 +8,7 @@ from functools import partial
 from typing import NamedTuple
 
 from pidtab.bounds import check_seconds
-from pidtab.etcd import JSON, Etcd, decode, encode, read_member
+from pidtab.etcd import JSON, Etcd, User, decode, encode, read_member
 from pidtab.etcd_cells import EtcdCells, cut_entries, read_entries_to
 from pidtab.etcd_guard import HEAD, MARK, Guard, Head, Newest, put_of
 from pidtab.etcd_watch import Compacted, EtcdWatch
@@ -52,12 +52,12 @@ def split_members(members: Sequence[str]) -> list[str]:
     return found
 
 
-def check_user(user: tuple[str, str] | None) -> tuple[str, str] | None:
+def check_user(user: User | None) -> User | None:
     """A user's name and password."""
     if user is None:
         return None
-    if not isinstance(user, tuple) or len(user) != 2 or not all(isinstance(it, str) for it in user):
-        raise TypeError("user is a pair of texts, the name and the password")
+    if not isinstance(user, tuple) or len(user) != 2 or not isinstance(user[0], str) or not (isinstance(user[1], str) or callable(user[1])):
+        raise TypeError("user is a pair, the name and the password: texts, or a function that gives the password")
     return user
 
 
@@ -70,7 +70,7 @@ def check_name(whose: str, name: str) -> str:
     return name
 
 
-def open_etcd(members: Sequence[str], tls: ssl.SSLContext | None, user: tuple[str, str] | None, timeout: float) -> Etcd:
+def open_etcd(members: Sequence[str], tls: ssl.SSLContext | None, user: User | None, timeout: float, sync: bool) -> Etcd:
     """The members, of which nothing is asked yet."""
     texts = split_members(members)
     found = [read_member(it) for it in texts]
@@ -80,7 +80,7 @@ def open_etcd(members: Sequence[str], tls: ssl.SSLContext | None, user: tuple[st
         raise ValueError("a member by https needs tls, as ssl.create_default_context(cafile=..) is")
     if tls is not None and any(it.startswith("http://") for it in texts):
         raise ValueError("a member by http has no tls")
-    return Etcd(found, tls, check_user(user), check_seconds("timeout", timeout))
+    return Etcd(found, tls, check_user(user), check_seconds("timeout", timeout), sync)
 
 
 class EtcdLog(CutLog):
@@ -96,14 +96,17 @@ class EtcdLog(CutLog):
         name: str,
         *,
         tls: ssl.SSLContext | None = None,
-        user: tuple[str, str] | None = None,
+        user: User | None = None,
         timeout: float = TIMEOUT,
+        sync: bool = True,
     ) -> None:
         """Names the log; nothing is asked yet.
 
         The members are `HOST:PORT`, or URLs. Those of `https` need `tls`, as `ssl.create_default_context(cafile=..)` is. The timeout is for one answer.
+        A user is a name and a password, or a function that gives the password whenever it is asked for. With `sync` the members are asked each minute
+        which of them there are; without, as where a host reaches them at other addresses, only those that are named are asked.
         """
-        self._begin(open_etcd(members, tls, user, timeout), check_name("log", name))
+        self._begin(open_etcd(members, tls, user, timeout, sync), check_name("log", name))
 
     @classmethod
     def _at(cls, etcd: Etcd, name: str) -> "EtcdLog":

@@ -49,6 +49,7 @@ class EtcdWatch:
         held: list[JSON] = []
         try:
             while not self._closed and (line := reply.readline()):
+                self._etcd.sync()
                 events, is_piece = self._read_line(line)
                 events = held + events
                 last = max(map(revision_of, events), default=0)
