@@ -411,7 +411,7 @@ func TestAFollowerThatIsEnded(t *testing.T) {
 func TestAQuietLog(t *testing.T) {
 	etcd := startEtcd(t)
 	log := etcd.log("web")
-	last := put(t, log, settings)
+	last := beginEarlier(t, log)
 	log.Timeout = 200 * time.Millisecond
 	times, all := 0, 0
 	err := log.Follow(background, 0, func(progress Progress) error {
@@ -430,6 +430,14 @@ func TestAQuietLog(t *testing.T) {
 	if times < quietTimes {
 		t.Error(times)
 	}
+}
+
+// beginEarlier begins a log as an earlier release does, without a head.
+func beginEarlier(t *testing.T, log *EtcdLog) uint64 {
+	t.Helper()
+	told, err := log.client.Put(background, log.prefix+"0000000000000000-0123456789abcdef", settings)
+	check(t, err)
+	return uint64(told.Header.Revision)
 }
 
 func TestALogThatWasChanged(t *testing.T) {

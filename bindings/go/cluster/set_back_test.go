@@ -131,11 +131,10 @@ func TestANewestEntryThatWasDeleted(t *testing.T) {
 func TestALogOfAnEarlierRelease(t *testing.T) {
 	etcd := startEtcd(t)
 	log := etcd.log("web")
-	_, err := log.client.Put(background, "web:0000000000000000-0123456789abcdef", settings)
-	check(t, err)
+	beginEarlier(t, log)
 	one, two := host(t, log), host(t, etcd.log("web"))
 	equal(t, forked(t, one), 2)
-	_, err = log.client.Put(background, "other", "")
+	_, err := log.client.Put(background, "other", "")
 	check(t, err)
 	same(t, one, two)
 	equal(t, isMarked(t, log), true)

@@ -112,12 +112,14 @@ class Keeper:
         if following is not None:
             following.close()
 
-    def run(self) -> None:
-        """Follows the log, and writes snapshots when it is time, until its end is asked for."""
+    def run(self, now: bool = False) -> None:
+        """Follows the log, and writes snapshots when it is time, until its end is asked for; or does now all that can be done, and ends."""
         try:
             self.catch_up()
             self.say(f"open at position {self.seen}")
-            while True:
+            if now:
+                self.cut_now()
+            while not now:
                 self.insist(self.advance)
                 if self.is_due():
                     self.save()
@@ -138,6 +140,17 @@ class Keeper:
         end = self.insist(self.log.end if self.following is None else self.log.mark)
         self.began_at = end if self.began_at is None else self.began_at
         self.reach(end)
+
+    def cut_now(self) -> None:
+        """Cuts what an earlier one has left, and then behind a new snapshot, if another host has the same within a time: so behind two of them."""
+        # Deleting takes no space, where etcd has none.
+        self.clear_up()
+        first = self.save()
+        end = time.monotonic() + ANSWER_SECONDS
+        while first is not None and not self.insist(partial(is_agreed, self.log.cells(), first)) and time.monotonic() < end:
+            self.pause(1.0)
+        if first is not None:
+            self.save()
 
     def save(self) -> Announced | None:
         """Writes a snapshot, and cuts the log behind the older one of those that serve then. None where none was written, which is said."""
@@ -167,7 +180,9 @@ class Keeper:
                     self.advance()
                     continue
             except OSError as fault:
-                self.say_trouble(f"{fault}")
+                # Its end ends its follower too.
+                if not self.ended:
+                    self.say_trouble(f"{fault}")
             self.pause(backoff.next())
 
     def pause(self, seconds: float) -> None:
@@ -240,7 +255,7 @@ class Keeper:
     def begin(self, settings: Settings) -> AnyMachine:
         """Opens a table for the log, whatever its settings are, if they may have snapshots."""
         if settings.form < FORM:
-            raise LogFault(f"the log has form {settings.form}, and goes on without snapshots: begin a log of another name for those")
+            raise LogFault(f"the log has form {settings.form}, and goes on without snapshots: begin a log of another name with its table, by --salvage and --begin")
         try:
             pid_max = check_pid_max(settings.pid_max)
         except ValueError as fault:
