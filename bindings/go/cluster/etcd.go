@@ -78,8 +78,10 @@ func (log *EtcdLog) Append(ctx context.Context, entry []byte) (uint64, error) {
 
 // put puts an entry, and answers at which revision. The client may send it to a second member, which finds that it is there.
 func (log *EtcdLog) put(ctx context.Context, chance, entry string) (uint64, error) {
+	var key string
+	var last int64
 	told, err := log.transact(ctx, func(behind int64) transaction {
-		key := fmt.Sprintf("%s%016x-%s", log.prefix, behind, chance)
+		last, key = behind, fmt.Sprintf("%s%016x-%s", log.prefix, behind, chance)
 		isNew := clientv3.Compare(clientv3.CreateRevision(key), "=", 0)
 		return transaction{
 			[]clientv3.Cmp{isNew}, []clientv3.Op{log.putHead(key, behind), clientv3.OpPut(key, entry)},
@@ -95,6 +97,7 @@ func (log *EtcdLog) put(ctx context.Context, chance, entry string) (uint64, erro
 			position = kv.CreateRevision
 		}
 	}
+	log.noteEntry(&newest{key, last, position})
 	return uint64(position), nil
 }
 

@@ -242,6 +242,8 @@ func TestAnEntryIsPutOnce(t *testing.T) {
 	first, err := log.put(background, "0123456789abcdef", settings)
 	check(t, err)
 	put(t, log, "open")
+	// What is sent again is what was sent first.
+	log.newest.Store(nil)
 	again, err := log.put(background, "0123456789abcdef", settings)
 	check(t, err)
 	equal(t, again, first)

@@ -11,7 +11,7 @@ import (
 // Each entry puts the head too, which so has the revision of the newest one. It is beside the entries, and each follower sees it.
 const headName = "~head"
 
-// A newest entry is the last one that was read here: as long as etcd has it, etcd was not set back.
+// A newest entry is the last one that was read or put here: as long as etcd has it, etcd was not set back.
 type newest struct {
 	key            string
 	hint, revision int64
@@ -127,7 +127,7 @@ func (log *EtcdLog) look(ctx context.Context, readsOn bool) (revision, head int6
 	return told.Header.Revision, head, nil
 }
 
-// noteEntry notes an entry that was read.
+// noteEntry notes an entry that was read, or that is put: it is there.
 func (log *EtcdLog) noteEntry(it *newest) {
 	for before := log.newest.Load(); before.behind() < it.revision; before = log.newest.Load() {
 		if log.newest.CompareAndSwap(before, it) {

@@ -76,8 +76,8 @@ class EtcdCells(Cells):
         steps = [put_of(self._key(name), value) for name, value in puts.items()]
         steps += [delete_of(self._key(start), behind(self._key(start))) for start in drops]
         compares = [compare(self._key(it.name), "MOD", "mod_revision", it.version) for it in unchanged]
-        guard = self._guard
-        return guard.ask(lambda newest: [*steps, *(guard.entry_steps(entry, newest) if entry else [])], compares).done
+        done = self._guard.append_with(lambda _: steps, entry, compares) if entry else self._guard.ask(lambda _: steps, compares)
+        return done.done
 
     def _key(self, name: str) -> bytes:
         return self._prefix + name.encode()

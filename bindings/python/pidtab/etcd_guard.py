@@ -22,7 +22,7 @@ BEFORE_CELLS = b"~"
 
 
 class Newest(NamedTuple):
-    """The newest entry that was read here: the revision at which it was made, its key, and the revision in that."""
+    """The newest entry that was read or put here: the revision at which it was made, its key, and the revision in that."""
 
     revision: int
     key: bytes
@@ -37,11 +37,12 @@ class Head(NamedTuple):
 
 
 class Steps(NamedTuple):
-    """What a transaction has answered: whether its own compares held, and so its steps were done, and the revision then."""
+    """What a transaction has answered: whether its own compares held, and so its steps were done; the revision then; and behind which it was done."""
 
     done: bool
     answers: Sequence[JSON]
     revision: int
+    behind: int
 
 
 # The steps of a transaction that is behind a revision.
@@ -61,6 +62,16 @@ def put_of(key: bytes, value: bytes) -> JSON:
 def range_of(key: bytes, **wishes: object) -> JSON:
     """Reads a key."""
     return {"request_range": {"key": encode(key), **wishes}}
+
+
+def make_chance() -> bytes:
+    """What no other entry has in its key."""
+    return secrets.token_hex(8).encode()
+
+
+def key_of(behind: int, chance: bytes) -> bytes:
+    """A key for an entry that is behind a revision."""
+    return b"%016x-" % behind + chance
 
 
 class Guard:
@@ -83,7 +94,8 @@ class Guard:
         told = self.etcd.ask("/v3/kv/txn", self.body(newest, make_steps, compares))
         if newest is not None and not told.get("succeeded"):
             self._check_there(newest, *(it["response_range"].get("kvs", []) for it in told["responses"]))
-        return Steps(bool(told.get("succeeded")), told.get("responses", []), self.etcd.note(told["header"]))
+        behind = 0 if newest is None else newest.revision
+        return Steps(bool(told.get("succeeded")), told.get("responses", []), self.etcd.note(told["header"]), behind)
 
     def body(self, newest: Newest | None, make_steps: MakeSteps, compares: Sequence[JSON] = ()) -> JSON:
         """A transaction, also as a step of another one. Where it is not done, it reads why."""
@@ -93,9 +105,9 @@ class Guard:
         is_there = compare(self.prefix + newest.key, "CREATE", "create_revision", newest.revision)
         return {"compare": [*compares, is_there], "success": make_steps(newest.revision), "failure": why}
 
-    def entry_steps(self, entry: bytes, behind: int) -> list[JSON]:
+    def entry_steps(self, chance: bytes, entry: bytes, behind: int) -> list[JSON]:
         """Puts an entry, and with it the head, if the log has one: it gets one with its first entry. The head comes first, and is read first."""
-        key = b"%016x-" % behind + secrets.token_hex(8).encode()
+        key = key_of(behind, chance)
         head = put_of(self.prefix + HEAD, key)
         if_there = {"compare": [compare(self.prefix + HEAD, "VERSION", "version", 0, "GREATER")], "success": [head]}
         if not behind:
@@ -105,7 +117,15 @@ class Guard:
 
     def append(self, entry: bytes) -> int:
         """Puts an entry behind all others: its revision."""
-        return self.ask(lambda behind: self.entry_steps(entry, behind)).revision
+        return self.append_with(lambda behind: [], entry).revision
+
+    def append_with(self, make_steps: MakeSteps, entry: bytes, compares: Sequence[JSON] = ()) -> Steps:
+        """Puts an entry, and does steps with it."""
+        chance = make_chance()
+        told = self.ask(lambda behind: [*make_steps(behind), *self.entry_steps(chance, entry, behind)], compares)
+        if told.done:
+            self.note_entry(Newest(told.revision, key_of(told.behind, chance), told.behind))
+        return told
 
     def look(self, reads_on: bool = False) -> tuple[int, int]:
         """The revision of etcd now, by a read that a majority confirms; and that of the head, or 0 where the log has none.
@@ -119,12 +139,12 @@ class Guard:
             if not reads_on:
                 raise
             answer = self.etcd.ask("/v3/kv/txn", {"success": [read]})
-            told = Steps(True, answer["responses"], self.etcd.note(answer["header"]))
+            told = Steps(True, answer["responses"], self.etcd.note(answer["header"]), 0)
         kvs = told.answers[0]["response_range"].get("kvs", [])
         return told.revision, int(kvs[0]["mod_revision"]) if kvs else 0
 
     def note_entry(self, newest: Newest) -> None:
-        """Notes an entry that was read."""
+        """Notes an entry that was read, or that is put: it is there."""
         if self.newest is None or newest.revision > self.newest.revision:
             self.newest = newest
 

@@ -10,7 +10,7 @@ from typing import NamedTuple
 from pidtab.bounds import check_seconds
 from pidtab.etcd import JSON, Etcd, User, decode, encode, read_member
 from pidtab.etcd_cells import EtcdCells, cut_entries, read_entries_to
-from pidtab.etcd_guard import HEAD, MARK, Guard, Head, Newest, put_of
+from pidtab.etcd_guard import HEAD, MARK, Guard, Head, Newest, make_chance, put_of
 from pidtab.etcd_watch import Compacted, EtcdWatch
 from pidtab.faults import LogFault
 from pidtab.log import CutLog, Following, Progress
@@ -57,7 +57,7 @@ def check_user(user: User | None) -> User | None:
     if user is None:
         return None
     if not isinstance(user, tuple) or len(user) != 2 or not isinstance(user[0], str) or not (isinstance(user[1], str) or callable(user[1])):
-        raise TypeError("user is a pair, the name and the password: texts, or a function that gives the password")
+        raise TypeError("user is a pair of texts, the name and the password, which may be a function that gives it")
     return user
 
 
@@ -183,7 +183,7 @@ def append_all(etcd: Etcd, puts: Sequence[tuple[EtcdLog, bytes]]) -> list[int]:
     """Puts an entry into each of some logs in one step, as `append` does into one: the positions; 0 of a log into which nothing was put."""
     if len(puts) == 1:
         return [puts[0][0].append(puts[0][1])]
-    bodies = [log.guard.body(log.guard.newest, partial(log.guard.entry_steps, entry)) for log, entry in puts]
+    bodies = [log.guard.body(log.guard.newest, partial(log.guard.entry_steps, make_chance(), entry)) for log, entry in puts]
     told = etcd.ask("/v3/kv/txn", {"success": [{"request_txn": it} for it in bodies]})
     revision = etcd.note(told["header"])
     return [revision if it["response_txn"].get("succeeded") else 0 for it in told["responses"]]

@@ -71,6 +71,6 @@ def begin(log: EtcdLog, table: Calls, pid_max: int) -> None:
     empty = compare(log.prefix, "CREATE", "create_revision", 0, range_end=encode(cells))
     served = [put_of(cells + SERVED.encode(), write_announced(it)), put_of(cells + (AGREED + key).encode(), it.sum.encode())]
     new = compare(cells + SERVED.encode(), "MOD", "mod_revision", 0)
-    if not log.guard.ask(lambda behind: [*served, *log.guard.entry_steps(write_announced(it), behind)], [empty, new]).done:
+    if not log.guard.append_with(lambda behind: served, write_announced(it), [empty, new]).done:
         log.cells().change({}, drops=[f"{piece_name(key, 0)[:-4]}"])
         raise LogFault(f"the log {log.name} is begun already")

@@ -11,6 +11,7 @@ from pidtab import Calls, EtcdLog, Following, Progress, Replicated
 from pidtab.archive import Archive
 from pidtab.etcd import JSON, Etcd, decode
 from pidtab.etcd_cells import read_keys
+from pidtab.etcd_guard import make_chance
 from pidtab.keeper import Keeper, Wishes
 from pidtab.log_form import Asked, write_calls
 from pidtab.snapshots import PIECES, read_served
@@ -170,7 +171,7 @@ class Keeping(unittest.TestCase):
         table.catch_up()
         asked = Asked(session, 1, table.position, table.digest[:16], [b"fork 1"])
         entry = write_calls(asked)
-        return log.guard.ask(lambda _: log.guard.entry_steps(entry, hint)).revision
+        return log.guard.ask(lambda _: log.guard.entry_steps(make_chance(), entry, hint)).revision
 
     def wait_until(self, holds: Callable[[], bool]) -> None:
         """Waits for what comes soon."""

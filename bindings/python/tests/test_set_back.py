@@ -87,6 +87,26 @@ class SetBack(Keeping):
         self.assertEqual(new.fork(1).root, 10)
         self.check_same(new, self.open())
 
+    def test_what_was_put_and_not_read(self) -> None:
+        # Its own entry is there, as etcd has said, and nobody has read it.
+        table = self.open(StillLog)
+        log = table.log
+        assert isinstance(log, StillLog)
+        table.fork(1)
+        revision = self.store._revision
+        log.hears.clear()
+        self.store.close()
+        asked = table.submit(["fork 1"])
+        self.wait_until(lambda: self.store._revision > revision)
+        self.store.set_back(revision, 500)
+        before = self.state()
+        behind = table.submit(["fork 1"])
+        with self.assertRaisesRegex(NotKnown, NOTICED):
+            behind.result()
+        self.assertTrue(asked.done())
+        self.assertEqual(self.state(), before)
+        log.hears.set()
+
     def test_tables_of_a_cluster(self) -> None:
         cluster = cluster_in(self.store)
         self.addCleanup(cluster.close)
