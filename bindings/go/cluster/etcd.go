@@ -40,6 +40,7 @@ type EtcdLog struct {
 	newest  atomic.Pointer[newest]
 	head    atomic.Pointer[headRead]
 	cluster atomic.Uint64
+	served  atomic.Bool // whether etcd has ever done what was asked
 }
 
 // Behind the log's name is a revision that was before that of the entry, and something that no other entry has; or the name of a cell.
@@ -189,6 +190,7 @@ func (log *EtcdLog) note(cluster uint64) error {
 	if !log.cluster.CompareAndSwap(0, cluster) && log.cluster.Load() != cluster {
 		return LogFault{Why: "the members are not those of one etcd cluster"}
 	}
+	log.served.Store(true)
 	return nil
 }
 
@@ -204,14 +206,19 @@ func (log *EtcdLog) timeout() time.Duration {
 	return DefaultTimeout
 }
 
-// faultOf is what an error of etcd says: a LogFault where the same never goes well.
+// faultOf is what an error of etcd says: a LogFault where the same never goes well. What a user may not do may be allowed again, if it ever was.
 func (log *EtcdLog) faultOf(err error) error {
-	switch codeOf(err) {
-	case codes.InvalidArgument, codes.PermissionDenied, codes.Unimplemented:
+	words := err.Error()
+	code := codeOf(err)
+	isRefused := code == codes.PermissionDenied || strings.Contains(words, "user name is empty") || strings.Contains(words, "authentication failed")
+	switch {
+	case strings.Contains(words, "revision of auth store is old"):
 		// The client takes a new token.
-		if !strings.Contains(err.Error(), "revision of auth store is old") {
-			return LogFault{Why: "etcd refuses: " + err.Error(), Err: err}
-		}
+		return fmt.Errorf("etcd: %w", err)
+	case isRefused && log.served.Load():
+		return fmt.Errorf("etcd refuses: %w", err)
+	case isRefused, code == codes.InvalidArgument, code == codes.Unimplemented:
+		return LogFault{Why: "etcd refuses: " + words, Err: err}
 	}
 	return fmt.Errorf("etcd: %w", err)
 }

@@ -502,6 +502,27 @@ func TestAUser(t *testing.T) {
 	isFault(t, openFails(t, logOf(t, user("web", "word"), "other"), Options{}), "etcd refuses: etcdserver: permission denied")
 }
 
+// A role that is taken away for a while stops nothing: calls wait.
+func TestARoleThatIsTakenAway(t *testing.T) {
+	etcd := startEtcd(t)
+	addUsers(t, etcd)
+	root := etcd.client(clientv3.Config{Username: "root", Password: "secret"})
+	table := host(t, logOf(t, etcd.client(clientv3.Config{Username: "web", Password: "word"}), "web"))
+	equal(t, forked(t, table), 2)
+	_, err := root.UserRevokeRole(background, "web", "web")
+	check(t, err)
+	asked := submit(t, table, "fork 1")
+	time.Sleep(time.Second)
+	select {
+	case <-asked.Done():
+		t.Error("it is answered")
+	default:
+	}
+	_, err = root.UserGrantRole(background, "web", "web")
+	check(t, err)
+	equal(t, wait(t, asked), child(3))
+}
+
 // addUsers has a member ask for users, of whom one may use the log `web`, as docs/CLUSTER.md has it.
 func addUsers(t *testing.T, etcd *member) {
 	t.Helper()

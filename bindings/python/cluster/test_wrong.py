@@ -71,7 +71,7 @@ class Wrong(unittest.TestCase):
         self.assertNotRegex(done.stderr, r"SyntaxError|NameError|ImportError|_FailedTest")
 
     def test_each_is_found(self) -> None:
-        self.assertGreater(len(EDITS), 62)
+        self.assertGreater(len(EDITS), 64)
         for edit in EDITS:
             with self.subTest(edit.stem):
                 self.check(edit)

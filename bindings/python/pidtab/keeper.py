@@ -14,7 +14,7 @@ from pidtab.bounds import DEFAULT_PID_MAX, check_pid_max
 from pidtab.calls import Calls
 from pidtab.faults import LogFault
 from pidtab.log import Behind, CutLog, Following, Progress
-from pidtab.log_form import FORM, MODEL, SNAP, Announced, Settings, read_announced, read_entry
+from pidtab.log_form import ANNOUNCES, FORM, MODEL, SNAP, Announced, Settings, read_announced, read_entry
 from pidtab.machine import table_of, text_of
 from pidtab.machines import AnyMachine, open_machine
 from pidtab.snapshot import pack, read_snapshot, sum_of
@@ -39,9 +39,6 @@ MEGABYTE = 1_000_000
 
 # About so many bytes an entry takes in etcd beside its own.
 ENTRY_BYTES = 128
-
-# What a snapshot's announcement begins with.
-ANNOUNCES = b"snapshot "
 
 # Of two hosts that find it time for a snapshot, one sees within so many seconds that the other has asked; and waits so long for its snapshot.
 HESITATION = 2.0
