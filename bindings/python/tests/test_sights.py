@@ -11,6 +11,7 @@ from pidtab.calls import Calls
 from pidtab.sights import Change
 from tests.keeping import LONG, Keeping
 from tests.stand_in import StandIn
+from tests.test_replicated import Flaky
 from tests.ways import need_library
 
 
@@ -113,11 +114,16 @@ class Follows(Hosts):
                 next(changes)
 
     def test_a_table_that_is_made_anew(self) -> None:
-        table = self.open()
+        tables = [Flaky(32768, 0), Flaky(32768, 0)]
+        rest = iter(tables)
+        table = Replicated(self.log, table=lambda pid_max: next(rest), patience=LONG)
+        self.addCleanup(table.close)
         changes = table.follow()
         table.fork(1)
-        table._replica.lose(MemoryError("none"))
-        self.assertEqual(table.fork(1).root, 3)
+        # So often it has no memory, and then the table is made anew.
+        tables[0].left = 99
+        with mock.patch("pidtab.machine.PAUSES", (0.0, 0.01)), mock.patch("pidtab.replica.REPLAY_PAUSE", 0.01):
+            self.assertEqual(table.fork(1).root, 3)
         table.catch_up()
         self.assertEqual([next(changes).calls[0][1] for _ in range(2)], ["child 2 root 2", "child 3 root 3"])
         self.assertEqual(table.numbers.replays, 1)
