@@ -17,6 +17,7 @@ from pidtab.faults import LogFault
 # The codes of gRPC that say that the same try never goes well, and those of a token that is none any more.
 NEVER = {3, 7, 12}
 UNAUTHENTICATED = 16
+OUT_OF_RANGE = 11
 NOT_ENABLED = 9
 OLD_TOKENS = ("invalid auth token", "revision of auth store is old")
 
@@ -178,6 +179,8 @@ class Etcd:
         if code == UNAUTHENTICATED or any(it in words for it in OLD_TOKENS) or (self._token is None and NO_USER in words):
             self._token = ""
             return OSError(f"etcd: {words}")
+        if code == OUT_OF_RANGE and "compacted" in words:
+            return TooOld(f"etcd: {words}")
         if any(it in words for it in REFUSALS):
             return self._refused(f"etcd refuses: {words}")
         return LogFault(f"etcd refuses: {words}") if code in NEVER else OSError(f"etcd: {words}")
@@ -211,7 +214,7 @@ class Etcd:
             if self._member(self._at) == (connection.host, connection.port):
                 self._at += 1
                 self._sync_at = min(self._sync_at, time.monotonic() + self.timeout)
-            if isinstance(fault, NotEnabled):
+            if isinstance(fault, (NotEnabled, TooOld)):
                 raise
             raise OSError(self._say(connection, fault)) from fault
         except BaseException:
@@ -263,6 +266,10 @@ class Etcd:
     def _say(self, connection: http.client.HTTPConnection, fault: Exception) -> str:
         """What went wrong at a member, in words."""
         return f"{Member(connection.host, connection.port)}: {fault or type(fault).__name__}"
+
+
+class TooOld(OSError):
+    """A revision is compacted, as which something was to be read."""
 
 
 class NotEnabled(OSError):

@@ -56,7 +56,7 @@ class EtcdCells(Cells):
 
     def get(self, name: str) -> Cell:
         """A cell, by a read that a majority confirms."""
-        body: JSON = {"key": encode(self._key(name))}
+        body: JSON = {"key": encode(self.key(name))}
         told = self._etcd.ask("/v3/kv/range", {**body, "revision": self._at} if self._at else body)
         self._etcd.note(told["header"])
         for kv in told.get("kvs", []):
@@ -65,7 +65,7 @@ class EtcdCells(Cells):
 
     def names(self, start: str) -> list[str]:
         """The names that begin so."""
-        first = self._key(start)
+        first = self.key(start)
         pages = read_keys(self._etcd, first, behind(first), NAMES_AT_ONCE, at=self._at)
         return [key.name[len(self._prefix) :].decode() for page in pages for key in page]
 
@@ -73,13 +73,14 @@ class EtcdCells(Cells):
         self, puts: Mapping[str, bytes], *, drops: Iterable[str] = (), entry: bytes = b"", unchanged: Sequence[Cell] = ()
     ) -> bool:
         """One transaction."""
-        steps = [put_of(self._key(name), value) for name, value in puts.items()]
-        steps += [delete_of(self._key(start), behind(self._key(start))) for start in drops]
-        compares = [compare(self._key(it.name), "MOD", "mod_revision", it.version) for it in unchanged]
+        steps = [put_of(self.key(name), value) for name, value in puts.items()]
+        steps += [delete_of(self.key(start), behind(self.key(start))) for start in drops]
+        compares = [compare(self.key(it.name), "MOD", "mod_revision", it.version) for it in unchanged]
         done = self._guard.append_with(lambda _: steps, entry, compares) if entry else self._guard.ask(lambda _: steps, compares)
         return done.done
 
-    def _key(self, name: str) -> bytes:
+    def key(self, name: str) -> bytes:
+        """The key of a cell."""
         return self._prefix + name.encode()
 
 

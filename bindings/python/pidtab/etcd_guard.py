@@ -64,6 +64,11 @@ def range_of(key: bytes, **wishes: object) -> JSON:
     return {"request_range": {"key": encode(key), **wishes}}
 
 
+def cut_of(served: Sequence[JSON]) -> int:
+    """Up to which position a log is cut, or will be, by what was read of the cell of its snapshots that serve."""
+    return served_of(Cell(SERVED, decode(served[0].get("value", "")) if served else None, 0)).cut
+
+
 def make_chance() -> bytes:
     """What no other entry has in its key."""
     return secrets.token_hex(8).encode()
@@ -165,6 +170,6 @@ class Guard:
         """Sees to it that etcd has what was read of it: it may be cut by a keeper."""
         if entry and int(entry[0]["create_revision"]) == newest.revision:
             return
-        if newest.hint < served_of(Cell(SERVED, decode(served[0].get("value", "")) if served else None, 0)).cut:
+        if newest.hint < cut_of(served):
             raise Behind(f"the log was cut behind entry {newest.revision}, and this host reads on first")
         raise self.set_back(f"the entry of revision {newest.revision} no more")

@@ -8,13 +8,13 @@ from functools import partial
 from typing import NamedTuple
 
 from pidtab.bounds import check_seconds
-from pidtab.etcd import JSON, Etcd, User, decode, encode, read_member
+from pidtab.etcd import JSON, Etcd, TooOld, User, decode, encode, read_member
 from pidtab.etcd_cells import EtcdCells, cut_entries, read_entries_to
-from pidtab.etcd_guard import HEAD, MARK, Guard, Head, Newest, make_chance, put_of
+from pidtab.etcd_guard import HEAD, MARK, Guard, Head, Newest, cut_of, make_chance, put_of, range_of
 from pidtab.etcd_watch import Compacted, EtcdWatch
 from pidtab.faults import LogFault
 from pidtab.log import CutLog, Following, Progress
-from pidtab.snapshots import load_behind, read_served
+from pidtab.snapshots import SERVED, load_behind, read_served
 
 # Seconds for one answer; and a watch that is quiet for so long is opened anew, at another member.
 TIMEOUT = 5.0
@@ -170,13 +170,28 @@ class EtcdLog(CutLog):
         self.guard.note_entry(Newest(revision, key, hint))
         return Found(revision, decode(kv.get("value", "")), hint)
 
-    def page(self, start: bytes, at: int, most: int, keys_only: bool = False) -> tuple[JSON, int]:
-        """Some keys from the start on, as they are at a revision, and about how many bytes they are."""
+    def page(self, start: bytes, after: int, at: int, most: int, keys_only: bool = False) -> tuple[JSON, int]:
+        """Some keys from the start on, as they were at a revision, and about how many bytes they are. For who has all up to a position.
+
+        Where that revision is compacted, they are as they are now: with later ones, and none of those behind the position is cut.
+        """
         if start >= self.last:
             return {}, 1
-        range_end = encode(self.last)
-        page = self._etcd.ask("/v3/kv/range", {"key": encode(start), "range_end": range_end, "revision": at, "limit": most, "keys_only": keys_only})
+        wanted = {"key": encode(start), "range_end": encode(self.last), "limit": most, "keys_only": keys_only}
+        try:
+            page = self._etcd.ask("/v3/kv/range", {**wanted, "revision": at})
+        except TooOld:
+            page = self._page_now(wanted, after)
         return page, 1 + sum(len(it.get("value", "")) + len(it["key"]) for it in page.get("kvs", []))
+
+    def _page_now(self, wanted: JSON, after: int) -> JSON:
+        """A page, and by the same read that no entry behind a position is cut."""
+        served = self.cells().key(SERVED)
+        told = self._etcd.ask("/v3/kv/txn", {"success": [{"request_range": wanted}, range_of(served)]})
+        page, cell = (it["response_range"] for it in told["responses"])
+        if cut_of(cell.get("kvs", [])) > after:
+            raise ConnectionError("the log was cut while it was read, and is read anew from a snapshot")
+        return dict(page)
 
 
 def append_all(etcd: Etcd, puts: Sequence[tuple[EtcdLog, bytes]]) -> list[int]:
@@ -257,6 +272,10 @@ class Events:
         self._head = head
         self.log.guard.note_head(head)
 
+    def forget_head(self) -> None:
+        """Begins behind a head that is not known."""
+        self._head = None
+
     def _follow_head(self, event: JSON) -> None:
         """Sees to it that a head comes behind the one that was read last: before its entry, and none is left out. The last one has that entry's key."""
         last = self._head
@@ -302,17 +321,17 @@ def read_behind(events: Events, after: int) -> Iterator[Progress]:
     newest = after
     waiting: list[Found] = []
     while True:
-        page, size = log.page(start, at, most)
+        page, size = log.page(start, after, at, most)
         kvs = page.get("kvs", [])
         found = [it for it in map(log.read, kvs) if it is not None]
         for it in found:
-            if it.revision > after:
+            if after < it.revision <= at:
                 heapq.heappush(waiting, it)
                 newest = max(newest, it.revision)
         is_last = not page.get("more")
         if is_last:
-            read_head(events, kvs, newest)
-        bound = at if is_last else max([after, *(it.hint for it in found)])
+            read_head(events, kvs, newest, at)
+        bound = at if is_last else min(at, max([after, *(it.hint for it in found)]))
         ready = []
         while waiting and waiting[0].revision <= bound:
             it = heapq.heappop(waiting)
@@ -324,10 +343,14 @@ def read_behind(events: Events, after: int) -> Iterator[Progress]:
         most = max(1, min(LONGEST_PAGE, 2 * most, most * PAGE_BYTES // size))
 
 
-def read_head(events: Events, last: Sequence[JSON], newest: int) -> None:
-    """Takes the head, which is among the last keys, and sees to it that its entry is there. One by hand has no value, and is of no entry."""
+def read_head(events: Events, last: Sequence[JSON], newest: int, at: int) -> None:
+    """Takes the head, which is among the last keys, and sees to it that its entry is there. One by hand has no value, and is of no entry.
+
+    A later one is not that of the revision at which the log is read.
+    """
+    events.forget_head()
     for kv in last:
-        if decode(kv["key"]) == events.log.prefix + HEAD:
+        if int(kv["mod_revision"]) <= at and decode(kv["key"]) == events.log.prefix + HEAD:
             head = head_of(kv)
             if head.key and head.revision > newest:
                 raise LogFault(f"the newest entry of the log {events.log.name}, at revision {head.revision}, was deleted")
@@ -338,7 +361,7 @@ def first_behind(log: EtcdLog, after: int, at: int) -> bytes:
     """The first key whose entry is behind a position; read without the entries themselves."""
     start = log.prefix
     while after:
-        page, _ = log.page(start, at, LONGEST_PAGE, keys_only=True)
+        page, _ = log.page(start, after, at, LONGEST_PAGE, keys_only=True)
         kvs = page.get("kvs", [])
         newer = [it for it in kvs if int(it["create_revision"]) > after]
         if newer:

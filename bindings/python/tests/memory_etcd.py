@@ -9,7 +9,7 @@ from typing import Any, NamedTuple
 from unittest import mock
 
 from pidtab import Cluster, EtcdLog
-from pidtab.etcd import JSON, Etcd, Member, decode, encode
+from pidtab.etcd import JSON, Etcd, Member, TooOld, decode, encode
 
 # How much a watcher may be behind before it is cut off, in bytes.
 ROOM = 8 * 1024 * 1024
@@ -152,7 +152,7 @@ class MemoryEtcd:
     def _range(self, body: JSON) -> JSON:
         revision = int(body.get("revision", 0))
         if revision and revision < self._compacted:
-            raise OSError("etcd: etcdserver: mvcc: required revision has been compacted")
+            raise TooOld("etcd: etcdserver: mvcc: required revision has been compacted")
         those = self._those(body, revision)
         most = int(body.get("limit", 0)) or len(those)
         told: JSON = {"kvs": [it.shown(bool(body.get("keys_only"))) for it in those[:most]]} if those else {}

@@ -141,9 +141,31 @@ class Walks(Keeping):
         self.assertEqual(found[: len(before)], before)
         self.assertEqual(found, sorted(set(found)))
 
-    def test_its_history_is_no_more(self) -> None:
-        with self.assertRaisesRegex(OSError, "required revision has been compacted"):
+    def test_its_history_is_no_more_and_it_is_cut(self) -> None:
+        with self.assertRaisesRegex(OSError, "the log was cut while it was read, and is read anew from a snapshot"):
             self.walk(is_compacted=True)
+
+    def test_its_history_is_no_more(self) -> None:
+        # An entry with an early number comes behind the place of the walk, and one with a late one before it.
+        table, log = self.open(), self.make_log()
+        self.fill(table)
+        before = sorted(self.positions())
+        with mock.patch("pidtab.etcd_log.FIRST_PAGE", 5), mock.patch("pidtab.etcd_log.LONGEST_PAGE", 5):
+            following = log.follow(0)
+            self.addCleanup(following.close)
+            found = [next(following)]
+            late = self.put_late(table)
+            self.fill(table, 5)
+            self.compact()
+            while found[-1].position < before[-1]:
+                found.append(next(following))
+        self.assertEqual([position for it in found for position, _ in it.entries], before)
+        self.assertLess(found[-1].position, late)
+        # What has come meanwhile comes then, once and in order.
+        rest = []
+        while not rest or rest[-1] < table.position:
+            rest += [position for position, _ in next(following).entries]
+        self.assertEqual([*before, *rest], sorted(self.positions()))
 
 
 class Crashes(Keeping):
