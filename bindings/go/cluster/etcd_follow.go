@@ -5,6 +5,7 @@ import (
 	"context"
 	"errors"
 	"fmt"
+	"strings"
 	"time"
 
 	clientv3 "go.etcd.io/etcd/client/v3"
@@ -149,12 +150,12 @@ func (it *etcdWalk) readPages(ctx context.Context, start string, at int64) error
 		if err != nil {
 			return err
 		}
-		bound, err := it.push(&waiting, page, after)
+		bound, err := it.push(&waiting, page, after, at)
 		if err != nil {
 			return err
 		}
 		if !page.More {
-			bound, err = at, it.readHead(page)
+			bound, err = at, it.readHead(page, at)
 		}
 		if err == nil {
 			err = it.hand(Progress{Position: uint64(bound), Entries: waiting.upTo(bound)})
@@ -166,18 +167,18 @@ func (it *etcdWalk) readPages(ctx context.Context, start string, at int64) error
 	}
 }
 
-// push keeps the entries of a page that are behind the place; up to which revision all have come.
-func (it *etcdWalk) push(waiting *foundHeap, page page, after int64) (int64, error) {
+// push keeps the entries of a page that are behind the place, and none behind the revision; up to which all have come.
+func (it *etcdWalk) push(waiting *foundHeap, page page, after, at int64) (int64, error) {
 	bound := after
 	for _, kv := range page.Kvs {
 		hint, isEntry, err := it.readKey(kv.Key, kv.CreateRevision, kv.Version)
 		if err != nil {
 			return 0, err
 		}
-		if isEntry && bound < hint {
+		if isEntry && bound < hint && hint <= at {
 			bound = hint
 		}
-		if isEntry && kv.CreateRevision > after {
+		if isEntry && after < kv.CreateRevision && kv.CreateRevision <= at {
 			heap.Push(waiting, found{kv.CreateRevision, hint, kv.Value})
 		}
 	}
@@ -197,9 +198,11 @@ func (it *etcdWalk) readKey(key []byte, revision, version int64) (int64, bool, e
 }
 
 // readHead takes the head, which is in the last page, and sees to it that its entry is there. One by hand has no value, and is of no entry.
-func (it *etcdWalk) readHead(page page) error {
+// A later one is not that of the revision at which the log is read.
+func (it *etcdWalk) readHead(page page, at int64) error {
+	it.head = nil
 	for _, kv := range page.Kvs {
-		if !it.log.isHead(kv.Key) {
+		if !it.log.isHead(kv.Key) || kv.ModRevision > at {
 			continue
 		}
 		if len(kv.Value) > 0 && kv.ModRevision > it.last && kv.ModRevision > it.seen {
@@ -280,9 +283,25 @@ func (it *etcdWalk) page(ctx context.Context, start string, at, most int64, opti
 	if start >= it.log.last {
 		return page{new(clientv3.GetResponse)}, nil
 	}
-	options = append(options, clientv3.WithRange(it.log.last), clientv3.WithRev(at), clientv3.WithLimit(most))
-	told, err := it.log.get(ctx, start, options...)
+	options = append(options, clientv3.WithRange(it.log.last), clientv3.WithLimit(most))
+	told, err := it.log.get(ctx, start, append(options, clientv3.WithRev(at))...)
+	if err != nil && strings.Contains(err.Error(), "revision has been compacted") {
+		return it.pageNow(ctx, clientv3.OpGet(start, options...))
+	}
 	return page{told}, err
+}
+
+// pageNow reads some keys as they are now: with later ones, and, by the same read, none of those behind the place is cut.
+func (it *etcdWalk) pageNow(ctx context.Context, read clientv3.Op) (page, error) {
+	told, err := it.log.commit(ctx, transaction{done: []clientv3.Op{read, readOf(it.log.prefix + cellMark + servedCell)}})
+	if err != nil {
+		return page{}, err
+	}
+	all, err := servedBy((*clientv3.GetResponse)(told.Responses[1].GetResponseRange()))
+	if err == nil && int64(all.cut()) > it.seen {
+		err = errors.New("etcd: the log was cut while it was read, and is read anew from a snapshot")
+	}
+	return page{(*clientv3.GetResponse)(told.Responses[0].GetResponseRange())}, err
 }
 
 // watch hands on what comes behind the place, until it is quiet, or ends.

@@ -79,11 +79,7 @@ func (log *EtcdLog) checkThere(newest *newest, told *clientv3.TxnResponse) error
 			return nil
 		}
 	}
-	var text []byte
-	for _, kv := range read[1].GetResponseRange().Kvs {
-		text = kv.Value
-	}
-	all, err := readServed(text)
+	all, err := servedBy((*clientv3.GetResponse)(read[1].GetResponseRange()))
 	if err != nil {
 		return err
 	}
@@ -91,6 +87,15 @@ func (log *EtcdLog) checkThere(newest *newest, told *clientv3.TxnResponse) error
 		return errBehind
 	}
 	return log.setBack(fmt.Sprintf("the entry of revision %d no more", newest.revision))
+}
+
+// servedBy are the snapshots that serve, by what was read of their cell.
+func servedBy(read *clientv3.GetResponse) (served, error) {
+	var text []byte
+	for _, kv := range read.Kvs {
+		text = kv.Value
+	}
+	return readServed(text)
 }
 
 // setBack is what is said where etcd has not what was read of it.

@@ -177,3 +177,33 @@ func TestANewestEntryThatWasCut(t *testing.T) {
 	log.newest.Store(newestAt(t, log, 9))
 	put(t, log, "open")
 }
+
+// A walk over the keys goes on with them as they are, where the revision is compacted as which they were read.
+func TestACompactionAmidAWalk(t *testing.T) {
+	etcd := startEtcd(t)
+	log := etcd.log("web")
+	entries := fillLog(t, log, 20)
+	first, longest := firstPage, longestPage
+	t.Cleanup(func() { firstPage, longestPage = first, longest })
+	firstPage, longestPage = 5, 5
+	var all []Entry
+	pages := 0
+	err := log.Follow(background, 0, func(progress Progress) error {
+		all = append(all, progress.Entries...)
+		if pages++; pages == 1 {
+			// One comes behind the place of the walk, with a number of long ago, and one before it.
+			for _, last := range []uint64{entries[0].Position, entries[19].Position} {
+				log.newest.Store(newestAt(t, log, last))
+				entries = append(entries, Entry{put(t, log, "late"), []byte("late")})
+			}
+			_, err := log.client.Compact(background, int64(entries[21].Position), clientv3.WithCompactPhysical())
+			check(t, err)
+		}
+		if progress.Position >= entries[21].Position {
+			return errors.New("done")
+		}
+		return nil
+	})
+	equal(t, err.Error(), "done")
+	equal(t, fmt.Sprint(all), fmt.Sprint(entries))
+}
