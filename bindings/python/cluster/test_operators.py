@@ -2,17 +2,21 @@
 
 import ssl
 import subprocess
+import sys
 import threading
 import time
 import unittest
-from collections.abc import Callable
+from concurrent.futures import ThreadPoolExecutor
 from pathlib import Path
 from unittest import mock
 
-from cluster.etcds import LONGEST, Etcds, text64
+from cluster.etcds import Etcds
 from cluster.test_etcd import Cluster, add_users
 from pidtab import EtcdLog, LogFault, NotKnown, Replicated
 from tests.programs import need_tool
+
+# So many entries a late host has to read.
+ENTRIES = 10_000
 
 
 class Users(Cluster):
@@ -138,6 +142,42 @@ class Members(Cluster):
             self.assertEqual(len(still.list().tasks), roots[-1])
             # None of those that were named is there any more.
             self.assertEqual(set(table.log._etcd._all[3:]) & set(table.log._etcd.members), set())
+
+
+class Compactions(Cluster):
+    """An etcd that drops its history all the time."""
+
+    def test_a_late_host(self) -> None:
+        etcds = self.start(count=1)
+        table = self.open(etcds.members)
+        log = EtcdLog(etcds.members, "web")
+        with ThreadPoolExecutor(8) as some:
+            list(some.map(lambda _: log.append(b"open"), range(ENTRIES)))
+        self.assertEqual(table.fork(1).root, 2)
+        stops = threading.Event()
+
+        def compact() -> None:
+            while not stops.wait(0.02):
+                etcds.compact()
+
+        def write() -> None:
+            while not stops.wait(0.005):
+                log.append(b"open")
+
+        threads = [threading.Thread(target=it) for it in (compact, write)]
+        for it in threads:
+            it.start()
+        try:
+            for _ in range(2):
+                begun = time.monotonic()
+                late = self.open(etcds.members)
+                self.assertEqual(len(late.list().tasks), 2)
+                print(f"\na late host opens behind {ENTRIES} entries in {time.monotonic() - begun:.1f} s, compacted each 20 ms", file=sys.stderr)
+                late.catch_up()
+        finally:
+            stops.set()
+            for it in threads:
+                it.join()
 
 
 if __name__ == "__main__":
