@@ -16,7 +16,7 @@ from contextlib import contextmanager, suppress
 from pathlib import Path
 
 from chaos import clocks
-from chaos.hosts import GONE, Host, Keeper
+from chaos.hosts import GONE, PLAIN, Host, Keeper
 from chaos.judge import judge
 from chaos.kernel import mount, run_alone
 from chaos.members import COUNT, Members
@@ -61,6 +61,9 @@ def what_is_missing(given: argparse.Namespace) -> str:
 
 class Run:
     """One run, in a folder."""
+
+    # The kinds of its hosts as it begins.
+    kinds: Sequence[str] = (PLAIN, PLAIN, PLAIN)
 
     def __init__(self, given: argparse.Namespace) -> None:
         self.folder: Path = given.folder
@@ -114,8 +117,8 @@ class Run:
         world.members.start_all()
         world.members.wait_until_ready()
         end = time.monotonic() + LONGEST_BEGIN
-        for host, patience in zip(world.hosts, PATIENCES):
-            host.start(patience)
+        for host, patience, kind in zip(world.hosts, PATIENCES, self.kinds):
+            host.start(patience, kind)
         for keeper in world.keepers:
             keeper.start()
         for host in world.hosts:

@@ -16,7 +16,7 @@ from collections.abc import Callable, Iterable
 from pathlib import Path
 from typing import NamedTuple
 
-from chaos.hosts import Host
+from chaos.hosts import LOOKS, PLAIN, READS, Host
 from chaos.judge import NAMES, Faults, judge
 from chaos.members import PLACES, text64
 from chaos.record import Row, read_rows
@@ -39,11 +39,15 @@ class State(NamedTuple):
 
     lost_at: int
     left_at: int
+    # Whether a new host has written then; else one that asks the log nothing has nothing to notice.
+    is_new_first: bool
 
 
 
 class SetBack(Run):
     """One run, in a folder: first with hosts of the old etcd, and then with new ones of the other."""
+
+    kinds = (LOOKS, READS, PLAIN)
 
     def title(self) -> str:
         return str(self.given.way)
@@ -80,9 +84,10 @@ class SetBack(Run):
         left_at = int(world.members.ask(member, "/v3/kv/range", {"key": text64("none")})["header"]["revision"])
         put_others(world, member, reached - left_at + 200 if ahead else 0)
         self.note({"what": "set back", "from": reached, "to": left_at})
-        if self.random.random() < 0.5:
+        is_new_first = self.random.random() < 0.5
+        if is_new_first:
             # A new host writes before the old ones hear of anything.
-            first = world.hosts[-1]
+            first = world.hosts[1]
             first.give_up()
             heals[world.place_of(first)]()
             first.start()
@@ -90,7 +95,7 @@ class SetBack(Run):
             time.sleep(1.0)
         for heal in heals.values():
             heal()
-        return State(lost_at, left_at)
+        return State(lost_at, left_at, is_new_first)
 
     def keep_backup(self, world: World, member: int) -> Callable[[], None]:
         """Keeps what all members have now: what brings it back."""
@@ -105,9 +110,12 @@ class SetBack(Run):
 
     def wait_for_ends(self, world: World, state: State) -> None:
         """Waits until each old host that has lost something has said that it has noticed; and ends all old ones."""
-        places = places_of(read_rows(self.folder / "log"))
+        log = read_rows(self.folder / "log")
+        places = places_of(log)
+        known = {row["at"] for row in log}
         old = [it for it in world.hosts if it.lives == 1]
-        losers = [it for it in old if self.newest(it, places) > state.left_at]
+        asked = old if state.is_new_first else [it for it, kind in zip(world.hosts, self.kinds) if kind != LOOKS]
+        losers = [it for it in asked if self.newest(it, places, state) > state.left_at]
         self.note({"what": "losers", "lives": [it.life for it in losers]})
         end = time.monotonic() + NOTICED
         while time.monotonic() < end and not all(map(self.has_noticed, losers)):
@@ -115,15 +123,16 @@ class SetBack(Run):
         for it in losers:
             if not self.has_noticed(it):
                 self.note({"what": "unnoticed", "life": it.life})
-            if any(goes_on(row, state.lost_at, places) for row in read_rows(self.folder / "rows" / it.life)):
+            if any(goes_on(row, state.lost_at, places, known) for row in read_rows(self.folder / "rows" / it.life)):
                 self.note({"what": "goes on", "life": it.life})
         for child in [*old, *world.keepers]:
             child.give_up()
 
-    def newest(self, host: Host, places: dict[str, int]) -> int:
-        """The last revision at which a host has read something, as far as its answers say."""
+    def newest(self, host: Host, places: dict[str, int], state: State) -> int:
+        """The last revision at which a host has read something, as far as it has said."""
         rows = read_rows(self.folder / "rows" / host.life)
-        return max((places.get(it["id"], 0) for it in rows if it["what"] == "answered"), default=0)
+        answered = [places.get(it["id"], 0) for it in rows if it["what"] == "answered"]
+        return max([0, *answered, *(it["position"] for it in rows if it["what"] == "place" and it["t1"] <= state.lost_at)])
 
     def has_noticed(self, host: Host) -> bool:
         """Whether a host has stopped, and has said why."""
@@ -206,8 +215,10 @@ def places_of(log: Iterable[Row]) -> dict[str, int]:
     return places
 
 
-def goes_on(row: Row, lost_at: int, places: dict[str, int]) -> bool:
-    """Whether a host has had an answer that is not of the old etcd, of which some may still have been on their way."""
+def goes_on(row: Row, lost_at: int, places: dict[str, int], known: set[int]) -> bool:
+    """Whether a host has had something that is not of the old etcd, of which some may still have been on its way."""
+    if row["what"] == "place":
+        return row["t1"] > lost_at and row["position"] not in known
     if row["what"] == "read":
         return bool(row["now"]) and row["t0"] > lost_at
     return row["what"] == "answered" and row["t1"] > lost_at and row["id"] not in places

@@ -51,7 +51,7 @@ WRONG = {
     "etcd_a_watch_at_a_dead_member": Wrong("lost_member", 110, "late"),
     "set_back_nothing_is_compared": Wrong("", 0, "goes on unnoticed fault", way="restored_ahead"),
     "set_back_a_put_that_compares_nothing": Wrong("", 0, "log wrong digest writer foreign fault", way="restored"),
-    "set_back_a_look_that_compares_nothing": Wrong("", 0, "goes on unnoticed", way="alone_ahead"),
+    "set_back_a_look_that_compares_nothing": Wrong("", 0, "goes on unnoticed", way="restored_ahead"),
     "set_back_a_watch_that_compares_nothing": Wrong("", 0, "unnoticed goes on fault", way="restored_ahead"),
     "set_back_taken_for_a_cut": Wrong("", 0, "unnoticed goes on fault", way="restored"),
     "members_that_do_not_sync": Wrong("power_members", 40, "lost record log digest fault", ("--unsafe-no-fsync",)),

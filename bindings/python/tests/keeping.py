@@ -1,5 +1,6 @@
 """Hosts and keepers of one log for the tests of snapshots, by an etcd in memory and a table in pure Python, or by others that a class below it names."""
 
+import gc
 import tempfile
 import threading
 import time
@@ -96,6 +97,11 @@ class Keeping(unittest.TestCase):
         self.name = "web"
         self.said: list[str] = []
         self.begin()
+
+    @classmethod
+    def tearDownClass(cls) -> None:
+        # Who counts descriptors next finds none of these.
+        gc.collect()
 
     def begin(self) -> None:
         """Begins a new etcd, or a log of another name."""
