@@ -191,15 +191,15 @@ func TestACompactionAmidAWalk(t *testing.T) {
 	err := log.Follow(background, 0, func(progress Progress) error {
 		all = append(all, progress.Entries...)
 		if pages++; pages == 1 {
-			// One comes behind the place of the walk, with a number of long ago, and one before it; and one that has a number of what has come.
-			for _, last := range []int{0, 19, 21} {
+			// One comes behind the place of the walk, with a number of long ago, and one before it; and some that have numbers of what has come.
+			for _, last := range []int{0, 19, 21, 22, 23, 24, 25, 26, 27, 28} {
 				log.newest.Store(newestAt(t, log, entries[last].Position))
 				entries = append(entries, Entry{put(t, log, "late"), []byte("late")})
 			}
-			_, err := log.client.Compact(background, int64(entries[22].Position), clientv3.WithCompactPhysical())
+			_, err := log.client.Compact(background, int64(entries[29].Position), clientv3.WithCompactPhysical())
 			check(t, err)
 		}
-		if progress.Position >= entries[22].Position {
+		if progress.Position >= entries[29].Position {
 			return errors.New("done")
 		}
 		return nil
