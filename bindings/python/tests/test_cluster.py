@@ -446,7 +446,7 @@ class Faults(Clusters):
         self.check_goes(self.open(cluster, "a"))
 
     def test_some_whose_appends_fail(self) -> None:
-        cluster = self.begin(patience=5)
+        cluster = self.begin(patience=2)
         # More than there are threads that append.
         tables, others = [self.open(cluster, f"web{it}") for it in range(6)], [self.open(cluster, name) for name in ("a", "b")]
         table = tables[0]
@@ -466,8 +466,8 @@ class Faults(Clusters):
                 before = time.monotonic()
                 it.fork(1)
                 self.assertLess(time.monotonic() - before, 1)
-        self.assertLess(time.monotonic() - begun, 8)
-        with self.assertRaisesRegex(NotKnown, "5 seconds .*Connection refused.*will be made yet$"):
+        self.assertLess(time.monotonic() - begun, 4)
+        with self.assertRaisesRegex(NotKnown, "2 seconds .*Connection refused.*will be made yet$"):
             sent.result()
         for submitted in (behind, *more):
             with self.assertRaisesRegex(NotKnown, "the calls were not made$"):
