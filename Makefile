@@ -430,7 +430,7 @@ chaos: built chaos-switch ## as root: one table on many hosts under cut networks
 	@$(CHAOS) -m chaos.run --switch '$(abspath $(OUT))/chaos-switch' --folder '$(abspath $(OUT))/chaos' --seconds '$(CHAOS_SECONDS)' --seed '$(CHAOS_SEED)' \
 		|| { echo 'make chaos failed: where a verdict is above, the files of the run are in out/chaos' >&2; exit 1; }
 	@for it in restored restored_ahead alone alone_ahead; do \
-		$(CHAOS) -m chaos.set_back --switch '$(abspath $(OUT))/chaos-switch' --folder '$(abspath $(OUT))/chaos' --way $$it --seed '$(CHAOS_SEED)' \
+		( $(CHAOS) -m chaos.set_back --switch '$(abspath $(OUT))/chaos-switch' --folder '$(abspath $(OUT))/chaos' --way $$it --seed '$(CHAOS_SEED)' ) \
 			|| { echo 'make chaos failed: where a verdict is above, the files of the run are in out/chaos' >&2; exit 1; }; \
 	done
 
