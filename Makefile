@@ -432,13 +432,17 @@ replicated: ## * tests one table on many hosts (some 10 minutes); where there is
 CHAOS_SECONDS = 180
 CHAOS_SEED = 1
 CHAOS = cd bindings/python && PIDTAB='$(abspath $(PIDTAB))' PIDTAB_LIBRARY='$(abspath $(SHARED))' python3 -B
-chaos: built chaos-switch ## as root: one table on many hosts under cut networks, kills, losses of power, clocks that jump (4 minutes); CHAOS_SECONDS=N, CHAOS_SEED=N
+chaos: built chaos-switch ## as root: one table on many hosts under cut networks, kills, losses of power, clocks that jump, an etcd that goes back in time (6 minutes); CHAOS_SECONDS=N, CHAOS_SEED=N
 	@{ $(CHAOS) -m unittest discover -v -s chaos -t .; } > out/chaos-test.log 2>&1 || { echo 'make chaos failed: see out/chaos-test.log' >&2; exit 1; }
 	@$(CHAOS) -m chaos.run --switch '$(abspath $(OUT))/chaos-switch' --folder '$(abspath $(OUT))/chaos' --seconds '$(CHAOS_SECONDS)' --seed '$(CHAOS_SEED)' \
 		|| { echo 'make chaos failed: where a verdict is above, the files of the run are in out/chaos' >&2; exit 1; }
+	@for it in restored restored_ahead alone alone_ahead; do \
+		( $(CHAOS) -m chaos.set_back --switch '$(abspath $(OUT))/chaos-switch' --folder '$(abspath $(OUT))/chaos' --way $$it --seed '$(CHAOS_SEED)' ) \
+			|| { echo 'make chaos failed: where a verdict is above, the files of the run are in out/chaos' >&2; exit 1; }; \
+	done
 
 # Each is to be found.
-chaos-wrong: built chaos-switch ## as root: has runs of chaos find 13 wrong versions of the package, and members that do not sync (some 25 minutes)
+chaos-wrong: built chaos-switch ## as root: has runs of chaos find 18 wrong versions of the package, and members that do not sync (some 30 minutes)
 	@$(CHAOS) -m chaos.wrong '$(abspath $(OUT))/chaos-switch' $(CHAOS_WRONG)
 
 chaos-switch:

@@ -42,7 +42,8 @@ func (it Diverged) Error() string { return "pidtab: " + it.Why }
 // LogFault says that the log cannot be used, and that the table has stopped, or was not opened. No call was put into the log after that.
 //
 //   - It has other settings: open it with the PidMax that the sentence has, or by the release that has its model, or take another name.
-//   - It was trimmed, changed or lost an entry: nothing can be built from it any more. Take another name, and make a new table there.
+//   - It was trimmed, changed or lost an entry: take its table to a log of another name, by the --salvage and --begin of pidtab-keep(1).
+//   - etcd was set back to an earlier state: what it has not was answered, and is lost. New hosts go on with what it has.
 //   - An entry cannot be read: a later release has written it, or something else writes below the log's name.
 //   - It refuses what it is asked, or did not answer when the table was opened: the sentence has its reason.
 //

@@ -33,12 +33,14 @@ type EtcdLog struct {
 	// set before the log is used.
 	Timeout time.Duration
 
-	client   *clientv3.Client
-	name     string
-	prefix   string       // of each key
-	last     string       // behind each key of the log, but those of its cells
-	revision atomic.Int64 // the greatest that a member has told of
-	cluster  atomic.Uint64
+	client  *clientv3.Client
+	name    string
+	prefix  string // of each key
+	last    string // behind each key of the log, but those of its cells
+	newest  atomic.Pointer[newest]
+	head    atomic.Pointer[headRead]
+	cluster atomic.Uint64
+	served  atomic.Bool // whether etcd has ever done what was asked
 }
 
 // Behind the log's name is a revision that was before that of the entry, and something that no other entry has; or the name of a cell.
@@ -66,24 +68,29 @@ func NewEtcdLog(client *clientv3.Client, name string) (*EtcdLog, error) {
 	return &EtcdLog{client: client, name: name, prefix: prefix, last: prefix + lastName}, nil
 }
 
-// Append puts an entry behind all others, by one transaction at one member.
+// Append puts an entry behind all others, by one transaction at one member; nothing where etcd has not what was read of it here.
 func (log *EtcdLog) Append(ctx context.Context, entry []byte) (uint64, error) {
-	before := log.revision.Load()
-	key, err := log.entryKey(before)
-	if err != nil {
+	var chance [8]byte
+	if _, err := rand.Read(chance[:]); err != nil {
 		return 0, err
 	}
-	return log.put(ctx, key, entry, before)
+	return log.put(ctx, hex.EncodeToString(chance[:]), string(entry))
 }
 
 // put puts an entry, and answers at which revision. The client may send it to a second member, which finds that it is there.
-func (log *EtcdLog) put(ctx context.Context, key string, entry []byte, before int64) (uint64, error) {
-	ctx, cancel := log.within(ctx)
-	defer cancel()
-	isNew := clientv3.Compare(clientv3.CreateRevision(key), "=", 0)
-	told, err := log.client.Txn(ctx).If(isNew).Then(clientv3.OpPut(key, string(entry))).Else(clientv3.OpGet(key, clientv3.WithKeysOnly())).Commit()
+func (log *EtcdLog) put(ctx context.Context, chance, entry string) (uint64, error) {
+	var key string
+	var last int64
+	told, err := log.transact(ctx, func(behind int64) transaction {
+		last, key = behind, fmt.Sprintf("%s%016x-%s", log.prefix, behind, chance)
+		isNew := clientv3.Compare(clientv3.CreateRevision(key), "=", 0)
+		return transaction{
+			[]clientv3.Cmp{isNew}, []clientv3.Op{log.putHead(key, behind), clientv3.OpPut(key, entry)},
+			[]clientv3.Op{clientv3.OpGet(key, clientv3.WithKeysOnly())},
+		}
+	})
 	if err != nil {
-		return 0, log.faultOf(err)
+		return 0, err
 	}
 	position := told.Header.Revision
 	if !told.Succeeded {
@@ -91,36 +98,38 @@ func (log *EtcdLog) put(ctx context.Context, key string, entry []byte, before in
 			position = kv.CreateRevision
 		}
 	}
-	if position <= before {
-		return 0, LogFault{Why: fmt.Sprintf("etcd has made an entry at revision %d, behind revision %d: it was set back", position, before)}
-	}
-	return uint64(position), log.note(told.Header.ClusterId, told.Header.Revision)
+	log.noteEntry(&newest{key, last, position})
+	return uint64(position), nil
 }
 
 // Follow hands on all entries behind the revision, and then each that comes.
 func (log *EtcdLog) Follow(ctx context.Context, after uint64, take func(Progress) error) error {
-	walk := &etcdWalk{log: log, take: take, seen: int64(after)}
+	walk := &etcdWalk{log: log, take: take, seen: int64(after), head: log.headAt(int64(after))}
 	return walk.run(ctx)
 }
 
-// End is the revision of etcd now, by a read that a majority confirms.
+// End is the position of the newest entry, or, of a log without a head, the revision of etcd now: by a read that a majority confirms.
 func (log *EtcdLog) End(ctx context.Context) (uint64, error) {
-	told, err := log.get(ctx, log.prefix+markName, clientv3.WithKeysOnly())
+	revision, head, err := log.look(ctx, false)
+	if head > 0 {
+		return uint64(head), err
+	}
+	return uint64(revision), err
+}
+
+// Mark is the same. Each follower sees the head; in a log without one it sees a put of a key that is none of an entry.
+func (log *EtcdLog) Mark(ctx context.Context) (uint64, error) {
+	_, head, err := log.look(ctx, false)
+	if head > 0 || err != nil {
+		return uint64(head), err
+	}
+	told, err := log.transact(ctx, func(int64) transaction {
+		return transaction{done: []clientv3.Op{clientv3.OpPut(log.prefix+markName, "")}}
+	})
 	if err != nil {
 		return 0, err
 	}
 	return uint64(told.Header.Revision), nil
-}
-
-// Mark is the same, by a put of a key that is none of an entry, and which each follower sees.
-func (log *EtcdLog) Mark(ctx context.Context) (uint64, error) {
-	ctx, cancel := log.within(ctx)
-	defer cancel()
-	told, err := log.client.Put(ctx, log.prefix+markName, "")
-	if err != nil {
-		return 0, log.faultOf(err)
-	}
-	return uint64(told.Header.Revision), log.note(told.Header.ClusterId, told.Header.Revision)
 }
 
 // String is the name of the log.
@@ -134,7 +143,7 @@ func (log *EtcdLog) get(ctx context.Context, key string, options ...clientv3.OpO
 	if err != nil {
 		return nil, log.faultOf(err)
 	}
-	return told, log.note(told.Header.ClusterId, told.Header.Revision)
+	return told, log.note(told.Header.ClusterId)
 }
 
 // cellsAt are the cells of the log as they were at a revision, or, where that is 0, as they are.
@@ -148,15 +157,6 @@ func (log *EtcdLog) cellsAt(revision int64) cells {
 	}
 }
 
-// entryKey is a key for an entry: the revision in it is before that at which the entry will be made.
-func (log *EtcdLog) entryKey(revision int64) (string, error) {
-	var chance [8]byte
-	if _, err := rand.Read(chance[:]); err != nil {
-		return "", err
-	}
-	return fmt.Sprintf("%s%016x-%s", log.prefix, revision, hex.EncodeToString(chance[:])), nil
-}
-
 // hintOf is the revision in the key of an entry; false for a key that is none of one.
 func (log *EtcdLog) hintOf(key []byte) (int64, bool) {
 	found := keyForm.FindStringSubmatch(strings.TrimPrefix(string(key), log.prefix))
@@ -167,10 +167,11 @@ func (log *EtcdLog) hintOf(key []byte) (int64, bool) {
 	return hint, err == nil
 }
 
-// isMark is whether the key is that of the mark.
+// isMark is whether the key is that of the mark, and isHead whether that of the head.
 func (log *EtcdLog) isMark(key []byte) bool { return string(key) == log.prefix+markName }
+func (log *EtcdLog) isHead(key []byte) bool { return string(key) == log.prefix+headName }
 
-// checkEntry sees to it that a key is that of an entry which nobody has changed: the revision in it.
+// checkEntry sees to it that a key is that of an entry which nobody has changed, and notes that it was read: the revision in it.
 func (log *EtcdLog) checkEntry(key []byte, revision, version int64) (int64, error) {
 	hint, isEntry := log.hintOf(key)
 	if !isEntry || hint >= revision {
@@ -180,17 +181,16 @@ func (log *EtcdLog) checkEntry(key []byte, revision, version int64) (int64, erro
 	if version != 1 {
 		return 0, LogFault{Why: fmt.Sprintf("the entry at revision %d was overwritten", revision)}
 	}
+	log.noteEntry(&newest{string(key), hint, revision})
 	return hint, nil
 }
 
 // note reads the head of an answer. All members have to be those of one cluster.
-func (log *EtcdLog) note(cluster uint64, revision int64) error {
+func (log *EtcdLog) note(cluster uint64) error {
 	if !log.cluster.CompareAndSwap(0, cluster) && log.cluster.Load() != cluster {
 		return LogFault{Why: "the members are not those of one etcd cluster"}
 	}
-	for before := log.revision.Load(); before < revision; before = log.revision.Load() {
-		log.revision.CompareAndSwap(before, revision)
-	}
+	log.served.Store(true)
 	return nil
 }
 
@@ -206,14 +206,19 @@ func (log *EtcdLog) timeout() time.Duration {
 	return DefaultTimeout
 }
 
-// faultOf is what an error of etcd says: a LogFault where the same never goes well.
+// faultOf is what an error of etcd says: a LogFault where the same never goes well. What a user may not do may be allowed again, if it ever was.
 func (log *EtcdLog) faultOf(err error) error {
-	switch codeOf(err) {
-	case codes.InvalidArgument, codes.PermissionDenied, codes.Unimplemented:
+	words := err.Error()
+	code := codeOf(err)
+	isRefused := code == codes.PermissionDenied || strings.Contains(words, "user name is empty") || strings.Contains(words, "authentication failed")
+	switch {
+	case strings.Contains(words, "revision of auth store is old"):
 		// The client takes a new token.
-		if !strings.Contains(err.Error(), "revision of auth store is old") {
-			return LogFault{Why: "etcd refuses: " + err.Error(), Err: err}
-		}
+		return fmt.Errorf("etcd: %w", err)
+	case isRefused && log.served.Load():
+		return fmt.Errorf("etcd refuses: %w", err)
+	case isRefused, code == codes.InvalidArgument, code == codes.Unimplemented:
+		return LogFault{Why: "etcd refuses: " + words, Err: err}
 	}
 	return fmt.Errorf("etcd: %w", err)
 }

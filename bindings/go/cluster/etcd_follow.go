@@ -5,6 +5,7 @@ import (
 	"context"
 	"errors"
 	"fmt"
+	"strings"
 	"time"
 
 	clientv3 "go.etcd.io/etcd/client/v3"
@@ -35,6 +36,8 @@ type etcdWalk struct {
 	take func(Progress) error
 	seen int64
 	cut  int64 // only entries with an earlier revision in their keys may be deleted
+	last int64 // the revision of the newest entry that was read
+	head *headRead
 }
 
 // run goes on until something fails.
@@ -120,11 +123,10 @@ func (it *foundHeap) upTo(revision int64) []Entry {
 //
 // They are read in the order of their keys. No entry has a revision up to that in its key. So what was read up to a key has all entries up to there.
 func (it *etcdWalk) readKeys(ctx context.Context) error {
-	end, err := it.log.End(ctx)
+	at, _, err := it.log.look(ctx, true)
 	if err != nil {
 		return err
 	}
-	at := int64(end)
 	loaded, err := loadBehind(ctx, it.log.cellsAt(at), uint64(it.seen))
 	if err == nil && loaded != nil {
 		err = it.hand(*loaded)
@@ -148,39 +150,87 @@ func (it *etcdWalk) readPages(ctx context.Context, start string, at int64) error
 		if err != nil {
 			return err
 		}
-		bound, err := it.push(&waiting, page, after)
+		bound, err := it.push(&waiting, page, after, at)
 		if err != nil {
 			return err
 		}
-		if page.isLast {
-			bound = at
+		if !page.More {
+			bound, err = at, it.readHead(page, at)
 		}
-		if err := it.hand(Progress{Position: uint64(bound), Entries: waiting.upTo(bound)}); err != nil || page.isLast {
+		if err == nil {
+			err = it.hand(Progress{Position: uint64(bound), Entries: waiting.upTo(bound)})
+		}
+		if err != nil || !page.More {
 			return err
 		}
-		start, most = page.next, page.longer(most)
+		start, most = page.next(), page.longer(most)
 	}
 }
 
-// push keeps the entries of a page that are behind the place; up to which revision all have come.
-func (it *etcdWalk) push(waiting *foundHeap, page page, after int64) (int64, error) {
+// push keeps the entries of a page that are behind the place, and none behind the revision; up to which all have come.
+func (it *etcdWalk) push(waiting *foundHeap, page page, after, at int64) (int64, error) {
 	bound := after
-	for _, kv := range page.keys {
-		if it.log.isMark(kv.key) {
-			continue
-		}
-		hint, err := it.log.checkEntry(kv.key, kv.revision, kv.version)
+	for _, kv := range page.Kvs {
+		hint, isEntry, err := it.readKey(kv.Key, kv.CreateRevision, kv.Version)
 		if err != nil {
 			return 0, err
 		}
-		if bound < hint {
+		if isEntry && bound < hint && hint <= at {
 			bound = hint
 		}
-		if kv.revision > after {
-			heap.Push(waiting, found{kv.revision, hint, kv.value})
+		if isEntry && after < kv.CreateRevision && kv.CreateRevision <= at {
+			heap.Push(waiting, found{kv.CreateRevision, hint, kv.Value})
 		}
 	}
 	return bound, nil
+}
+
+// readKey notes a key that was read: the revision in that of an entry, and whether it is one.
+func (it *etcdWalk) readKey(key []byte, revision, version int64) (int64, bool, error) {
+	if it.log.isMark(key) || it.log.isHead(key) {
+		return 0, false, nil
+	}
+	hint, err := it.log.checkEntry(key, revision, version)
+	if it.last < revision {
+		it.last = revision
+	}
+	return hint, err == nil, err
+}
+
+// readHead takes the head, which is in the last page, and sees to it that its entry is there. One by hand has no value, and is of no entry.
+// A later one is not that of the revision at which the log is read.
+func (it *etcdWalk) readHead(page page, at int64) error {
+	it.head = nil
+	for _, kv := range page.Kvs {
+		if !it.log.isHead(kv.Key) || kv.ModRevision > at {
+			continue
+		}
+		if len(kv.Value) > 0 && kv.ModRevision > it.last && kv.ModRevision > it.seen {
+			return LogFault{Why: fmt.Sprintf("the newest entry of the log %s, at revision %d, was deleted", it.log.name, kv.ModRevision)}
+		}
+		it.takeHead(kv.ModRevision, kv.Value)
+	}
+	return nil
+}
+
+// takeHead goes on behind a head.
+func (it *etcdWalk) takeHead(revision int64, key []byte) {
+	it.head = &headRead{revision, string(key)}
+	it.log.noteHead(it.head)
+}
+
+// followHead sees to it that a head comes behind the one that was read last: before its entry, and none is left out. The last one has that entry's key.
+func (it *etcdWalk) followHead(ctx context.Context, event *clientv3.Event) error {
+	last, before := it.head, event.PrevKv
+	if last == nil || before == nil {
+		if _, _, err := it.log.look(ctx, false); err != nil {
+			return err
+		}
+	} else if before.ModRevision != last.revision || string(before.Value) != last.key {
+		return it.log.setBack(fmt.Sprintf("another entry behind that of revision %d", last.revision))
+	}
+	it.takeHead(event.Kv.ModRevision, event.Kv.Value)
+	return nil
 }
 
 // firstBehind is the first key whose entry is behind the place; read without the entries themselves.
@@ -191,36 +241,32 @@ func (it *etcdWalk) firstBehind(ctx context.Context, at int64) (string, error) {
 		if err != nil {
 			return "", err
 		}
-		for _, kv := range page.keys {
-			if kv.revision > it.seen {
-				return string(kv.key), nil
+		for _, kv := range page.Kvs {
+			if kv.CreateRevision > it.seen {
+				return string(kv.Key), nil
 			}
 		}
-		if page.isLast {
+		if !page.More {
 			return it.log.last, nil
 		}
-		start = page.next
+		start = page.next()
 	}
 	return start, nil
 }
 
 // A page has some keys of a log.
-type page struct {
-	keys   []keyed
-	isLast bool
-	next   string // the first key behind it
-	bytes  int64
-}
+type page struct{ *clientv3.GetResponse }
 
-// A keyed value is a key with what etcd has of it.
-type keyed struct {
-	key, value        []byte
-	revision, version int64 // at which it was made, and how often it was put
-}
+// next is the first key behind it.
+func (it page) next() string { return string(it.Kvs[len(it.Kvs)-1].Key) + "\x00" }
 
 // longer is of how many entries the next page is.
 func (it page) longer(most int64) int64 {
-	longer := most * pageBytes / it.bytes
+	bytes := 1
+	for _, kv := range it.Kvs {
+		bytes += len(kv.Key) + len(kv.Value)
+	}
+	longer := most * pageBytes / int64(bytes)
 	for _, bound := range []int64{2 * most, longestPage} {
 		if longer > bound {
 			longer = bound
@@ -234,22 +280,28 @@ func (it page) longer(most int64) int64 {
 
 // page reads some keys from the start on, as they are at a revision.
 func (it *etcdWalk) page(ctx context.Context, start string, at, most int64, options ...clientv3.OpOption) (page, error) {
-	read := page{isLast: true, bytes: 1}
 	if start >= it.log.last {
-		return read, nil
+		return page{new(clientv3.GetResponse)}, nil
 	}
-	options = append(options, clientv3.WithRange(it.log.last), clientv3.WithRev(at), clientv3.WithLimit(most))
-	told, err := it.log.get(ctx, start, options...)
+	options = append(options, clientv3.WithRange(it.log.last), clientv3.WithLimit(most))
+	told, err := it.log.get(ctx, start, append(options, clientv3.WithRev(at))...)
+	if err != nil && strings.Contains(err.Error(), "revision has been compacted") {
+		return it.pageNow(ctx, clientv3.OpGet(start, options...))
+	}
+	return page{told}, err
+}
+
+// pageNow reads some keys as they are now: with later ones, and, by the same read, none of those behind the place is cut.
+func (it *etcdWalk) pageNow(ctx context.Context, read clientv3.Op) (page, error) {
+	told, err := it.log.commit(ctx, transaction{done: []clientv3.Op{read, readOf(it.log.prefix + cellMark + servedCell)}})
 	if err != nil {
 		return page{}, err
 	}
-	for _, kv := range told.Kvs {
-		read.keys = append(read.keys, keyed{kv.Key, kv.Value, kv.CreateRevision, kv.Version})
-		read.bytes += int64(len(kv.Key) + len(kv.Value))
-		read.next = string(kv.Key) + "\x00"
+	all, err := servedBy((*clientv3.GetResponse)(told.Responses[1].GetResponseRange()))
+	if err == nil && int64(all.cut()) > it.seen {
+		err = errors.New("etcd: the log was cut while it was read, and is read anew from a snapshot")
 	}
-	read.isLast = !told.More
-	return read, nil
+	return page{(*clientv3.GetResponse)(told.Responses[0].GetResponseRange())}, err
 }
 
 // watch hands on what comes behind the place, until it is quiet, or ends.
@@ -262,7 +314,7 @@ func (it *etcdWalk) watch(ctx context.Context) error {
 	// A member that hangs makes no watch.
 	quiet := time.AfterFunc(it.log.timeout(), cancel)
 	defer quiet.Stop()
-	for told := range watcher.Watch(within, it.log.prefix, clientv3.WithRange(it.log.last), clientv3.WithRev(it.seen+1)) {
+	for told := range watcher.Watch(within, it.log.prefix, it.wish()...) {
 		quiet.Stop()
 		if err := it.handTold(ctx, told); err != nil {
 			return err
@@ -278,6 +330,11 @@ func (it *etcdWalk) watch(ctx context.Context) error {
 	return errors.New("etcd: the watch has ended")
 }
 
+// wish is what a watch is asked for: what comes behind the place, and what it was before.
+func (it *etcdWalk) wish() []clientv3.OpOption {
+	return []clientv3.OpOption{clientv3.WithRange(it.log.last), clientv3.WithRev(it.seen + 1), clientv3.WithPrevKV()}
+}
+
 // handTold hands on what a watch tells.
 func (it *etcdWalk) handTold(ctx context.Context, told clientv3.WatchResponse) error {
 	if told.CompactRevision != 0 {
@@ -287,7 +344,7 @@ func (it *etcdWalk) handTold(ctx context.Context, told clientv3.WatchResponse) e
 		return it.log.faultOf(err)
 	}
 	// The revision in its head does not say how far the watch is: only events do.
-	if err := it.log.note(told.Header.ClusterId, told.Header.Revision); err != nil {
+	if err := it.log.note(told.Header.ClusterId); err != nil {
 		return err
 	}
 	var progress Progress
@@ -315,10 +372,10 @@ func (it *etcdWalk) readEvent(ctx context.Context, event *clientv3.Event) (*Entr
 	if event.Type == clientv3.EventTypeDelete {
 		return nil, it.checkDeleted(ctx, kv.Key, kv.ModRevision)
 	}
-	if it.log.isMark(kv.Key) {
-		return nil, nil
+	if it.log.isHead(kv.Key) {
+		return nil, it.followHead(ctx, event)
 	}
-	if _, err := it.log.checkEntry(kv.Key, kv.CreateRevision, kv.Version); err != nil {
+	if _, isEntry, err := it.readKey(kv.Key, kv.CreateRevision, kv.Version); !isEntry {
 		return nil, err
 	}
 	return &Entry{uint64(kv.CreateRevision), kv.Value}, nil
@@ -329,9 +386,13 @@ func (it *etcdWalk) checkDeleted(ctx context.Context, key []byte, revision int64
 	if it.log.isMark(key) {
 		return nil
 	}
+	if it.log.isHead(key) {
+		const words = "the head of the log %s was deleted, at revision %d: open it again, and it goes on without"
+		return LogFault{Why: fmt.Sprintf(words, it.log.name, revision)}
+	}
 	hint, isEntry := it.log.hintOf(key)
 	if isEntry && hint >= it.cut {
-		all, err := readServed(ctx, it.log.cellsAt(0))
+		all, err := it.log.cellsAt(0).served(ctx)
 		if err != nil {
 			return err
 		}

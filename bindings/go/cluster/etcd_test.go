@@ -126,15 +126,24 @@ func freePort(t *testing.T) string {
 	return listener.Addr().String()
 }
 
-// keys are the keys of the log's entries.
+// keys are the keys of the log's entries, in the order of these.
 func keys(t *testing.T, log *EtcdLog) (all []string) {
 	t.Helper()
-	told, err := log.client.Get(background, log.prefix, clientv3.WithRange(log.last))
+	byPosition := clientv3.WithSort(clientv3.SortByCreateRevision, clientv3.SortAscend)
+	told, err := log.client.Get(background, log.prefix, clientv3.WithRange(log.prefix+cellMark), byPosition)
 	check(t, err)
 	for _, kv := range told.Kvs {
 		all = append(all, string(kv.Key))
 	}
 	return all
+}
+
+// isMarked is whether the log has a mark, which a read puts into a log without a head.
+func isMarked(t *testing.T, log *EtcdLog) bool {
+	t.Helper()
+	told, err := log.client.Get(background, log.prefix+markName)
+	check(t, err)
+	return len(told.Kvs) > 0
 }
 
 func TestEtcd(t *testing.T) {
@@ -155,15 +164,7 @@ func TestEtcd(t *testing.T) {
 		check(t, err)
 	}
 	same(t, one, two, host(t, etcd.log("web")))
-	// A mark is one key, however often it is put.
-	log := etcd.log("web")
-	marks := 0
-	for _, key := range keys(t, log) {
-		if strings.HasPrefix(key, "web:~") {
-			marks++
-		}
-	}
-	equal(t, marks, 1)
+	equal(t, isMarked(t, etcd.log("web")), false)
 	// Another log is another table.
 	equal(t, forked(t, host(t, etcd.log("we"))), 2)
 }
@@ -238,12 +239,12 @@ func untilLed(t *testing.T, it *member) {
 func TestAnEntryIsPutOnce(t *testing.T) {
 	etcd := startEtcd(t)
 	log := etcd.log("web")
-	key, err := log.entryKey(0)
-	check(t, err)
-	first, err := log.put(background, key, []byte(settings), 0)
+	first, err := log.put(background, "0123456789abcdef", settings)
 	check(t, err)
 	put(t, log, "open")
-	again, err := log.put(background, key, []byte(settings), 0)
+	// What is sent again is what was sent first.
+	log.newest.Store(nil)
+	again, err := log.put(background, "0123456789abcdef", settings)
 	check(t, err)
 	equal(t, again, first)
 	equal(t, len(keys(t, log)), 2)
@@ -290,13 +291,32 @@ func walk(t *testing.T, log *EtcdLog, after, last uint64) (all []Entry) {
 func fillLog(t *testing.T, log *EtcdLog, count int) (all []Entry) {
 	t.Helper()
 	for number := 0; number < count; number++ {
-		if number%3 == 0 {
-			log.revision.Store(int64(number % 5))
+		if number > 5 {
+			// A host that has read this one last, or one of long ago.
+			last := number - 1
+			if number%3 == 0 {
+				last = number % 5
+			}
+			log.newest.Store(newestAt(t, log, all[last].Position))
 		}
 		data := fmt.Sprintf("entry %d", number)
 		all = append(all, Entry{put(t, log, data), []byte(data)})
 	}
 	return all
+}
+
+// newestAt is an entry, for a host that has read no later one.
+func newestAt(t *testing.T, log *EtcdLog, position uint64) *newest {
+	t.Helper()
+	told, err := log.client.Get(background, log.prefix, clientv3.WithRange(log.prefix+cellMark))
+	check(t, err)
+	for _, kv := range told.Kvs {
+		if hint, isEntry := log.hintOf(kv.Key); isEntry && uint64(kv.CreateRevision) == position {
+			return &newest{string(kv.Key), hint, kv.CreateRevision}
+		}
+	}
+	t.Fatal("no entry", position)
+	return nil
 }
 
 // A follower gets each entry once and in order, wherever it begins and however long etcd's history is.
@@ -393,7 +413,7 @@ func TestAFollowerThatIsEnded(t *testing.T) {
 func TestAQuietLog(t *testing.T) {
 	etcd := startEtcd(t)
 	log := etcd.log("web")
-	last := put(t, log, settings)
+	last := beginEarlier(t, log)
 	log.Timeout = 200 * time.Millisecond
 	times, all := 0, 0
 	err := log.Follow(background, 0, func(progress Progress) error {
@@ -412,6 +432,14 @@ func TestAQuietLog(t *testing.T) {
 	if times < quietTimes {
 		t.Error(times)
 	}
+}
+
+// beginEarlier begins a log as an earlier release does, without a head.
+func beginEarlier(t *testing.T, log *EtcdLog) uint64 {
+	t.Helper()
+	told, err := log.client.Put(background, log.prefix+"0000000000000000-0123456789abcdef", settings)
+	check(t, err)
+	return uint64(told.Header.Revision)
 }
 
 func TestALogThatWasChanged(t *testing.T) {
@@ -452,16 +480,6 @@ func TestAKeyThatIsNoneOfAnEntry(t *testing.T) {
 	isFault(t, openFails(t, log, Options{}), `the log web has a key that is none of an entry: "hello"`)
 }
 
-// A backup that was restored is older than what hosts know.
-func TestAnEtcdThatWasSetBack(t *testing.T) {
-	etcd := startEtcd(t)
-	log := etcd.log("web")
-	put(t, log, settings)
-	log.revision.Store(1000)
-	_, err := log.Append(background, []byte("open"))
-	isFault(t, err, "etcd has made an entry at revision 3, behind revision 1000: it was set back")
-}
-
 func TestMembersOfTwoClusters(t *testing.T) {
 	one, two := startEtcd(t), startEtcd(t)
 	log := logOf(t, one.client(clientv3.Config{Endpoints: []string{one.url, two.url}}), "web")
@@ -482,6 +500,27 @@ func TestAUser(t *testing.T) {
 	equal(t, forked(t, host(t, logOf(t, user("web", "word"), "web"))), 2)
 	isFault(t, openFails(t, logOf(t, etcd.client(clientv3.Config{}), "web"), Options{}), "etcd refuses: etcdserver: user name is empty")
 	isFault(t, openFails(t, logOf(t, user("web", "word"), "other"), Options{}), "etcd refuses: etcdserver: permission denied")
+}
+
+// A role that is taken away for a while stops nothing: calls wait.
+func TestARoleThatIsTakenAway(t *testing.T) {
+	etcd := startEtcd(t)
+	addUsers(t, etcd)
+	root := etcd.client(clientv3.Config{Username: "root", Password: "secret"})
+	table := host(t, logOf(t, etcd.client(clientv3.Config{Username: "web", Password: "word"}), "web"))
+	equal(t, forked(t, table), 2)
+	_, err := root.UserRevokeRole(background, "web", "web")
+	check(t, err)
+	asked := submit(t, table, "fork 1")
+	time.Sleep(time.Second)
+	select {
+	case <-asked.Done():
+		t.Error("it is answered")
+	default:
+	}
+	_, err = root.UserGrantRole(background, "web", "web")
+	check(t, err)
+	equal(t, wait(t, asked), child(3))
 }
 
 // addUsers has a member ask for users, of whom one may use the log `web`, as docs/CLUSTER.md has it.

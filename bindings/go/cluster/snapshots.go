@@ -52,11 +52,7 @@ func readAnnounced(line string) (announced, error) {
 type served []announced
 
 // readServed reads which snapshots serve.
-func readServed(ctx context.Context, from cells) (served, error) {
-	text, err := from(ctx, servedCell)
-	if err != nil {
-		return nil, err
-	}
+func readServed(text []byte) (served, error) {
 	var all served
 	for _, line := range strings.Split(string(text), "\n") {
 		if line == "" {
@@ -71,6 +67,15 @@ func readServed(ctx context.Context, from cells) (served, error) {
 	return all, nil
 }
 
+// served reads which snapshots serve, of these cells.
+func (from cells) served(ctx context.Context) (served, error) {
+	text, err := from(ctx, servedCell)
+	if err != nil {
+		return nil, err
+	}
+	return readServed(text)
+}
+
 // cut is the position up to which the entries are taken away, or will be: 0 where none are.
 func (all served) cut() uint64 {
 	if len(all) < 2 {
@@ -82,7 +87,7 @@ func (all served) cut() uint64 {
 // loadBehind is the newest snapshot that is agreed with and whole, for who is at a position; nil where the log has all entries that it needs. Where it
 // has not, and there is no such snapshot, a LogFault.
 func loadBehind(ctx context.Context, from cells, after uint64) (*Progress, error) {
-	all, err := readServed(ctx, from)
+	all, err := from.served(ctx)
 	if err != nil || (after > 0 && after >= all.cut()) {
 		return nil, err
 	}

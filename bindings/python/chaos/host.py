@@ -1,6 +1,6 @@
 """One host under chaos: its clients make calls and reads, and write down each before it begins and when it is over.
 
-    python3 -m chaos.host LIFE NUMBER MEMBER,MEMBER.. FOLDER PATIENCE CHECKS
+    python3 -m chaos.host LIFE NUMBER MEMBER,MEMBER.. FOLDER PATIENCE KIND
 
 It says `open`. Behind a line of standard input its clients end, and it says `done`; behind a second one it says how its table ends, and `ended`;
 behind a third one it closes.
@@ -16,6 +16,7 @@ import time
 from collections.abc import Callable, Sequence
 from pathlib import Path
 
+from chaos.hosts import CHECKS, LOOKS, READS
 from chaos.record import Row
 from chaos.told import Task, Told
 from cluster.load import Load
@@ -79,8 +80,9 @@ class Rows:
 class Host:
     """A table with what its clients share."""
 
-    def __init__(self, life: str, number: int, folder: Path, rows: Rows, table: Replicated) -> None:
+    def __init__(self, life: str, number: int, folder: Path, rows: Rows, table: Replicated, kind: str) -> None:
         self.life = life
+        self.kind = kind
         self.number = number
         self.rows = rows
         self.table = table
@@ -128,7 +130,7 @@ class Host:
         """Writes down how far this host is, and what digest it has there."""
         position = self.table.position
         try:
-            self.rows.add("place", position=position, digest=self.table.digest_at(position))
+            self.rows.add("place", position=position, digest=self.table.digest_at(position), t1=time.monotonic_ns())
         except NotKept:
             # A snapshot has come meanwhile.
             pass
@@ -177,7 +179,9 @@ def make_reads(host: Host) -> None:
     """Looks for what all hosts have told, also while calls wait."""
     while not host.stopping.wait(READ):
         for task in host.told.all():
-            host.read(task, now=True)
+            host.read(task, now=host.kind != LOOKS)
+        if host.kind in (READS, LOOKS):
+            host.note_place()
 
 
 def run_client(host: Host, step: Callable[[], None]) -> None:
@@ -204,12 +208,14 @@ def say(word: str) -> None:
     print(word, flush=True)
 
 
-def run(life: str, number: int, members: Sequence[str], folder: Path, rows: Rows, patience: float, checks: bool) -> None:
+def run(life: str, number: int, members: Sequence[str], folder: Path, rows: Rows, patience: float, kind: str) -> None:
     """Opens a table, has its clients run, and ends."""
-    host = Host(life, number, folder, rows, open_table(TroubledLog(members, "web"), patience, checks))
+    host = Host(life, number, folder, rows, open_table(TroubledLog(members, "web"), patience, kind == CHECKS), kind)
     say("open")
-    steps: list[Callable[[], None]] = [lambda most=most: make_calls(host, most) for most in BATCHES]  # type: ignore[misc]
-    clients = [threading.Thread(target=run_client, args=(host, it), daemon=True) for it in [*steps, lambda: beat(host), lambda: make_reads(host)]]
+    steps: list[Callable[[], None]] = [lambda: make_reads(host)]
+    if kind not in (READS, LOOKS):
+        steps += [lambda: beat(host), *(lambda most=most: make_calls(host, most) for most in BATCHES)]  # type: ignore[misc]
+    clients = [threading.Thread(target=run_client, args=(host, it), daemon=True) for it in steps]
     for it in clients:
         it.start()
     sys.stdin.readline()
@@ -224,11 +230,11 @@ def run(life: str, number: int, members: Sequence[str], folder: Path, rows: Rows
     host.table.close()
 
 
-def main(life: str, number: str, members: str, folder: str, patience: str, checks: str) -> None:
+def main(life: str, number: str, members: str, folder: str, patience: str, kind: str) -> None:
     """Runs a host; what stops it is written down."""
     rows = Rows(Path(folder) / "rows" / life)
     try:
-        run(life, int(number), members.split(","), Path(folder), rows, float(patience), checks == "checks")
+        run(life, int(number), members.split(","), Path(folder), rows, float(patience), kind)
     except Exception as fault:
         rows.add("fault", why=repr(fault)[:400])
         raise

@@ -19,6 +19,9 @@ PACKAGE = Path(__file__).resolve().parents[1]
 GONE = "gone"
 SILENT = "silent"
 
+# What kind of host it is: one that makes calls, one that checks snapshots too, one that only makes reads of now, and one that asks the log nothing.
+PLAIN, CHECKS, READS, LOOKS = "plain", "checks", "reads", "looks"
+
 Note = Callable[[Row], object]
 
 
@@ -57,9 +60,14 @@ class Child:
             self.note({"what": "killed", "life": self.life})
         else:
             self.note({"what": "fault", "why": f"{self.life} has ended by itself, with status {self._child.returncode}"})
-        self._child.kill()
-        self._child.wait()
-        self._child = None
+        self.give_up()
+
+    def give_up(self) -> None:
+        """Ends it, however it is."""
+        if self._child is not None:
+            self._child.kill()
+            self._child.wait()
+            self._child = None
 
     def begin(self, words: list[object], **streams: Any) -> "subprocess.Popen[str]":
         """Begins a life."""
@@ -77,13 +85,13 @@ class Host(Child):
         self._members = members
         self._said: "queue.SimpleQueue[str]" = queue.SimpleQueue()
 
-    def start(self, patience: float = 60.0, checks: bool = False) -> None:
-        """Begins a life, if it does not run. It names another member first than the next host does."""
+    def start(self, patience: float = 60.0, kind: str = PLAIN) -> None:
+        """Begins a life, if it does not run. It names another member first than the next host does. It is of some kind."""
         if self.pid is not None:
             return
         self.lives += 1
         members = [*self._members[self._number :], *self._members[: self._number]]
-        words = [self.life, self._number, ",".join(members), self.folder, patience, "checks" if checks else "-"]
+        words = [self.life, self._number, ",".join(members), self.folder, patience, kind]
         with open(self.folder / "said" / self.name, "ab") as said:
             command: list[object] = [sys.executable, "-B", "-m", "chaos.host", *words]
             child = self.begin(command, stdin=subprocess.PIPE, stdout=subprocess.PIPE, stderr=said)
@@ -129,8 +137,12 @@ class Keeper(Child):
     def __init__(self, network: Network, place: int, number: int, folder: Path, note: Note, members: list[str]) -> None:
         super().__init__(network, place, f"k{number}", folder, note)
         self._members = members
-        self._archive = folder / "archives" / self.name
-        self._archive.mkdir(parents=True)
+        self.put_into(folder / "archives" / self.name)
+
+    def put_into(self, archive: Path) -> None:
+        """Has its next life put into this folder what it cuts."""
+        self._archive = archive
+        archive.mkdir(parents=True)
 
     def start(self) -> None:
         """Begins a life, if it does not run."""

@@ -2,6 +2,8 @@
 
 import base64
 import json
+import os
+import shutil
 import signal
 import subprocess
 import time
@@ -24,6 +26,15 @@ LONGEST_START = 60.0
 JSON = dict[str, Any]
 
 
+# The variables of etcdctl.
+CONTROL = {**os.environ, "ETCDCTL_API": "3"}
+
+
+def words_of(named: dict[str, str]) -> list[str]:
+    """Words of a command line."""
+    return [f"--{name}={value}" for name, value in named.items()]
+
+
 def text64(text: str) -> str:
     """A text as the gateway of etcd takes it."""
     return base64.b64encode(text.encode()).decode()
@@ -44,20 +55,39 @@ class Members:
         """The members, as a host takes them."""
         return [f"{address_of(it)}:{CLIENTS}" for it in PLACES]
 
-    def start(self, place: int) -> None:
-        """Starts a member that does not run, with what its disk has."""
+    def start(self, place: int, *more: str) -> None:
+        """Starts a member that does not run, with what its disk has; with more words, if there are some."""
         if place in self._running:
             return
         client, peer = f"http://{address_of(place)}:{CLIENTS}", f"http://{address_of(place)}:{PEERS}"
-        cluster = ",".join(f"m{it}=http://{address_of(it)}:{PEERS}" for it in PLACES)
         words = {
-            "name": f"m{place}", "data-dir": str(self._disks[place].folder / "data"), "listen-client-urls": client, "advertise-client-urls": client,
-            "listen-peer-urls": peer, "initial-advertise-peer-urls": peer, "initial-cluster": cluster, "log-level": "error", "snapshot-count": "5000",
+            **self._identity(place), "listen-client-urls": client, "advertise-client-urls": client, "listen-peer-urls": peer, "log-level": "error",
+            "snapshot-count": "5000",
         }  # fmt: skip
-        command = self._network.command(place, ["etcd", *(f"--{name}={value}" for name, value in words.items()), *self._words])
+        command = self._network.command(place, ["etcd", *words_of(words), *self._words, *more])
         with open(self._folder / f"m{place}", "ab") as said:
             streams: dict[str, Any] = {"stdin": subprocess.DEVNULL, "stdout": said, "stderr": said}
             self._running[place] = subprocess.Popen(command, pass_fds=self._network.spaces, **streams)
+
+    def _identity(self, place: int) -> dict[str, str]:
+        """Which member of which cluster one is."""
+        cluster = ",".join(f"m{it}=http://{address_of(it)}:{PEERS}" for it in PLACES)
+        folder, peer = str(self._disks[place].folder / "data"), f"http://{address_of(place)}:{PEERS}"
+        return {"name": f"m{place}", "data-dir": folder, "initial-advertise-peer-urls": peer, "initial-cluster": cluster}
+
+    def save(self, place: int, backup: Path) -> None:
+        """Writes a backup of what a member has."""
+        client = f"http://{address_of(place)}:{CLIENTS}"
+        command = self._network.command(place, ["etcdctl", f"--endpoints={client}", "snapshot", "save", backup])
+        subprocess.run(command, pass_fds=self._network.spaces, check=True, capture_output=True, env=CONTROL)
+
+    def restore(self, backup: Path) -> None:
+        """Has all members, none of which runs, be as in a backup."""
+        for place in PLACES:
+            shutil.rmtree(self._disks[place].folder / "data")
+            command = ["etcdctl", "snapshot", "restore", str(backup), *words_of(self._identity(place))]
+            subprocess.run(command, check=True, capture_output=True, env=CONTROL)
+        self.start_all()
 
     def start_all(self) -> None:
         """Starts all that do not run."""
@@ -115,9 +145,9 @@ class Members:
         return None
 
     def wait_until_ready(self) -> None:
-        """Waits until all members have a leader."""
+        """Waits until all members that run have a leader."""
         end = time.monotonic() + LONGEST_START
-        for place in PLACES:
+        for place in self._running:
             while self.status(place).get("leader", "0") == "0":
                 if time.monotonic() > end:
                     raise TimeoutError("etcd does not start")

@@ -26,12 +26,12 @@ TIMEOUT = 5.0
 class Recorder:
     """The log so far, in a file."""
 
-    def __init__(self, network: Network, members: Members, path: Path) -> None:
+    def __init__(self, network: Network, members: Members, path: Path, reached: int = 0) -> None:
         self._network = network
         self._members = members
         self._file = open(path, "w", encoding="ascii")
         # The revision up to which all is written down.
-        self.reached = 0
+        self.reached = reached
 
     def record(self, place: int) -> int:
         """Writes down all up to now, by one member: the revision. After an OSError it goes on the next time where it was."""

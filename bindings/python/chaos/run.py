@@ -16,7 +16,7 @@ from contextlib import contextmanager, suppress
 from pathlib import Path
 
 from chaos import clocks
-from chaos.hosts import GONE, Host, Keeper
+from chaos.hosts import GONE, PLAIN, Host, Keeper
 from chaos.judge import judge
 from chaos.kernel import mount, run_alone
 from chaos.members import COUNT, Members
@@ -39,7 +39,7 @@ LONGEST_BEGIN, LONGEST_END = 120.0, 150.0
 # The disks are in memory, of which they take no more.
 DISKS = "size=2400m"
 
-TOOLS = {"etcd": "etcd-server", "ip": "iproute2", "nsenter": "util-linux", "mkfs.ext4": "e2fsprogs", "mount": "mount", "truncate": "coreutils"}
+TOOLS = {"etcd": "etcd-server", "etcdctl": "etcd-client", "ip": "iproute2", "nsenter": "util-linux", "mkfs.ext4": "e2fsprogs", "mount": "mount", "truncate": "coreutils"}
 
 
 def what_is_missing(given: argparse.Namespace) -> str:
@@ -62,6 +62,9 @@ def what_is_missing(given: argparse.Namespace) -> str:
 class Run:
     """One run, in a folder."""
 
+    # The kinds of its hosts as it begins.
+    kinds: Sequence[str] = (PLAIN, PLAIN, PLAIN)
+
     def __init__(self, given: argparse.Namespace) -> None:
         self.folder: Path = given.folder
         self.given = given
@@ -81,18 +84,25 @@ class Run:
         recorder = Recorder(network, members, self.folder / "log")
         hosts = [Host(network, COUNT + it, it, self.folder, self.note, members.names) for it in range(HOSTS)]
         keepers = [Keeper(network, COUNT + HOSTS + it, it, self.folder, self.note, members.names) for it in range(KEEPERS)]
-        world = World(self.random, network, members, hosts, keepers, recorder)
+        is_well, verdict = self.run(World(self.random, network, members, hosts, keepers, recorder))
+        (self.folder / "verdict").write_text(verdict + "\n")
+        print(f"chaos, {self.title()}, seed {self.given.seed}: {verdict}", flush=True)
+        return 0 if is_well else 1
+
+    def title(self) -> str:
+        """What kind of run it is."""
+        return f"{self.given.seconds:g} s"
+
+    def run(self, world: World) -> tuple[bool, str]:
+        """Runs in a world: whether all was well, and the verdict."""
         with self.notes_faults():
             self.begin(world)
             self.make_troubles(world)
         with self.notes_faults():
             self.heal(world)
             self.end(world)
-        self.note({"what": "switch", "said": network.close()})
-        is_well, verdict = judge(self.folder, os.environ["PIDTAB"])
-        (self.folder / "verdict").write_text(verdict + "\n")
-        print(f"chaos, {self.given.seconds:g} s, seed {self.given.seed}: {verdict}", flush=True)
-        return 0 if is_well else 1
+        self.note({"what": "switch", "said": world.network.close()})
+        return judge(self.folder, os.environ["PIDTAB"])
 
     @contextmanager
     def notes_faults(self) -> Iterator[None]:
@@ -107,8 +117,8 @@ class Run:
         world.members.start_all()
         world.members.wait_until_ready()
         end = time.monotonic() + LONGEST_BEGIN
-        for host, patience in zip(world.hosts, PATIENCES):
-            host.start(patience)
+        for host, patience, kind in zip(world.hosts, PATIENCES, self.kinds):
+            host.start(patience, kind)
         for keeper in world.keepers:
             keeper.start()
         for host in world.hosts:
@@ -200,6 +210,7 @@ def read_command_line() -> argparse.Namespace:
     parser.add_argument("--seconds", type=float, default=180.0, help="for so long there are troubles")
     parser.add_argument("--seed", type=int, default=1, help="another one has other troubles")
     parser.add_argument("--troubles", type=lambda it: it.split(","), default=[], help="names of troubles, with commas; all by default")
+    parser.add_argument("--way", default="restored_ahead", help="how etcd goes back, of chaos.set_back: restored, or alone, and with _ahead")
     parser.add_argument("--member", action="append", default=[], help="a word more for each member of etcd")
     given = parser.parse_args()
     given.troubles = given.troubles or list(all_troubles())
@@ -209,7 +220,7 @@ def read_command_line() -> argparse.Namespace:
     return given
 
 
-def main() -> int:
+def main(kind: type[Run] = Run) -> int:
     """Runs what the command line names."""
     given = read_command_line()
     for name in ("PIDTAB", "PIDTAB_LIBRARY"):
@@ -225,7 +236,7 @@ def main() -> int:
     given.folder = given.folder.absolute()
     make_folder(given.folder)
     try:
-        status = run_alone(lambda: Run(given).go())
+        status = run_alone(lambda: kind(given).go())
     finally:
         with suppress(OSError):
             os.rmdir(given.folder / "disks")

@@ -13,6 +13,7 @@ from unittest import mock
 
 from chaos.network import CUT, WELL, Rule
 from chaos.run import what_is_missing
+from chaos.set_back import WAYS
 from chaos.troubles import World, all_troubles
 from chaos.wrong import EDITS, WRONG, kinds_of
 
@@ -142,7 +143,7 @@ class Troubles(unittest.TestCase):
 
     def test_all_are_in_the_page(self) -> None:
         page = (Path(__file__).parent / "README.md").read_text()
-        for name in all_troubles():
+        for name in (*all_troubles(), *WAYS):
             self.assertIn(f"`{name}`", page)
 
 
@@ -153,7 +154,7 @@ class Versions(unittest.TestCase):
         self.assertEqual([it for it in WRONG if not (EDITS / f"{it}.edit").exists()], ["members_that_do_not_sync"])
         for name, wrong in WRONG.items():
             with self.subTest(name):
-                self.assertLessEqual(set(wrong.troubles.split(",")), set(all_troubles()))
+                self.assertLessEqual({wrong.way} if wrong.way else set(wrong.troubles.split(",")), {*all_troubles(), *WAYS})
 
     def test_what_is_found(self) -> None:
         self.assertEqual(kinds_of("chaos, 1 s, seed 1: well: 3 calls"), set())

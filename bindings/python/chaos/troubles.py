@@ -7,7 +7,7 @@ from contextlib import suppress
 from typing import NamedTuple
 
 from chaos import clocks
-from chaos.hosts import Child, Host, Keeper
+from chaos.hosts import CHECKS, PLAIN, Child, Host, Keeper
 from chaos.members import PLACES, Members
 from chaos.network import CUT, WELL, Network, Rule
 from chaos.recorder import Recorder
@@ -54,7 +54,7 @@ class World(NamedTuple):
 
     def start_host(self, host: Host) -> None:
         """Begins a host anew, which may wait for more or less time, and check snapshots."""
-        host.start(self.random.choice(PATIENCES), self.random.random() < 0.25)
+        host.start(self.random.choice(PATIENCES), CHECKS if self.random.random() < 0.25 else PLAIN)
 
     def cut(self, pairs: Iterable[tuple[int, int]]) -> Callable[[], None]:
         """Cuts off some from others, one way each: what joins them again."""

@@ -31,6 +31,8 @@ class Wrong(NamedTuple):
     kinds: str
     # Words for each member of etcd.
     member: Sequence[str] = ()
+    # How etcd goes back in time, in a run that has no other trouble.
+    way: str = ""
 
 
 WRONG = {
@@ -47,6 +49,11 @@ WRONG = {
     "etcd_a_page_read_beyond_its_bound": Wrong("kill_host,stop_host,slow,compact", 60, "wrong digest fault"),
     "etcd_a_watch_leaves_one_out": Wrong("kill_member", 20, "wrong digest doubled fault"),
     "etcd_a_watch_at_a_dead_member": Wrong("lost_member", 110, "late"),
+    "set_back_nothing_is_compared": Wrong("", 0, "goes on unnoticed fault", way="restored_ahead"),
+    "set_back_a_put_that_compares_nothing": Wrong("", 0, "log wrong digest writer foreign fault", way="restored"),
+    "set_back_a_look_that_compares_nothing": Wrong("", 0, "goes on unnoticed", way="restored_ahead"),
+    "set_back_a_watch_that_compares_nothing": Wrong("", 0, "unnoticed goes on fault", way="restored_ahead"),
+    "set_back_taken_for_a_cut": Wrong("", 0, "unnoticed goes on fault", way="restored"),
     "members_that_do_not_sync": Wrong("power_members", 40, "lost record log digest fault", ("--unsafe-no-fsync",)),
 }
 
@@ -60,9 +67,9 @@ def run(name: str, switch: Path, seed: int) -> str:
         edit = EDITS / f"{name}.edit"
         if edit.exists():
             plant(edit.read_text(encoding="utf-8"), copy / "pidtab")
-        words = ["--seconds", wrong.seconds, "--seed", seed, "--troubles", wrong.troubles, "--folder", Path(folder) / "run", "--switch", switch]
-        words += [f"--member={it}" for it in wrong.member]
-        command = [sys.executable, "-B", "-m", "chaos.run", *map(str, words)]
+        words = ["--seed", seed, "--folder", Path(folder) / "run", "--switch", switch, *(f"--member={it}" for it in wrong.member)]
+        words += ["--way", wrong.way] if wrong.way else ["--seconds", wrong.seconds, "--troubles", wrong.troubles]
+        command = [sys.executable, "-B", "-m", "chaos.set_back" if wrong.way else "chaos.run", *map(str, words)]
         done = subprocess.run(command, cwd=copy, capture_output=True, text=True, check=False)
     if done.returncode not in (0, 1):
         raise RuntimeError(f"{name}: {done.stderr}")

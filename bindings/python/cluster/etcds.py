@@ -2,6 +2,7 @@
 
 import base64
 import json
+import os
 import shutil
 import signal
 import socket
@@ -44,6 +45,14 @@ def text64(text: str) -> str:
     return base64.b64encode(text.encode()).decode()
 
 
+def control(*words: str) -> None:
+    """Runs etcdctl; what needs it is skipped where it is not there."""
+    found = shutil.which("etcdctl")
+    if found is None:
+        raise unittest.SkipTest("no etcdctl on PATH (Debian: etcd-client)")
+    subprocess.run([found, *words], check=True, capture_output=True, env={**os.environ, "ETCDCTL_API": "3"})
+
+
 class Etcds:
     """Some members, each a process of its own with a folder of its own."""
 
@@ -61,6 +70,8 @@ class Etcds:
         self._relays = [Relay(port) for port in self._peers] if relayed else []
         # Where a member is called by the others.
         self._called = [it.port for it in self._relays] or self._peers
+        # The places of those that belong to the cluster.
+        self._places = list(range(count))
         self._running: dict[int, subprocess.Popen[bytes]] = {}
         for place in range(count):
             self.start(place)
@@ -71,18 +82,68 @@ class Etcds:
         """The members, as `EtcdLog` takes them."""
         return [f"{HOST}:{port}" for port in self._clients]
 
-    def start(self, place: int) -> None:
-        """Starts a member, again with what it has on disk."""
+    def start(self, place: int, *more: str) -> None:
+        """Starts a member, again with what it has on disk; with more words, if there are some."""
         client, peer = f"{self._scheme}://{HOST}:{self._clients[place]}", f"http://{HOST}:{self._peers[place]}"
-        called = [f"http://{HOST}:{port}" for port in self._called]
-        cluster = ",".join(f"m{it}={url}" for it, url in enumerate(called))
         words = {
-            "name": f"m{place}", "data-dir": str(self._folder / f"m{place}"), "listen-client-urls": client, "advertise-client-urls": client,
-            "listen-peer-urls": peer, "initial-advertise-peer-urls": called[place], "initial-cluster": cluster, "log-level": "error",
+            **self._identity(place), "listen-client-urls": client, "advertise-client-urls": client, "listen-peer-urls": peer, "log-level": "error",
         }  # fmt: skip
-        command = [self._program, *(f"--{name}={value}" for name, value in words.items()), *self._words]
+        command = [self._program, *(f"--{name}={value}" for name, value in words.items()), *self._words, *more]
         with open(self._folder / f"m{place}.log", "ab") as said:
             self._running[place] = subprocess.Popen(command, stdin=subprocess.DEVNULL, stdout=said, stderr=said, start_new_session=True)
+
+    def _identity(self, place: int) -> dict[str, str]:
+        """Which member of which cluster one is."""
+        called = {it: f"http://{HOST}:{self._called[it]}" for it in self._places}
+        cluster = ",".join(f"m{it}={url}" for it, url in called.items())
+        folder = str(self._folder / f"m{place}")
+        return {"name": f"m{place}", "data-dir": folder, "initial-advertise-peer-urls": called[place], "initial-cluster": cluster}
+
+    def replace(self, place: int) -> None:
+        """Has a member leave the cluster, and a new one take its place, at another address."""
+        other, new = next(it for it in self._places if it != place), len(self._clients)
+        self._insist("/v3/cluster/member/remove", {"ID": self._status(place)["header"]["member_id"]}, other)
+        self.kill(place)
+        self._places.remove(place)
+        client, peer = free_ports(2)
+        self._clients.append(client)
+        self._peers.append(peer)
+        self._insist("/v3/cluster/member/add", {"peerURLs": [f"http://{HOST}:{peer}"]}, other)
+        self._places.append(new)
+        self.start(new, "--initial-cluster-state=existing")
+        self.wait_until_ready()
+
+    def _insist(self, path: str, body: dict[str, Any], place: int) -> None:
+        """Asks a member until it does it: a change of the members may have to wait until others know each other."""
+        end = time.monotonic() + LONGEST
+        while True:
+            try:
+                self.ask(path, body, place, timeout=5.0)
+                return
+            except OSError:
+                if time.monotonic() > end:
+                    raise
+                time.sleep(0.5)
+
+    def save(self, backup: Path) -> None:
+        """Writes a backup of all."""
+        control("--endpoints", self.members[0], "snapshot", "save", str(backup))
+
+    def restore(self, backup: Path) -> None:
+        """Has all members be as in a backup, as those of the same cluster."""
+        places = list(self._running)
+        for place in places:
+            self.kill(place)
+            shutil.rmtree(self._folder / f"m{place}")
+            control("snapshot", "restore", str(backup), *(f"--{name}={value}" for name, value in self._identity(place).items()))
+        for place in places:
+            self.start(place)
+        self.wait_until_ready()
+
+    def put_others(self, count: int, place: int = 0) -> None:
+        """Puts a key beside all logs so often."""
+        for _ in range(count):
+            self.ask("/v3/kv/put", {"key": text64("other"), "value": ""}, place)
 
     def kill(self, place: int) -> None:
         """Kills a member, as a loss of power would."""
@@ -116,12 +177,12 @@ class Etcds:
         for relay in self._relays:
             relay.close()
 
-    def ask(self, path: str, body: dict[str, Any], place: int = 0, token: str = "") -> dict[str, Any]:
+    def ask(self, path: str, body: dict[str, Any], place: int = 0, token: str = "", timeout: float = LONGEST) -> dict[str, Any]:
         """What a member answers."""
         headers = {"Authorization": token} if token else {}
         url = f"{self._scheme}://{self.members[place]}{path}"
         request = urllib.request.Request(url, json.dumps(body).encode(), headers)
-        with urllib.request.urlopen(request, timeout=LONGEST, context=self._tls) as reply:
+        with urllib.request.urlopen(request, timeout=timeout, context=self._tls) as reply:
             told: dict[str, Any] = json.load(reply)
             return told
 

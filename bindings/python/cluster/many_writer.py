@@ -23,14 +23,14 @@ from pidtab.etcd_log import append_all
 USERS = 2
 
 
-def append_with_troubles(etcd: Etcd, puts: Sequence[tuple[EtcdLog, bytes]]) -> int:
+def append_with_troubles(etcd: Etcd, puts: Sequence[tuple[EtcdLog, bytes]]) -> list[int]:
     """Puts some entries twice, and says of some that are there that etcd does not answer."""
-    position = append_all(etcd, puts)
+    positions = append_all(etcd, puts)
     if random.random() < TROUBLE:
         append_all(etcd, puts)
     if random.random() < TROUBLE:
         raise TimeoutError("the acknowledgement is lost")
-    return position
+    return positions
 
 
 def note_in(file: str) -> Callable[[list[str]], object]:

@@ -9,13 +9,17 @@ import tempfile
 import threading
 import time
 from collections import deque
+from collections.abc import Iterator
 from pathlib import Path
 
-from cluster.etcds import Etcds
+from cluster.etcds import Etcds, text64
 from cluster.load import table_kind
 from pidtab import EtcdLog, Replicated
+from pidtab.etcd import Etcd
 
 SECONDS = 5.0
+# How often others write in a second, and so many reads are made meanwhile.
+OTHERS, READS = 200, 1000
 WISHES = [(clients, batch) for clients in (1, 16) for batch in (1, 32, 256)]
 
 
@@ -87,6 +91,36 @@ def measure_queries(table: Replicated, name: str, ask: object) -> str:
     return f"{name}: {took[250] * 1e3:.3f} ms, of 100 slowest one {took[495] * 1e3:.3f} ms"
 
 
+def write_others(etcd: Etcd, stops: threading.Event) -> None:
+    """Puts a key beside all logs so often a second."""
+    turn = time.monotonic()
+    while not stops.wait(max(0.0, turn - time.monotonic())):
+        etcd.ask("/v3/kv/put", {"key": text64("other"), "value": text64("x" * 100)})
+        turn += 1 / OTHERS
+
+
+def measure_reads(members: list[str], table: Replicated) -> Iterator[str]:
+    """A fresh read beside one of etcd itself, in turns, while others write, and whether a read has put something."""
+    etcd, others = (EtcdLog(members, "none")._etcd for _ in range(2))
+    stops, wanted = threading.Event(), {"key": text64("web:~head")}
+    writer = threading.Thread(target=write_others, args=(others, stops))
+    head = etcd.ask("/v3/kv/range", wanted)["kvs"]
+    writer.start()
+    steps = {"a linearizable read of etcd": lambda: etcd.ask("/v3/kv/range", wanted), "ask(now=True)": lambda: table.ask(now=True).getpid(1)}
+    took: dict[str, list[float]] = {name: [] for name in steps}
+    for _ in range(READS):
+        for name, step in steps.items():
+            begun = time.monotonic()
+            step()
+            took[name].append(time.monotonic() - begun)
+    stops.set()
+    writer.join()
+    for name, times in took.items():
+        times.sort()
+        yield f"beside {OTHERS} writes of others a second, {name}: {times[READS // 2] * 1e3:.2f} ms, of 100 slowest one {times[READS * 99 // 100] * 1e3:.1f} ms"
+    yield f"put by the reads: {'nothing' if etcd.ask('/v3/kv/range', wanted)['kvs'] == head else 'something'}"
+
+
 def main() -> None:
     with tempfile.TemporaryDirectory(prefix="pidtab-measure-") as folder:
         etcds = Etcds(Path(folder))
@@ -99,6 +133,8 @@ def main() -> None:
                     print(row, f"{size:.0f} bytes a call", flush=True)
                 print(measure_queries(table, "ask", lambda: table.ask.getpid(1)))
                 print(measure_queries(table, "ask(now=True)", lambda: table.ask(now=True).getpid(1)))
+                for said in measure_reads(etcds.members, table):
+                    print(said, flush=True)
                 begun = time.monotonic()
                 done = subprocess.run([sys.executable, "-c", LATE, ",".join(etcds.members)], capture_output=True, text=True, check=True)
                 print(f"a late host: {done.stdout.strip()}; {time.monotonic() - begun:.2f} s")

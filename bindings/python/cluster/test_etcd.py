@@ -13,13 +13,15 @@ import unittest
 from collections.abc import Callable, Sequence
 from contextlib import suppress
 from pathlib import Path
-from typing import TypeVar
+from typing import Any, TypeVar
 from unittest import mock
 
 from cluster.etcds import LONGEST, Etcds, need_etcd, text64
 from cluster.load import table_kind
 from cluster.relay import HOST, Relay
 from pidtab import EtcdLog, LogFault, NotKnown, Process, Replicated, Table, find_library, find_program
+from pidtab.etcd_cells import read_keys
+from pidtab.etcd_guard import Newest
 from pidtab.etcd_log import TIMEOUT
 from pidtab.replay import read_log
 from tests.pages import displays, fenced, read_page, section
@@ -101,9 +103,9 @@ class Cluster(unittest.TestCase):
         self.addCleanup(etcds.stop)
         return etcds
 
-    def open(self, members: Sequence[str], patience: float = 30.0, timeout: float = TIMEOUT) -> Replicated:
+    def open(self, members: Sequence[str], patience: float = 30.0, timeout: float = TIMEOUT, **wishes: Any) -> Replicated:
         """A host in this process."""
-        table = Replicated(EtcdLog(members, "web", timeout=timeout), table=table_kind(), patience=patience)
+        table = Replicated(EtcdLog(members, "web", timeout=timeout, **wishes), table=table_kind(), patience=patience)
         self.addCleanup(table.close)
         return table
 
@@ -275,7 +277,7 @@ class Losses(Cluster):
         relays = [Relay(int(it.partition(":")[2])) for it in others]
         for it in relays:
             self.addCleanup(it.close)
-        far = self.open([etcds.members[lone], *(f"{HOST}:{it.port}" for it in relays)], patience=3, timeout=1)
+        far = self.open([etcds.members[lone], *(f"{HOST}:{it.port}" for it in relays)], patience=3, timeout=1, sync=False)
         near = self.open(others)
         self.assertEqual((near.fork(1).root, self.count(far)), (2, 2))
         etcds.cut_off(lone)
@@ -305,8 +307,9 @@ class Refusals(Cluster):
             table.fork(1)
 
     def keys(self, etcds: Etcds) -> list[str]:
-        """The keys of the log's entries."""
-        return [it["key"] for it in etcds.ask("/v3/kv/range", {"key": text64("web:"), "range_end": text64("web;")})["kvs"]]
+        """The keys of the log's entries, in the order of these."""
+        told = etcds.ask("/v3/kv/range", {"key": text64("web:"), "range_end": text64("web:~"), "sort_target": "CREATE", "sort_order": "ASCEND"})
+        return [it["key"] for it in told["kvs"]]
 
     def test_a_log_that_was_changed(self) -> None:
         etcds = self.start(count=1)
@@ -362,6 +365,8 @@ class Refusals(Cluster):
         with self.assertRaisesRegex(NotKnown, "has not answered for 3 seconds .*etcdserver: mvcc: database space exceeded"):
             for _ in range(2000):
                 table.answers(["x" * 200] * 2000)
+        # It reads what there is, which takes no space.
+        table.catch_up()
         # Where there is room again, it goes on: here by a greater quota.
         etcds.stop()
         etcds._words = ("--quota-backend-bytes=100000000",)
@@ -388,8 +393,7 @@ class Refusals(Cluster):
             self.assertEqual(two.ask(now=True).children(1, start=number), (number,))
             self.assertEqual(two.ask(now=True).space(0).init, 1)
         self.assertEqual(one.mk(), 59)
-        marks = etcds.ask("/v3/kv/range", {"key": text64("web:~mark")})
-        self.assertEqual(len(marks["kvs"]), 1)
+        self.assertNotIn("kvs", etcds.ask("/v3/kv/range", {"key": text64("web:~mark")}))
 
 
 class Walks(Cluster):
@@ -424,10 +428,20 @@ class Walks(Cluster):
         entries = []
         self.wait_for_answer(log)
         for number in range(count):
-            if number % 3 == 0:
-                log._etcd.revision = number % 5
+            if number > 5:
+                # A host that has read the one before, or one of long ago.
+                self.read_up_to(log, entries[number % 5 if number % 3 == 0 else -1][0])
             entries.append((log.append(b"entry %d" % number), b"entry %d" % number))
         return entries
+
+    def read_up_to(self, log: EtcdLog, position: int) -> None:
+        """Has a log have read no later entry than one."""
+        log.guard.newest = None
+        for page in read_keys(log.guard.etcd, log.prefix, log.prefix + b"~", 1000):
+            for it in page:
+                if it.revision == position:
+                    key = it.name[len(log.prefix) :]
+                    log.guard.newest = Newest(position, key, int(key[:16], 16))
 
     def test_each_beginning(self) -> None:
         etcds = self.start(count=1)
@@ -478,13 +492,18 @@ class Walks(Cluster):
 
 
 def add_users(etcds: Etcds) -> None:
-    """Has members ask for users, of whom one may use the log `web`, as docs/CLUSTER.md has it."""
+    """Has members ask for users, of whom one may use the log `web`, as docs/CLUSTER.md has it, and another may read it."""
+    log = {"key": text64("web:"), "range_end": text64("web;")}
+    for name, password, kind in (("web", "word", "READWRITE"), ("reader", "read", "READ")):
+        for path, body in [
+            ("/v3/auth/user/add", {"name": name, "password": password}), ("/v3/auth/role/add", {"name": name}),
+            ("/v3/auth/user/grant", {"user": name, "role": name}),
+            ("/v3/auth/role/grant", {"name": name, "perm": {"permType": kind, **log}}),
+        ]:  # fmt: skip
+            etcds.ask(path, body)
     for path, body in [
         ("/v3/auth/user/add", {"name": "root", "password": "secret"}), ("/v3/auth/role/add", {"name": "root"}),
-        ("/v3/auth/user/grant", {"user": "root", "role": "root"}), ("/v3/auth/user/add", {"name": "web", "password": "word"}),
-        ("/v3/auth/role/add", {"name": "web"}), ("/v3/auth/user/grant", {"user": "web", "role": "web"}),
-        ("/v3/auth/role/grant", {"name": "web", "perm": {"permType": "READWRITE", "key": text64("web:"), "range_end": text64("web;")}}),
-        ("/v3/auth/enable", {}),
+        ("/v3/auth/user/grant", {"user": "root", "role": "root"}), ("/v3/auth/enable", {}),
     ]:  # fmt: skip
         etcds.ask(path, body)
 

@@ -61,7 +61,7 @@ class ByEtcd(Keeping):
 
     def make_log(self, kind: type[EtcdLog] = EtcdLog) -> EtcdLog:
         log = kind(self.etcds.members, self.name)
-        log._etcd = Hooked(log._etcd.members, None, None, 5.0)
+        log._begin(Hooked(log._etcd.members, None, None, 5.0), self.name)
         return log
 
     def compact(self) -> None:
@@ -201,7 +201,7 @@ class Programs(Cluster):
         keeper = self.keep(etcds.members)
         said, fault = keeper.communicate(timeout=LONGEST)
         self.assertEqual((keeper.returncode, said), (1, ""))
-        self.assertEqual(fault, "pidtab-keep: stopped: the log has form 1, and goes on without snapshots: begin a log of another name for those\n")
+        self.assertEqual(fault, "pidtab-keep: stopped: the log has form 1, and goes on without snapshots: begin a log of another name with its table, by --salvage and --begin\n")
 
     def test_an_etcd_that_does_not_answer(self) -> None:
         need_library()

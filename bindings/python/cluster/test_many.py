@@ -188,7 +188,7 @@ class Refusals(Many):
         with Cluster(etcds.members, NAME) as cluster:
             table, other = (cluster.open(name, table=table_kind()) for name in ("a", "b"))
             table.fork(1)
-            keys = [it["key"] for it in etcds.ask("/v3/kv/range", {"key": text64("many/a:"), "range_end": text64("many/a;")})["kvs"]]
+            keys = [it["key"] for it in etcds.ask("/v3/kv/range", {"key": text64("many/a:"), "range_end": text64("many/a:~")})["kvs"]]
             etcds.ask("/v3/kv/deleterange", {"key": keys[-1]})
             end = time.monotonic() + LONGEST
             while "closed" not in repr(table):

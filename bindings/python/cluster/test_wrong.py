@@ -71,7 +71,7 @@ class Wrong(unittest.TestCase):
         self.assertNotRegex(done.stderr, r"SyntaxError|NameError|ImportError|_FailedTest")
 
     def test_each_is_found(self) -> None:
-        self.assertGreater(len(EDITS), 53)
+        self.assertGreater(len(EDITS), 67)
         for edit in EDITS:
             with self.subTest(edit.stem):
                 self.check(edit)

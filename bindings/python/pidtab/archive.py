@@ -41,6 +41,10 @@ class Archive:
             raise ArchiveFault(f"no folder {folder} for an archive")
         self._folder = folder
         self._name = name
+        with in_folder(folder):
+            # Of one that was killed: nobody else writes here.
+            for part in folder.glob(f"*{PART}"):
+                part.unlink(missing_ok=True)
 
     def put(self, pages: Iterable[Sequence[tuple[int, bytes]]]) -> int:
         """Puts entries into a new file, which is on disk then: how many. Where there are none, there is no file."""

@@ -7,6 +7,7 @@ from collections.abc import Callable, Sequence
 from pidtab.bounds import DEFAULT_PID_MAX, check_seconds
 from pidtab.calls import Calls
 from pidtab.cluster_crew import CLUSTER_CLOSED, Feed, SharedCrew
+from pidtab.etcd import User
 from pidtab.etcd_log import TIMEOUT, EtcdLog, check_name, open_etcd
 from pidtab.faults import TableClosed
 from pidtab.owner import Owner
@@ -28,14 +29,15 @@ class Cluster(Owner):
         name: str,
         *,
         tls: ssl.SSLContext | None = None,
-        user: tuple[str, str] | None = None,
+        user: User | None = None,
         timeout: float = TIMEOUT,
+        sync: bool = True,
         patience: float = PATIENCE,
     ) -> None:
         """Names the tables; nothing is asked yet. The arguments are those of `EtcdLog` and `Replicated`."""
         self.name = check_name("cluster", name)
         self.patience = check_seconds("patience", patience)
-        self._etcd = open_etcd(members, tls, user, timeout)
+        self._etcd = open_etcd(members, tls, user, timeout, sync)
         self._crew = SharedCrew(self._etcd, name)
         # It takes no lock, as it may run anywhere; before the start, so that an interrupt leaves no thread.
         self._keep(self._crew.wish)

@@ -56,7 +56,7 @@ class Feed(Crew):
         self.wished = False
         self.ended = False
         self._crew = crew
-        self._events = Events(log)
+        self._events = Events(log, 0)
         # Whether it reads its keys by itself. Meanwhile nothing is taken out of the inbox.
         self._reads = False
         self._reading, self._sending = replica.make_backoff(), replica.make_backoff()
@@ -154,7 +154,7 @@ class Feed(Crew):
 
     def _read_all(self) -> None:
         self.replica.replay()
-        for progress in read_behind(self.log, self.replica.seen):
+        for progress in read_behind(self._events, self.replica.seen):
             self.replica.take(progress)
             if self.replica.stopped:
                 return
@@ -278,7 +278,7 @@ class Sender:
     def _send(self, taken: "list[tuple[Feed, bytes]]") -> None:
         """One try. What etcd refuses of many is tried one by one, so that it stops the table alone whose it is."""
         try:
-            position = append_all(self._etcd, [(feed.log, entry) for feed, entry in taken])
+            positions = append_all(self._etcd, [(feed.log, entry) for feed, entry in taken])
         except OSError as fault:
             for feed, _ in taken:
                 feed.was_not_sent(fault)
@@ -289,8 +289,12 @@ class Sender:
                 for it in taken:
                     self._send([it])
         else:
-            for feed, _ in taken:
-                feed.was_sent(position)
+            for (feed, entry), position in zip(taken, positions):
+                if position:
+                    feed.was_sent(position)
+                else:
+                    # etcd has not what was read of this log: it was cut, or etcd set back.
+                    self._send([(feed, entry)])
 
 
 class Router:

@@ -1,14 +1,11 @@
 """What a log in etcd has beside its entries, and how its entries are cut: by transactions, each of which sees to it that nothing else has changed."""
 
-import secrets
 from collections.abc import Iterable, Iterator, Mapping, Sequence
 from typing import NamedTuple
 
 from pidtab.etcd import JSON, Etcd, decode, encode
+from pidtab.etcd_guard import BEFORE_CELLS, Guard, compare, put_of
 from pidtab.log import Cell, Cells
-
-# Before the names of cells, so that a watch of the entries does not see them.
-BEFORE_CELLS = b"~"
 
 # So many keys are looked up at once. For those that are deleted in one transaction all hosts wait.
 NAMES_AT_ONCE = 1000
@@ -16,24 +13,9 @@ CUT_AT_ONCE = 100
 ENTRIES_AT_ONCE = 100
 
 
-def is_at(key: bytes, version: int) -> JSON:
-    """Compares when a key was changed; 0 is where it is not there."""
-    return {"key": encode(key), "target": "MOD", "result": "EQUAL", "mod_revision": version}
-
-
-def put_of(key: bytes, value: bytes) -> JSON:
-    """Puts a value."""
-    return {"request_put": {"key": encode(key), "value": encode(value)}}
-
-
 def delete_of(start: bytes, end: bytes) -> JSON:
     """Deletes the keys from one on and before another."""
     return {"request_delete_range": {"key": encode(start), "range_end": encode(end)}}
-
-
-def entry_key(etcd: Etcd, prefix: bytes) -> bytes:
-    """A key for an entry: the revision in it is before that at which the entry will be made."""
-    return prefix + b"%016x-" % etcd.revision + secrets.token_hex(8).encode()
 
 
 def behind(start: bytes) -> bytes:
@@ -66,15 +48,15 @@ def read_keys(etcd: Etcd, start: bytes, end: bytes, most: int, keys_only: bool =
 class EtcdCells(Cells):
     """The cells of a log, each a key behind `NAME:~`; all as at one revision, if that is named."""
 
-    def __init__(self, etcd: Etcd, prefix: bytes, at: int = 0) -> None:
-        self._etcd = etcd
-        self._log = prefix
-        self._prefix = prefix + BEFORE_CELLS
+    def __init__(self, guard: Guard, at: int = 0) -> None:
+        self._guard = guard
+        self._etcd = guard.etcd
+        self._prefix = guard.prefix + BEFORE_CELLS
         self._at = at
 
     def get(self, name: str) -> Cell:
         """A cell, by a read that a majority confirms."""
-        body: JSON = {"key": encode(self._key(name))}
+        body: JSON = {"key": encode(self.key(name))}
         told = self._etcd.ask("/v3/kv/range", {**body, "revision": self._at} if self._at else body)
         self._etcd.note(told["header"])
         for kv in told.get("kvs", []):
@@ -83,7 +65,7 @@ class EtcdCells(Cells):
 
     def names(self, start: str) -> list[str]:
         """The names that begin so."""
-        first = self._key(start)
+        first = self.key(start)
         pages = read_keys(self._etcd, first, behind(first), NAMES_AT_ONCE, at=self._at)
         return [key.name[len(self._prefix) :].decode() for page in pages for key in page]
 
@@ -91,21 +73,15 @@ class EtcdCells(Cells):
         self, puts: Mapping[str, bytes], *, drops: Iterable[str] = (), entry: bytes = b"", unchanged: Sequence[Cell] = ()
     ) -> bool:
         """One transaction."""
-        steps = [put_of(self._key(name), value) for name, value in puts.items()]
-        steps += [delete_of(self._key(start), behind(self._key(start))) for start in drops]
-        if entry:
-            steps.append(put_of(entry_key(self._etcd, self._log), entry))
-        return transact(self._etcd, [is_at(self._key(it.name), it.version) for it in unchanged], steps)[0]
+        steps = [put_of(self.key(name), value) for name, value in puts.items()]
+        steps += [delete_of(self.key(start), behind(self.key(start))) for start in drops]
+        compares = [compare(self.key(it.name), "MOD", "mod_revision", it.version) for it in unchanged]
+        done = self._guard.append_with(lambda _: steps, entry, compares) if entry else self._guard.ask(lambda _: steps, compares)
+        return done.done
 
-    def _key(self, name: str) -> bytes:
+    def key(self, name: str) -> bytes:
+        """The key of a cell."""
         return self._prefix + name.encode()
-
-
-def transact(etcd: Etcd, compares: Sequence[JSON], steps: Sequence[JSON]) -> tuple[bool, Sequence[JSON]]:
-    """Whether all compares held, and so the steps were done; and what they answered."""
-    told = etcd.ask("/v3/kv/txn", {"compare": list(compares), "success": list(steps)})
-    etcd.note(told["header"])
-    return bool(told.get("succeeded")), told.get("responses", [])
 
 
 def before_position(prefix: bytes, position: int) -> bytes:
@@ -119,13 +95,15 @@ def read_entries_to(etcd: Etcd, prefix: bytes, position: int) -> Iterator[Sequen
         yield [(key.revision, key.value) for key in page if key.revision <= position]
 
 
-def cut_entries(etcd: Etcd, prefix: bytes, position: int) -> int:
+def cut_entries(guard: Guard, position: int) -> int:
     """Deletes the entries up to a position, and no later one, whose key may be among theirs: how many."""
-    count = 0
-    for page in read_keys(etcd, prefix, before_position(prefix, position), CUT_AT_ONCE):
-        for run in split_runs(page, position):
-            count += cut_run(etcd, run[0].name, run[-1].name + b"\0", position)
-    return count
+    return cut_range(guard, guard.prefix, before_position(guard.prefix, position), position)
+
+
+def cut_range(guard: Guard, start: bytes, end: bytes, position: int) -> int:
+    """The same of those entries whose keys are from one on and before another."""
+    pages = read_keys(guard.etcd, start, end, CUT_AT_ONCE)
+    return sum(cut_run(guard, run[0].name, run[-1].name + b"\0", position) for page in pages for run in split_runs(page, position))
 
 
 def split_runs(keys: Sequence[Key], position: int) -> list[list[Key]]:
@@ -139,11 +117,8 @@ def split_runs(keys: Sequence[Key], position: int) -> list[list[Key]]:
     return [run for run in runs if run]
 
 
-def cut_run(etcd: Etcd, start: bytes, end: bytes, position: int) -> int:
+def cut_run(guard: Guard, start: bytes, end: bytes, position: int) -> int:
     """Deletes a range of keys in one step, if none of them is of a later entry; else those that are not, as one has come meanwhile."""
-    none_later = {"key": encode(start), "range_end": encode(end), "target": "CREATE", "result": "LESS", "create_revision": position + 1}
-    done, answers = transact(etcd, [none_later], [delete_of(start, end)])
-    if done:
-        return int(answers[0]["response_delete_range"].get("deleted", 0))
-    runs = [run for page in read_keys(etcd, start, end, CUT_AT_ONCE) for run in split_runs(page, position)]
-    return sum(cut_run(etcd, run[0].name, run[-1].name + b"\0", position) for run in runs)
+    none_later = compare(start, "CREATE", "create_revision", position + 1, "LESS", range_end=encode(end))
+    told = guard.ask(lambda _: [delete_of(start, end)], [none_later])
+    return int(told.answers[0]["response_delete_range"].get("deleted", 0)) if told.done else cut_range(guard, start, end, position)

@@ -42,13 +42,14 @@ class EtcdWatch:
 
     def follow(self, after: int) -> Iterator[Changes]:
         """What comes behind a revision, until it is quiet, which is a TimeoutError, or ends."""
-        wanted = {**self._range, "start_revision": after + 1, "fragment": True}
+        wanted = {**self._range, "start_revision": after + 1, "fragment": True, "prev_kv": True}
         connection, reply = self._etcd.open_watch({"create_request": wanted})
         self._connection = connection
         # Of the last revision that a piece of a line has, the next piece may have more.
         held: list[JSON] = []
         try:
             while not self._closed and (line := reply.readline()):
+                self._etcd.sync()
                 events, is_piece = self._read_line(line)
                 events = held + events
                 last = max(map(revision_of, events), default=0)

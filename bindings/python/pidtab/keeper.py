@@ -4,6 +4,7 @@ import queue
 import random
 import time
 from collections.abc import Callable
+from contextlib import suppress
 from functools import partial
 from typing import NamedTuple, TypeVar
 
@@ -12,8 +13,8 @@ from pidtab.backoff import Backoff
 from pidtab.bounds import DEFAULT_PID_MAX, check_pid_max
 from pidtab.calls import Calls
 from pidtab.faults import LogFault
-from pidtab.log import CutLog, Following, Progress
-from pidtab.log_form import FORM, MODEL, SNAP, Announced, Settings, read_announced, read_entry
+from pidtab.log import Behind, CutLog, Following, Progress
+from pidtab.log_form import ANNOUNCES, FORM, MODEL, SNAP, Announced, Settings, read_announced, read_entry
 from pidtab.machine import table_of, text_of
 from pidtab.machines import AnyMachine, open_machine
 from pidtab.snapshot import pack, read_snapshot, sum_of
@@ -38,9 +39,6 @@ MEGABYTE = 1_000_000
 
 # About so many bytes an entry takes in etcd beside its own.
 ENTRY_BYTES = 128
-
-# What a snapshot's announcement begins with.
-ANNOUNCES = b"snapshot "
 
 # Of two hosts that find it time for a snapshot, one sees within so many seconds that the other has asked; and waits so long for its snapshot.
 HESITATION = 2.0
@@ -111,12 +109,14 @@ class Keeper:
         if following is not None:
             following.close()
 
-    def run(self) -> None:
-        """Follows the log, and writes snapshots when it is time, until its end is asked for."""
+    def run(self, now: bool = False) -> None:
+        """Follows the log, and writes snapshots when it is time, until its end is asked for; or does now all that can be done, and ends."""
         try:
             self.catch_up()
             self.say(f"open at position {self.seen}")
-            while True:
+            if now:
+                self.cut_now()
+            while not now:
                 self.insist(self.advance)
                 if self.is_due():
                     self.save()
@@ -137,6 +137,17 @@ class Keeper:
         end = self.insist(self.log.end if self.following is None else self.log.mark)
         self.began_at = end if self.began_at is None else self.began_at
         self.reach(end)
+
+    def cut_now(self) -> None:
+        """Cuts what an earlier one has left, and then behind a new snapshot, if another host has the same within a time: so behind two of them."""
+        # Deleting takes no space, where etcd has none.
+        self.clear_up()
+        first = self.save()
+        end = time.monotonic() + ANSWER_SECONDS
+        while first is not None and not self.insist(partial(is_agreed, self.log.cells(), first)) and time.monotonic() < end:
+            self.pause(1.0)
+        if first is not None:
+            self.save()
 
     def save(self) -> Announced | None:
         """Writes a snapshot, and cuts the log behind the older one of those that serve then. None where none was written, which is said."""
@@ -160,8 +171,15 @@ class Keeper:
                 raise Ended
             try:
                 return step()
+            except Behind:
+                # Nobody else follows the log here.
+                with suppress(OSError):
+                    self.advance()
+                    continue
             except OSError as fault:
-                self.say_trouble(f"{fault}")
+                # Its end ends its follower too.
+                if not self.ended:
+                    self.say_trouble(f"{fault}")
             self.pause(backoff.next())
 
     def pause(self, seconds: float) -> None:
@@ -234,7 +252,7 @@ class Keeper:
     def begin(self, settings: Settings) -> AnyMachine:
         """Opens a table for the log, whatever its settings are, if they may have snapshots."""
         if settings.form < FORM:
-            raise LogFault(f"the log has form {settings.form}, and goes on without snapshots: begin a log of another name for those")
+            raise LogFault(f"the log has form {settings.form}, and goes on without snapshots: begin a log of another name with its table, by --salvage and --begin")
         try:
             pid_max = check_pid_max(settings.pid_max)
         except ValueError as fault:

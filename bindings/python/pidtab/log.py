@@ -28,6 +28,10 @@ class Following(Iterator[Progress]):
         raise NotImplementedError
 
 
+class Behind(OSError):
+    """Nothing was put: what this host has read last is cut, and it has to read on first."""
+
+
 class Log(ABC):
     """Entries in one order, the same for each host: `EtcdLog`, or another that keeps these promises. Positions are integers above 0, and rise.
 

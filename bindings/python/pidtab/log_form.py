@@ -83,6 +83,9 @@ class Announced(NamedTuple):
 
 Entry = Settings | Opened | Ended | Asked | Wanted | Announced
 
+# What the announcement of a snapshot begins with.
+ANNOUNCES = b"snapshot "
+
 OPEN = b"open"
 SNAP = b"snap"
 

@@ -1,6 +1,7 @@
 """One host's part in a table on many hosts, in steps: it follows the log, appends to it, and watches the time."""
 
 import copy
+import logging
 import threading
 import time
 from collections import deque
@@ -13,10 +14,12 @@ from pidtab.calls import Calls
 from pidtab.changed import Changed
 from pidtab.crew import Crew
 from pidtab.faults import Diverged, LogFault, NotKnown, ProgramFault, TableClosed
+from pidtab.labels import Labels
 from pidtab.log import CutLog, Following, Log, Progress
-from pidtab.log_form import FORM, MODEL, MOST_BYTES, OPEN, SHORT_DIGEST, Announced, Asked, Settings, Wanted, read_entry, write_calls, write_end, write_settings
+from pidtab.log_form import ANNOUNCES, FORM, MODEL, MOST_BYTES, OPEN, SHORT_DIGEST, Announced, Asked, Settings, Wanted, read_entry, write_calls, write_end, write_settings
 from pidtab.machine import NoMemory, Outcome, text_of
 from pidtab.machines import open_machine
+from pidtab.sights import Change, Changes, Numbers, change_of
 from pidtab.snapshots import Checker
 from pidtab.submitted import Part, Receipt, Submitted, deadline_behind
 
@@ -39,6 +42,13 @@ SOON = 0.02
 PATIENCE_TRIES = 8
 
 CLOSED = "the table was closed"
+
+# So many submits may wait for answers at once: each takes some 2 KB.
+MOST_WAITING = 100_000
+
+# Silent, unless the program has it written somewhere.
+LOGGER = logging.getLogger("pidtab")
+LOGGER.addHandler(logging.NullHandler())
 
 
 class Batch:
@@ -76,8 +86,16 @@ class Replica:
         # Nothing is waited for any more.
         self.hurried = False
         self.fault: Exception | None = None
-        # What the log last said that it could not do, for the words of a fault.
-        self.trouble: Exception | None = None
+        # What the log last said that it could not do, for the words of a fault; and what of that was written to the program's log.
+        self._trouble: Exception | None = None
+        self._told_trouble = ""
+        # Whether the log has done nothing since then.
+        self._ails = False
+        # What is counted, and when something was heard of the log, and of a snapshot.
+        self.retries = self.not_known = self.all_replays = 0
+        self.heard_at, self.snapshot_at = time.monotonic(), 0.0
+        self.labels = Labels()
+        self.feeds: Sequence[Changes] = ()
         # The position up to which the log was read; entries behind it may be applied already.
         self.seen = 0
         # Why the table is not that of the log any more; None where it is.
@@ -115,6 +133,30 @@ class Replica:
         """Those of the crew."""
         return self.crew.threads
 
+    @property
+    def trouble(self) -> Exception | None:
+        """What the log last said that it could not do."""
+        return self._trouble
+
+    @trouble.setter
+    def trouble(self, fault: Exception) -> None:
+        self._trouble, self._ails = fault, True
+        self.retries += 1
+        # Not by a thread of the caller, where an interrupt might leave a lock of `logging` taken.
+        if str(fault) != self._told_trouble and threading.current_thread() in self.threads:
+            self._told_trouble = str(fault)
+            LOGGER.warning("%r does not answer, and is asked again: %s", self.log, fault)
+
+    def numbers(self) -> Numbers:
+        """How it does."""
+        now = time.monotonic()
+        with self.changed:
+            waiting = [it.submitted_at for it in self.waiting if not it.done()]
+        age = now - self.snapshot_at if self.snapshot_at else None
+        counts = (self.retries, self.not_known, self.all_replays)
+        lag = now - min(waiting) if waiting else 0.0
+        return Numbers(self.place[0], self.machine.calls, len(waiting), lag, now - self.heard_at, *counts, age, str(self._trouble) if self._ails else "")
+
     def tell(self) -> None:
         """Says that something has changed. It takes no lock."""
         self.changed.notify_all()
@@ -145,6 +187,8 @@ class Replica:
         """Has calls made."""
         with self.changed:
             self.check_open()
+            if len(self.waiting) >= MOST_WAITING:
+                raise NotKnown(f"{len(self.waiting)} submits wait for the log already: the calls were not made", sent=False)
             self.waiting.append(submitted)
             self.queue.extend(submitted.parts)
             self.tell()
@@ -270,8 +314,11 @@ class Replica:
             with suppress(ValueError):
                 following.close()
         self.crew.leave_log()
+        self.not_known += len(failed)
         for it in failed:
             it.fail(why, fault)
+        if first and fault is not None:
+            LOGGER.error("the table of %r has stopped: %s", self.log, fault)
         if fault is None:
             with self.table_lock:
                 self.machine.table.close()
@@ -297,17 +344,50 @@ class Replica:
             text = progress.snapshot
             self.advance(progress.position, lambda: self.machine.load(progress.position, text))
             self.skip(progress.position)
+            self.snapshot_at = time.monotonic()
+            # Whose numbers they are now is not told.
+            self.labels.by_root.clear()
+            self.feed(Change(progress.position, 0, 0, ()))
         for position, data in progress.entries:
             outcome = self.advance(position, lambda: self.machine.apply(position, data))
             if outcome is not None:
+                self.show(position, data, outcome)
                 self.settle(outcome)
             elif self.checker is not None and not self.stopped:
                 self.check(self.checker, position, data)
             if self.stopped:
                 return
+            self.snapshot_at = time.monotonic() if data.startswith(ANNOUNCES) else self.snapshot_at
+        self.heard_at = time.monotonic()
+        if progress.entries or progress.snapshot is not None:
+            self.recover()
         with self.changed:
             self.seen = max(self.seen, progress.position)
             self.tell()
+
+    def recover(self) -> None:
+        """Says that the log has done something."""
+        self._ails = False
+        if self._told_trouble:
+            self._told_trouble = ""
+            LOGGER.info("%r answers again", self.log)
+
+    def show(self, position: int, data: bytes, outcome: Outcome) -> None:
+        """Shows calls that were made to who follows them, and that a number is that of another task to the labels."""
+        if outcome.what != "made":
+            return
+        if self.labels.by_root:
+            first = self.machine.calls - len(outcome.answers)
+            for number, answer in enumerate(outcome.answers, start=first):
+                if answer.startswith("child "):
+                    self.labels.fork(int(answer.split(" ")[3]), number)
+        if self.feeds:
+            self.feed(change_of(position, data, outcome.answers))
+
+    def feed(self, change: Change) -> None:
+        """Tells who follows."""
+        for it in self.feeds:
+            it.put(change)
 
     def advance(self, position: int, step: Callable[[], T]) -> T | None:
         """Has the table go on to a position; None where the replica has stopped."""
@@ -360,6 +440,7 @@ class Replica:
             if last is None:
                 self.session = 0
             self.tell()
+        self.not_known += len(lost)
         for it in lost.values():
             it.fail("the log was cut before this host had read it")
 
@@ -409,6 +490,7 @@ class Replica:
     def lose(self, fault: Exception) -> float:
         """Counts how often the table was lost without a gain, and stops the replica behind a bound. How many seconds to wait before the next replay."""
         self.lost = fault
+        self.all_replays += 1
         self.replays = 1 if self.machine.position > self.failed_at + GAIN else self.replays + 1
         self.failed_at = max(self.failed_at, self.machine.position)
         if self.replays > MOST_REPLAYS:
@@ -534,5 +616,6 @@ class Replica:
             late = {id(it) for it in overdue}
             self.queue = deque([part for part in self.queue if id(part.submitted) not in late])
             self.tell()
+        self.not_known += sum(not it.done() for it in overdue)
         for it in overdue:
             it.fail(self.why_late())

@@ -6,15 +6,17 @@ from operator import index
 from typing import TypeVar
 
 from pidtab.answers import Form, SpaceStat, Stat
-from pidtab.bounds import DEFAULT_PID_MAX, check_pid_max, check_seconds
+from pidtab.bounds import DEFAULT_PID_MAX, check_pid_max, check_seconds, check_timeout
 from pidtab.calls import Call, Calls, as_line
 from pidtab.crew import Crew
 from pidtab.faults import LibraryFault, NotKept
+from pidtab.labels import Labelled, Labels
 from pidtab.log import CutLog, Log
-from pidtab.native import Ask, AskableCalls, pack
+from pidtab.native import ROOT_INIT, Ask, AskableCalls, Would, pack
 from pidtab.own_threads import OwnThreads
 from pidtab.raw import PidtabReply, PidtabSpace, PidtabTask
 from pidtab.replica import Replica
+from pidtab.sights import Changes, Numbers
 from pidtab.submitted import Submitted, deadline_behind
 from pidtab.table import Table
 
@@ -73,7 +75,7 @@ class ReplicaAsk(Ask):
             self._table.catch_up()
 
 
-class Replicated(AskableCalls):
+class Replicated(Labelled, AskableCalls):
     """One table on many hosts, by a log that they share: `Replicated(log)` on each of them is the same table.
 
     A call goes into the log, is made on each host in the log's order, and is answered when it was made here. It is made exactly once as long as
@@ -138,7 +140,8 @@ class Replicated(AskableCalls):
     def submit(self, texts: Iterable[str]) -> Submitted:
         """Has the calls on lines made: a `Future` of what `answers` would answer. All that waits goes into the log as one entry.
 
-        So who submits much before waiting pays the log's time once. Its `result` waits on its own no longer than the patience.
+        So who submits much before waiting pays the log's time once. Its `result` waits on its own no longer than the patience. Where 100,000 of them
+        have no answer yet, this is a `NotKnown` that was not sent.
         """
         if isinstance(texts, (str, bytes, bytearray)):
             raise TypeError(f"submit takes many lines, each a str, not one {type(texts).__name__}")
@@ -157,6 +160,50 @@ class Replicated(AskableCalls):
         """Waits until this host has all that the log had when this was called: the position. Then `list`, `tree` and `ask` are not behind it."""
         super()._check_owner()
         return self._replica.catch_up()
+
+    def wait_changed(self, position: int, timeout: float | None = None) -> int:
+        """Waits until this host has applied an entry behind a position, of whichever host: the position then. A TimeoutError after so many seconds."""
+        replica, behind = self._replica, index(position)
+        replica.check_thread()
+        self._check_owner()
+        seconds = None if timeout is None else check_timeout("timeout", timeout)
+        if not replica.changed.wait_for(lambda: replica.stopped or replica.place[0] > behind, seconds):
+            raise TimeoutError(f"nothing has come behind position {behind} in {seconds} seconds")
+        self._check_owner()
+        return replica.place[0]
+
+    def follow(self) -> Changes:
+        """Each call of all hosts from now on, with its answer, in the log's order: `for change in table.follow()`. Any number of them may be taken."""
+        self._check_owner()
+        return Changes(self._replica)
+
+    @property
+    def numbers(self) -> Numbers:
+        """How this host does. `numbers.prometheus("web")` is the text for Prometheus. The same troubles go to the logger `pidtab` of `logging`."""
+        super()._check_owner()
+        return self._replica.numbers()
+
+    @property
+    def would(self) -> Would:
+        """What each call would answer on this host's own table, as `Table.would`: it may be behind the log, and others may be first."""
+        self._check_owner()
+        return Would(self)
+
+    def dump(self) -> str:
+        """All that there is to know of this host's own table, as `Table.dump`."""
+        super()._check_owner()
+        return self._replica.read(lambda table: as_table(table).dump())
+
+    def copy(self) -> Table:
+        """A table of one's own that stands as this host's does, with its labels, and goes its own way from here on."""
+        copied = Table.from_dump(self.dump(), self._replica.read(lambda table: as_table(table).library))
+        copied._labels = self._labels.copy()
+        return copied
+
+    @property
+    def _labels(self) -> Labels:
+        """Those of this host alone."""
+        return self._replica.labels
 
     @property
     def position(self) -> int:
@@ -246,6 +293,17 @@ class Replicated(AskableCalls):
     def _control_tasks(self, *taken: object) -> int:
         super()._check_owner()
         return self._replica.read(lambda table: as_table(table)._control_tasks(*taken))
+
+    def _would(self, call: bytes, reply: PidtabReply) -> int:
+        super()._check_owner()
+        return self._replica.read(lambda table: as_table(table)._would(call, reply))
+
+    def _place(self) -> int:
+        self._check_owner()
+        return self._replica.machine.calls
+
+    def _look(self, task: int) -> Stat:
+        return self.ask.stat(ROOT_INIT, task)
 
     def _list_text(self) -> str:
         super()._check_owner()

@@ -46,7 +46,11 @@ def piece_name(key: str, number: int) -> str:
 
 def read_served(cells: Cells) -> Served:
     """Which snapshots serve."""
-    cell = cells.get(SERVED)
+    return served_of(cells.get(SERVED))
+
+
+def served_of(cell: Cell) -> Served:
+    """Which snapshots serve, by the cell that says so."""
     try:
         return Served([read_announced(line) for line in (cell.value or b"").split(b"\n") if line], cell)
     except ValueError as fault:

@@ -48,6 +48,7 @@ class Submitted(Future["tuple[str, ...]"]):
         # In the place of the one that a Future has, which an interrupt may leave taken.
         self._condition = Changed()
         self.deadline = deadline
+        self.submitted_at = time.monotonic()
         # Whether some of it may be in the log.
         self.sent = False
         # What has to stay open until it is answered.

@@ -1,6 +1,6 @@
 """Hosts and keepers of one log for the tests of snapshots, by an etcd in memory and a table in pure Python, or by others that a class below it names."""
 
-import os
+import gc
 import tempfile
 import threading
 import time
@@ -10,12 +10,13 @@ from pathlib import Path
 
 from pidtab import Calls, EtcdLog, Following, Progress, Replicated
 from pidtab.archive import Archive
-from pidtab.etcd import JSON, Etcd
+from pidtab.etcd import JSON, Etcd, decode
 from pidtab.etcd_cells import read_keys
+from pidtab.etcd_guard import make_chance
 from pidtab.keeper import Keeper, Wishes
 from pidtab.log_form import Asked, write_calls
 from pidtab.snapshots import PIECES, read_served
-from tests.memory_etcd import MemoryEtcd, log_in
+from tests.memory_etcd import MemoryEtcd, keys_put, log_in
 from tests.stand_in import StandIn
 
 # Longer than any answer, in seconds.
@@ -97,6 +98,11 @@ class Keeping(unittest.TestCase):
         self.said: list[str] = []
         self.begin()
 
+    @classmethod
+    def tearDownClass(cls) -> None:
+        # Who counts descriptors next finds none of these.
+        gc.collect()
+
     def begin(self) -> None:
         """Begins a new etcd, or a log of another name."""
         self.store = MemoryEtcd()
@@ -150,7 +156,7 @@ class Keeping(unittest.TestCase):
         """The keys of the entries, or those of cells whose names begin so."""
         log = self.make_log()
         first = log.prefix + (b"~" + start.encode() if start else b"")
-        last = first + b"\xff" if start else log.last
+        last = first + b"\xff" if start else log.prefix + b"~"
         return [key.name for page in read_keys(etcd_of(log), first, last, 1000) for key in page]
 
     def check_cut(self) -> None:
@@ -161,7 +167,7 @@ class Keeping(unittest.TestCase):
     def positions(self) -> list[int]:
         """The positions of all entries that are left."""
         log = self.make_log()
-        return [key.revision for page in read_keys(etcd_of(log), log.prefix, log.last, 1000) for key in page]
+        return [key.revision for page in read_keys(etcd_of(log), log.prefix, log.prefix + b"~", 1000) for key in page]
 
     def put_late(self, table: Replicated) -> int:
         """Puts an entry with calls, as a host does that began to long ago: its position. The number in its key is just behind the first one's."""
@@ -170,7 +176,8 @@ class Keeping(unittest.TestCase):
         session = log.append(b"open")
         table.catch_up()
         asked = Asked(session, 1, table.position, table.digest[:16], [b"fork 1"])
-        return log._put(log.prefix + b"%016x-" % hint + os.urandom(8).hex().encode(), write_calls(asked))
+        entry = write_calls(asked)
+        return log.guard.ask(lambda _: log.guard.entry_steps(make_chance(), entry, hint)).revision
 
     def wait_until(self, holds: Callable[[], bool]) -> None:
         """Waits for what comes soon."""
@@ -185,11 +192,11 @@ def etcd_of(log: EtcdLog) -> Etcd:
     return log._etcd
 
 
-def deletes(body: JSON) -> bool:
-    """Whether a call deletes something."""
-    return any("request_delete_range" in step for step in body.get("success", []))
+def cuts(body: JSON) -> bool:
+    """Whether a call deletes entries."""
+    return any(b"~" not in decode(it["request_delete_range"]["key"]) for it in body.get("success", []) if "request_delete_range" in it)
 
 
 def announces(body: JSON) -> bool:
     """Whether a call announces a snapshot."""
-    return len(body.get("success", [])) > 1 and bool(body.get("compare"))
+    return any(key.endswith(b":~snapshots") for key in keys_put("txn", body))

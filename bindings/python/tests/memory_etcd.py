@@ -9,7 +9,7 @@ from typing import Any, NamedTuple
 from unittest import mock
 
 from pidtab import Cluster, EtcdLog
-from pidtab.etcd import JSON, Etcd, Member, decode, encode
+from pidtab.etcd import JSON, Etcd, Member, TooOld, decode, encode
 
 # How much a watcher may be behind before it is cut off, in bytes.
 ROOM = 8 * 1024 * 1024
@@ -17,7 +17,10 @@ ROOM = 8 * 1024 * 1024
 # Seconds that a watch waits for something.
 IDLE = 5.0
 
-COMPARES: dict[str, Callable[[int, int], bool]] = {"EQUAL": lambda one, other: one == other, "LESS": lambda one, other: one < other}
+COMPARES: dict[str, Callable[[int, int], bool]] = {"EQUAL": int.__eq__, "LESS": int.__lt__, "GREATER": int.__gt__}
+
+# What a compare has of a key, by its target.
+TARGETS = {"MOD": ("mod_revision", "revision"), "CREATE": ("create_revision", "made_at"), "VERSION": ("version", "writes")}
 
 
 class Version(NamedTuple):
@@ -42,9 +45,12 @@ class Version(NamedTuple):
 class Watcher:
     """The far end of a watch."""
 
-    def __init__(self, end: socket.socket, start: bytes, before: bytes) -> None:
+    def __init__(self, end: socket.socket, start: bytes, before: bytes, first: int, find_last: "Callable[[Version], Version]") -> None:
         self._end = end
+        self._find_last = find_last
         self._start, self._before = start, before
+        # A watch of what has not been yet waits for it.
+        self._first = first
         end.setsockopt(socket.SOL_SOCKET, socket.SO_SNDBUF, ROOM)
         end.setblocking(False)
 
@@ -61,10 +67,14 @@ class Watcher:
 
     def tell(self, header: JSON, versions: Sequence[Version]) -> None:
         """Says what of some changes is its own."""
-        own = [it for it in versions if self._start <= it.key < self._before]
+        own = [it for it in versions if self._start <= it.key < self._before and it.revision >= self._first]
         if own:
-            events: list[JSON] = [{"kv": it.shown()} | ({"type": "DELETE"} if it.value is None else {}) for it in own]
-            self.say({"header": header, "events": events})
+            self.say({"header": header, "events": [self._event(it) for it in own]})
+
+    def _event(self, version: Version) -> JSON:
+        event: JSON = {"kv": version.shown()} | ({"type": "DELETE"} if version.value is None else {})
+        last = self._find_last(version)
+        return event if last.value is None else {**event, "prev_kv": last.shown()}
 
 
 class MemoryEtcd:
@@ -83,6 +93,17 @@ class MemoryEtcd:
         for it in self._watchers:
             it.close()
 
+    def set_back(self, revision: int, others: int = 0) -> None:
+        """Has it as it was at a revision, as a restored backup does; and then others may write so often."""
+        with self._lock:
+            self.close()
+            self._watchers.clear()
+            self._history = self._history[: revision - 1]
+            self._revision = revision
+            self._keys = {key: [it for it in versions if it.revision <= revision] for key, versions in self._keys.items()}
+            for _ in range(others):
+                self._put({"key": encode(b"other")})
+
     def compact(self) -> None:
         """Drops the history up to now."""
         with self._lock:
@@ -100,10 +121,10 @@ class MemoryEtcd:
         asked = body["create_request"]
         near, far = socket.socketpair()
         near.settimeout(IDLE)
-        watcher = Watcher(far, decode(asked["key"]), decode(asked["range_end"]))
+        first = int(asked["start_revision"])
+        watcher = Watcher(far, decode(asked["key"]), decode(asked["range_end"]), first, lambda it: self._now(it.key, it.revision - 1))
         with self._lock:
             watcher.say({"header": self._header(), "created": True})
-            first = int(asked["start_revision"])
             if first < self._compacted:
                 watcher.say({"header": self._header(), "compact_revision": str(self._compacted)})
             for versions in self._history[max(0, first - 2) :]:
@@ -131,7 +152,7 @@ class MemoryEtcd:
     def _range(self, body: JSON) -> JSON:
         revision = int(body.get("revision", 0))
         if revision and revision < self._compacted:
-            raise OSError("etcd: etcdserver: mvcc: required revision has been compacted")
+            raise TooOld("etcd: etcdserver: mvcc: required revision has been compacted")
         those = self._those(body, revision)
         most = int(body.get("limit", 0)) or len(those)
         told: JSON = {"kvs": [it.shown(bool(body.get("keys_only"))) for it in those[:most]]} if those else {}
@@ -147,27 +168,35 @@ class MemoryEtcd:
         return {"deleted": str(len(those))}
 
     def _transact(self, body: JSON) -> JSON:
-        if not all(map(self._holds, body.get("compare", []))):
-            return {"responses": []}
         versions: list[Version] = []
-        answers: list[JSON] = []
-        for step in body["success"]:
-            if "request_put" in step:
-                versions.append(self._next(decode(step["request_put"]["key"]), decode(step["request_put"].get("value", ""))))
-                answers.append({"response_put": {}})
-            else:
-                those = self._those(step["request_delete_range"])
-                versions += [self._gone(it.key) for it in those]
-                answers.append({"response_delete_range": {"deleted": str(len(those))} if those else {}})
+        told = self._plan(body, versions)
         self._write(versions)
-        return {"succeeded": True, "responses": answers}
+        return told
+
+    def _plan(self, body: JSON, versions: list[Version]) -> JSON:
+        """What a transaction answers, and the changes of it; all compares are of what there was before."""
+        held = all(map(self._holds, body.get("compare", [])))
+        answers = [self._plan_step(step, versions) for step in body.get("success" if held else "failure", [])]
+        return {"succeeded": True, "responses": answers} if held else {"responses": answers}
+
+    def _plan_step(self, step: JSON, versions: list[Version]) -> JSON:
+        ((kind, asked),) = step.items()
+        if kind == "request_txn":
+            return {"response_txn": self._plan(asked, versions)}
+        if kind == "request_range":
+            return {"response_range": self._range(asked)}
+        if kind == "request_put":
+            versions.append(self._next(decode(asked["key"]), decode(asked.get("value", ""))))
+            return {"response_put": {}}
+        those = self._those(asked)
+        versions += [self._gone(it.key) for it in those]
+        return {"response_delete_range": {"deleted": str(len(those))} if those else {}}
 
     def _holds(self, compare: JSON) -> bool:
         """Whether a compare holds of each key of its range, or of a key that is not there, whose numbers are 0."""
-        start = decode(compare["key"])
-        those = self._those(compare) or [Version(start, 0, 0, 0, None)]
-        name, numbers = ("mod_revision", [it.revision for it in those]) if compare["target"] == "MOD" else ("create_revision", [it.made_at for it in those])
-        return all(COMPARES[compare["result"]](it, int(compare[name])) for it in numbers)
+        those = self._those(compare) or [Version(decode(compare["key"]), 0, 0, 0, None)]
+        name, what = TARGETS[compare["target"]]
+        return all(COMPARES[compare["result"]](getattr(it, what), int(compare[name])) for it in those)
 
     def _next(self, key: bytes, value: bytes) -> Version:
         before, revision = self._now(key), self._revision + 1
@@ -204,6 +233,15 @@ class Near:
         self.sock.close()
 
 
+def keys_put(path: str, body: JSON) -> list[bytes]:
+    """The keys that a call puts, if its compares hold."""
+    if path.endswith("put"):
+        return [decode(body["key"])]
+    steps = [(kind, asked) for step in body.get("success", []) for kind, asked in step.items()]
+    found = [keys_put("put" if kind == "request_put" else "txn", asked) for kind, asked in steps]
+    return [key for keys in found for key in keys]
+
+
 def nothing(path: str, body: JSON) -> None:
     """Does nothing before a call, or behind it."""
 
@@ -230,7 +268,7 @@ class Client(Etcd):
 def log_in(store: MemoryEtcd, name: str = "web", kind: type[EtcdLog] = EtcdLog) -> EtcdLog:
     """A log in it, for one host."""
     log = kind(["memory:1"], name)
-    log._etcd = Client(store)
+    log._begin(Client(store), name)
     return log
 
 

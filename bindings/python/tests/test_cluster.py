@@ -16,13 +16,13 @@ from unittest import mock
 
 import pidtab
 from pidtab import Cluster, Diverged, EtcdLog, LogFault, NotKnown, Replicated, TableClosed
-from pidtab.etcd import JSON, Etcd, Member, decode, encode
+from pidtab.etcd import JSON, Etcd, Member, encode
 from pidtab.etcd_log import append_all
 from pidtab.etcd_watch import EtcdWatch
 from pidtab.log_form import Asked, write_calls
 from tests.alarms import alarms
 from tests.keeping import Keeping
-from tests.memory_etcd import Client, MemoryEtcd, cluster_in, log_in
+from tests.memory_etcd import Client, MemoryEtcd, cluster_in, keys_put, log_in
 from tests.stand_in import StandIn
 from tests.test_ends import in_child
 from tests.test_interrupts import CallInterrupter, interrupts
@@ -52,15 +52,9 @@ def cluster_threads() -> list[threading.Thread]:
     return [it for it in threading.enumerate() if it.name.startswith("pidtab cluster")]
 
 
-def is_append(path: str) -> bool:
-    """Whether a call puts entries."""
-    return path.endswith(("put", "txn"))
-
-
 def names_of(path: str, body: JSON) -> list[bytes]:
     """The logs into which a call puts something."""
-    puts = [body] if path.endswith("put") else [it["request_put"] for it in body["success"]] if path.endswith("txn") else []
-    return [decode(it["key"]).partition(b":")[0] for it in puts]
+    return list(dict.fromkeys(key.partition(b":")[0] for key in keys_put(path, body)))
 
 
 class Clusters(unittest.TestCase):
@@ -123,18 +117,18 @@ class Troubles:
         # How many logs had an entry by one try, at most.
         self.most = 0
 
-    def append_all(self, etcd: Etcd, puts: Sequence[tuple[EtcdLog, bytes]]) -> int:
+    def append_all(self, etcd: Etcd, puts: Sequence[tuple[EtcdLog, bytes]]) -> list[int]:
         """Puts entries, or not."""
         self.most = max(self.most, len(puts))
         time.sleep(self._random.random() * 0.003)
         if self._random.random() < CHANCE:
             raise ConnectionError("the entries are lost")
-        position = append_all(etcd, puts)
+        positions = append_all(etcd, puts)
         if self._random.random() < CHANCE:
             append_all(etcd, puts)
         if self._random.random() < CHANCE:
             raise TimeoutError("the acknowledgement is lost")
-        return position
+        return positions
 
 
 class Answers(Clusters):
@@ -203,7 +197,7 @@ class Answers(Clusters):
         table = self.open(cluster)
 
         def be_late(path: str, body: JSON) -> None:
-            if is_append(path):
+            if names_of(path, body):
                 time.sleep(random.random() * 0.01)
 
         self.client(cluster).before = be_late

@@ -15,7 +15,7 @@ from pidtab.machine import Machine
 from pidtab.replay import Replay, join, read_archive
 from pidtab.snapshot import PIECE_BYTES, Snapshot, pack, read_snapshot, sum_of, unpack, write_snapshot
 from pidtab.snapshots import AGREED, SERVED, is_agreed, piece_name, put_sum, read_served
-from tests.keeping import LONG, MANY, Crash, Keeping, StillLog, announces, deletes, first_kept
+from tests.keeping import LONG, MANY, Crash, Keeping, StillLog, announces, cuts, first_kept
 from tests.stand_in import StandIn
 
 
@@ -80,8 +80,7 @@ class Cuts(Keeping):
         came: list[int] = []
 
         def before(path: str, body: JSON) -> None:
-            # Not where pieces that are left are taken away.
-            if deletes(body) and body.get("compare") and len(came) < 2:
+            if cuts(body) and len(came) < 2:
                 came.append(self.put_late(table))
 
         keeper.log._etcd.before = before  # type: ignore[attr-defined]
@@ -142,9 +141,31 @@ class Walks(Keeping):
         self.assertEqual(found[: len(before)], before)
         self.assertEqual(found, sorted(set(found)))
 
-    def test_its_history_is_no_more(self) -> None:
-        with self.assertRaisesRegex(OSError, "required revision has been compacted"):
+    def test_its_history_is_no_more_and_it_is_cut(self) -> None:
+        with self.assertRaisesRegex(OSError, "the log was cut while it was read, and is read anew from a snapshot"):
             self.walk(is_compacted=True)
+
+    def test_its_history_is_no_more(self) -> None:
+        # An entry with an early number comes behind the place of the walk, and one with a late one before it.
+        table, log = self.open(), self.make_log()
+        self.fill(table)
+        before = sorted(self.positions())
+        with mock.patch("pidtab.etcd_log.FIRST_PAGE", 5), mock.patch("pidtab.etcd_log.LONGEST_PAGE", 5):
+            following = log.follow(0)
+            self.addCleanup(following.close)
+            found = [next(following)]
+            late = self.put_late(table)
+            self.fill(table, 5)
+            self.compact()
+            while found[-1].position < before[-1]:
+                found.append(next(following))
+        self.assertEqual([position for it in found for position, _ in it.entries], before)
+        self.assertLess(found[-1].position, late)
+        # What has come meanwhile comes then, once and in order.
+        rest = []
+        while not rest or rest[-1] < table.position:
+            rest += [position for position, _ in next(following).entries]
+        self.assertEqual([*before, *rest], sorted(self.positions()))
 
 
 class Crashes(Keeping):
