@@ -105,6 +105,7 @@ struct process {
 	bool may_catch_end;      /* it has, or had, a handler of SIGCHLD, which an exec ends */
 	bool shares_handlers;    /* with another process, which may change what this one does with a signal */
 	struct memory *memory;   /* its address space */
+	bool sees_rewinds;       /* a filter stops calls that go back to the beginning of a file (copies.c) */
 	int read_filters;        /* how many filters stop its reads of signalfds (filter.c) */
 	int filtered[MOST_READ_FILTERS]; /* the number that each is about */
 	bool ends_unheard;       /* its end sends its parent another signal than SIGCHLD, or none */
@@ -143,7 +144,7 @@ int64_t to_number(const struct process *caller, enum kind kind, int64_t real);
 enum phase { FREE, IN_CALL, INJECTED, IN_INJECTED };
 
 /* A call of ours: what it is for. */
-enum injected { MAKE_SUBREAPER, MAP_ROOM, ADD_FILTER, ADD_FILTER_TO_ALL };
+enum injected { MAKE_SUBREAPER, MAP_ROOM, ADD_FILTER, ADD_FILTER_TO_ALL, OPEN_REAL, MAKE_COPY, CLOSE_REAL, OPEN_COPY, CLOSE_COPY };
 
 /* A number in the program's memory in whose place the kernel's stands during a call. */
 struct lent {
@@ -184,9 +185,12 @@ struct thread {
 	bool lists_tasks;             /* the directory that it reads is that of threads */
 	bool is_at_rest;              /* it is stopped by a signal */
 	bool once_more;               /* the call is made again, unseen by the program */
-	int behind_reads;             /* a signalfd, from which reads are to stop behind the call; -1 for none */
+	int behind_reads;             /* a descriptor, from which reads are to stop behind the call; -1 for none */
 	uint64_t room;                /* memory of ours that it has for its call; 0 for none */
-	int content;                  /* a file of /proc that is given in place of the kernel's; -1 for none */
+	int content;                  /* a file that is given in place of the kernel's; -1 for none */
+	uint64_t open_flags;          /* those of its open */
+	bool wants_copy, wants_rewinds; /* behind its open: a file of its own, and a filter */
+	int real_file, made_file;     /* descriptors of the thread, while it makes one */
 };
 
 struct thread *thread_new(pid_t tid, struct process *process);
@@ -236,7 +240,8 @@ void report_stop(void);
 
 void filter_install(void);
 bool reads_stop(const struct process *process, int file);
-bool filter_for_reads(struct thread *thread, const struct registers *registers, int file);
+bool filter_for_reads(struct thread *thread);
+bool filter_for_rewinds(struct thread *thread);
 bool filter_added(struct thread *thread, int64_t result);
 
 /* ---- room.c ---- */
@@ -321,6 +326,7 @@ int supervise(pid_t init);
 void trace_first(pid_t init, struct process *process);
 bool read_memory(pid_t tid, uint64_t at, void *to, size_t size);
 bool write_memory(pid_t tid, uint64_t at, const void *from, size_t size);
+bool inject(struct thread *thread, enum injected what, int64_t call, const uint64_t words[4]);
 
 /* ---- check.c: what the kernel answered, beside what the table did ---- */
 
@@ -336,17 +342,23 @@ struct state {
 
 bool read_state(pid_t real, struct state *state);
 
-/* ---- proc.c: paths and listings of /proc; content.c: its files ---- */
+/* ---- proc.c: paths and listings of /proc; opens.c: opens; content.c: what files have; copies.c: files in place of the kernel's ---- */
 
 extern bool shows_proc;
 
-int content_open(const struct thread *thread, const char *path, const char *file, pid_t real);
-int content_of_group(const struct thread *thread, const char *path, enum kind kind, bool has_unseen);
-void content_done(struct thread *thread);
+char *content_of(const struct thread *thread, const char *path, const char *file, pid_t real, size_t *size);
+char *content_of_group(const struct thread *thread, const char *path, enum kind kind, bool has_unseen, size_t *size);
+int copy_make(uint32_t root, const char *path, char *text, size_t size);
+bool copy_begin(struct thread *thread);
+bool copy_goes_on(struct thread *thread, int64_t result);
+void copy_done(struct thread *thread);
+bool is_copy_of_none(const struct thread *thread, int file);
 
 /* ---- cgroups.c ---- */
 
 enum kind group_file(const struct thread *thread, const char *path, int folder, bool is_written);
-int group_open(const struct thread *thread, const char *path, int folder, enum kind kind);
+int open_folder(const struct thread *thread, const char *path, int folder);
+char *group_text(const struct thread *thread, const char *path, size_t *size);
+int group_open(const struct thread *thread, const char *path, int folder);
 
 #endif

@@ -58,6 +58,7 @@ enum {
 #define QUERY(of) .enter = enter_query, .leave = leave_query, .operation = of
 #define STATE "`IPC_STAT`, and `MSG_STAT`, `SHM_STAT` with or without `_ANY`"
 #define OPENED "`cgroup.procs`, `cgroup.threads` and `tasks` are refused for writing"
+#define REWOUND "a file of `/proc` that the box has written, at its beginning: it is written anew, by a filter of its own"
 #define NONE(name, x86_64, aarch64) { #name, { x86_64, aarch64 }, PLAIN, { ALWAYS, 0, 0, 0 }, { { 0 } }, { { 0 } }, NULL, NULL, 0, NULL }
 
 const struct call calls[] = {
@@ -114,10 +115,10 @@ const struct call calls[] = {
 	{ "rt_sigtimedwait", { 128, 137 }, KERNEL, .out = { MEMORY(1, AT_SENDER, PROCESS) }, .leave = leave_sigtimedwait },
 	{ "signalfd", { 282, -1 }, KERNEL, .enter = enter_signalfd, .leave = leave_signalfd, .note = "what is read of it has the sender" },
 	{ "signalfd4", { 289, 74 }, KERNEL, .enter = enter_signalfd, .leave = leave_signalfd, .note = "what is read of it has the sender" },
-	{ "read", { 0, 63 }, KERNEL, .test = UNSEEN, .out = { MEMORY(1, AT_SIGNALFD_SENDER, PROCESS) }, .enter = enter_signalfd_read, .leave = leave_signalfd_read,
+	{ "read", { 0, 63 }, KERNEL, .test = UNSEEN, .out = { MEMORY(1, AT_SIGNALFD_SENDER, PROCESS) }, .enter = enter_read, .leave = leave_signalfd_read,
 		.note = "of a `signalfd`: it stops by a filter of its own" },
-	{ "readv", { 19, 65 }, REFUSED, .test = UNSEEN, .enter = enter_signalfd_readv, .note = "of a `signalfd`" },
-	{ "preadv2", { 327, 286 }, REFUSED, .test = UNSEEN, .enter = enter_signalfd_readv, .note = "of a `signalfd`" },
+	{ "readv", { 19, 65 }, REFUSED, .test = UNSEEN, .enter = enter_readv, .note = "of a `signalfd`" },
+	{ "preadv2", { 327, 286 }, REFUSED, .test = UNSEEN, .enter = enter_readv, .note = "of a `signalfd`" },
 	{ "timer_create", { 222, 107 }, KERNEL, .in = { VALUE(0, CLOCK), MEMORY(1, AT_NOTIFIED, TASK) }, .enter = enter_timer,
 		.note = "a thread with `SIGEV_THREAD_ID`" },
 	{ "clock_gettime", { 228, 113 }, KERNEL, .test = UNLESS_HAS(0, 1u << 31, 0), .in = { VALUE(0, CLOCK) },
@@ -224,11 +225,14 @@ const struct call calls[] = {
 	{ "chdir", { 80, 49 }, KERNEL, .in = { VALUE(0, PATH) }, .enter = enter_path, .leave = leave_path },
 	{ "statfs", { 137, 43 }, KERNEL, .in = { VALUE(0, PATH) }, .enter = enter_path, .leave = leave_path },
 	{ "openat", { 257, 56 }, KERNEL, .in = { VALUE(1, PATH) }, .enter = enter_open_at, .leave = leave_path, .note = OPENED },
-	{ "openat2", { 437, 437 }, KERNEL, .in = { VALUE(1, PATH) }, .enter = enter_open_at, .leave = leave_path, .note = OPENED },
+	{ "openat2", { 437, 437 }, KERNEL, .in = { VALUE(1, PATH) }, .enter = enter_open_at2, .leave = leave_path, .note = OPENED },
 	{ "newfstatat", { 262, 79 }, KERNEL, .in = { VALUE(1, PATH) }, .enter = enter_path_at, .leave = leave_path },
 	{ "statx", { 332, 291 }, KERNEL, .in = { VALUE(1, PATH) }, .enter = enter_path_at, .leave = leave_path },
 	{ "faccessat", { 269, 48 }, KERNEL, .in = { VALUE(1, PATH) }, .enter = enter_path_at, .leave = leave_path },
 	{ "faccessat2", { 439, 439 }, KERNEL, .in = { VALUE(1, PATH) }, .enter = enter_path_at, .leave = leave_path },
+	{ "lseek", { 8, 62 }, KERNEL, .test = UNSEEN, .enter = enter_rewind, .note = REWOUND },
+	{ "pread64", { 17, 67 }, KERNEL, .test = UNSEEN, .enter = enter_rewind, .note = REWOUND },
+	{ "preadv", { 295, 69 }, KERNEL, .test = UNSEEN, .enter = enter_rewind, .note = REWOUND },
 	{ "readlink", { 89, -1 }, KERNEL, .in = { VALUE(0, PATH) }, .enter = enter_readlink, .leave = leave_path,
 		.note = "`/proc/self` is answered by the box" },
 	{ "readlinkat", { 267, 78 }, KERNEL, .in = { VALUE(1, PATH) }, .enter = enter_readlink_at, .leave = leave_path, .note = "the same" },
@@ -249,9 +253,9 @@ const struct call calls[] = {
 	{ "acct", { 163, 89 }, REFUSED, .note = "its records have processes" },
 
 	/* Plain: no identifier, or one of a descriptor alone. */
-	NONE(write, 1, 64), NONE(close, 3, 57), NONE(fstat, 5, 80), NONE(poll, 7, -1), NONE(lseek, 8, 62),
+	NONE(write, 1, 64), NONE(close, 3, 57), NONE(fstat, 5, 80), NONE(poll, 7, -1),
 	NONE(mmap, 9, 222), NONE(mprotect, 10, 226), NONE(munmap, 11, 215), NONE(brk, 12, 214),
-	NONE(rt_sigprocmask, 14, 135), NONE(rt_sigreturn, 15, 139), NONE(pread64, 17, 67), NONE(pwrite64, 18, 68),
+	NONE(rt_sigprocmask, 14, 135), NONE(rt_sigreturn, 15, 139), NONE(pwrite64, 18, 68),
 	NONE(writev, 20, 66), NONE(pipe, 22, -1), NONE(select, 23, -1), NONE(sched_yield, 24, 124), NONE(mremap, 25, 216),
 	NONE(msync, 26, 227), NONE(mincore, 27, 232), NONE(madvise, 28, 233), NONE(shmget, 29, 194), NONE(shmat, 30, 196),
 	NONE(dup, 32, 23), NONE(dup2, 33, -1), NONE(pause, 34, -1), NONE(nanosleep, 35, 101), NONE(getitimer, 36, 102),
@@ -303,7 +307,7 @@ const struct call calls[] = {
 	NONE(sync_file_range, 277, 84), NONE(vmsplice, 278, 75), NONE(utimensat, 280, 88), NONE(epoll_pwait, 281, 22),
 	NONE(timerfd_create, 283, 85), NONE(eventfd, 284, -1), NONE(fallocate, 285, 47), NONE(timerfd_settime, 286, 86),
 	NONE(timerfd_gettime, 287, 87), NONE(accept4, 288, 242), NONE(eventfd2, 290, 19), NONE(epoll_create1, 291, 20),
-	NONE(dup3, 292, 24), NONE(pipe2, 293, 59), NONE(inotify_init1, 294, 26), NONE(preadv, 295, 69),
+	NONE(dup3, 292, 24), NONE(pipe2, 293, 59), NONE(inotify_init1, 294, 26),
 	NONE(pwritev, 296, 70), NONE(fanotify_mark, 301, 263), NONE(name_to_handle_at, 303, 264),
 	NONE(open_by_handle_at, 304, 265), NONE(syncfs, 306, 267), NONE(getcpu, 309, 168), NONE(finit_module, 313, 273),
 	NONE(renameat2, 316, 276), NONE(getrandom, 318, 278), NONE(memfd_create, 319, 279),

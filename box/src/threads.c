@@ -42,7 +42,7 @@ void thread_free(struct thread *thread)
 	if (thread->number)
 		by_number[thread->number - FIRST_THREAD] = NULL;
 	by_real[thread->tid] = NULL;
-	content_done(thread);
+	copy_done(thread);
 	free(thread->lent);
 	kill_all_over(thread);
 	if (thread->process)

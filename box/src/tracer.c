@@ -50,6 +50,19 @@ void trace_first(pid_t init, struct process *process)
 	happen(thread_of_real(init), STOPS);
 }
 
+/* Has the thread make a call of ours, and then go on as it was before. */
+bool inject(struct thread *thread, enum injected what, int64_t call, const uint64_t words[4])
+{
+	struct registers registers = thread->behind;
+
+	registers_repeat(&registers, call);
+	for (int i = 0; i < 4; i++)
+		registers_set_argument(&registers, i, words[i]);
+	thread->phase = INJECTED;
+	thread->injected = what;
+	return registers_write(thread->tid, &registers);
+}
+
 /* An init takes the orphans of its namespace, in the kernel too: it is made a subreaper by a call that it does not know of. The box's own is
  * one before its exec. */
 static bool make_subreaper(struct thread *thread)
@@ -59,12 +72,7 @@ static bool make_subreaper(struct thread *thread)
 	if (!registers_read(thread->tid, &registers))
 		return false;
 	thread->behind = registers;
-	registers_repeat(&registers, SYS_prctl);
-	registers_set_argument(&registers, 0, PR_SET_CHILD_SUBREAPER);
-	registers_set_argument(&registers, 1, 1);
-	thread->phase = INJECTED;
-	thread->injected = MAKE_SUBREAPER;
-	return registers_write(thread->tid, &registers);
+	return inject(thread, MAKE_SUBREAPER, SYS_prctl, (const uint64_t[4]){ PR_SET_CHILD_SUBREAPER, 1, 0, 0 });
 }
 
 /* The first stop of a process or a thread. Options are inherited, and those of an init are its own. */
@@ -100,6 +108,7 @@ static void executed(struct thread *thread)
 	thread->has_no_exit = false;
 	thread->lent_count = 0;
 	room_give_back(thread);
+	copy_done(thread);
 	memory_leave(process->memory);
 	process->memory = memory_new();
 	process->wants_no_zombies = process->may_catch_end = false;
@@ -192,10 +201,22 @@ static bool injected_over(struct thread *thread)
 {
 	struct registers registers;
 	int64_t result = registers_read(thread->tid, &registers) ? registers_result(&registers) : -ESRCH;
+	bool goes_on = false;
 
-	if (thread->injected == MAP_ROOM)
+	switch (thread->injected) {
+	case MAKE_SUBREAPER:
+		break;
+	case MAP_ROOM:
 		room_mapped(thread, result);
-	else if (thread->injected != MAKE_SUBREAPER && filter_added(thread, result))
+		break;
+	case ADD_FILTER:
+	case ADD_FILTER_TO_ALL:
+		goes_on = filter_added(thread, result);
+		break;
+	default:
+		goes_on = copy_goes_on(thread, result);
+	}
+	if (goes_on)
 		return true;
 	registers_write(thread->tid, &thread->behind);
 	thread->phase = FREE;

@@ -149,6 +149,17 @@ void wait_over(struct thread *thread)
 		call_leave(thread);
 }
 
+/* Whether calls of ours follow behind the call. */
+static bool is_followed(struct thread *thread, const struct registers *registers)
+{
+	thread->behind = *registers;
+	if (thread->wants_copy && copy_begin(thread))
+		return true;
+	if (thread->behind_reads >= 0 && filter_for_reads(thread))
+		return true;
+	return thread->wants_rewinds && filter_for_rewinds(thread);
+}
+
 /* The exit of a call. The program finds its arguments as it passed them. */
 enum onward call_leave(struct thread *thread)
 {
@@ -167,7 +178,7 @@ enum onward call_leave(struct thread *thread)
 	if (thread->once_more)
 		registers_repeat(&registers, registers_call(&thread->made));
 	thread->once_more = false;
-	if (thread->behind_reads >= 0 && filter_for_reads(thread, &registers, thread->behind_reads))
+	if (is_followed(thread, &registers))
 		return SEE_EXIT;
 	room_give_back(thread);
 	registers_change(thread->tid, &present, &registers);

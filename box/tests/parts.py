@@ -41,12 +41,13 @@ def programs(tell):
 
 def inside(tell):
     """Scripts whose lines are the same in a namespace of the kernel."""
-    for name in ("carried", "proc", "nested", "all"):
+    for name in ("carried", "proc", "opened", "opened by root", "nested", "all"):
         if name == "nested" and not rig.IS_ROOT:
             tell.skip(name, "the kernel lets only root unshare")
             continue
-        words = [PYTHON, str(TESTS / "inside" / f"{name}.py")]
-        kernel, box = in_kernel(words, as_root=name in ("nested", "all")), in_box(words, name, as_root=name == "all")
+        is_by_root = name in ("opened by root", "all") and rig.IS_ROOT
+        words = [PYTHON, str(TESTS / "inside" / f"{name.split()[0]}.py")]
+        kernel, box = in_kernel(words, as_root=is_by_root or name == "nested"), in_box(words, name.replace(" ", "-"), as_root=is_by_root)
         if (kernel.output, kernel.status) != (box.output, box.status):
             tell.fault(name, f"kernel:\n{kernel.output}\nbox:\n{box.output}")
         tell.differences(name, box)
