@@ -58,7 +58,7 @@ def bounded(child):
         say("from /proc", resolve, first(open2(f"{child}/stat", resolve=resolve, folder=proc)) == str(child), first(open2("self/stat", 0, resolve, proc)) == me,
             first(open2(f"/{child}/stat", resolve=resolve, folder=proc)) == str(child), first(open2("../proc/self/stat", 0, resolve, proc)) == me)
         say("from its folder", resolve, first(open2("stat", resolve=resolve, folder=folder)) == str(child),
-            first(open2(f"../{child}/stat", resolve=resolve, folder=folder)) == str(child), first(open2(f"task/{child}/comm", 0, resolve, folder)))
+            first(open2(f"../{child}/stat", resolve=resolve, folder=folder)) == str(child), first(open2("../stat", 0, resolve, folder)) == str(child), first(open2(f"task/{child}/comm", 0, resolve, folder)))
         say("plain files", resolve, first(open2(f"{child}/comm", 0, resolve, proc)), first(open2("999/comm", 0, resolve, proc)), first(open2("999/stat", 0, resolve, proc)))
     for flags in (os.O_NOFOLLOW, os.O_DIRECTORY, os.O_CREAT, os.O_CREAT | os.O_EXCL, os.O_CLOEXEC, 1 << 40, os.O_PATH, os.O_NOFOLLOW | os.O_PATH):
         found = [open2(f"/proc/{child}/stat", flags), open2("/proc/self", flags), open2("/proc/self/stat", flags, NO_MAGICLINKS)]
@@ -89,9 +89,19 @@ def by_preadv(file):
     return bytes(room[:os.preadv(file, [room], 0)])
 
 
+def by_call(file):
+    """By preadv(2) itself: Python takes preadv2(2)."""
+    room = ctypes.create_string_buffer(4000)
+    part = (ctypes.c_uint64 * 2)(ctypes.addressof(room), 4000)
+    size = LIBC.preadv(file, part, 1, ctypes.c_long(0))
+    if size < 0:
+        raise OSError(ctypes.get_errno(), "preadv")
+    return room.raw[:size]
+
+
 def kept():
     """A descriptor that is kept says what is so when it is read again, whoever reads it, and nothing of one that is gone."""
-    for read in (by_seek, by_pread, by_preadv):
+    for read in (by_seek, by_pread, by_preadv, by_call):
         file = os.open("/proc/self/status", os.O_RDONLY)
         names = [state(file, read)]
         for name in (b"another", b"a much longer n", b"short"):
