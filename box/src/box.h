@@ -105,6 +105,7 @@ struct process {
 	bool may_catch_end;      /* it has, or had, a handler of SIGCHLD, which an exec ends */
 	bool shares_handlers;    /* with another process, which may change what this one does with a signal */
 	struct memory *memory;   /* its address space */
+	bool had_threads, shares_memory; /* since its exec: others may know of a lock that it holds at its end (robust.c) */
 	bool sees_rewinds;       /* a filter stops calls that go back to the beginning of a file (copies.c) */
 	int read_filters;        /* how many filters stop its reads of signalfds (filter.c) */
 	int filtered[MOST_READ_FILTERS]; /* the number that each is about */
@@ -175,7 +176,8 @@ struct thread {
 	bool has_changed_call;        /* a fork whose registers this program has changed */
 	uint64_t given_flags;         /* those that the kernel has of it */
 	bool has_call_of_parent;      /* it has not begun yet, and its registers are those of such a fork */
-	bool has_options_of_init;     /* nor yet, and its parent was an init */
+	bool sees_end;                /* it stops at its end */
+	uint32_t seen;                /* the number by which it sees itself; 0 before it begins */
 	uint64_t tid_at;              /* where the kernel has written its number before it ran */
 	uint64_t told_parent, told_child; /* of a fork: where the child's number is to be */
 	uint32_t child, child_root;   /* of a fork: its number to the caller */
@@ -288,6 +290,11 @@ const struct process *stranger_parent(const struct thread *stranger);
 bool stranger_is_process(const struct thread *stranger);
 void stranger_kill(const struct thread *stranger);
 
+/* ---- robust.c: locks that a thread holds at its end ---- */
+
+bool end_is_seen(const struct process *process);
+void robust_end(const struct thread *thread);
+
 /* ---- groups.c ---- */
 
 void setpgid_over(struct thread *thread, int64_t result);
@@ -318,6 +325,7 @@ void ending_not_caught(const struct process *process, int signal);
 extern uint64_t events;
 
 void trace(int request, pid_t tid, long data);
+void set_options(struct thread *thread);
 void begin(struct thread *thread);
 void thread_ended(struct thread *thread, int status);
 void exec_told(struct process *process);

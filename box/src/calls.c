@@ -14,6 +14,7 @@
 #include <stddef.h>
 #include <string.h>
 #include <sys/ipc.h>
+#include <sys/mman.h>
 #include <sys/msg.h>
 #include <sys/prctl.h>
 #include <sys/resource.h>
@@ -59,7 +60,7 @@ enum {
 #define STATE "`IPC_STAT`, and `MSG_STAT`, `SHM_STAT` with or without `_ANY`"
 #define OPENED "`cgroup.procs`, `cgroup.threads` and `tasks` are refused for writing"
 #define REWOUND "a file of `/proc` that the box has written, at its beginning: it is written anew, by a filter of its own"
-#define NONE(name, x86_64, aarch64) { #name, { x86_64, aarch64 }, PLAIN, { ALWAYS, 0, 0, 0 }, { { 0 } }, { { 0 } }, NULL, NULL, 0, NULL }
+#define NONE(name, x86_64, aarch64) { #name, { x86_64, aarch64 }, PLAIN, .note = NULL }
 
 const struct call calls[] = {
 	/* What the table answers. */
@@ -162,9 +163,10 @@ const struct call calls[] = {
 	{ "capset", { 126, 91 }, KERNEL, .in = { MEMORY(0, AT_CAPABLE, TASK) } },
 	{ "pidfd_open", { 434, 434 }, KERNEL, .in = { VALUE(0, TASK) } },
 	{ "set_tid_address", { 218, 96 }, KERNEL, RESULT(TASK) },
-	{ "set_robust_list", { 273, 99 }, ABSENT,
-		.note = "the kernel compares the words of the list with its own numbers; no robust mutexes" },
-	{ "get_robust_list", { 274, 100 }, REFUSED, .note = "as `set_robust_list`" },
+	{ "get_robust_list", { 274, 100 }, KERNEL, .in = { VALUE(0, TASK) } },
+	{ "mmap", { 9, 222 }, KERNEL, .test = UNLESS_HAS(3, MAP_SHARED, 0), .also = UNLESS_HAS(2, PROT_WRITE, 0), .enter = enter_share,
+		.note = "shared, for writing: from then on the robust locks that it holds at its end are seen" },
+	{ "shmat", { 30, 196 }, KERNEL, .test = WHEN_HAS(2, SHM_RDONLY, 0), .enter = enter_share, .note = "the same" },
 	{ "futex", { 202, 98 }, REFUSED, .test = WHEN_HAS(1, FUTEX_CMD_MASK, FUTEX_LOCK_PI),
 		.note = "`FUTEX_LOCK_PI`: the kernel compares the word with its own numbers" },
 	{ "futex", { 202, 98 }, REFUSED, .test = WHEN_HAS(1, FUTEX_CMD_MASK, FUTEX_UNLOCK_PI),
@@ -254,10 +256,10 @@ const struct call calls[] = {
 
 	/* Plain: no identifier, or one of a descriptor alone. */
 	NONE(write, 1, 64), NONE(close, 3, 57), NONE(fstat, 5, 80), NONE(poll, 7, -1),
-	NONE(mmap, 9, 222), NONE(mprotect, 10, 226), NONE(munmap, 11, 215), NONE(brk, 12, 214),
+	NONE(mprotect, 10, 226), NONE(munmap, 11, 215), NONE(brk, 12, 214),
 	NONE(rt_sigprocmask, 14, 135), NONE(rt_sigreturn, 15, 139), NONE(pwrite64, 18, 68),
 	NONE(writev, 20, 66), NONE(pipe, 22, -1), NONE(select, 23, -1), NONE(sched_yield, 24, 124), NONE(mremap, 25, 216),
-	NONE(msync, 26, 227), NONE(mincore, 27, 232), NONE(madvise, 28, 233), NONE(shmget, 29, 194), NONE(shmat, 30, 196),
+	NONE(msync, 26, 227), NONE(mincore, 27, 232), NONE(madvise, 28, 233), NONE(shmget, 29, 194),
 	NONE(dup, 32, 23), NONE(dup2, 33, -1), NONE(pause, 34, -1), NONE(nanosleep, 35, 101), NONE(getitimer, 36, 102),
 	NONE(alarm, 37, -1), NONE(setitimer, 38, 103), NONE(sendfile, 40, 71), NONE(socket, 41, 198),
 	NONE(connect, 42, 203), NONE(accept, 43, 202), NONE(sendto, 44, 206), NONE(recvfrom, 45, 207),
@@ -289,7 +291,7 @@ const struct call calls[] = {
 	NONE(security, 185, -1), NONE(readahead, 187, 213), NONE(setxattr, 188, 5), NONE(lsetxattr, 189, 6),
 	NONE(fsetxattr, 190, 7), NONE(getxattr, 191, 8), NONE(lgetxattr, 192, 9), NONE(fgetxattr, 193, 10),
 	NONE(listxattr, 194, 11), NONE(llistxattr, 195, 12), NONE(flistxattr, 196, 13), NONE(removexattr, 197, 14),
-	NONE(lremovexattr, 198, 15), NONE(fremovexattr, 199, 16), NONE(time, 201, -1), NONE(set_thread_area, 205, -1),
+	NONE(lremovexattr, 198, 15), NONE(fremovexattr, 199, 16), NONE(time, 201, -1), NONE(set_thread_area, 205, -1), NONE(set_robust_list, 273, 99),
 	NONE(io_setup, 206, 0), NONE(io_destroy, 207, 1), NONE(io_getevents, 208, 4), NONE(io_submit, 209, 2),
 	NONE(io_cancel, 210, 3), NONE(get_thread_area, 211, -1), NONE(lookup_dcookie, 212, 18), NONE(epoll_create, 213, -1),
 	NONE(epoll_ctl_old, 214, -1), NONE(epoll_wait_old, 215, -1), NONE(remap_file_pages, 216, 234),
@@ -367,7 +369,7 @@ const struct call *call_row(const struct registers *registers)
 	const struct call *call = call_first(number);
 
 	for (; call && call < calls + call_count && call->number[MACHINE] == number; call++)
-		if (holds(&call->test, registers))
+		if (holds(&call->test, registers) && holds(&call->also, registers))
 			return call;
 	return NULL;
 }
@@ -399,7 +401,7 @@ static void print_carried(const struct carried carried[CARRIED], const char *bef
 static void print_row(const struct call *call)
 {
 	static const char *const who[] = {
-		[PLAIN] = "kernel", [KERNEL] = "kernel", [TABLE] = "table", [REFUSED] = "refused", [ABSENT] = "refused, unseen"
+		[PLAIN] = "kernel", [KERNEL] = "kernel", [TABLE] = "table", [REFUSED] = "refused"
 	};
 
 	printf("| `%s` | %d | ", call->name, call->number[0]);

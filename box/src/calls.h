@@ -9,8 +9,7 @@ enum decides {
 	PLAIN,   /* the kernel; the call carries no identifier and does not stop */
 	KERNEL,  /* the kernel, by translated identifiers */
 	TABLE,   /* the table; the kernel is asked too where it has to do the same */
-	REFUSED, /* nobody: ENOSYS, and the report names it */
-	ABSENT   /* nobody: ENOSYS of the filter, without a stop */
+	REFUSED  /* nobody: ENOSYS, and the report names it */
 };
 
 /* Which of its uses a row is about: by the low half of an argument, which is all that the filter looks at. */
@@ -34,7 +33,7 @@ struct call {
 	const char *name;
 	int number[2]; /* on x86-64 and on aarch64; -1 where it has no such call */
 	enum decides decides;
-	struct test test;
+	struct test test, also; /* both have to hold */
 	struct carried in[CARRIED], out[CARRIED];
 	enum onward (*enter)(struct thread *thread, struct registers *registers);
 	int64_t (*leave)(struct thread *thread, int64_t result);
@@ -79,6 +78,7 @@ enum onward enter_readv(struct thread *, struct registers *);
 int64_t leave_signalfd(struct thread *, int64_t);
 int64_t leave_signalfd_read(struct thread *, int64_t);
 enum onward enter_timer(struct thread *, struct registers *);
+enum onward enter_share(struct thread *, struct registers *);    /* robust.c */
 enum onward enter_owner(struct thread *, struct registers *);    /* messages.c */
 int64_t leave_owner(struct thread *, int64_t);
 int64_t leave_peer(struct thread *, int64_t);

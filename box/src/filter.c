@@ -62,17 +62,29 @@ static uint32_t verdict(const struct call *call)
 	switch (call ? call->decides : REFUSED) {
 	case PLAIN:
 		return SECCOMP_RET_ALLOW;
-	case ABSENT:
-		return SECCOMP_RET_ERRNO | ENOSYS;
 	default:
 		return call && is_about_proc(call) && !shows_proc ? SECCOMP_RET_ALLOW : SECCOMP_RET_TRACE;
 	}
+}
+
+/* Where the test does not hold, the code goes on at the place. */
+static void put_test(struct program *program, const struct test *test, int otherwise)
+{
+	uint8_t over = (uint8_t)(otherwise - program->first);
+
+	if (test->how == ALWAYS)
+		return;
+	put(program, STEP(BPF_JMP | BPF_JEQ, test->value, test->how == WHEN ? 0 : over, test->how == WHEN ? over : 0));
+	if (test->mask != UINT32_MAX)
+		put(program, (struct sock_filter)BPF_STMT(BPF_ALU | BPF_AND | BPF_K, test->mask));
+	put(program, FIELD(args[test->argument]));
 }
 
 /* What is done with one call: its rows in order, and where none fits it is plain. It is written from its last row to its first. */
 static void put_call(struct program *program, const struct call *call)
 {
 	const struct call *last = call;
+	int first;
 
 	if (!call || call->test.how == ALWAYS) {
 		put(program, GIVE(verdict(call)));
@@ -87,13 +99,10 @@ static void put_call(struct program *program, const struct call *call)
 
 		if (test->how == NEVER)
 			continue;
+		first = program->first;
 		put(program, GIVE(verdict(last)));
-		if (test->how == ALWAYS)
-			continue;
-		put(program, STEP(BPF_JMP | BPF_JEQ, test->value, test->how == WHEN ? 0 : 1, test->how == WHEN ? 1 : 0));
-		if (test->mask != UINT32_MAX)
-			put(program, (struct sock_filter)BPF_STMT(BPF_ALU | BPF_AND | BPF_K, test->mask));
-		put(program, FIELD(args[test->argument]));
+		put_test(program, &last->also, first);
+		put_test(program, test, first);
 	}
 }
 

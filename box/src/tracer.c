@@ -41,11 +41,24 @@ bool write_memory(pid_t tid, uint64_t at, const void *from, size_t size)
 	return process_vm_writev(tid, &here, 1, &there, 1, 0) == (ssize_t)size;
 }
 
+/* The thread is in a stop: it is to stop at its end too, or not any more. */
+void set_options(struct thread *thread)
+{
+	bool is_seen = end_is_seen(thread->process);
+
+	if (thread->sees_end != is_seen)
+		trace(PTRACE_SETOPTIONS, thread->tid, options | (is_seen ? PTRACE_O_TRACEEXIT : 0));
+	thread->sees_end = is_seen;
+}
+
 void trace_first(pid_t init, struct process *process)
 {
+	struct thread *thread = thread_new(init, process);
+
 	if (ptrace(PTRACE_SEIZE, init, 0, options | PTRACE_O_TRACEEXIT))
 		die("ptrace");
-	thread_number(thread_new(init, process));
+	thread->sees_end = true;
+	thread_number(thread);
 	happen(thread_of_real(init), CLAIMED);
 	happen(thread_of_real(init), STOPS);
 }
@@ -79,15 +92,14 @@ static bool make_subreaper(struct thread *thread)
 void begin(struct thread *thread)
 {
 	const struct process *process = thread->process;
-	int32_t number = (int32_t)thread_seen(thread);
-	bool is_main = thread->tid == process->real, is_nested = process->is_init && is_main;
+	bool is_nested = process->is_init && thread->tid == process->real;
 
-	if (is_main && thread->has_options_of_init != process->is_init)
-		trace(PTRACE_SETOPTIONS, thread->tid, options | (process->is_init ? PTRACE_O_TRACEEXIT : 0));
+	thread->seen = thread_seen(thread);
+	set_options(thread);
 	if (thread->has_call_of_parent)
 		give_registers_back(thread);
 	if (thread->tid_at)
-		write_memory(thread->tid, thread->tid_at, &number, sizeof number);
+		write_memory(thread->tid, thread->tid_at, &thread->seen, sizeof thread->seen);
 	trace(is_nested && make_subreaper(thread) ? PTRACE_SYSCALL : PTRACE_CONT, thread->tid, 0);
 }
 
@@ -111,7 +123,8 @@ static void executed(struct thread *thread)
 	copy_done(thread);
 	memory_leave(process->memory);
 	process->memory = memory_new();
-	process->wants_no_zombies = process->may_catch_end = false;
+	process->wants_no_zombies = process->may_catch_end = process->had_threads = process->shares_memory = false;
+	set_options(thread);
 	process->exec_waits = true;
 	if (!process->asked)
 		exec_told(process);
@@ -128,12 +141,17 @@ void exec_told(struct process *process)
 	trace(PTRACE_CONT, process->real, 0);
 }
 
-/* A thread of an init is at its end: with the last one its namespace falls, and it is held until all the others are dead. */
+/* A thread is at its end. Of an init: with the last one its namespace falls, and it is held until all the others are dead. */
 static void leaving(struct thread *thread)
 {
 	struct process *process = thread->process;
 	unsigned long status = 0;
 
+	robust_end(thread);
+	if (process && !process->is_init) {
+		trace(PTRACE_CONT, thread->tid, 0); /* its end is reported next */
+		return;
+	}
 	happen(thread, LEAVES);
 	if (thread->stage != LEAVING)
 		return;

@@ -134,6 +134,18 @@ def memory(tell):
     tell.say("memory", f"{len(BYTES)} ways")
 
 
+LOCKS = (("thread", "private"), ("words", "private"), ("lists", "private"), ("processes", "mapping"), ("processes", "system-v"), ("grandchild", "mapping"),
+         ("sleepers", "mapping"), ("words", "mapping"))
+
+
+def locks(tell):
+    """A robust lock says that its owner has ended, whoever that was, and wakes who sleeps for it."""
+    program, box = rig.compiled("locks", "-pthread"), rig.checked_box()
+    for way, memory in LOCKS:
+        often(tell, f"locks-{way}-{memory}", ["sh", "-c", f"{program} {way} {memory}; exit $?"], 5, box=box) # an init's end is seen anyway
+    tell.say("locks", f"{len(LOCKS)} ways")
+
+
 # What a program does with SIGTERM, how often it is sent, the status, and how many seconds the end takes at most.
 CATCHES = "import signal, time; signal.signal(signal.SIGTERM, lambda *_: {}); print('ready', flush=True); [time.sleep(1) for _ in range(100)]"
 IGNORES = "import signal, time; signal.signal(signal.SIGTERM, signal.{}); print('ready', flush=True); time.sleep(100)"

@@ -64,14 +64,13 @@ def jobs(tell):
 
 
 def refused(tell):
-    """Each call that is refused has ENOSYS, and the report names it; but what the filter alone refuses."""
-    unseen = {"set_robust_list"}
+    """Each call that is refused has ENOSYS, and the report names it."""
     box = in_box([PYTHON, str(TESTS / "inside/refused.py")], "refused", options=())
     lines = [line.rsplit(" ", 1) for line in box.output.splitlines()]
     for name, error in lines:
         if error != "ENOSYS":
             tell.fault(f"refused {name}", error)
-        if name not in unseen and f"refused: {name} (" not in box.report:
+        if f"refused: {name} (" not in box.report:
             tell.fault(f"refused {name}", "the report does not name it")
     if len(lines) < 20 or box.status:
         tell.fault("refused", box.output)
