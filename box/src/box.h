@@ -106,6 +106,7 @@ struct process {
 	bool shares_handlers;    /* with another process, which may change what this one does with a signal */
 	struct memory *memory;   /* its address space */
 	bool had_threads, shares_memory; /* since its exec: others may know of a lock that it holds at its end (robust.c) */
+	bool is_hidden;          /* its memory cannot be read, which the report says once */
 	bool sees_rewinds;       /* a filter stops calls that go back to the beginning of a file (copies.c) */
 	int read_filters;        /* how many filters stop its reads of signalfds (filter.c) */
 	int filtered[MOST_READ_FILTERS]; /* the number that each is about */
@@ -236,6 +237,7 @@ _Noreturn void die(const char *what);
 void report_start(const char *file);
 void report_difference(const char *what, uint32_t root, int64_t kernel, int64_t table);
 void report_refused(const struct call *call, int64_t number);
+void report_hidden(pid_t tid);
 void report_stop(void);
 
 /* ---- filter.c ---- */

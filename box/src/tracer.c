@@ -27,18 +27,36 @@ void trace(int request, pid_t tid, long data)
 	ptrace(request, tid, 0, data);
 }
 
+/* A program that may not be dumped hides its memory from all but root, from its tracer too: the numbers in it are the kernel's then. */
+static void is_hidden(pid_t tid)
+{
+	const struct thread *thread = errno == EPERM ? thread_of_real(tid) : NULL;
+
+	if (!thread || !thread->process || thread->process->is_hidden)
+		return;
+	thread->process->is_hidden = true;
+	report_hidden(tid);
+}
+
 bool read_memory(pid_t tid, uint64_t at, void *to, size_t size)
 {
 	struct iovec here = { to, size }, there = { (void *)at, size };
+	ssize_t done = process_vm_readv(tid, &here, 1, &there, 1, 0);
 
-	return process_vm_readv(tid, &here, 1, &there, 1, 0) == (ssize_t)size;
+	if (done < 0)
+		is_hidden(tid);
+	return done == (ssize_t)size;
 }
 
 bool write_memory(pid_t tid, uint64_t at, const void *from, size_t size)
 {
 	struct iovec here = { (void *)from, size }, there = { (void *)at, size };
 
-	return process_vm_writev(tid, &here, 1, &there, 1, 0) == (ssize_t)size;
+	ssize_t done = process_vm_writev(tid, &here, 1, &there, 1, 0);
+
+	if (done < 0)
+		is_hidden(tid);
+	return done == (ssize_t)size;
 }
 
 /* The thread is in a stop: it is to stop at its end too, or not any more. */
@@ -124,6 +142,7 @@ static void executed(struct thread *thread)
 	memory_leave(process->memory);
 	process->memory = memory_new();
 	process->wants_no_zombies = process->may_catch_end = process->had_threads = process->shares_memory = false;
+	process->is_hidden = false;
 	set_options(thread);
 	process->exec_waits = true;
 	if (!process->asked)

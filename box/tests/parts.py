@@ -77,6 +77,32 @@ def refused(tell):
     tell.say("refused", f"{len(lines)} calls")
 
 
+# Two processes of a name and one of another that may not be dumped, a thread of one of them, and one that may: each waits twice for a child.
+HIDDEN = """
+import ctypes, os, socket, threading
+libc = ctypes.CDLL(None)
+for name, dumpable in ((b"first", 0), (b"first", 0), (b"a second", 0), (b"third", 1)):
+    if os.fork() == 0:
+        libc.prctl(15, name, 0, 0, 0)
+        libc.prctl(4, dumpable, 0, 0, 0)
+        ask = lambda: socket.socketpair()[0].getsockopt(socket.SOL_SOCKET, socket.SO_PEERCRED, 12)
+        ask()
+        thread = threading.Thread(target=ask)
+        thread.start()
+        thread.join()
+        os._exit(0)
+    os.wait()
+"""
+
+
+def hidden(tell):
+    """The report names each program whose memory the box may not read, as often as there were processes of it."""
+    found = re.findall(r"undumpable: (.*) \(.*\): (\d+)", in_box([PYTHON, "-c", HIDDEN], "hidden").report)
+    if found != [("first", "2"), ("a second", "1")]:
+        tell.fault("hidden", str(found))
+    tell.say("hidden", f"{len(found)} programs are named")
+
+
 def host(tell):
     """A process beside the box is nobody inside, by its own number. In a PID namespace the box's group and session are outside."""
     own = subprocess.Popen([*(rig.AS_NOBODY if rig.IS_ROOT else []), "sleep", "100"])
