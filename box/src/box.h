@@ -2,6 +2,7 @@
 #ifndef BOX_H
 #define BOX_H
 
+#include "data.h"
 #include "registers.h"
 
 #include <pidtab.h>
@@ -194,6 +195,7 @@ struct thread {
 	uint64_t open_flags;          /* those of its open */
 	bool wants_copy, wants_rewinds; /* behind its open: a file of its own, and a filter */
 	int real_file, made_file;     /* descriptors of the thread, while it makes one */
+	struct data *data;            /* the sums of what it reads and writes; none if nobody asks for them */
 };
 
 struct thread *thread_new(pid_t tid, struct process *process);
@@ -334,7 +336,6 @@ void exec_told(struct process *process);
 void catch_up(const struct process *process, int flags);
 int supervise(pid_t init);
 void trace_first(pid_t init, struct process *process);
-bool read_memory(pid_t tid, uint64_t at, void *to, size_t size);
 bool write_memory(pid_t tid, uint64_t at, const void *from, size_t size);
 bool inject(struct thread *thread, enum injected what, int64_t call, const uint64_t words[4]);
 

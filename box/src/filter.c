@@ -86,6 +86,10 @@ static void put_call(struct program *program, const struct call *call)
 	const struct call *last = call;
 	int first;
 
+	if (call && data_is_kept() && data_is_carried(call->number[MACHINE])) {
+		put(program, GIVE(SECCOMP_RET_TRACE));
+		return;
+	}
 	if (!call || call->test.how == ALWAYS) {
 		put(program, GIVE(verdict(call)));
 		return;
@@ -128,7 +132,8 @@ static int make_ranges(struct range *ranges)
 
 	for (int64_t number = 0; number <= MOST_CALLS; number++) {
 		const struct call *call = number < MOST_CALLS ? call_first(number) : NULL;
-		bool is_simple = !call || (call->decides == PLAIN && call->test.how == ALWAYS);
+		bool is_kept = call && data_is_kept() && data_is_carried(number);
+		bool is_simple = !call || (call->decides == PLAIN && call->test.how == ALWAYS && !is_kept);
 
 		if (count && is_simple) {
 			const struct call *last = ranges[count - 1].call;

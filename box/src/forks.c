@@ -172,13 +172,14 @@ static void tell_numbers(struct thread *parent, struct thread *child)
 }
 
 /* The child begins with the registers and the options of its parent. */
-static void inherit(const struct thread *parent, struct thread *child)
+static void inherit(struct thread *parent, struct thread *child)
 {
 	child->sees_end = parent->sees_end;
 	child->has_call_of_parent = parent->phase == IN_CALL && parent->has_changed_call;
 	child->made = parent->made;
 	child->flags = parent->flags;
 	child->given_flags = parent->given_flags;
+	child->data = data_of_child(parent->data);
 }
 
 /* The registers of a child are those of the call that made it, but for the result; with a stack or a thread area of its own, or where the

@@ -43,6 +43,7 @@ void thread_free(struct thread *thread)
 		by_number[thread->number - FIRST_THREAD] = NULL;
 	by_real[thread->tid] = NULL;
 	copy_done(thread);
+	data_end(thread->data);
 	free(thread->lent);
 	kill_all_over(thread);
 	if (thread->process)

@@ -76,6 +76,7 @@ void trace_first(pid_t init, struct process *process)
 	if (ptrace(PTRACE_SEIZE, init, 0, options | PTRACE_O_TRACEEXIT))
 		die("ptrace");
 	thread->sees_end = true;
+	thread->data = data_of_first();
 	thread_number(thread);
 	happen(thread_of_real(init), CLAIMED);
 	happen(thread_of_real(init), STOPS);
@@ -134,6 +135,7 @@ static void executed(struct thread *thread)
 			setpgid_over(thread, -1); /* the main one may have been within a call */
 	}
 	happen(thread, EXECUTES);
+	data_executed(thread->data);
 	thread->phase = FREE;
 	thread->has_no_exit = false;
 	thread->lent_count = 0;

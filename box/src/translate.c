@@ -126,6 +126,16 @@ static void wait_again(struct thread *thread, struct registers *registers)
 	registers_write(thread->tid, registers);
 }
 
+/* The exit of a call that carries bytes is seen too where they are summed. */
+static enum onward keep_data(struct thread *thread, enum onward onward)
+{
+	if (onward == SEE_EXIT || !thread->data || !data_is_carried(registers_call(&thread->made)))
+		return onward;
+	thread->phase = IN_CALL;
+	thread->entered = events;
+	return SEE_EXIT;
+}
+
 enum onward call_enter(struct thread *thread)
 {
 	struct registers registers;
@@ -138,7 +148,7 @@ enum onward call_enter(struct thread *thread)
 	thread->call = call_row(&registers);
 	if (!thread->call || (thread->call->decides == REFUSED && !thread->call->enter))
 		return refuse(thread);
-	return thread->call->enter ? thread->call->enter(thread, &registers) : translate(thread, &registers);
+	return keep_data(thread, thread->call->enter ? thread->call->enter(thread, &registers) : translate(thread, &registers));
 }
 
 /* Behind a wait whose exit is not seen. */
@@ -173,6 +183,7 @@ enum onward call_leave(struct thread *thread)
 	result = registers_result(&registers);
 	give_back(thread);
 	result = thread->call->leave ? thread->call->leave(thread, result) : translate_back(thread, result);
+	data_add(thread->data, thread->tid, &thread->made, result);
 	registers_restore(&registers, &thread->made);
 	registers_set_result(&registers, result);
 	if (thread->once_more)
