@@ -41,7 +41,7 @@ struct name {
 	pid_t real;
 	uint32_t root;
 	struct process *process; /* none once it has left the table */
-	struct level *kept;      /* the numbers that it had there, from the root namespace inwards; none before */
+	struct level *kept;      /* its numbers, from the root namespace inwards, which stay as they are */
 	uint32_t count;
 };
 
@@ -93,6 +93,7 @@ struct process {
 	struct name *name;       /* none where it is gone */
 	pid_t real;
 	uint32_t root;
+	uint64_t space;          /* its namespace */
 	struct thread *threads;  /* real ones that the tracer knows */
 	int at[STAGES];          /* how many of them are in each stage */
 	bool ended;              /* in the table */
@@ -108,7 +109,7 @@ struct process {
 	struct memory *memory;   /* its address space */
 	bool had_threads, shares_memory; /* since its exec: others may know of a lock that it holds at its end (robust.c) */
 	bool is_hidden;          /* its memory cannot be read, which the report says once */
-	bool sees_rewinds;       /* a filter stops calls that go back to the beginning of a file (copies.c) */
+	bool sees_proc;          /* a filter stops more calls by descriptors, since it has some of /proc (filter.c) */
 	int read_filters;        /* how many filters stop its reads of signalfds (filter.c) */
 	int filtered[MOST_READ_FILTERS]; /* the number that each is about */
 	bool ends_unheard;       /* its end sends its parent another signal than SIGCHLD, or none */
@@ -129,7 +130,6 @@ void name_outside(pid_t real);
 struct name *name_of_real(pid_t real);
 struct process *process_of_root(uint32_t root);
 struct process *process_seen(const struct process *caller, uint32_t number);
-void name_keep(struct name *name);
 uint32_t numbers_of(const struct name *name, const struct process *caller, uint32_t *numbers);
 uint32_t number_of(const struct name *name, const struct process *caller);
 struct process *process_new(struct name *name);
@@ -193,7 +193,7 @@ struct thread {
 	uint64_t room;                /* memory of ours that it has for its call; 0 for none */
 	int content;                  /* a file that is given in place of the kernel's; -1 for none */
 	uint64_t open_flags;          /* those of its open */
-	bool wants_copy, wants_rewinds; /* behind its open: a file of its own, and a filter */
+	bool wants_copy, wants_filter; /* behind its open: a file of its own, and a filter */
 	int real_file, made_file;     /* descriptors of the thread, while it makes one */
 	struct data *data;            /* the sums of what it reads and writes; none if nobody asks for them */
 };
@@ -247,7 +247,7 @@ void report_stop(void);
 void filter_install(void);
 bool reads_stop(const struct process *process, int file);
 bool filter_for_reads(struct thread *thread);
-bool filter_for_rewinds(struct thread *thread);
+bool filter_for_proc(struct thread *thread);
 bool filter_added(struct thread *thread, int64_t result);
 
 /* ---- room.c ---- */
@@ -298,6 +298,10 @@ void stranger_kill(const struct thread *stranger);
 
 bool end_is_seen(const struct process *process);
 void robust_end(const struct thread *thread);
+
+/* ---- messages.c ---- */
+
+void messages_start(void);
 
 /* ---- groups.c ---- */
 

@@ -202,8 +202,10 @@ const struct call calls[] = {
 	{ "sendmsg", { 46, 211 }, KERNEL, .in = { MEMORY(1, 0, PROCESS) }, .enter = enter_send,
 		.note = "`SCM_CREDENTIALS` in its control data" },
 	{ "sendmmsg", { 307, 269 }, KERNEL, .in = { MEMORY(1, 0, PROCESS) }, .enter = enter_send_many, .note = "the same" },
-	{ "recvmsg", { 47, 212 }, KERNEL, .out = { MEMORY(1, 0, PROCESS) }, .leave = leave_receive, .note = "the same" },
-	{ "recvmmsg", { 299, 243 }, KERNEL, .out = { MEMORY(1, 0, PROCESS) }, .leave = leave_receive_many, .note = "the same" },
+	{ "recvmsg", { 47, 212 }, KERNEL, .out = { MEMORY(1, 0, PROCESS) }, .enter = enter_receive, .leave = leave_receive, .note = "the same" },
+	{ "recvmmsg", { 299, 243 }, KERNEL, .out = { MEMORY(1, 0, PROCESS) }, .enter = enter_receive_many, .leave = leave_receive_many, .note = "the same" },
+	{ "setsockopt", { 54, 208 }, KERNEL, .test = WHEN_IS(1, SOL_SOCKET), .also = WHEN_IS(2, SO_PASSCRED), .enter = enter_pass,
+		.note = "`SO_PASSCRED`: no `SCM_CREDENTIALS` is looked for before it" },
 	{ "msgctl", { 71, 187 }, KERNEL, .test = WHEN_IS(1, IPC_STAT), .out = { MEMORY(2, AT_SENT, PROCESS), MEMORY(2, AT_SENT + 4, PROCESS) },
 		.note = STATE },
 	{ "msgctl", { 71, 187 }, KERNEL, .test = WHEN_IS(1, MSG_STAT), .out = { MEMORY(2, AT_SENT, PROCESS), MEMORY(2, AT_SENT + 4, PROCESS) },
@@ -228,7 +230,9 @@ const struct call calls[] = {
 	{ "statfs", { 137, 43 }, KERNEL, .in = { VALUE(0, PATH) }, .enter = enter_path, .leave = leave_path },
 	{ "openat", { 257, 56 }, KERNEL, .in = { VALUE(1, PATH) }, .enter = enter_open_at, .leave = leave_path, .note = OPENED },
 	{ "openat2", { 437, 437 }, KERNEL, .in = { VALUE(1, PATH) }, .enter = enter_open_at2, .leave = leave_path, .note = OPENED },
+	{ "newfstatat", { 262, 79 }, PLAIN, .test = UNLESS_HAS(3, AT_EMPTY_PATH, 0), .also = UNLESS_IS(0, (uint32_t)AT_FDCWD) },
 	{ "newfstatat", { 262, 79 }, KERNEL, .in = { VALUE(1, PATH) }, .enter = enter_path_at, .leave = leave_path },
+	{ "statx", { 332, 291 }, PLAIN, .test = UNLESS_HAS(2, AT_EMPTY_PATH, 0), .also = UNLESS_IS(0, (uint32_t)AT_FDCWD) },
 	{ "statx", { 332, 291 }, KERNEL, .in = { VALUE(1, PATH) }, .enter = enter_path_at, .leave = leave_path },
 	{ "faccessat", { 269, 48 }, KERNEL, .in = { VALUE(1, PATH) }, .enter = enter_path_at, .leave = leave_path },
 	{ "faccessat2", { 439, 439 }, KERNEL, .in = { VALUE(1, PATH) }, .enter = enter_path_at, .leave = leave_path },
@@ -264,7 +268,7 @@ const struct call calls[] = {
 	NONE(alarm, 37, -1), NONE(setitimer, 38, 103), NONE(sendfile, 40, 71), NONE(socket, 41, 198),
 	NONE(connect, 42, 203), NONE(accept, 43, 202), NONE(sendto, 44, 206), NONE(recvfrom, 45, 207),
 	NONE(shutdown, 48, 210), NONE(bind, 49, 200), NONE(listen, 50, 201), NONE(getsockname, 51, 204),
-	NONE(getpeername, 52, 205), NONE(socketpair, 53, 199), NONE(setsockopt, 54, 208), NONE(execve, 59, 221),
+	NONE(getpeername, 52, 205), NONE(socketpair, 53, 199), NONE(execve, 59, 221),
 	NONE(exit, 60, 93), NONE(uname, 63, 160), NONE(semget, 64, 190), NONE(semop, 65, 193), NONE(shmdt, 67, 197),
 	NONE(msgget, 68, 186), NONE(msgsnd, 69, 189), NONE(msgrcv, 70, 188), NONE(flock, 73, 32), NONE(fsync, 74, 82),
 	NONE(fdatasync, 75, 83), NONE(truncate, 76, 45), NONE(ftruncate, 77, 46), NONE(getcwd, 79, 17),
@@ -372,6 +376,14 @@ const struct call *call_row(const struct registers *registers)
 		if (holds(&call->test, registers) && holds(&call->also, registers))
 			return call;
 	return NULL;
+}
+
+/* The same, of a use that is plain for nearly all, and stops by a filter of its own. */
+const struct call *call_row_translated(const struct registers *registers)
+{
+	const struct call *call = call_row(registers);
+
+	return call && call + 1 < calls + call_count && call[1].number[MACHINE] == call->number[MACHINE] ? call + 1 : call;
 }
 
 /* ---- the page of what is covered ---- */

@@ -47,6 +47,7 @@ extern const int call_count;
 
 const struct call *call_first(int64_t number);
 const struct call *call_row(const struct registers *registers);
+const struct call *call_row_translated(const struct registers *registers);
 void calls_print(void);
 
 /* What the rows name. Each is beside the others of its topic. */
@@ -84,6 +85,9 @@ int64_t leave_owner(struct thread *, int64_t);
 int64_t leave_peer(struct thread *, int64_t);
 enum onward enter_send(struct thread *, struct registers *);
 enum onward enter_send_many(struct thread *, struct registers *);
+enum onward enter_pass(struct thread *, struct registers *);
+enum onward enter_receive(struct thread *, struct registers *);
+enum onward enter_receive_many(struct thread *, struct registers *);
 int64_t leave_receive(struct thread *, int64_t);
 int64_t leave_receive_many(struct thread *, int64_t);
 enum onward enter_path(struct thread *, struct registers *);     /* proc.c */

@@ -237,7 +237,7 @@ bool copy_goes_on(struct thread *thread, int64_t result)
 	if (goes_on)
 		return true;
 	copy_done(thread);
-	if (thread->wants_rewinds && registers_result(&thread->behind) >= 0 && filter_for_rewinds(thread))
+	if (thread->wants_filter && registers_result(&thread->behind) >= 0 && filter_for_proc(thread))
 		return true;
 	room_give_back(thread);
 	return false;
@@ -249,7 +249,7 @@ int64_t leave_path(struct thread *thread, int64_t result)
 	bool is_given = thread->content >= 0;
 
 	thread->wants_copy = is_given && (result == -EACCES || result == -EPERM || result == -ENOENT);
-	thread->wants_rewinds = is_given && (result >= 0 || thread->wants_copy) && !thread->process->sees_rewinds;
+	thread->wants_filter = thread->wants_filter && (result >= 0 || thread->wants_copy);
 	if (!thread->wants_copy)
 		copy_done(thread);
 	return result;

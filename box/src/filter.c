@@ -261,11 +261,14 @@ bool filter_for_reads(struct thread *thread)
 	return true;
 }
 
-/* The same for calls that read a file from its beginning, or go back there: its copy is written anew. */
-bool filter_for_rewinds(struct thread *thread)
+/* The same once the thread has descriptors of /proc. For calls that read a file from its beginning, or go back there: its copy is written anew. And
+ * for those that ask for a descriptor or for a path from its folder: they are fstat(3) in nearly all programs. */
+bool filter_for_proc(struct thread *thread)
 {
 	static const struct sock_filter code[] = {
 		FIELD(nr),
+		STEP(BPF_JMP | BPF_JEQ, SYS_newfstatat, 12, 0),
+		STEP(BPF_JMP | BPF_JEQ, SYS_statx, 11, 0),
 		STEP(BPF_JMP | BPF_JEQ, SYS_lseek, 4, 0),
 		STEP(BPF_JMP | BPF_JEQ, SYS_pread64, 7, 0),
 		STEP(BPF_JMP | BPF_JEQ, SYS_preadv, 6, 0),
@@ -281,9 +284,9 @@ bool filter_for_rewinds(struct thread *thread)
 		GIVE(SECCOMP_RET_ALLOW)
 	};
 
-	thread->wants_rewinds = false;
-	thread->process->sees_rewinds = add_filter(thread, code, sizeof code);
-	return thread->process->sees_rewinds;
+	thread->wants_filter = false;
+	thread->process->sees_proc = add_filter(thread, code, sizeof code);
+	return thread->process->sees_proc;
 }
 
 /* The filter was added, or was not. If the threads have different ones after all, the caller alone gets it. Returns whether that follows. */

@@ -208,7 +208,7 @@ static void inherit_state(struct process *parent, struct process *child, uint64_
 	child->may_catch_end = parent->may_catch_end;
 	child->ends_unheard = (flags & CSIGNAL) != SIGCHLD;
 	child->read_filters = parent->read_filters;
-	child->sees_rewinds = parent->sees_rewinds;
+	child->sees_proc = parent->sees_proc;
 	memcpy(child->filtered, parent->filtered, sizeof child->filtered);
 	memory_leave(child->memory);
 	child->memory = flags & CLONE_VM ? memory_share(parent->memory) : memory_copy(parent->memory);

@@ -181,6 +181,7 @@ int main(int count, char **words)
 		data_open(settings.data);
 	if (settings.data && !data_is_kept())
 		die(settings.data);
+	messages_start();
 	table_start(settings.pid_max, settings.log, settings.answers);
 	status = supervise(start(words + optind, settings.pids_max));
 	if (checking)

@@ -114,6 +114,7 @@ static enum onward open_group(struct thread *thread, struct registers *registers
 	if (!room_take(thread))
 		return room_map(thread);
 	thread->content = group_open(thread, path, asked->folder);
+	thread->wants_filter = !thread->process->sees_proc;
 	return thread->content >= 0 ? take_copy(thread, registers, asked) : watch(thread, registers);
 }
 
@@ -137,13 +138,17 @@ static enum onward open_place(struct thread *thread, struct registers *registers
 	const char *file = is_read_alone(asked) ? place_file(place) : NULL;
 	char whole[LONGEST_PATH];
 	int failure = file && asked->size ? tried(thread, asked, path) : 0;
+	bool is_first = (file || place->where != BELOW) && !thread->process->sees_proc;
 
-	if (!file && !place->is_translated)
+	if (!file && !place->is_translated && !is_first)
 		return GO;
 	if (failure)
 		return answer_with(thread, -failure);
 	if (!room_take(thread))
 		return room_map(thread);
+	thread->wants_filter = is_first;
+	if (!file && !place->is_translated)
+		return watch(thread, registers);
 	if (file && place_write(place, whole))
 		thread->content = open_copy(thread, place, whole, file);
 	return thread->content >= 0 ? take_copy(thread, registers, asked) : take_path(thread, registers, asked->index, path);

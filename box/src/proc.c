@@ -38,8 +38,8 @@ static void go_below(struct place *place, const char *word)
 {
 	size_t length = strlen(place->rest);
 
+	snprintf(place->rest + length, sizeof place->rest - length, place->where == IN_TASKS ? "/task/%s" : "/%s", word);
 	place->where = BELOW;
-	snprintf(place->rest + length, sizeof place->rest - length, "/%s", word);
 }
 
 static void step_from_proc(struct place *place, const struct thread *caller, const char *word)

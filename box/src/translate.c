@@ -146,6 +146,8 @@ enum onward call_enter(struct thread *thread)
 		wait_again(thread, &registers);
 	thread->made = registers;
 	thread->call = call_row(&registers);
+	if (thread->call && thread->call->decides == PLAIN && thread->process->sees_proc)
+		thread->call = call_row_translated(&registers);
 	if (!thread->call || (thread->call->decides == REFUSED && !thread->call->enter))
 		return refuse(thread);
 	return keep_data(thread, thread->call->enter ? thread->call->enter(thread, &registers) : translate(thread, &registers));
@@ -167,7 +169,7 @@ static bool is_followed(struct thread *thread, const struct registers *registers
 		return true;
 	if (thread->behind_reads >= 0 && filter_for_reads(thread))
 		return true;
-	return thread->wants_rewinds && filter_for_rewinds(thread);
+	return thread->wants_filter && filter_for_proc(thread);
 }
 
 /* The exit of a call. The program finds its arguments as it passed them. */

@@ -266,6 +266,10 @@ static int lists(void)
 	if (child == 0)
 		for (;;)
 			pause();
+	for (int i = 0; i < SECONDS * 1000 && !other; i++) {
+		syscall(SYS_get_robust_list, child, &other, &size); /* it begins with none */
+		usleep(MOMENT / 50);
+	}
 	printf("own %ld, of a child %ld, of nobody %s\n", syscall(SYS_get_robust_list, 0, &mine, &size), syscall(SYS_get_robust_list, child, &other, &size),
 	       syscall(SYS_get_robust_list, 999, &other, &size) ? word(errno) : "one");
 	printf("%d %d %zu\n", mine != NULL, mine == other, size);

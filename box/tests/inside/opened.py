@@ -132,6 +132,28 @@ def kept():
     say("others", by_seek(plain) == bytes(4000), by_pread(plain) == bytes(4000), of(os.lseek, os.pipe()[0], 0, os.SEEK_SET))
 
 
+def by_empty_path(child):
+    """By a folder of /proc, with a flag by which a descriptor is asked itself; before any of /proc was opened, and by a child."""
+    room = ctypes.create_string_buffer(256)
+
+    def ask(folder, path):
+        found = LIBC.syscall(ctypes.c_long(262), ctypes.c_long(folder), path.encode(), room, ctypes.c_long(0x1000))
+        return errno.errorcode[ctypes.get_errno()] if found else struct.unpack_from("Q", room, 8)[0]
+
+    say("a descriptor", ask(0, "") == os.fstat(0).st_ino, ask(0, "x"), ask(-1, ""))
+    for path in ("/proc", "/proc/self", f"/proc/{child}/task"):
+        folder = os.open(path, os.O_RDONLY | os.O_PATH)
+        for name in (str(child), f"task/{child}/stat", "999", "status", ""):
+            say("by an empty path", path, name, ask(folder, name) if name == "999" else ask(folder, name) in ("ENOENT", os.stat(f"{path}/{name}").st_ino)
+                if name and os.path.exists(f"{path}/{name}") or not name else ask(folder, name))
+        pid = os.fork()
+        if pid == 0:
+            say("by a child", ask(folder, str(child)) == (os.stat(f"{path}/{child}").st_ino if os.path.exists(f"{path}/{child}") else "ENOENT"))
+            os._exit(0)
+        os.waitpid(pid, 0)
+        os.close(folder)
+
+
 def other_user():
     """One that becomes another user may read what the kernel lets him read."""
     if os.getuid():
@@ -158,6 +180,7 @@ def other_user():
 
 def main():
     child = sleeper()
+    by_empty_path(child)
     bounded(child)
     os.kill(child, signal.SIGKILL)
     os.waitpid(child, 0)
