@@ -1,9 +1,12 @@
 """What must hold under load: processes that begin and end all at once, and an end of the box that always comes."""
+import contextlib
 import os
 import shutil
 import signal
+import socket
 import subprocess
 import tempfile
+import threading
 import time
 
 import parts
@@ -91,17 +94,46 @@ def groups(tell):
     return tell.say("groups", f"{len(REFUSED.splitlines())} lines")
 
 
+@contextlib.contextmanager
+def passing_socket():
+    """A path where each who connects gets a pair of sockets, the first of which is to have credentials."""
+    home = rig.folder()
+    server = socket.socket(socket.AF_UNIX)
+    server.bind(f"{home}/socket")
+    os.chmod(f"{home}/socket", 0o777)
+    server.listen()
+
+    def serve():
+        with contextlib.suppress(OSError):
+            while True:
+                one, other = socket.socketpair(socket.AF_UNIX, socket.SOCK_DGRAM)
+                one.setsockopt(socket.SOL_SOCKET, socket.SO_PASSCRED, 1)
+                socket.send_fds(server.accept()[0], [b"x"], [one.fileno(), other.fileno()])
+
+    threading.Thread(target=serve, daemon=True).start()
+    try:
+        yield f"{home}/socket"
+    finally:
+        server.shutdown(socket.SHUT_RDWR)
+        server.close()
+        shutil.rmtree(home)
+
+
 def unseen(tell):
     """Each number that the page says passes unseen does so, and is right in the kernel's namespace."""
-    words = ["env", f"OUTSIDE={os.readlink('/proc/self/ns/pid')}", PYTHON, str(rig.TESTS / "inside/unseen.py")]
-    box, kernel = in_box(words, "unseen", options=("--pid-max", "1000")), in_kernel(words)
-    lines = box.output.splitlines()
-    for line, other in zip(lines, kernel.output.splitlines()):
-        if not line.endswith(" True") or (other != line.replace(" True", " False") and not line.startswith("limit")):
-            tell.fault("unseen", f"box: {line}, kernel: {other}")
-    if len(lines) != 17 or box.status:
-        tell.fault("unseen", box.output)
-    tell.say("unseen", f"{len(lines)} kinds of numbers")
+    count = 0
+    for as_root, most in ((False, 25), (True, 2))[:1 + rig.IS_ROOT]:
+        with passing_socket() as path:
+            words = ["env", f"SOCKET={path}", f"OUTSIDE={os.readlink('/proc/self/ns/pid')}", PYTHON, str(rig.TESTS / "inside/unseen.py")]
+            box, kernel = in_box(words, "unseen", options=("--pid-max", "1000"), as_root=as_root), in_kernel(words, as_root=as_root)
+        lines = box.output.splitlines()
+        for line, other in zip(lines, kernel.output.splitlines()):
+            if not line.endswith(" True") or (other != line.replace(" True", " False") and not line.startswith("limit")):
+                tell.fault("unseen", f"box: {line}, kernel: {other}")
+        if len(lines) != most or box.status:
+            tell.fault("unseen", box.output)
+        count += len(lines)
+    tell.say("unseen", f"{count} lines")
 
 
 def orders(tell):
