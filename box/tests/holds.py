@@ -122,7 +122,7 @@ def passing_socket():
 def unseen(tell):
     """Each number that the page says passes unseen does so, and is right in the kernel's namespace."""
     count = 0
-    for as_root, most in ((False, 25), (True, 3))[:1 + rig.IS_ROOT]:
+    for as_root, most in ((False, 25), (True, 2))[:1 + rig.IS_ROOT]:
         with passing_socket() as path:
             words = ["env", f"SOCKET={path}", f"OUTSIDE={os.readlink('/proc/self/ns/pid')}", PYTHON, str(rig.TESTS / "inside/unseen.py")]
             box, kernel = in_box(words, "unseen", options=("--pid-max", "1000"), as_root=as_root), in_kernel(words, as_root=as_root)
