@@ -147,7 +147,8 @@ int64_t to_number(const struct process *caller, enum kind kind, int64_t real);
 enum phase { FREE, IN_CALL, INJECTED, IN_INJECTED };
 
 /* A call of ours: what it is for. */
-enum injected { MAKE_SUBREAPER, MAP_ROOM, ADD_FILTER, ADD_FILTER_TO_ALL, OPEN_REAL, MAKE_COPY, CLOSE_REAL, OPEN_COPY, CLOSE_COPY };
+enum injected { MAKE_SUBREAPER, MAP_ROOM, ADD_FILTER, ADD_FILTER_TO_ALL, OPEN_REAL, MAKE_COPY, CLOSE_REAL, OPEN_COPY,
+	CLOSE_COPY };
 
 /* A number in the program's memory in whose place the kernel's stands during a call. */
 struct lent {
@@ -357,7 +358,8 @@ struct state {
 
 bool read_state(pid_t real, struct state *state);
 
-/* ---- proc.c: paths and listings of /proc; opens.c: opens; content.c: what files have; copies.c: files in place of the kernel's ---- */
+/* ---- proc.c: paths and listings of /proc; opens.c: opens; content.c: what files have; copies.c: files in place
+ * of the kernel's ---- */
 
 extern bool shows_proc;
 

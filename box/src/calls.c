@@ -59,7 +59,8 @@ enum {
 #define QUERY(of) .enter = enter_query, .leave = leave_query, .operation = of
 #define STATE "`IPC_STAT`, and `MSG_STAT`, `SHM_STAT` with or without `_ANY`"
 #define OPENED "`cgroup.procs`, `cgroup.threads` and `tasks` are refused for writing"
-#define REWOUND "a file of `/proc` that the box has written, at its beginning: it is written anew, by a filter of its own"
+#define REWOUND \
+	"a file of `/proc` that the box has written, at its beginning: it is written anew, by a filter of its own"
 #define NONE(name, x86_64, aarch64) { #name, { x86_64, aarch64 }, PLAIN, .note = NULL }
 
 const struct call calls[] = {
@@ -116,7 +117,8 @@ const struct call calls[] = {
 	{ "rt_sigtimedwait", { 128, 137 }, KERNEL, .out = { MEMORY(1, AT_SENDER, PROCESS) }, .leave = leave_sigtimedwait },
 	{ "signalfd", { 282, -1 }, KERNEL, .enter = enter_signalfd, .leave = leave_signalfd, .note = "what is read of it has the sender" },
 	{ "signalfd4", { 289, 74 }, KERNEL, .enter = enter_signalfd, .leave = leave_signalfd, .note = "what is read of it has the sender" },
-	{ "read", { 0, 63 }, KERNEL, .test = UNSEEN, .out = { MEMORY(1, AT_SIGNALFD_SENDER, PROCESS) }, .enter = enter_read, .leave = leave_signalfd_read,
+	{ "read", { 0, 63 }, KERNEL, .test = UNSEEN, .out = { MEMORY(1, AT_SIGNALFD_SENDER, PROCESS) }, .enter = enter_read,
+		.leave = leave_signalfd_read,
 		.note = "of a `signalfd`: it stops by a filter of its own" },
 	{ "readv", { 19, 65 }, REFUSED, .test = UNSEEN, .enter = enter_readv, .note = "of a `signalfd`" },
 	{ "preadv2", { 327, 286 }, REFUSED, .test = UNSEEN, .enter = enter_readv, .note = "of a `signalfd`" },
@@ -164,7 +166,8 @@ const struct call calls[] = {
 	{ "pidfd_open", { 434, 434 }, KERNEL, .in = { VALUE(0, TASK) } },
 	{ "set_tid_address", { 218, 96 }, KERNEL, RESULT(TASK) },
 	{ "get_robust_list", { 274, 100 }, KERNEL, .in = { VALUE(0, TASK) } },
-	{ "mmap", { 9, 222 }, KERNEL, .test = UNLESS_HAS(3, MAP_SHARED, 0), .also = UNLESS_HAS(2, PROT_WRITE, 0), .enter = enter_share,
+	{ "mmap", { 9, 222 }, KERNEL, .test = UNLESS_HAS(3, MAP_SHARED, 0), .also = UNLESS_HAS(2, PROT_WRITE, 0),
+		.enter = enter_share,
 		.note = "shared, for writing: from then on the robust locks that it holds at its end are seen" },
 	{ "shmat", { 30, 196 }, KERNEL, .test = WHEN_HAS(2, SHM_RDONLY, 0), .enter = enter_share, .note = "the same" },
 	{ "futex", { 202, 98 }, REFUSED, .test = WHEN_HAS(1, FUTEX_CMD_MASK, FUTEX_LOCK_PI),
@@ -202,9 +205,12 @@ const struct call calls[] = {
 	{ "sendmsg", { 46, 211 }, KERNEL, .in = { MEMORY(1, 0, PROCESS) }, .enter = enter_send,
 		.note = "`SCM_CREDENTIALS` in its control data" },
 	{ "sendmmsg", { 307, 269 }, KERNEL, .in = { MEMORY(1, 0, PROCESS) }, .enter = enter_send_many, .note = "the same" },
-	{ "recvmsg", { 47, 212 }, KERNEL, .out = { MEMORY(1, 0, PROCESS) }, .enter = enter_receive, .leave = leave_receive, .note = "the same" },
-	{ "recvmmsg", { 299, 243 }, KERNEL, .out = { MEMORY(1, 0, PROCESS) }, .enter = enter_receive_many, .leave = leave_receive_many, .note = "the same" },
-	{ "setsockopt", { 54, 208 }, KERNEL, .test = WHEN_IS(1, SOL_SOCKET), .also = WHEN_IS(2, SO_PASSCRED), .enter = enter_pass,
+	{ "recvmsg", { 47, 212 }, KERNEL, .out = { MEMORY(1, 0, PROCESS) }, .enter = enter_receive, .leave = leave_receive,
+		.note = "the same" },
+	{ "recvmmsg", { 299, 243 }, KERNEL, .out = { MEMORY(1, 0, PROCESS) }, .enter = enter_receive_many,
+		.leave = leave_receive_many, .note = "the same" },
+	{ "setsockopt", { 54, 208 }, KERNEL, .test = WHEN_IS(1, SOL_SOCKET), .also = WHEN_IS(2, SO_PASSCRED),
+		.enter = enter_pass,
 		.note = "`SO_PASSCRED`: no `SCM_CREDENTIALS` is looked for before it" },
 	{ "msgctl", { 71, 187 }, KERNEL, .test = WHEN_IS(1, IPC_STAT), .out = { MEMORY(2, AT_SENT, PROCESS), MEMORY(2, AT_SENT + 4, PROCESS) },
 		.note = STATE },
@@ -229,8 +235,10 @@ const struct call calls[] = {
 	{ "chdir", { 80, 49 }, KERNEL, .in = { VALUE(0, PATH) }, .enter = enter_path, .leave = leave_path },
 	{ "statfs", { 137, 43 }, KERNEL, .in = { VALUE(0, PATH) }, .enter = enter_path, .leave = leave_path },
 	{ "openat", { 257, 56 }, KERNEL, .in = { VALUE(1, PATH) }, .enter = enter_open_at, .leave = leave_path, .note = OPENED },
-	{ "openat2", { 437, 437 }, KERNEL, .in = { VALUE(1, PATH) }, .enter = enter_open_at2, .leave = leave_path, .note = OPENED },
-	{ "newfstatat", { 262, 79 }, PLAIN, .test = UNLESS_HAS(3, AT_EMPTY_PATH, 0), .also = UNLESS_IS(0, (uint32_t)AT_FDCWD) },
+	{ "openat2", { 437, 437 }, KERNEL, .in = { VALUE(1, PATH) }, .enter = enter_open_at2, .leave = leave_path,
+		.note = OPENED },
+	{ "newfstatat", { 262, 79 }, PLAIN, .test = UNLESS_HAS(3, AT_EMPTY_PATH, 0),
+		.also = UNLESS_IS(0, (uint32_t)AT_FDCWD) },
 	{ "newfstatat", { 262, 79 }, KERNEL, .in = { VALUE(1, PATH) }, .enter = enter_path_at, .leave = leave_path },
 	{ "statx", { 332, 291 }, PLAIN, .test = UNLESS_HAS(2, AT_EMPTY_PATH, 0), .also = UNLESS_IS(0, (uint32_t)AT_FDCWD) },
 	{ "statx", { 332, 291 }, KERNEL, .in = { VALUE(1, PATH) }, .enter = enter_path_at, .leave = leave_path },
@@ -295,7 +303,8 @@ const struct call calls[] = {
 	NONE(security, 185, -1), NONE(readahead, 187, 213), NONE(setxattr, 188, 5), NONE(lsetxattr, 189, 6),
 	NONE(fsetxattr, 190, 7), NONE(getxattr, 191, 8), NONE(lgetxattr, 192, 9), NONE(fgetxattr, 193, 10),
 	NONE(listxattr, 194, 11), NONE(llistxattr, 195, 12), NONE(flistxattr, 196, 13), NONE(removexattr, 197, 14),
-	NONE(lremovexattr, 198, 15), NONE(fremovexattr, 199, 16), NONE(time, 201, -1), NONE(set_thread_area, 205, -1), NONE(set_robust_list, 273, 99),
+	NONE(lremovexattr, 198, 15), NONE(fremovexattr, 199, 16), NONE(time, 201, -1), NONE(set_thread_area, 205, -1),
+	NONE(set_robust_list, 273, 99),
 	NONE(io_setup, 206, 0), NONE(io_destroy, 207, 1), NONE(io_getevents, 208, 4), NONE(io_submit, 209, 2),
 	NONE(io_cancel, 210, 3), NONE(get_thread_area, 211, -1), NONE(lookup_dcookie, 212, 18), NONE(epoll_create, 213, -1),
 	NONE(epoll_ctl_old, 214, -1), NONE(epoll_wait_old, 215, -1), NONE(remap_file_pages, 216, 234),

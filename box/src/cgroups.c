@@ -119,7 +119,8 @@ enum kind group_file(const struct thread *thread, const char *path, int folder, 
 	return kind;
 }
 
-/* The file with the caller's numbers, in memory that the caller gives back. Version 2 has a 0 for who cannot be seen, and version 1 leaves him out. */
+/* The file with the caller's numbers, in memory that the caller gives back. Version 2 has a 0 for who cannot be
+ * seen, and version 1 leaves him out. */
 char *group_text(const struct thread *thread, const char *path, size_t *size)
 {
 	int file = open(path, O_PATH | O_CLOEXEC);

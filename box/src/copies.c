@@ -1,5 +1,5 @@
-/* copies.c - files of this program's in the place of the kernel's. Each is in memory, and its name says what it is a copy of: so it is written anew
- * where the program goes back to its beginning, as the kernel writes its own. */
+/* copies.c - files of this program's in the place of the kernel's. Each is in memory, and its name says what it is
+ * a copy of: so it is written anew where the program goes back to its beginning, as the kernel writes its own. */
 #define _GNU_SOURCE
 #include "proc.h"
 
@@ -28,7 +28,8 @@ static bool write_whole(int file, const char *text, size_t size)
 	return file >= 0 && pwrite(file, text, size, 0) == (ssize_t)size && !ftruncate(file, (off_t)size);
 }
 
-/* A descriptor of this program with the text, whose memory is given back; -1 if there is none. Without a path it stays as it is. */
+/* A descriptor of this program with the text, whose memory is given back; -1 if there is none. Without a path it
+ * stays as it is. */
 int copy_make(uint32_t root, const char *path, char *text, size_t size)
 {
 	char name[LONGEST_NAME + 1];
@@ -87,7 +88,8 @@ static char *text_now(const struct thread *thread, const struct copy *copy, size
 	return content_of(thread, copy->path, file, place.task ? place.task : place.process, size);
 }
 
-/* Writes the file that the link leads to anew. Only its owner, who is this program's user, may write it, and for a moment. */
+/* Writes the file that the link leads to anew. Only its owner, who is this program's user, may write it, and for a
+ * moment. */
 static void rewrite(const char *link, const char *text, size_t size)
 {
 	int file;
@@ -148,8 +150,8 @@ bool is_copy_of_none(const struct thread *thread, int file)
 	return !text;
 }
 
-/* ---- a program that may not open what is this program's, since it has become another user: it opens the kernel's file, which says whether it
- * may, and has one of its own in its place, which this program fills ---- */
+/* ---- a program that may not open what is this program's, since it has become another user: it opens the kernel's
+ * file, which says whether it may, and has one of its own in its place, which this program fills ---- */
 
 static bool in_room(const struct thread *thread, const char *text)
 {
@@ -158,7 +160,8 @@ static bool in_room(const struct thread *thread, const char *text)
 
 static bool open_in_room(struct thread *thread, enum injected what, const char *path)
 {
-	return in_room(thread, path) && inject(thread, what, SYS_openat, (const uint64_t[4]){ (uint64_t)AT_FDCWD, thread->room, thread->open_flags, 0 });
+	return in_room(thread, path) && inject(thread, what, SYS_openat,
+		(const uint64_t[4]){ (uint64_t)AT_FDCWD, thread->room, thread->open_flags, 0 });
 }
 
 bool copy_begin(struct thread *thread)
@@ -201,7 +204,8 @@ static bool make_own(struct thread *thread)
 	if (size <= (ssize_t)strlen("/memfd: (deleted)"))
 		return false;
 	name[size - (ssize_t)strlen(" (deleted)")] = 0;
-	return in_room(thread, name + strlen("/memfd:")) && inject(thread, MAKE_COPY, SYS_memfd_create, (const uint64_t[4]){ thread->room, MFD_CLOEXEC, 0, 0 });
+	return in_room(thread, name + strlen("/memfd:")) && inject(thread, MAKE_COPY, SYS_memfd_create,
+		(const uint64_t[4]){ thread->room, MFD_CLOEXEC, 0, 0 });
 }
 
 /* One of these calls is over; whether another one follows. The program has the result of its open in the end. */
@@ -220,7 +224,8 @@ bool copy_goes_on(struct thread *thread, int64_t result)
 		thread->made_file = (int)result;
 		if (result >= 0)
 			fill(thread);
-		goes_on = result >= 0 && inject(thread, CLOSE_REAL, SYS_close, (const uint64_t[4]){ (uint64_t)thread->real_file, 0, 0, 0 });
+		goes_on = result >= 0 && inject(thread, CLOSE_REAL, SYS_close,
+			(const uint64_t[4]){ (uint64_t)thread->real_file, 0, 0, 0 });
 		break;
 	case CLOSE_REAL:
 		snprintf(own, sizeof own, "/proc/self/fd/%d", thread->made_file);

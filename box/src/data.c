@@ -29,9 +29,11 @@ static const struct carrier {
 	bool is_written;
 	enum { IN_ONE, IN_PARTS, IN_MESSAGE } where;
 } carriers[] = {
-	{ SYS_read, false, IN_ONE }, { SYS_pread64, false, IN_ONE }, { SYS_recvfrom, false, IN_ONE }, { SYS_readv, false, IN_PARTS },
+	{ SYS_read, false, IN_ONE }, { SYS_pread64, false, IN_ONE }, { SYS_recvfrom, false, IN_ONE }, { SYS_readv, false,
+		IN_PARTS },
 	{ SYS_preadv, false, IN_PARTS }, { SYS_preadv2, false, IN_PARTS }, { SYS_recvmsg, false, IN_MESSAGE },
-	{ SYS_write, true, IN_ONE }, { SYS_pwrite64, true, IN_ONE }, { SYS_sendto, true, IN_ONE }, { SYS_writev, true, IN_PARTS },
+	{ SYS_write, true, IN_ONE }, { SYS_pwrite64, true, IN_ONE }, { SYS_sendto, true, IN_ONE }, { SYS_writev, true,
+		IN_PARTS },
 	{ SYS_pwritev, true, IN_PARTS }, { SYS_pwritev2, true, IN_PARTS }, { SYS_sendmsg, true, IN_MESSAGE }
 };
 
@@ -162,21 +164,24 @@ void data_add(struct data *data, pid_t tid, const struct registers *made, int64_
 	stream = stream_of(data, file, carrier->is_written);
 	stream->is_ours |= is_written_by_box(tid, file);
 	if (carrier->where == IN_ONE)
-		add_bytes(stream, tid, at, registers_argument(made, 2) < (uint64_t)result ? registers_argument(made, 2) : (uint64_t)result);
+		add_bytes(stream, tid, at, registers_argument(made, 2) < (uint64_t)result ? registers_argument(made, 2)
+			: (uint64_t)result);
 	else if (carrier->where == IN_PARTS)
 		add_parts(stream, tid, at, registers_argument(made, 2), (uint64_t)result);
 	else if (read_memory(tid, at, &head, sizeof head))
 		add_parts(stream, tid, (uint64_t)head.msg_iov, head.msg_iovlen, (uint64_t)result);
 }
 
-/* A line for each stream: who, after how many executions, the descriptor, the direction, how many bytes, and their sum. */
+/* A line for each stream: who, after how many executions, the descriptor, the direction, how many bytes, and their
+ * sum. */
 void data_executed(struct data *data)
 {
 	while (data && data->streams) {
 		struct stream *stream = data->streams;
 
 		if (to)
-			fprintf(to, "%s %d %d %s %lu %016lx%s\n", data->key, data->executions, stream->file, stream->is_written ? "written" : "read", stream->size,
+			fprintf(to, "%s %d %d %s %lu %016lx%s\n", data->key, data->executions, stream->file,
+				stream->is_written ? "written" : "read", stream->size,
 			        stream->sum, stream->is_ours ? " ours" : "");
 		data->streams = stream->next;
 		free(stream);

@@ -6,7 +6,8 @@
 
 #include <stdio.h>
 
-/* Of one thread. Its key says who it is without a number: the first one is 1, and the second child or thread that it begins is 1.2. */
+/* Of one thread. Its key says who it is without a number: the first one is 1, and the second child or thread that
+ * it begins is 1.2. */
 struct data;
 
 void data_open(const char *file);

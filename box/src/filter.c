@@ -261,8 +261,9 @@ bool filter_for_reads(struct thread *thread)
 	return true;
 }
 
-/* The same once the thread has descriptors of /proc. For calls that read a file from its beginning, or go back there: its copy is written anew. And
- * for those that ask for a descriptor or for a path from its folder: they are fstat(3) in nearly all programs. */
+/* The same once the thread has descriptors of /proc. For calls that read a file from its beginning, or go back
+ * there: its copy is written anew. And for those that ask for a descriptor or for a path from its folder: they are
+ * fstat(3) in nearly all programs. */
 bool filter_for_proc(struct thread *thread)
 {
 	static const struct sock_filter code[] = {

@@ -22,7 +22,8 @@ struct settings {
 };
 
 static const char usage[] =
-	"usage: pidtab-box [--log FILE] [--answers FILE] [--check] [--report FILE] [--data FILE] [--pids-max N] [--pid-max N] [--proc box|kernel] PROGRAM [WORD ..]\n"
+	"usage: pidtab-box [--log FILE] [--answers FILE] [--check] [--report FILE] [--data FILE]\n"
+	"                  [--pids-max N] [--pid-max N] [--proc box|kernel] PROGRAM [WORD ..]\n"
 	"       pidtab-box --calls | --help\n";
 
 static _Noreturn void misused(const char *what, const char *word)
@@ -58,7 +59,8 @@ static struct settings read_words(int count, char **words)
 	static const struct option known[] = {
 		{ "log", required_argument, 0, 'l' }, { "answers", required_argument, 0, 'a' }, { "check", no_argument, 0, 'c' },
 		{ "report", required_argument, 0, 'r' }, { "pids-max", required_argument, 0, 'p' }, { "pid-max", required_argument, 0, 'm' },
-		{ "proc", required_argument, 0, 'P' }, { "calls", no_argument, 0, 't' }, { "data", required_argument, 0, 'd' }, { "help", no_argument, 0, 'h' }, { 0, 0, 0, 0 }
+		{ "proc", required_argument, 0, 'P' }, { "calls", no_argument, 0, 't' }, { "data", required_argument, 0,
+			'd' }, { "help", no_argument, 0, 'h' }, { 0, 0, 0, 0 }
 	};
 	struct settings settings = { .pids_max = -1, .pid_max = 32768 };
 	int letter;

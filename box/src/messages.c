@@ -91,7 +91,8 @@ enum onward enter_send_many(struct thread *thread, struct registers *registers)
 	return thread->lent_count ? watch(thread, registers) : GO;
 }
 
-/* The kernel hands over credentials where the socket has an option, and there is room for them. Whether any socket has it. */
+/* The kernel hands over credentials where the socket has an option, and there is room for them. Whether any socket
+ * has it. */
 static bool are_passed;
 
 static void is_passing(int file)
@@ -128,7 +129,8 @@ static bool has_room(const struct thread *thread, uint64_t message)
 {
 	struct msghdr head;
 
-	return !read_memory(thread->tid, message, &head, sizeof head) || (head.msg_control && head.msg_controllen >= LEAST_CONTROL);
+	return !read_memory(thread->tid, message, &head, sizeof head) || (head.msg_control &&
+		head.msg_controllen >= LEAST_CONTROL);
 }
 
 enum onward enter_receive(struct thread *thread, struct registers *registers)

@@ -69,7 +69,8 @@ struct process *process_seen(const struct process *caller, uint32_t number)
 	return process_of_root(table_stat(caller->root, number).root);
 }
 
-/* ---- the numbers of a name. A group may still use them, and a signal or a message that comes late may say them, when the table has them no more ---- */
+/* ---- the numbers of a name. A group may still use them, and a signal or a message that comes late may say them,
+ * when the table has them no more ---- */
 
 static void read_levels(struct name *name)
 {
@@ -111,7 +112,8 @@ struct process *process_new(struct name *name)
 	struct process *process = need(calloc(1, sizeof *process));
 
 	read_levels(name);
-	*process = (struct process){ .name = name, .real = name->real, .root = name->root, .space = name->kept[name->count - 1].space, .memory = memory_new(),
+	*process = (struct process){ .name = name, .real = name->real, .root = name->root,
+		.space = name->kept[name->count - 1].space, .memory = memory_new(),
 		.next = processes };
 	if (processes)
 		processes->previous = process;

@@ -27,7 +27,8 @@ struct asked {
 
 /* ---- openat2, which may bound where a path leads ---- */
 
-/* A component of a path, by the kernel's numbers; `self` is the program's own number, since this program's is another one. */
+/* A component of a path, by the kernel's numbers; `self` is the program's own number, since this program's is
+ * another one. */
 static bool add_component(char *text, const struct place *place, int before, const char *word)
 {
 	size_t size = strlen(text), room = LONGEST_PATH - size;
@@ -42,8 +43,8 @@ static bool add_component(char *text, const struct place *place, int before, con
 	return (size_t)snprintf(text + size, room, "%s%s", line, word) < room;
 }
 
-/* Spells the path once more by the kernel's numbers, and relative as it is. In a folder that is the root of the call, `..` stays there. An errno,
- * or 0; the place is not in /proc where the path is not. */
+/* Spells the path once more by the kernel's numbers, and relative as it is. In a folder that is the root of the
+ * call, `..` stays there. An errno, or 0; the place is not in /proc where the path is not. */
 static int spell(struct place *place, const struct thread *thread, const struct asked *asked, char *text)
 {
 	bool is_root = asked->how.resolve & RESOLVE_IN_ROOT, has_self = false;
@@ -89,7 +90,8 @@ static int tried(const struct thread *thread, const struct asked *asked, const c
 
 /* ---- what an open is given ---- */
 
-/* The call opens the file of this program that the thread has been given. That is a link, which openat2 may not take. */
+/* The call opens the file of this program that the thread has been given. That is a link, which openat2 may not
+ * take. */
 static enum onward take_copy(struct thread *thread, struct registers *registers, const struct asked *asked)
 {
 	char path[64];
@@ -105,7 +107,8 @@ static enum onward take_copy(struct thread *thread, struct registers *registers,
 }
 
 /* A file of a control group that has numbers; the path is by the kernel's. */
-static enum onward open_group(struct thread *thread, struct registers *registers, const struct asked *asked, const char *path)
+static enum onward open_group(struct thread *thread, struct registers *registers, const struct asked *asked,
+	const char *path)
 {
 	int failure = asked->size ? tried(thread, asked, asked->path) : 0;
 
@@ -133,7 +136,8 @@ static bool is_read_alone(const struct asked *asked)
 }
 
 /* A place in /proc; the path has its name by the kernel's numbers, as the program may open it. */
-static enum onward open_place(struct thread *thread, struct registers *registers, const struct asked *asked, const struct place *place, const char *path)
+static enum onward open_place(struct thread *thread, struct registers *registers, const struct asked *asked,
+	const struct place *place, const char *path)
 {
 	const char *file = is_read_alone(asked) ? place_file(place) : NULL;
 	char whole[LONGEST_PATH];
@@ -193,14 +197,16 @@ enum onward enter_creat(struct thread *thread, struct registers *registers)
 {
 	struct asked asked;
 
-	return read_asked(&asked, thread, 0, AT_FDCWD, O_WRONLY | O_CREAT | O_TRUNC) ? open_enter(thread, registers, &asked) : GO;
+	return read_asked(&asked, thread, 0, AT_FDCWD, O_WRONLY | O_CREAT | O_TRUNC) ? open_enter(thread, registers, &asked)
+		: GO;
 }
 
 enum onward enter_open(struct thread *thread, struct registers *registers)
 {
 	struct asked asked;
 
-	return read_asked(&asked, thread, 0, AT_FDCWD, registers_argument(registers, 1)) ? open_enter(thread, registers, &asked) : GO;
+	return read_asked(&asked, thread, 0, AT_FDCWD, registers_argument(registers, 1)) ? open_enter(thread, registers,
+		&asked) : GO;
 }
 
 enum onward enter_open_at(struct thread *thread, struct registers *registers)

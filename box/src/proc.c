@@ -62,7 +62,8 @@ static void step_from_proc(struct place *place, const struct thread *caller, con
 /* Up from a folder; below one there may be links, so the kernel has to go. */
 static void step_up(struct place *place)
 {
-	static const int above[] = { [ELSEWHERE] = ELSEWHERE, [AT_ROOT] = AT_ROOT, [IN_PROC] = AT_ROOT, [IN_PROCESS] = IN_PROC, [IN_TASKS] = IN_PROCESS,
+	static const int above[] = { [ELSEWHERE] = ELSEWHERE, [AT_ROOT] = AT_ROOT, [IN_PROC] = AT_ROOT,
+		[IN_PROCESS] = IN_PROC, [IN_TASKS] = IN_PROCESS,
 		[IN_TASK] = IN_TASKS };
 
 	if (place->where == BELOW) {
@@ -132,7 +133,8 @@ const char *place_file(const struct place *place)
 
 /* ---- the paths of a program ---- */
 
-/* What nearly all paths end with: a look at the first bytes. In /proc are those below it, and relative ones of its entries that have numbers. */
+/* What nearly all paths end with: a look at the first bytes. In /proc are those below it, and relative ones of its
+ * entries that have numbers. */
 static bool may_be_in_proc(const char *head, size_t size)
 {
 	static const char *const entries[] = { "/proc", "self", "thread", "task", "stat", "childr", "fdinfo" };
@@ -209,7 +211,8 @@ static bool is_in_proc(struct place *place, const struct thread *thread, int ind
 	char path[LONGEST_PATH], head[6];
 	size_t size = PAGE - at % PAGE < sizeof head ? PAGE - at % PAGE : sizeof head;
 
-	if (!at || !read_memory(thread->tid, at, head, size) || !may_be_in_proc(head, size) || !read_path(thread->tid, at, path))
+	if (!at || !read_memory(thread->tid, at, head, size) || !may_be_in_proc(head, size) || !read_path(thread->tid, at,
+		path))
 		return false;
 	return place_find(place, thread, path, folder_of(thread, index, has_folder));
 }

@@ -91,7 +91,8 @@ void report_stop(void)
 			fprintf(file, "pidtab-box: refused: call %d (not in the table): %lu\n", i, refused_unknown[i]);
 	for (int i = 0; i < MOST_HIDDEN; i++)
 		if (hidden[i].times)
-			fprintf(file, "pidtab-box: undumpable: %s (numbers in its memory are the kernel's): %lu\n", hidden[i].name, hidden[i].times);
+			fprintf(file, "pidtab-box: undumpable: %s (numbers in its memory are the kernel's): %lu\n", hidden[i].name,
+				hidden[i].times);
 	fprintf(file, "pidtab-box: calls %lu stops %lu checks %lu differences %lu hidden %lu\n",
 	        log_line, stops, checks, differences, hidden_waits);
 	if (fclose(file))

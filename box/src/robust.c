@@ -1,4 +1,5 @@
-/* robust.c - robust locks: at the end of a thread the kernel marks those that it holds, by the words that have its number. */
+/* robust.c - robust locks: at the end of a thread the kernel marks those that it holds, by the words that have its
+ * number. */
 #define _GNU_SOURCE
 #include "calls.h"
 
@@ -31,11 +32,13 @@ static void give_real(const struct thread *thread, uint64_t at)
 {
 	uint32_t word, real = (uint32_t)thread->tid;
 
-	if (at % sizeof word == 0 && read_memory(thread->tid, at, &word, sizeof word) && (word & FUTEX_TID_MASK) == thread->seen)
+	if (at % sizeof word == 0 && read_memory(thread->tid, at, &word, sizeof word) &&
+		(word & FUTEX_TID_MASK) == thread->seen)
 		write_memory(thread->tid, at, &real, NUMBER_BYTES);
 }
 
-/* The lock that it was about to take or to leave. Another's, whose number is by chance this thread's to the kernel, is none of its. */
+/* The lock that it was about to take or to leave. Another's, whose number is by chance this thread's to the
+ * kernel, is none of its. */
 static void give_pending(const struct thread *thread, const struct robust_list_head *head, uint64_t head_at)
 {
 	uint64_t pending = (uint64_t)head->list_op_pending, at = pending + (uint64_t)head->futex_offset;
@@ -44,20 +47,23 @@ static void give_pending(const struct thread *thread, const struct robust_list_h
 
 	if (!pending || pending & 1)
 		return;
-	if (thread->seen != (uint32_t)thread->tid && read_memory(thread->tid, at, &word, sizeof word) && (word & FUTEX_TID_MASK) == (uint32_t)thread->tid)
+	if (thread->seen != (uint32_t)thread->tid && read_memory(thread->tid, at, &word, sizeof word) &&
+		(word & FUTEX_TID_MASK) == (uint32_t)thread->tid)
 		write_memory(thread->tid, head_at + offsetof(struct robust_list_head, list_op_pending), &none, sizeof none);
 	else
 		give_real(thread, at);
 }
 
-/* The thread is at its end, and has its memory yet. The last bit of an entry says that the kernel is to look for another kind of lock. */
+/* The thread is at its end, and has its memory yet. The last bit of an entry says that the kernel is to look for
+ * another kind of lock. */
 void robust_end(const struct thread *thread)
 {
 	struct robust_list_head head;
 	uint64_t at, entry, next;
 	size_t size;
 
-	if (!thread->seen || syscall(SYS_get_robust_list, thread->tid, &at, &size) || !at || !read_memory(thread->tid, at, &head, sizeof head))
+	if (!thread->seen || syscall(SYS_get_robust_list, thread->tid, &at, &size) || !at || !read_memory(thread->tid, at,
+		&head, sizeof head))
 		return;
 	entry = (uint64_t)head.list.next;
 	for (int i = 0; i < ROBUST_LIST_LIMIT && (entry & ~(uint64_t)1) != at; i++) {

@@ -27,7 +27,8 @@ void trace(int request, pid_t tid, long data)
 	ptrace(request, tid, 0, data);
 }
 
-/* A program that may not be dumped hides its memory from all but root, from its tracer too: the numbers in it are the kernel's then. */
+/* A program that may not be dumped hides its memory from all but root, from its tracer too: the numbers in it are
+ * the kernel's then. */
 static void is_hidden(pid_t tid)
 {
 	const struct thread *thread = errno == EPERM ? thread_of_real(tid) : NULL;
@@ -162,7 +163,8 @@ void exec_told(struct process *process)
 	trace(PTRACE_CONT, process->real, 0);
 }
 
-/* A thread is at its end. Of an init: with the last one its namespace falls, and it is held until all the others are dead. */
+/* A thread is at its end. Of an init: with the last one its namespace falls, and it is held until all the others
+ * are dead. */
 static void leaving(struct thread *thread)
 {
 	struct process *process = thread->process;

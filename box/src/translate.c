@@ -150,7 +150,8 @@ enum onward call_enter(struct thread *thread)
 		thread->call = call_row_translated(&registers);
 	if (!thread->call || (thread->call->decides == REFUSED && !thread->call->enter))
 		return refuse(thread);
-	return keep_data(thread, thread->call->enter ? thread->call->enter(thread, &registers) : translate(thread, &registers));
+	return keep_data(thread, thread->call->enter ? thread->call->enter(thread, &registers) : translate(thread,
+		&registers));
 }
 
 /* Behind a wait whose exit is not seen. */

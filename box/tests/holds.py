@@ -30,8 +30,8 @@ BOMBS = (20, 100, 200, 300, 500)
 
 
 def often(tell, name, words, times, **how):
-    """The program in the kernel's namespace once, and in the box so often: the same output and status, and no difference. On a machine that has other work
-    the box has ten times as long as the kernel."""
+    """The program in the kernel's namespace once, and in the box so often: the same output and status, and no
+    difference. On a machine that has other work the box has ten times as long as the kernel."""
     begun = time.monotonic()
     kernel = in_kernel([*how.get("before", ()), *words], 10 * SECONDS)
     seconds = max(SECONDS, 10 * (time.monotonic() - begun))
@@ -44,7 +44,8 @@ def often(tell, name, words, times, **how):
 
 
 # How often a call stops at most. A fork is counted with the end of its child and the wait for it.
-STOPS = (("query", 1), ("open", 1), ("receive", 1), ("receive-passed", 2), ("descriptor", 0), ("descriptor-proc", 1), ("fork", 5))
+STOPS = (("query", 1), ("open", 1), ("receive", 1), ("receive-passed", 2), ("descriptor", 0), ("descriptor-proc", 1),
+    ("fork", 5))
 OFTEN = 200
 
 
@@ -124,11 +125,14 @@ def unseen(tell):
     count = 0
     for as_root, most in ((False, 25), (True, 2))[:1 + rig.IS_ROOT]:
         with passing_socket() as path:
-            words = ["env", f"SOCKET={path}", f"OUTSIDE={os.readlink('/proc/self/ns/pid')}", PYTHON, str(rig.TESTS / "inside/unseen.py")]
-            box, kernel = in_box(words, "unseen", options=("--pid-max", "1000"), as_root=as_root), in_kernel(words, as_root=as_root)
+            words = ["env", f"SOCKET={path}", f"OUTSIDE={os.readlink('/proc/self/ns/pid')}", PYTHON,
+                str(rig.TESTS / "inside/unseen.py")]
+            box, kernel = in_box(words, "unseen", options=("--pid-max", "1000"), as_root=as_root), in_kernel(words,
+                as_root=as_root)
         lines = box.output.splitlines()
         for line, other in zip(lines, kernel.output.splitlines()):
-            if not line.endswith(" True") or (other != line.replace(" True", " False") and not line.startswith("limit")):
+            if not line.endswith(" True") or (other != line.replace(" True", " False")
+                and not line.startswith("limit")):
                 tell.fault("unseen", f"box: {line}, kernel: {other}")
         if len(lines) != most or box.status:
             tell.fault("unseen", box.output)
@@ -184,7 +188,8 @@ def memory(tell):
     tell.say("memory", f"{len(BYTES)} ways")
 
 
-LOCKS = (("thread", "private"), ("words", "private"), ("lists", "private"), ("processes", "mapping"), ("processes", "system-v"), ("grandchild", "mapping"),
+LOCKS = (("thread", "private"), ("words", "private"), ("lists", "private"), ("processes", "mapping"), ("processes",
+    "system-v"), ("grandchild", "mapping"),
          ("sleepers", "mapping"), ("words", "mapping"))
 
 
@@ -192,7 +197,8 @@ def locks(tell):
     """A robust lock says that its owner has ended, whoever that was, and wakes who sleeps for it."""
     program, box = rig.compiled("locks", "-pthread"), rig.checked_box()
     for way, memory in LOCKS:
-        often(tell, f"locks-{way}-{memory}", ["sh", "-c", f"{program} {way} {memory}; exit $?"], 5, box=box) # an init's end is seen anyway
+        often(tell, f"locks-{way}-{memory}", ["sh", "-c", f"{program} {way} {memory}; exit $?"], 5,
+            box=box) # an init's end is seen anyway
     tell.say("locks", f"{len(LOCKS)} ways")
 
 

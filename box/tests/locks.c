@@ -251,7 +251,8 @@ static int words(void)
 		pthread_create(&thread, NULL, end_with_list, &how);
 		pthread_join(thread, NULL);
 		before = shared->raw;
-		printf("%u: %s%s%s\n", how, before & FUTEX_OWNER_DIED ? "died " : "", before & FUTEX_WAITERS ? "waiters " : "", before & FUTEX_TID_MASK ? "a number" : "");
+		printf("%u: %s%s%s\n", how, before & FUTEX_OWNER_DIED ? "died " : "", before & FUTEX_WAITERS ? "waiters " : "",
+			before & FUTEX_TID_MASK ? "a number" : "");
 	}
 	return 0;
 }
@@ -270,7 +271,8 @@ static int lists(void)
 		syscall(SYS_get_robust_list, child, &other, &size); /* it begins with none */
 		usleep(MOMENT / 50);
 	}
-	printf("own %ld, of a child %ld, of nobody %s\n", syscall(SYS_get_robust_list, 0, &mine, &size), syscall(SYS_get_robust_list, child, &other, &size),
+	printf("own %ld, of a child %ld, of nobody %s\n", syscall(SYS_get_robust_list, 0, &mine, &size),
+		syscall(SYS_get_robust_list, child, &other, &size),
 	       syscall(SYS_get_robust_list, 999, &other, &size) ? word(errno) : "one");
 	printf("%d %d %zu\n", mine != NULL, mine == other, size);
 	kill(child, SIGKILL);
@@ -306,7 +308,8 @@ int main(int count, char **given)
 	static const struct {
 		const char *name;
 		int (*act)(void);
-	} ways[] = { { "thread", thread }, { "processes", processes }, { "grandchild", grandchild }, { "sleepers", sleepers }, { "words", words }, { "lists", lists } };
+	} ways[] = { { "thread", thread }, { "processes", processes }, { "grandchild", grandchild }, { "sleepers",
+		sleepers }, { "words", words }, { "lists", lists } };
 
 	setvbuf(stdout, NULL, _IOLBF, 0);
 	for (size_t i = 0; count == 3 && i < sizeof ways / sizeof ways[0]; i++)

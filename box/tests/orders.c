@@ -231,8 +231,10 @@ static bool may_be(int number, enum choice choice)
 		return is_forker && number > thread_makers && is_alive(task) && task->has_asked && !task->has_made;
 	case DELAY:
 		return is_forker && number > thread_makers && is_alive(task) && task->has_asked && !task->has_made && !task->has_been_delayed;
-	case TELL: /* a stop may be reported after the kill, and before the stop of the end; really, only if none of others comes between */
-		return is_forker && !(has_outsider && task->is_late) && task->has_made && !task->has_been_told && (task->life == RUNS || task->life == (task->tells_end ? AT_END : ENDED));
+	/* A stop may be reported after the kill, and before the stop of the end; really, only if none of others comes between. */
+	case TELL:
+		return is_forker && !(has_outsider && task->is_late) && task->has_made && !task->has_been_told &&
+			(task->life == RUNS || task->life == (task->tells_end ? AT_END : ENDED));
 	case RETURN:
 		return is_forker && is_alive(task) && task->thread->stage == MADE;
 	case REPORT:
@@ -259,7 +261,8 @@ static void make_child(int forker)
 	bool is_thread = forker <= thread_makers;
 
 	tasks[forker].has_made = true;
-	*child = (struct task){ .life = FRESH, .parent = forker, .is_thread = is_thread, .tells_end = in_init && !is_outside(forker) };
+	*child = (struct task){ .life = FRESH, .parent = forker, .is_thread = is_thread, .tells_end = in_init &&
+		!is_outside(forker) };
 	if (is_thread && tasks[forker].was_killed)
 		kill_task(child);
 }
@@ -346,7 +349,8 @@ static void start(void)
 	has_killed = has_fallen = false;
 	open_forks = 0;
 	for (int i = 0; i <= FORKERS; i++) {
-		tasks[i] = (struct task){ .life = RUNS, .tells_end = i == INIT || (in_init && !is_outside(i)), .is_thread = in_init && i != INIT && !is_outside(i) };
+		tasks[i] = (struct task){ .life = RUNS, .tells_end = i == INIT || (in_init && !is_outside(i)),
+			.is_thread = in_init && i != INIT && !is_outside(i) };
 		new_thread(i, tasks[i].is_thread ? &made[INIT] : new_process(i));
 		happen(tasks[i].thread, CLAIMED);
 		happen(tasks[i].thread, STOPS);
@@ -424,7 +428,8 @@ static void write_state(unsigned char *state)
 		*state++ = (unsigned char)(task->thread && task->thread->is_killed);
 		*state++ = (unsigned char)(made[i].ended | made[i].dead << 1 | (made[i].killer != NULL) << 2);
 	}
-	*state++ = (unsigned char)(tasks[1].has_been_delayed | tasks[2].has_been_delayed << 1 | (has_outsider ? tasks[1].is_late << 2 | tasks[2].is_late << 3 : 0));
+	*state++ = (unsigned char)(tasks[1].has_been_delayed | tasks[2].has_been_delayed << 1 | (has_outsider
+		? tasks[1].is_late << 2 | tasks[2].is_late << 3 : 0));
 	*state = (unsigned char)(has_killed | has_fallen << 1 | stages_lost() << 2 | (open_forks & 15) << 3);
 }
 

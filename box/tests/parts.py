@@ -47,7 +47,8 @@ def inside(tell):
             continue
         is_by_root = name in ("opened by root", "all") and rig.IS_ROOT
         words = [PYTHON, str(TESTS / "inside" / f"{name.split()[0]}.py")]
-        kernel, box = in_kernel(words, as_root=is_by_root or name == "nested"), in_box(words, name.replace(" ", "-"), as_root=is_by_root)
+        kernel, box = in_kernel(words, as_root=is_by_root or name == "nested"), in_box(words, name.replace(" ", "-"),
+            as_root=is_by_root)
         if (kernel.output, kernel.status) != (box.output, box.status):
             tell.fault(name, f"kernel:\n{kernel.output}\nbox:\n{box.output}")
         tell.differences(name, box)
@@ -77,7 +78,8 @@ def refused(tell):
     tell.say("refused", f"{len(lines)} calls")
 
 
-# Two processes of a name and one of another that may not be dumped, a thread of one of them, and one that may: each waits twice for a child.
+# Two processes of a name and one of another that may not be dumped, a thread of one of them, and one that may: each
+# waits twice for a child.
 HIDDEN = """
 import ctypes, os, socket, threading
 libc = ctypes.CDLL(None)

@@ -1,4 +1,5 @@
-/* record.c - runs a program natively, and writes the sums of what its threads read and write, as `pidtab-box --data` does. */
+/* record.c - runs a program natively, and writes the sums of what its threads read and write, as `pidtab-box
+ * --data` does. */
 #define _GNU_SOURCE
 #include "../src/data.h"
 
@@ -154,8 +155,8 @@ static int record(pid_t first)
 
 int main(int count, char **words)
 {
-	static const long options = PTRACE_O_TRACEFORK | PTRACE_O_TRACEVFORK | PTRACE_O_TRACECLONE | PTRACE_O_TRACEEXEC | PTRACE_O_TRACESECCOMP | PTRACE_O_TRACESYSGOOD |
-	                            PTRACE_O_EXITKILL;
+	static const long options = PTRACE_O_TRACEFORK | PTRACE_O_TRACEVFORK | PTRACE_O_TRACECLONE |
+	                            PTRACE_O_TRACEEXEC | PTRACE_O_TRACESECCOMP | PTRACE_O_TRACESYSGOOD | PTRACE_O_EXITKILL;
 	pid_t first;
 	int status;
 

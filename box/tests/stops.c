@@ -79,8 +79,10 @@ int main(int count, char **words)
 		const char *name;
 		void (*begin)(void);
 		void (*act)(void);
-	} ways[] = { { "receive", begin_pair, receive }, { "receive-passed", begin_passing, receive }, { "descriptor", nothing, ask_descriptor },
-		     { "descriptor-proc", open_proc, ask_descriptor }, { "open", nothing, open_file }, { "query", nothing, ask }, { "fork", nothing, wait_for_child } };
+	} ways[] = { { "receive", begin_pair, receive }, { "receive-passed", begin_passing, receive }, { "descriptor",
+		nothing, ask_descriptor },
+		     { "descriptor-proc", open_proc, ask_descriptor }, { "open", nothing, open_file }, { "query", nothing,
+		     	ask }, { "fork", nothing, wait_for_child } };
 
 	for (size_t i = 0; count == 3 && i < sizeof ways / sizeof ways[0]; i++)
 		if (!strcmp(words[1], ways[i].name)) {

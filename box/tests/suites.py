@@ -1,4 +1,4 @@
-"""Suites of others: Python's own tests of processes, the kernel's, and stressors of stress-ng, in the kernel's namespace and in the box."""
+"""Suites of others, in the kernel's namespace and in the box: Python's own tests of processes, the kernel's, and stress-ng."""
 import concurrent.futures
 import glob
 import re
@@ -75,7 +75,8 @@ def kernel_tests(tell, archive):
     made = []
     for source in sorted(it for topic in TOPICS for it in folder.glob(f"{topic}/*.c")):
         program = folder / f"{source.stem}.built"
-        if subprocess.run(["cc", "-O2", "-w", f"-I{folder}", "-o", program, source, "-pthread"], capture_output=True, check=False).returncode:
+        if subprocess.run(["cc", "-O2", "-w", f"-I{folder}", "-o", program, source, "-pthread"], capture_output=True,
+            check=False).returncode:
             tell.skip(f"kernel {source.stem}", "it does not compile with the headers of this machine")
         else:
             made.append(program)
@@ -83,23 +84,27 @@ def kernel_tests(tell, archive):
 
 
 def results(output):
-    """Whether each test went well, by its name without what the program says of this run. Those that were skipped are none."""
-    return {re.sub(r"[\[(:].*|0x\w*$", "", name).strip(): word for word, name in RESULT.findall(output) if "# SKIP" not in name}
+    """Whether each test that was not skipped went well, by its name without what is said of this run."""
+    return {re.sub(r"[\[(:].*|0x\w*$", "", name).strip(): word for word, name in RESULT.findall(output) if "# SKIP"
+        not in name}
 
 
 def kernel(tell):
     """The kernel's own tests of pidfds, PID namespaces and clone3: each has the same result in both."""
     archives = sorted(glob.glob(SOURCES))
     if not archives or not IS_ROOT:
-        return tell.skip("kernel", f"no {SOURCES} (Debian: linux-source)" if not archives else "the kernel lets only root unshare")
+        return tell.skip("kernel", f"no {SOURCES} (Debian: linux-source)" if not archives
+            else "the kernel lets only root unshare")
     count = calls = 0
     for program in kernel_tests(tell, archives[-1]):
         what = f"kernel {program.stem}"
-        one, box = in_kernel([program], KERNEL_SECONDS, as_root=True), in_box([program], f"kernel-{program.stem}", KERNEL_SECONDS, as_root=True)
+        one, box = in_kernel([program], KERNEL_SECONDS, as_root=True), in_box([program], f"kernel-{program.stem}",
+            KERNEL_SECONDS, as_root=True)
         natively, inside = results(one.output), results(box.output)
         others = [it for it in natively if inside.get(it) != natively[it]]
         for name in others:
-            tell.fault(what if what in tell.expected else f"{what} {name}", f"{name}: natively {natively[name]}, in the box {inside.get(name)}")
+            tell.fault(what if what in tell.expected else f"{what} {name}",
+                f"{name}: natively {natively[name]}, in the box {inside.get(name)}")
         count, calls = count + len(natively) - len(others), calls + box.calls
         tell.differences(what, box)
     return tell.say("kernel", f"{count} results of {archives[-1]} are the same, {calls} calls")

@@ -1,4 +1,4 @@
-"""Programs of the tests read and write the same bytes natively and in the box: sums by thread, descriptor and direction, in their order.
+"""Programs of the tests read and write the same bytes natively and in the box: sums by thread, descriptor and direction.
 
 What differs from one native run to the next is not compared, nor what the box writes itself, as /proc/self/stat.
 """
@@ -12,21 +12,27 @@ import rig
 PYTHON = "/usr/bin/python3"
 SECONDS = 120
 NATIVE_RUNS = 3
-HOME = "/tmp/pidtab-box-sums"  # with a folder for each program, the same in each run, since programs write where they are
+# With a folder for each program, the same in each run, since programs write where they are.
+HOME = "/tmp/pidtab-box-sums"
 AT_ONCE = 3
 
 
-# Natively a thread has a number of the namespace too, so children that are forked after one have other numbers, which these send.
+# Natively a thread has a number of the namespace too, so children that are forked after one have other numbers, which
+# these send.
 WITH_THREADS = ("07-python-mp",)
 
 
 def programs():
     """Words by a name. What looks at states in /proc sees there natively that it is recorded, and is left out."""
-    found = {it.name: ["bash", str(it)] for it in sorted((rig.TESTS / "programs").iterdir()) if it.name not in WITH_THREADS}
+    found = {it.name: ["bash", str(it)] for it in sorted((rig.TESTS / "programs").iterdir()) if it.name
+        not in WITH_THREADS}
     found |= {it: [PYTHON, str(rig.TESTS / f"inside/{it}.py")] for it in ("carried", "all")}
-    found |= {f"data-{it}": [rig.compiled("bytes", "-pthread"), "behind", it, "bash", str(rig.TESTS / "inside/data.sh")] for it in ("0", "3", "30")}
-    found |= {f"bytes-{it}": [rig.compiled("bytes", "-pthread"), it] for it in ("again", "executed", "read", "stacks", "taken")}
-    found |= {f"locks-{it}": [rig.compiled("locks", "-pthread"), it, "mapping"] for it in ("thread", "processes", "grandchild", "words")}
+    found |= {f"data-{it}": [rig.compiled("bytes", "-pthread"), "behind", it, "bash",
+        str(rig.TESTS / "inside/data.sh")] for it in ("0", "3", "30")}
+    found |= {f"bytes-{it}": [rig.compiled("bytes", "-pthread"), it] for it in ("again", "executed", "read", "stacks",
+        "taken")}
+    found |= {f"locks-{it}": [rig.compiled("locks", "-pthread"), it, "mapping"] for it in ("thread", "processes",
+        "grandchild", "words")}
     return found
 
 
@@ -41,7 +47,7 @@ def run(name, words):
 
 
 def read_streams(file, before, executions):
-    """The size and the sum of each stream, by thread, executions, descriptor and direction. The program was begun by others."""
+    """The size and the sum of each stream, by thread, executions, descriptor and direction; others began the program."""
     found, ours = {}, set()
     for line in open(file, encoding="ascii"):
         thread, executed, descriptor, direction, size, total, *is_ours = line.split()
@@ -69,7 +75,8 @@ def in_box(name, words, box):
     """In the box: the streams, and the names of those that it has written."""
     folder = rig.folder()
     try:
-        run(name, [*(rig.AS_NOBODY if rig.IS_ROOT else []), str(box), "--check", "--report", f"{folder}/report", "--data", f"{folder}/sums", *words])
+        run(name, [*(rig.AS_NOBODY if rig.IS_ROOT else []), str(box), "--check", "--report", f"{folder}/report",
+            "--data", f"{folder}/sums", *words])
         return read_streams(f"{folder}/sums", "1", 1)
     finally:
         shutil.rmtree(folder)
@@ -93,15 +100,19 @@ def differing(name, words, box=rig.BOX):
     others = {stream: (it, found.get(stream)) for stream, it in steady.items() if found.get(stream) != it}
     if others:
         again, found = compared(name, words, box)
-        others = {stream: it for stream, it in others.items() if again.get(stream) == it[0] and found.get(stream) != it[0]}
+        others = {stream: it for stream, it in others.items() if again.get(stream) == it[0]
+            and found.get(stream) != it[0]}
     return others, len(steady), sum(size for size, _ in steady.values())
 
 
-# A fault of the box that changes bytes: a file of box/src, what is taken from it, what is put in its place, and the program that meets it.
+# A fault of the box that changes bytes: a file of box/src, what is taken from it, what is put in its place, and the
+# program that meets it.
 PLANTED = (
-    ("each read is a signalfd's", "signals.c", "\treturn readlink(link, found, sizeof found) == sizeof name - 1 && !memcmp(found, name, sizeof name - 1);",
+    ("each read is a signalfd's", "signals.c",
+        "\treturn readlink(link, found, sizeof found) == sizeof name - 1 && !memcmp(found, name, sizeof name - 1);",
      "\treturn readlink(link, found, sizeof found) > 0 || name[0];", "bytes-again"),
-    ("a number of a lock is not given back", "translate.c", "\t\twrite_memory(thread->tid, lent->at, &lent->number, sizeof lent->number);", "\t\t(void)lent;", "carried"),
+    ("a number of a lock is not given back", "translate.c",
+        "\t\twrite_memory(thread->tid, lent->at, &lent->number, sizeof lent->number);", "\t\t(void)lent;", "carried"),
     ("a byte of a write is another one", "translate.c", "\tthread->call = call_row(&registers);",
      "\tthread->call = call_row(&registers);\n\tif (thread->data && registers_call(&registers) == 1 && registers_argument(&registers, 2) > 4000)\n"
      "\t\twrite_memory(thread->tid, registers_argument(&registers, 1) + 4000, \"~\", 1);", "data-0"),

@@ -1,4 +1,5 @@
-"""Opens of /proc that bound where a path may lead, descriptors that are kept, and opens by another user. Each line is the same in a namespace of the kernel."""
+"""Opens of /proc that bound where a path may lead, descriptors that are kept, and opens by another user. Each line is
+the same in a namespace of the kernel."""
 import ctypes
 import errno
 import os
@@ -52,19 +53,29 @@ def bounded(child):
     """Each bound, by a path from the root, from /proc, and from its folder."""
     me = str(os.getpid())
     proc, folder = os.open("/proc", os.O_RDONLY), os.open(f"/proc/{child}", os.O_RDONLY)
-    for resolve in (0, NO_XDEV, NO_MAGICLINKS, NO_SYMLINKS, BENEATH, IN_ROOT, BENEATH | NO_SYMLINKS, NO_XDEV | NO_SYMLINKS):
-        say("from the root", resolve, first(open2(f"/proc/{child}/stat", resolve=resolve)) == str(child), first(open2("/proc/self/stat", resolve=resolve)) == me,
+    for resolve in (0, NO_XDEV, NO_MAGICLINKS, NO_SYMLINKS, BENEATH, IN_ROOT, BENEATH | NO_SYMLINKS,
+        NO_XDEV | NO_SYMLINKS):
+        say("from the root", resolve, first(open2(f"/proc/{child}/stat", resolve=resolve)) == str(child),
+            first(open2("/proc/self/stat", resolve=resolve)) == me,
             open2("/proc/self/stat", resolve=resolve) if resolve & (NO_SYMLINKS | BENEATH) else "")
-        say("from /proc", resolve, first(open2(f"{child}/stat", resolve=resolve, folder=proc)) == str(child), first(open2("self/stat", 0, resolve, proc)) == me,
-            first(open2(f"/{child}/stat", resolve=resolve, folder=proc)) == str(child), first(open2("../proc/self/stat", 0, resolve, proc)) == me)
+        say("from /proc", resolve, first(open2(f"{child}/stat", resolve=resolve, folder=proc)) == str(child),
+            first(open2("self/stat", 0, resolve, proc)) == me,
+            first(open2(f"/{child}/stat", resolve=resolve,
+                folder=proc)) == str(child), first(open2("../proc/self/stat", 0, resolve, proc)) == me)
         say("from its folder", resolve, first(open2("stat", resolve=resolve, folder=folder)) == str(child),
-            first(open2(f"../{child}/stat", resolve=resolve, folder=folder)) == str(child), first(open2("../stat", 0, resolve, folder)) == str(child), first(open2(f"task/{child}/comm", 0, resolve, folder)))
-        say("plain files", resolve, first(open2(f"{child}/comm", 0, resolve, proc)), first(open2("999/comm", 0, resolve, proc)), first(open2("999/stat", 0, resolve, proc)))
-    for flags in (os.O_NOFOLLOW, os.O_DIRECTORY, os.O_CREAT, os.O_CREAT | os.O_EXCL, os.O_CLOEXEC, 1 << 40, os.O_PATH, os.O_NOFOLLOW | os.O_PATH):
-        found = [open2(f"/proc/{child}/stat", flags), open2("/proc/self", flags), open2("/proc/self/stat", flags, NO_MAGICLINKS)]
+            first(open2(f"../{child}/stat", resolve=resolve, folder=folder)) == str(child), first(open2("../stat", 0,
+                resolve, folder)) == str(child), first(open2(f"task/{child}/comm", 0, resolve, folder)))
+        say("plain files", resolve, first(open2(f"{child}/comm", 0, resolve, proc)),
+            first(open2("999/comm", 0, resolve, proc)), first(open2("999/stat", 0, resolve, proc)))
+    for flags in (os.O_NOFOLLOW, os.O_DIRECTORY, os.O_CREAT, os.O_CREAT | os.O_EXCL, os.O_CLOEXEC, 1 << 40, os.O_PATH,
+        os.O_NOFOLLOW | os.O_PATH):
+        found = [open2(f"/proc/{child}/stat", flags), open2("/proc/self", flags), open2("/proc/self/stat", flags,
+            NO_MAGICLINKS)]
         say("flags", flags, [it if isinstance(it, str) else "a file" for it in found])
-    say("invalid", open2("/proc/self/stat", mode=0o600), open2("/proc/self/stat", resolve=1 << 40), open2("/proc/self/stat", size=23), open2("/proc/self/stat", size=5000),
-        first(open2("/proc/self/stat", size=32, more=bytes(8))) == me, open2("/proc/self/stat", size=32, more=b"\1" + bytes(7)))
+    say("invalid", open2("/proc/self/stat", mode=0o600), open2("/proc/self/stat", resolve=1 << 40),
+        open2("/proc/self/stat", size=23), open2("/proc/self/stat", size=5000),
+        first(open2("/proc/self/stat", size=32, more=bytes(8))) == me, open2("/proc/self/stat", size=32,
+            more=b"\1" + bytes(7)))
     for file in (proc, folder):
         os.close(file)
 
@@ -100,7 +111,7 @@ def by_call(file):
 
 
 def kept():
-    """A descriptor that is kept says what is so when it is read again, whoever reads it, and nothing of one that is gone."""
+    """A descriptor that is kept says what is so when it is read again, whoever reads it; nothing of one that is gone."""
     for read in (by_seek, by_pread, by_preadv, by_call):
         file = os.open("/proc/self/status", os.O_RDONLY)
         names = [state(file, read)]
@@ -126,14 +137,16 @@ def kept():
         os.waitid(os.P_PID, child, os.WEXITED | os.WNOWAIT)
         dead = read(file).rpartition(b")")[2].split()[0]
         os.waitpid(child, 0)
-        say("of a child", before, stopped, dead, of(read, file), of(os.lseek, file, 0, os.SEEK_SET), of(os.read, file, 10))
+        say("of a child", before, stopped, dead, of(read, file), of(os.lseek, file, 0, os.SEEK_SET), of(os.read, file,
+            10))
         os.close(file)
     plain = os.open("/dev/zero", os.O_RDONLY)
-    say("others", by_seek(plain) == bytes(4000), by_pread(plain) == bytes(4000), of(os.lseek, os.pipe()[0], 0, os.SEEK_SET))
+    say("others", by_seek(plain) == bytes(4000), by_pread(plain) == bytes(4000), of(os.lseek, os.pipe()[0], 0,
+        os.SEEK_SET))
 
 
 def by_empty_path(child):
-    """By a folder of /proc, with a flag by which a descriptor is asked itself; before any of /proc was opened, and by a child."""
+    """By a folder of /proc, with a flag that asks a descriptor itself; before any of /proc was opened, and by a child."""
     room = ctypes.create_string_buffer(256)
 
     def ask(folder, path):
@@ -144,11 +157,13 @@ def by_empty_path(child):
     for path in ("/proc", "/proc/self", f"/proc/{child}/task"):
         folder = os.open(path, os.O_RDONLY | os.O_PATH)
         for name in (str(child), f"task/{child}/stat", "999", "status", ""):
-            say("by an empty path", path, name, ask(folder, name) if name == "999" else ask(folder, name) in ("ENOENT", os.stat(f"{path}/{name}").st_ino)
+            say("by an empty path", path, name, ask(folder, name) if name == "999" else ask(folder,
+                name) in ("ENOENT", os.stat(f"{path}/{name}").st_ino)
                 if name and os.path.exists(f"{path}/{name}") or not name else ask(folder, name))
         pid = os.fork()
         if pid == 0:
-            say("by a child", ask(folder, str(child)) == (os.stat(f"{path}/{child}").st_ino if os.path.exists(f"{path}/{child}") else "ENOENT"))
+            say("by a child", ask(folder, str(child)) == (os.stat(f"{path}/{child}").st_ino
+                if os.path.exists(f"{path}/{child}") else "ENOENT"))
             os._exit(0)
         os.waitpid(pid, 0)
         os.close(folder)
@@ -165,11 +180,16 @@ def other_user():
         os.setresgid(65534, 65534, 65534)
         os.setresuid(65534, 65534, 65534)
         before = set(os.listdir("/proc/self/fd"))
-        files = [of(os.open, f"/proc/{it}/{name}", os.O_RDONLY) for it in ("self", child) for name in ("stat", "status", "fdinfo/0")]
-        say("another user", [it if isinstance(it, str) else os.read(it, 10).split()[0] for it in files[1:3] + files[4:]],
-            [os.read(files[it], 100).split()[0] == str(number).encode() for it, number in ((0, os.getpid()), (3, child))])
-        say("its descriptors", len(set(os.listdir("/proc/self/fd")) - before), [os.get_inheritable(it) for it in files if not isinstance(it, str)],
-            of(os.write, files[0], b"x"), of(os.open, f"/proc/{child}/stat", os.O_WRONLY), first(open2(f"/proc/{child}/stat", 0, NO_MAGICLINKS)) == str(child))
+        files = [of(os.open, f"/proc/{it}/{name}", os.O_RDONLY) for it in ("self", child) for name in ("stat",
+            "status", "fdinfo/0")]
+        say("another user", [it if isinstance(it, str) else os.read(it, 10).split()[0]
+            for it in files[1:3] + files[4:]],
+            [os.read(files[it], 100).split()[0] == str(number).encode() for it, number in ((0, os.getpid()),
+                (3, child))])
+        say("its descriptors", len(set(os.listdir("/proc/self/fd")) - before), [os.get_inheritable(it) for it in files
+            if not isinstance(it, str)],
+            of(os.write, files[0], b"x"), of(os.open, f"/proc/{child}/stat",
+                os.O_WRONLY), first(open2(f"/proc/{child}/stat", 0, NO_MAGICLINKS)) == str(child))
         LIBC.prctl(PR_SET_NAME, b"unprivileged", 0, 0, 0)
         say("kept", state(files[1], by_seek), state(files[1], by_pread))
         os._exit(0)

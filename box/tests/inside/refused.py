@@ -8,7 +8,8 @@ import threading
 LIBC = ctypes.CDLL(None, use_errno=True)
 COLUMN = 0 if os.uname().machine == "x86_64" else 1
 NUMBERS = {"ptrace": (101, 117), "perf_event_open": (298, 241), "bpf": (321, 280), "userfaultfd": (323, 282), "fanotify_init": (300, 262),
-           "io_uring_setup": (425, 425), "setns": (308, 268), "clone": (56, 220), "clone3": (435, 435), "futex": (202, 98), "ioctl": (16, 29), "prctl": (157, 167), "call 500": (500, 500), "acct": (163, 89),
+           "io_uring_setup": (425, 425), "setns": (308, 268), "clone": (56, 220), "clone3": (435, 435), "futex": (202,
+               98), "ioctl": (16, 29), "prctl": (157, 167), "call 500": (500, 500), "acct": (163, 89),
            "readv": (19, 65), "seccomp": (317, 277), "signalfd4": (289, 74)}
 CLONE_PARENT, CLONE_UNTRACED, CLONE_NEWPID, CLONE_CLEAR_SIGHAND, SIGCHLD = 0x8000, 0x800000, 0x20000000, 1 << 32, 17
 
