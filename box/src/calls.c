@@ -61,6 +61,7 @@ enum {
 #define OPENED "`cgroup.procs`, `cgroup.threads` and `tasks` are refused for writing"
 #define REWOUND \
 	"a file of `/proc` that the box has written, at its beginning: it is written anew, by a filter of its own"
+#define PRIORITY "all operations with priorities: the kernel compares the word with its own numbers"
 #define NONE(name, x86_64, aarch64) { #name, { x86_64, aarch64 }, PLAIN, .note = NULL }
 
 const struct call calls[] = {
@@ -171,17 +172,17 @@ const struct call calls[] = {
 		.note = "shared, for writing: from then on the robust locks that it holds at its end are seen" },
 	{ "shmat", { 30, 196 }, KERNEL, .test = WHEN_HAS(2, SHM_RDONLY, 0), .enter = enter_share, .note = "the same" },
 	{ "futex", { 202, 98 }, REFUSED, .test = WHEN_HAS(1, FUTEX_CMD_MASK, FUTEX_LOCK_PI),
-		.note = "`FUTEX_LOCK_PI`: the kernel compares the word with its own numbers" },
+		.note = PRIORITY },
 	{ "futex", { 202, 98 }, REFUSED, .test = WHEN_HAS(1, FUTEX_CMD_MASK, FUTEX_UNLOCK_PI),
-		.note = "`FUTEX_UNLOCK_PI`: the kernel compares the word with its own numbers" },
+		.note = PRIORITY },
 	{ "futex", { 202, 98 }, REFUSED, .test = WHEN_HAS(1, FUTEX_CMD_MASK, FUTEX_TRYLOCK_PI),
-		.note = "`FUTEX_TRYLOCK_PI`: the kernel compares the word with its own numbers" },
+		.note = PRIORITY },
 	{ "futex", { 202, 98 }, REFUSED, .test = WHEN_HAS(1, FUTEX_CMD_MASK, FUTEX_WAIT_REQUEUE_PI),
-		.note = "`FUTEX_WAIT_REQUEUE_PI`: the kernel compares the word with its own numbers" },
+		.note = PRIORITY },
 	{ "futex", { 202, 98 }, REFUSED, .test = WHEN_HAS(1, FUTEX_CMD_MASK, FUTEX_CMP_REQUEUE_PI),
-		.note = "`FUTEX_CMP_REQUEUE_PI`: the kernel compares the word with its own numbers" },
+		.note = PRIORITY },
 	{ "futex", { 202, 98 }, REFUSED, .test = WHEN_HAS(1, FUTEX_CMD_MASK, FUTEX_LOCK_PI2),
-		.note = "`FUTEX_LOCK_PI2`: the kernel compares the word with its own numbers" },
+		.note = PRIORITY },
 
 	/* Descriptors and memory that have identifiers. */
 	{ "ioctl", { 16, 29 }, KERNEL, .test = WHEN_IS(1, TIOCGPGRP), .out = { MEMORY(2, 0, GROUP) }, .note = "`TIOCGPGRP`" },

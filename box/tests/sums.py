@@ -17,22 +17,22 @@ HOME = "/tmp/pidtab-box-sums"
 AT_ONCE = 3
 
 
-# Natively a thread has a number of the namespace too, so children that are forked after one have other numbers, which
-# these send.
-WITH_THREADS = ("07-python-mp",)
+# What is left out, and why.
+LEFT_OUT = {
+    "07-python-mp": "natively a thread has a number of the namespace, so children that are forked after one have other numbers",
+    "13-script-pty": "bash says that its job ended only where that is before its wait",
+}
 
 
 def programs():
     """Words by a name. What looks at states in /proc sees there natively that it is recorded, and is left out."""
-    found = {it.name: ["bash", str(it)] for it in sorted((rig.TESTS / "programs").iterdir()) if it.name
-        not in WITH_THREADS}
+    found = {it.name: ["bash", str(it)] for it in sorted((rig.TESTS / "programs").iterdir()) if it.name not in LEFT_OUT}
     found |= {it: [PYTHON, str(rig.TESTS / f"inside/{it}.py")] for it in ("carried", "all")}
-    found |= {f"data-{it}": [rig.compiled("bytes", "-pthread"), "behind", it, "bash",
-        str(rig.TESTS / "inside/data.sh")] for it in ("0", "3", "30")}
-    found |= {f"bytes-{it}": [rig.compiled("bytes", "-pthread"), it] for it in ("again", "executed", "read", "stacks",
-        "taken")}
-    found |= {f"locks-{it}": [rig.compiled("locks", "-pthread"), it, "mapping"] for it in ("thread", "processes",
-        "grandchild", "words")}
+    data = str(rig.TESTS / "inside/data.sh")
+    byte_ways, lock_ways = (rig.compiled(it, "-pthread") for it in ("bytes", "locks"))
+    found |= {f"data-{it}": [byte_ways, "behind", it, "bash", data] for it in ("0", "3", "30")}
+    found |= {f"bytes-{it}": [byte_ways, it] for it in ("again", "executed", "read", "stacks", "taken")}
+    found |= {f"locks-{it}": [lock_ways, it, "mapping"] for it in ("thread", "processes", "grandchild", "words")}
     return found
 
 
