@@ -231,7 +231,7 @@ static bool may_be(int number, enum choice choice)
 		return is_forker && number > thread_makers && is_alive(task) && task->has_asked && !task->has_made;
 	case DELAY:
 		return is_forker && number > thread_makers && is_alive(task) && task->has_asked && !task->has_made && !task->has_been_delayed;
-	/* A stop may be reported after the kill, and before the stop of the end; really, only if none of others comes between. */
+	/* A stop may be reported after the kill, and before that of the end; really, only if none of others is between. */
 	case TELL:
 		return is_forker && !(has_outsider && task->is_late) && task->has_made && !task->has_been_told &&
 			(task->life == RUNS || task->life == (task->tells_end ? AT_END : ENDED));

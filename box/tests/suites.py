@@ -1,4 +1,4 @@
-"""Suites of others, in the kernel's namespace and in the box: Python's own tests of processes, the kernel's, and stress-ng."""
+"""Suites of others, in the kernel's namespace and in the box: Python's tests of processes, the kernel's, stress-ng."""
 import concurrent.futures
 import glob
 import re

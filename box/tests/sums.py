@@ -1,4 +1,4 @@
-"""Programs of the tests read and write the same bytes natively and in the box: sums by thread, descriptor and direction.
+"""Programs of the tests read and write the same bytes natively and in the box, by sums of what each descriptor has.
 
 What differs from one native run to the next is not compared, nor what the box writes itself, as /proc/self/stat.
 """
@@ -47,7 +47,7 @@ def run(name, words):
 
 
 def read_streams(file, before, executions):
-    """The size and the sum of each stream, by thread, executions, descriptor and direction; others began the program."""
+    """The size and the sum of each stream, by thread, executions, descriptor and direction; others begin it."""
     found, ours = {}, set()
     for line in open(file, encoding="ascii"):
         thread, executed, descriptor, direction, size, total, *is_ours = line.split()

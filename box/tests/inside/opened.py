@@ -111,7 +111,7 @@ def by_call(file):
 
 
 def kept():
-    """A descriptor that is kept says what is so when it is read again, whoever reads it; nothing of one that is gone."""
+    """A descriptor that is kept says what is so when it is read again, and nothing of one that is gone."""
     for read in (by_seek, by_pread, by_preadv, by_call):
         file = os.open("/proc/self/status", os.O_RDONLY)
         names = [state(file, read)]
@@ -146,7 +146,7 @@ def kept():
 
 
 def by_empty_path(child):
-    """By a folder of /proc, with a flag that asks a descriptor itself; before any of /proc was opened, and by a child."""
+    """By a folder of /proc, with a flag that asks a descriptor itself; before any was opened, and by a child."""
     room = ctypes.create_string_buffer(256)
 
     def ask(folder, path):

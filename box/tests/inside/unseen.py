@@ -227,10 +227,12 @@ def mounted():
     return int(subprocess.run(words, capture_output=True, text=True, check=False).stdout or 0)
 
 
-ASKED = (last_number, socket_from_outside, lock_by_mprotect, lock_through_execution, received_file, type_of_file,
-    by_dots, setuid_gains,
-         call_of_32_bits, duplicated_signalfd, current_folder, link_of_descriptor, locks, system_v, timers, scheduler, netlink, netlink_ports,
-         thread_by_clone, by_link, attributes, executed, undumpable, limit)
+ASKED = (
+    last_number, socket_from_outside, lock_by_mprotect, lock_through_execution, received_file, type_of_file,
+    by_dots, setuid_gains, call_of_32_bits, duplicated_signalfd, current_folder, link_of_descriptor, locks,
+    system_v, timers, scheduler, netlink, netlink_ports, thread_by_clone, by_link, attributes, executed,
+    undumpable, limit,
+)
 
 
 def main():
