@@ -47,12 +47,13 @@ void data_open(const char *file)
 	to = fopen(file, "we");
 }
 
-/* Lines that could not be written are lost, and then the file is shorter than what it is compared with. */
-void data_close(void)
+/* Whether all lines are written. */
+bool data_close(void)
 {
-	if (to)
-		fclose(to);
+	bool is_whole = !to || !(ferror(to) | fclose(to));
+
 	to = NULL;
+	return is_whole;
 }
 
 bool data_is_kept(void)

@@ -11,7 +11,7 @@
 struct data;
 
 void data_open(const char *file);
-void data_close(void);
+bool data_close(void);
 bool data_is_kept(void);
 struct data *data_of_first(void);
 struct data *data_of_child(struct data *parent);

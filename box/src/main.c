@@ -189,7 +189,8 @@ int main(int count, char **words)
 	if (checking)
 		compare("tasks left", 0, table_do(PIDTAB_NEXT, SUPERVISOR, SUPERVISOR + 1, PIDTAB_TASKS));
 	report_stop();
-	data_close();
+	if (!data_close())
+		die("the sums");
 	table_stop();
 	return status;
 }

@@ -127,6 +127,8 @@ def misuse(tell):
         ([], 125, "usage:"), (["--pids-max", "x", "true"], 125, "--pids-max takes 0 to 4194304: x"),
         (["--pid-max", "300", "true"], 125, "--pid-max takes 301 to 4194304: 300"), (["--proc", "none", "true"], 125, "--proc takes box or kernel: none"),
         (["--log", "/no/file", "true"], 125, "pidtab-box: /no/file: No such file or directory"), (["--log", "/dev/full", "true"], 125, "the log"),
+        (["--data", "/no/file", "true"], 125, "pidtab-box: /no/file: No such file or directory"),
+        (["--data", "/dev/full", "true"], 125, "the sums"),
         (["/no/program"], 127, "pidtab-box: /no/program: No such file or directory"), (["/dev/null"], 126, "Permission denied"),
         (["sh", "-c", "exit 7"], 7, ""), (["sh", "-c", "sh -c 'kill -9 $$'; exit $?"], 137, ""), (["--pids-max", "1", "sh", "-c", "true | true"], 2, "fork"),
     ]

@@ -178,6 +178,5 @@ int main(int count, char **words)
 	datas[first] = data_of_first();
 	kill(first, SIGCONT);
 	status = record(first);
-	data_close();
-	return status;
+	return data_close() ? status : OWN_FAILURE;
 }
