@@ -20,6 +20,7 @@ struct stream {
 struct data {
 	char *key;
 	int births, executions;
+	bool is_killed; /* so what it read and wrote may end anywhere */
 	struct stream *streams;
 };
 
@@ -183,12 +184,18 @@ void data_executed(struct data *data)
 		if (to)
 			fprintf(to, "%s %d %d %s %lu %016lx%s\n", data->key, data->executions, stream->file,
 				stream->is_written ? "written" : "read", stream->size,
-			        stream->sum, stream->is_ours ? " ours" : "");
+			        stream->sum, stream->is_ours ? " ours" : data->is_killed ? " killed" : "");
 		data->streams = stream->next;
 		free(stream);
 	}
 	if (data)
 		data->executions++;
+}
+
+void data_killed(struct data *data)
+{
+	if (data)
+		data->is_killed = true;
 }
 
 void data_end(struct data *data)

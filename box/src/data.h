@@ -18,6 +18,7 @@ struct data *data_of_child(struct data *parent);
 bool data_is_carried(int64_t call);
 void data_add(struct data *data, pid_t tid, const struct registers *made, int64_t result);
 void data_executed(struct data *data);
+void data_killed(struct data *data);
 void data_end(struct data *data);
 
 /* Of the caller: see box.h. */

@@ -195,6 +195,8 @@ void thread_ended(struct thread *thread, int status)
 
 	if (!process->ended)
 		setpgid_over(thread, -1);
+	if (WIFSIGNALED(status))
+		data_killed(thread->data);
 	thread_free(thread);
 	if (tid != process->real)
 		return;

@@ -144,6 +144,8 @@ static int record(pid_t first)
 			stopped(tid, status);
 			continue;
 		}
+		if (WIFSIGNALED(status))
+			data_killed(datas[tid]);
 		data_end(datas[tid]);
 		datas[tid] = NULL;
 		in_call[tid] = false;

@@ -1,6 +1,7 @@
 """Programs of the tests read and write the same bytes natively and in the box, by sums of what each descriptor has.
 
-What differs from one native run to the next is not compared, nor what the box writes itself, as /proc/self/stat.
+What differs from one native run to the next is not compared, nor what the box writes itself, as /proc/self/stat, nor what
+one did who was killed: that may end anywhere.
 """
 import concurrent.futures
 import os
