@@ -288,7 +288,7 @@ box: ## builds out/pidtab-box, which runs a program on a table, over what `make 
 	@echo out/pidtab-box
 
 # As nobody, where root runs it. What is missing is told, and skipped.
-box-test: box ## runs real programs in the box and in the kernel's namespaces, and compares (some 11 minutes); BOX_TEST='PART ..' takes some parts
+box-test: box ## runs real programs in the box and in the kernel's namespaces, and compares (some 15 minutes); BOX_TEST='PART ..' takes some parts
 	@PIDTAB='$(abspath $(PIDTAB))' box/tests/run $(BOX_TEST)
 
 box-bench: box ## times builds and single calls natively, in the box, under strace and under proot (a minute)

@@ -2,6 +2,7 @@
 #ifndef BOX_H
 #define BOX_H
 
+#include "data.h"
 #include "registers.h"
 
 #include <pidtab.h>
@@ -40,7 +41,7 @@ struct name {
 	pid_t real;
 	uint32_t root;
 	struct process *process; /* none once it has left the table */
-	struct level *kept;      /* the numbers that it had there, from the root namespace inwards; none before */
+	struct level *kept;      /* its numbers, from the root namespace inwards, which stay as they are */
 	uint32_t count;
 };
 
@@ -92,6 +93,7 @@ struct process {
 	struct name *name;       /* none where it is gone */
 	pid_t real;
 	uint32_t root;
+	uint64_t space;          /* its namespace */
 	struct thread *threads;  /* real ones that the tracer knows */
 	int at[STAGES];          /* how many of them are in each stage */
 	bool ended;              /* in the table */
@@ -105,6 +107,9 @@ struct process {
 	bool may_catch_end;      /* it has, or had, a handler of SIGCHLD, which an exec ends */
 	bool shares_handlers;    /* with another process, which may change what this one does with a signal */
 	struct memory *memory;   /* its address space */
+	bool had_threads, shares_memory; /* since its exec: others may know of a lock that it holds at its end (robust.c) */
+	bool is_hidden;          /* its memory cannot be read, which the report says once */
+	bool sees_proc;          /* a filter stops more calls by descriptors, since it has some of /proc (filter.c) */
 	int read_filters;        /* how many filters stop its reads of signalfds (filter.c) */
 	int filtered[MOST_READ_FILTERS]; /* the number that each is about */
 	bool ends_unheard;       /* its end sends its parent another signal than SIGCHLD, or none */
@@ -125,7 +130,6 @@ void name_outside(pid_t real);
 struct name *name_of_real(pid_t real);
 struct process *process_of_root(uint32_t root);
 struct process *process_seen(const struct process *caller, uint32_t number);
-void name_keep(struct name *name);
 uint32_t numbers_of(const struct name *name, const struct process *caller, uint32_t *numbers);
 uint32_t number_of(const struct name *name, const struct process *caller);
 struct process *process_new(struct name *name);
@@ -143,7 +147,8 @@ int64_t to_number(const struct process *caller, enum kind kind, int64_t real);
 enum phase { FREE, IN_CALL, INJECTED, IN_INJECTED };
 
 /* A call of ours: what it is for. */
-enum injected { MAKE_SUBREAPER, MAP_ROOM, ADD_FILTER, ADD_FILTER_TO_ALL };
+enum injected { MAKE_SUBREAPER, MAP_ROOM, ADD_FILTER, ADD_FILTER_TO_ALL, OPEN_REAL, MAKE_COPY, CLOSE_REAL, OPEN_COPY,
+	CLOSE_COPY };
 
 /* A number in the program's memory in whose place the kernel's stands during a call. */
 struct lent {
@@ -174,7 +179,8 @@ struct thread {
 	bool has_changed_call;        /* a fork whose registers this program has changed */
 	uint64_t given_flags;         /* those that the kernel has of it */
 	bool has_call_of_parent;      /* it has not begun yet, and its registers are those of such a fork */
-	bool has_options_of_init;     /* nor yet, and its parent was an init */
+	bool sees_end;                /* it stops at its end */
+	uint32_t seen;                /* the number by which it sees itself; 0 before it begins */
 	uint64_t tid_at;              /* where the kernel has written its number before it ran */
 	uint64_t told_parent, told_child; /* of a fork: where the child's number is to be */
 	uint32_t child, child_root;   /* of a fork: its number to the caller */
@@ -184,9 +190,13 @@ struct thread {
 	bool lists_tasks;             /* the directory that it reads is that of threads */
 	bool is_at_rest;              /* it is stopped by a signal */
 	bool once_more;               /* the call is made again, unseen by the program */
-	int behind_reads;             /* a signalfd, from which reads are to stop behind the call; -1 for none */
+	int behind_reads;             /* a descriptor, from which reads are to stop behind the call; -1 for none */
 	uint64_t room;                /* memory of ours that it has for its call; 0 for none */
-	int content;                  /* a file of /proc that is given in place of the kernel's; -1 for none */
+	int content;                  /* a file that is given in place of the kernel's; -1 for none */
+	uint64_t open_flags;          /* those of its open */
+	bool wants_copy, wants_filter; /* behind its open: a file of its own, and a filter */
+	int real_file, made_file;     /* descriptors of the thread, while it makes one */
+	struct data *data;            /* the sums of what it reads and writes; none if nobody asks for them */
 };
 
 struct thread *thread_new(pid_t tid, struct process *process);
@@ -230,13 +240,15 @@ _Noreturn void die(const char *what);
 void report_start(const char *file);
 void report_difference(const char *what, uint32_t root, int64_t kernel, int64_t table);
 void report_refused(const struct call *call, int64_t number);
+void report_hidden(pid_t tid);
 void report_stop(void);
 
 /* ---- filter.c ---- */
 
 void filter_install(void);
 bool reads_stop(const struct process *process, int file);
-bool filter_for_reads(struct thread *thread, const struct registers *registers, int file);
+bool filter_for_reads(struct thread *thread);
+bool filter_for_proc(struct thread *thread);
 bool filter_added(struct thread *thread, int64_t result);
 
 /* ---- room.c ---- */
@@ -283,6 +295,15 @@ const struct process *stranger_parent(const struct thread *stranger);
 bool stranger_is_process(const struct thread *stranger);
 void stranger_kill(const struct thread *stranger);
 
+/* ---- robust.c: locks that a thread holds at its end ---- */
+
+bool end_is_seen(const struct process *process);
+void robust_end(const struct thread *thread);
+
+/* ---- messages.c ---- */
+
+void messages_start(void);
+
 /* ---- groups.c ---- */
 
 void setpgid_over(struct thread *thread, int64_t result);
@@ -313,14 +334,15 @@ void ending_not_caught(const struct process *process, int signal);
 extern uint64_t events;
 
 void trace(int request, pid_t tid, long data);
+void set_options(struct thread *thread);
 void begin(struct thread *thread);
 void thread_ended(struct thread *thread, int status);
 void exec_told(struct process *process);
 void catch_up(const struct process *process, int flags);
 int supervise(pid_t init);
 void trace_first(pid_t init, struct process *process);
-bool read_memory(pid_t tid, uint64_t at, void *to, size_t size);
 bool write_memory(pid_t tid, uint64_t at, const void *from, size_t size);
+bool inject(struct thread *thread, enum injected what, int64_t call, const uint64_t words[4]);
 
 /* ---- check.c: what the kernel answered, beside what the table did ---- */
 
@@ -336,17 +358,24 @@ struct state {
 
 bool read_state(pid_t real, struct state *state);
 
-/* ---- proc.c: paths and listings of /proc; content.c: its files ---- */
+/* ---- proc.c: paths and listings of /proc; opens.c: opens; content.c: what files have; copies.c: files in place
+ * of the kernel's ---- */
 
 extern bool shows_proc;
 
-int content_open(const struct thread *thread, const char *path, const char *file, pid_t real);
-int content_of_group(const struct thread *thread, const char *path, enum kind kind, bool has_unseen);
-void content_done(struct thread *thread);
+char *content_of(const struct thread *thread, const char *path, const char *file, pid_t real, size_t *size);
+char *content_of_group(const struct thread *thread, const char *path, enum kind kind, bool has_unseen, size_t *size);
+int copy_make(uint32_t root, const char *path, char *text, size_t size);
+bool copy_begin(struct thread *thread);
+bool copy_goes_on(struct thread *thread, int64_t result);
+void copy_done(struct thread *thread);
+bool is_copy_of_none(const struct thread *thread, int file);
 
 /* ---- cgroups.c ---- */
 
 enum kind group_file(const struct thread *thread, const char *path, int folder, bool is_written);
-int group_open(const struct thread *thread, const char *path, int folder, enum kind kind);
+int open_folder(const struct thread *thread, const char *path, int folder);
+char *group_text(const struct thread *thread, const char *path, size_t *size);
+int group_open(const struct thread *thread, const char *path, int folder);
 
 #endif

@@ -14,6 +14,7 @@
 #include <stddef.h>
 #include <string.h>
 #include <sys/ipc.h>
+#include <sys/mman.h>
 #include <sys/msg.h>
 #include <sys/prctl.h>
 #include <sys/resource.h>
@@ -58,7 +59,10 @@ enum {
 #define QUERY(of) .enter = enter_query, .leave = leave_query, .operation = of
 #define STATE "`IPC_STAT`, and `MSG_STAT`, `SHM_STAT` with or without `_ANY`"
 #define OPENED "`cgroup.procs`, `cgroup.threads` and `tasks` are refused for writing"
-#define NONE(name, x86_64, aarch64) { #name, { x86_64, aarch64 }, PLAIN, { ALWAYS, 0, 0, 0 }, { { 0 } }, { { 0 } }, NULL, NULL, 0, NULL }
+#define REWOUND \
+	"a file of `/proc` that the box has written, at its beginning: it is written anew, by a filter of its own"
+#define PRIORITY "all operations with priorities: the kernel compares the word with its own numbers"
+#define NONE(name, x86_64, aarch64) { #name, { x86_64, aarch64 }, PLAIN, .note = NULL }
 
 const struct call calls[] = {
 	/* What the table answers. */
@@ -114,10 +118,11 @@ const struct call calls[] = {
 	{ "rt_sigtimedwait", { 128, 137 }, KERNEL, .out = { MEMORY(1, AT_SENDER, PROCESS) }, .leave = leave_sigtimedwait },
 	{ "signalfd", { 282, -1 }, KERNEL, .enter = enter_signalfd, .leave = leave_signalfd, .note = "what is read of it has the sender" },
 	{ "signalfd4", { 289, 74 }, KERNEL, .enter = enter_signalfd, .leave = leave_signalfd, .note = "what is read of it has the sender" },
-	{ "read", { 0, 63 }, KERNEL, .test = UNSEEN, .out = { MEMORY(1, AT_SIGNALFD_SENDER, PROCESS) }, .enter = enter_signalfd_read, .leave = leave_signalfd_read,
+	{ "read", { 0, 63 }, KERNEL, .test = UNSEEN, .out = { MEMORY(1, AT_SIGNALFD_SENDER, PROCESS) }, .enter = enter_read,
+		.leave = leave_signalfd_read,
 		.note = "of a `signalfd`: it stops by a filter of its own" },
-	{ "readv", { 19, 65 }, REFUSED, .test = UNSEEN, .enter = enter_signalfd_readv, .note = "of a `signalfd`" },
-	{ "preadv2", { 327, 286 }, REFUSED, .test = UNSEEN, .enter = enter_signalfd_readv, .note = "of a `signalfd`" },
+	{ "readv", { 19, 65 }, REFUSED, .test = UNSEEN, .enter = enter_readv, .note = "of a `signalfd`" },
+	{ "preadv2", { 327, 286 }, REFUSED, .test = UNSEEN, .enter = enter_readv, .note = "of a `signalfd`" },
 	{ "timer_create", { 222, 107 }, KERNEL, .in = { VALUE(0, CLOCK), MEMORY(1, AT_NOTIFIED, TASK) }, .enter = enter_timer,
 		.note = "a thread with `SIGEV_THREAD_ID`" },
 	{ "clock_gettime", { 228, 113 }, KERNEL, .test = UNLESS_HAS(0, 1u << 31, 0), .in = { VALUE(0, CLOCK) },
@@ -161,21 +166,23 @@ const struct call calls[] = {
 	{ "capset", { 126, 91 }, KERNEL, .in = { MEMORY(0, AT_CAPABLE, TASK) } },
 	{ "pidfd_open", { 434, 434 }, KERNEL, .in = { VALUE(0, TASK) } },
 	{ "set_tid_address", { 218, 96 }, KERNEL, RESULT(TASK) },
-	{ "set_robust_list", { 273, 99 }, ABSENT,
-		.note = "the kernel compares the words of the list with its own numbers; no robust mutexes" },
-	{ "get_robust_list", { 274, 100 }, REFUSED, .note = "as `set_robust_list`" },
+	{ "get_robust_list", { 274, 100 }, KERNEL, .in = { VALUE(0, TASK) } },
+	{ "mmap", { 9, 222 }, KERNEL, .test = UNLESS_HAS(3, MAP_SHARED, 0), .also = UNLESS_HAS(2, PROT_WRITE, 0),
+		.enter = enter_share,
+		.note = "shared, for writing: from then on the robust locks that it holds at its end are seen" },
+	{ "shmat", { 30, 196 }, KERNEL, .test = WHEN_HAS(2, SHM_RDONLY, 0), .enter = enter_share, .note = "the same" },
 	{ "futex", { 202, 98 }, REFUSED, .test = WHEN_HAS(1, FUTEX_CMD_MASK, FUTEX_LOCK_PI),
-		.note = "`FUTEX_LOCK_PI`: the kernel compares the word with its own numbers" },
+		.note = PRIORITY },
 	{ "futex", { 202, 98 }, REFUSED, .test = WHEN_HAS(1, FUTEX_CMD_MASK, FUTEX_UNLOCK_PI),
-		.note = "`FUTEX_UNLOCK_PI`: the kernel compares the word with its own numbers" },
+		.note = PRIORITY },
 	{ "futex", { 202, 98 }, REFUSED, .test = WHEN_HAS(1, FUTEX_CMD_MASK, FUTEX_TRYLOCK_PI),
-		.note = "`FUTEX_TRYLOCK_PI`: the kernel compares the word with its own numbers" },
+		.note = PRIORITY },
 	{ "futex", { 202, 98 }, REFUSED, .test = WHEN_HAS(1, FUTEX_CMD_MASK, FUTEX_WAIT_REQUEUE_PI),
-		.note = "`FUTEX_WAIT_REQUEUE_PI`: the kernel compares the word with its own numbers" },
+		.note = PRIORITY },
 	{ "futex", { 202, 98 }, REFUSED, .test = WHEN_HAS(1, FUTEX_CMD_MASK, FUTEX_CMP_REQUEUE_PI),
-		.note = "`FUTEX_CMP_REQUEUE_PI`: the kernel compares the word with its own numbers" },
+		.note = PRIORITY },
 	{ "futex", { 202, 98 }, REFUSED, .test = WHEN_HAS(1, FUTEX_CMD_MASK, FUTEX_LOCK_PI2),
-		.note = "`FUTEX_LOCK_PI2`: the kernel compares the word with its own numbers" },
+		.note = PRIORITY },
 
 	/* Descriptors and memory that have identifiers. */
 	{ "ioctl", { 16, 29 }, KERNEL, .test = WHEN_IS(1, TIOCGPGRP), .out = { MEMORY(2, 0, GROUP) }, .note = "`TIOCGPGRP`" },
@@ -199,8 +206,13 @@ const struct call calls[] = {
 	{ "sendmsg", { 46, 211 }, KERNEL, .in = { MEMORY(1, 0, PROCESS) }, .enter = enter_send,
 		.note = "`SCM_CREDENTIALS` in its control data" },
 	{ "sendmmsg", { 307, 269 }, KERNEL, .in = { MEMORY(1, 0, PROCESS) }, .enter = enter_send_many, .note = "the same" },
-	{ "recvmsg", { 47, 212 }, KERNEL, .out = { MEMORY(1, 0, PROCESS) }, .leave = leave_receive, .note = "the same" },
-	{ "recvmmsg", { 299, 243 }, KERNEL, .out = { MEMORY(1, 0, PROCESS) }, .leave = leave_receive_many, .note = "the same" },
+	{ "recvmsg", { 47, 212 }, KERNEL, .out = { MEMORY(1, 0, PROCESS) }, .enter = enter_receive, .leave = leave_receive,
+		.note = "the same" },
+	{ "recvmmsg", { 299, 243 }, KERNEL, .out = { MEMORY(1, 0, PROCESS) }, .enter = enter_receive_many,
+		.leave = leave_receive_many, .note = "the same" },
+	{ "setsockopt", { 54, 208 }, KERNEL, .test = WHEN_IS(1, SOL_SOCKET), .also = WHEN_IS(2, SO_PASSCRED),
+		.enter = enter_pass,
+		.note = "`SO_PASSCRED`: no `SCM_CREDENTIALS` is looked for before it" },
 	{ "msgctl", { 71, 187 }, KERNEL, .test = WHEN_IS(1, IPC_STAT), .out = { MEMORY(2, AT_SENT, PROCESS), MEMORY(2, AT_SENT + 4, PROCESS) },
 		.note = STATE },
 	{ "msgctl", { 71, 187 }, KERNEL, .test = WHEN_IS(1, MSG_STAT), .out = { MEMORY(2, AT_SENT, PROCESS), MEMORY(2, AT_SENT + 4, PROCESS) },
@@ -224,11 +236,18 @@ const struct call calls[] = {
 	{ "chdir", { 80, 49 }, KERNEL, .in = { VALUE(0, PATH) }, .enter = enter_path, .leave = leave_path },
 	{ "statfs", { 137, 43 }, KERNEL, .in = { VALUE(0, PATH) }, .enter = enter_path, .leave = leave_path },
 	{ "openat", { 257, 56 }, KERNEL, .in = { VALUE(1, PATH) }, .enter = enter_open_at, .leave = leave_path, .note = OPENED },
-	{ "openat2", { 437, 437 }, KERNEL, .in = { VALUE(1, PATH) }, .enter = enter_open_at, .leave = leave_path, .note = OPENED },
+	{ "openat2", { 437, 437 }, KERNEL, .in = { VALUE(1, PATH) }, .enter = enter_open_at2, .leave = leave_path,
+		.note = OPENED },
+	{ "newfstatat", { 262, 79 }, PLAIN, .test = UNLESS_HAS(3, AT_EMPTY_PATH, 0),
+		.also = UNLESS_IS(0, (uint32_t)AT_FDCWD) },
 	{ "newfstatat", { 262, 79 }, KERNEL, .in = { VALUE(1, PATH) }, .enter = enter_path_at, .leave = leave_path },
+	{ "statx", { 332, 291 }, PLAIN, .test = UNLESS_HAS(2, AT_EMPTY_PATH, 0), .also = UNLESS_IS(0, (uint32_t)AT_FDCWD) },
 	{ "statx", { 332, 291 }, KERNEL, .in = { VALUE(1, PATH) }, .enter = enter_path_at, .leave = leave_path },
 	{ "faccessat", { 269, 48 }, KERNEL, .in = { VALUE(1, PATH) }, .enter = enter_path_at, .leave = leave_path },
 	{ "faccessat2", { 439, 439 }, KERNEL, .in = { VALUE(1, PATH) }, .enter = enter_path_at, .leave = leave_path },
+	{ "lseek", { 8, 62 }, KERNEL, .test = UNSEEN, .enter = enter_rewind, .note = REWOUND },
+	{ "pread64", { 17, 67 }, KERNEL, .test = UNSEEN, .enter = enter_rewind, .note = REWOUND },
+	{ "preadv", { 295, 69 }, KERNEL, .test = UNSEEN, .enter = enter_rewind, .note = REWOUND },
 	{ "readlink", { 89, -1 }, KERNEL, .in = { VALUE(0, PATH) }, .enter = enter_readlink, .leave = leave_path,
 		.note = "`/proc/self` is answered by the box" },
 	{ "readlinkat", { 267, 78 }, KERNEL, .in = { VALUE(1, PATH) }, .enter = enter_readlink_at, .leave = leave_path, .note = "the same" },
@@ -249,16 +268,16 @@ const struct call calls[] = {
 	{ "acct", { 163, 89 }, REFUSED, .note = "its records have processes" },
 
 	/* Plain: no identifier, or one of a descriptor alone. */
-	NONE(write, 1, 64), NONE(close, 3, 57), NONE(fstat, 5, 80), NONE(poll, 7, -1), NONE(lseek, 8, 62),
-	NONE(mmap, 9, 222), NONE(mprotect, 10, 226), NONE(munmap, 11, 215), NONE(brk, 12, 214),
-	NONE(rt_sigprocmask, 14, 135), NONE(rt_sigreturn, 15, 139), NONE(pread64, 17, 67), NONE(pwrite64, 18, 68),
+	NONE(write, 1, 64), NONE(close, 3, 57), NONE(fstat, 5, 80), NONE(poll, 7, -1),
+	NONE(mprotect, 10, 226), NONE(munmap, 11, 215), NONE(brk, 12, 214),
+	NONE(rt_sigprocmask, 14, 135), NONE(rt_sigreturn, 15, 139), NONE(pwrite64, 18, 68),
 	NONE(writev, 20, 66), NONE(pipe, 22, -1), NONE(select, 23, -1), NONE(sched_yield, 24, 124), NONE(mremap, 25, 216),
-	NONE(msync, 26, 227), NONE(mincore, 27, 232), NONE(madvise, 28, 233), NONE(shmget, 29, 194), NONE(shmat, 30, 196),
+	NONE(msync, 26, 227), NONE(mincore, 27, 232), NONE(madvise, 28, 233), NONE(shmget, 29, 194),
 	NONE(dup, 32, 23), NONE(dup2, 33, -1), NONE(pause, 34, -1), NONE(nanosleep, 35, 101), NONE(getitimer, 36, 102),
 	NONE(alarm, 37, -1), NONE(setitimer, 38, 103), NONE(sendfile, 40, 71), NONE(socket, 41, 198),
 	NONE(connect, 42, 203), NONE(accept, 43, 202), NONE(sendto, 44, 206), NONE(recvfrom, 45, 207),
 	NONE(shutdown, 48, 210), NONE(bind, 49, 200), NONE(listen, 50, 201), NONE(getsockname, 51, 204),
-	NONE(getpeername, 52, 205), NONE(socketpair, 53, 199), NONE(setsockopt, 54, 208), NONE(execve, 59, 221),
+	NONE(getpeername, 52, 205), NONE(socketpair, 53, 199), NONE(execve, 59, 221),
 	NONE(exit, 60, 93), NONE(uname, 63, 160), NONE(semget, 64, 190), NONE(semop, 65, 193), NONE(shmdt, 67, 197),
 	NONE(msgget, 68, 186), NONE(msgsnd, 69, 189), NONE(msgrcv, 70, 188), NONE(flock, 73, 32), NONE(fsync, 74, 82),
 	NONE(fdatasync, 75, 83), NONE(truncate, 76, 45), NONE(ftruncate, 77, 46), NONE(getcwd, 79, 17),
@@ -286,6 +305,7 @@ const struct call calls[] = {
 	NONE(fsetxattr, 190, 7), NONE(getxattr, 191, 8), NONE(lgetxattr, 192, 9), NONE(fgetxattr, 193, 10),
 	NONE(listxattr, 194, 11), NONE(llistxattr, 195, 12), NONE(flistxattr, 196, 13), NONE(removexattr, 197, 14),
 	NONE(lremovexattr, 198, 15), NONE(fremovexattr, 199, 16), NONE(time, 201, -1), NONE(set_thread_area, 205, -1),
+	NONE(set_robust_list, 273, 99),
 	NONE(io_setup, 206, 0), NONE(io_destroy, 207, 1), NONE(io_getevents, 208, 4), NONE(io_submit, 209, 2),
 	NONE(io_cancel, 210, 3), NONE(get_thread_area, 211, -1), NONE(lookup_dcookie, 212, 18), NONE(epoll_create, 213, -1),
 	NONE(epoll_ctl_old, 214, -1), NONE(epoll_wait_old, 215, -1), NONE(remap_file_pages, 216, 234),
@@ -303,7 +323,7 @@ const struct call calls[] = {
 	NONE(sync_file_range, 277, 84), NONE(vmsplice, 278, 75), NONE(utimensat, 280, 88), NONE(epoll_pwait, 281, 22),
 	NONE(timerfd_create, 283, 85), NONE(eventfd, 284, -1), NONE(fallocate, 285, 47), NONE(timerfd_settime, 286, 86),
 	NONE(timerfd_gettime, 287, 87), NONE(accept4, 288, 242), NONE(eventfd2, 290, 19), NONE(epoll_create1, 291, 20),
-	NONE(dup3, 292, 24), NONE(pipe2, 293, 59), NONE(inotify_init1, 294, 26), NONE(preadv, 295, 69),
+	NONE(dup3, 292, 24), NONE(pipe2, 293, 59), NONE(inotify_init1, 294, 26),
 	NONE(pwritev, 296, 70), NONE(fanotify_mark, 301, 263), NONE(name_to_handle_at, 303, 264),
 	NONE(open_by_handle_at, 304, 265), NONE(syncfs, 306, 267), NONE(getcpu, 309, 168), NONE(finit_module, 313, 273),
 	NONE(renameat2, 316, 276), NONE(getrandom, 318, 278), NONE(memfd_create, 319, 279),
@@ -363,9 +383,17 @@ const struct call *call_row(const struct registers *registers)
 	const struct call *call = call_first(number);
 
 	for (; call && call < calls + call_count && call->number[MACHINE] == number; call++)
-		if (holds(&call->test, registers))
+		if (holds(&call->test, registers) && holds(&call->also, registers))
 			return call;
 	return NULL;
+}
+
+/* The same, of a use that is plain for nearly all, and stops by a filter of its own. */
+const struct call *call_row_translated(const struct registers *registers)
+{
+	const struct call *call = call_row(registers);
+
+	return call && call + 1 < calls + call_count && call[1].number[MACHINE] == call->number[MACHINE] ? call + 1 : call;
 }
 
 /* ---- the page of what is covered ---- */
@@ -395,7 +423,7 @@ static void print_carried(const struct carried carried[CARRIED], const char *bef
 static void print_row(const struct call *call)
 {
 	static const char *const who[] = {
-		[PLAIN] = "kernel", [KERNEL] = "kernel", [TABLE] = "table", [REFUSED] = "refused", [ABSENT] = "refused, unseen"
+		[PLAIN] = "kernel", [KERNEL] = "kernel", [TABLE] = "table", [REFUSED] = "refused"
 	};
 
 	printf("| `%s` | %d | ", call->name, call->number[0]);

@@ -9,8 +9,7 @@ enum decides {
 	PLAIN,   /* the kernel; the call carries no identifier and does not stop */
 	KERNEL,  /* the kernel, by translated identifiers */
 	TABLE,   /* the table; the kernel is asked too where it has to do the same */
-	REFUSED, /* nobody: ENOSYS, and the report names it */
-	ABSENT   /* nobody: ENOSYS of the filter, without a stop */
+	REFUSED  /* nobody: ENOSYS, and the report names it */
 };
 
 /* Which of its uses a row is about: by the low half of an argument, which is all that the filter looks at. */
@@ -34,7 +33,7 @@ struct call {
 	const char *name;
 	int number[2]; /* on x86-64 and on aarch64; -1 where it has no such call */
 	enum decides decides;
-	struct test test;
+	struct test test, also; /* both have to hold */
 	struct carried in[CARRIED], out[CARRIED];
 	enum onward (*enter)(struct thread *thread, struct registers *registers);
 	int64_t (*leave)(struct thread *thread, int64_t result);
@@ -48,6 +47,7 @@ extern const int call_count;
 
 const struct call *call_first(int64_t number);
 const struct call *call_row(const struct registers *registers);
+const struct call *call_row_translated(const struct registers *registers);
 void calls_print(void);
 
 /* What the rows name. Each is beside the others of its topic. */
@@ -74,16 +74,20 @@ enum onward enter_sigaction(struct thread *, struct registers *);
 int64_t leave_kill(struct thread *, int64_t);
 int64_t leave_sigtimedwait(struct thread *, int64_t);
 enum onward enter_signalfd(struct thread *, struct registers *);
-enum onward enter_signalfd_read(struct thread *, struct registers *);
-enum onward enter_signalfd_readv(struct thread *, struct registers *);
+enum onward enter_read(struct thread *, struct registers *);
+enum onward enter_readv(struct thread *, struct registers *);
 int64_t leave_signalfd(struct thread *, int64_t);
 int64_t leave_signalfd_read(struct thread *, int64_t);
 enum onward enter_timer(struct thread *, struct registers *);
+enum onward enter_share(struct thread *, struct registers *);    /* robust.c */
 enum onward enter_owner(struct thread *, struct registers *);    /* messages.c */
 int64_t leave_owner(struct thread *, int64_t);
 int64_t leave_peer(struct thread *, int64_t);
 enum onward enter_send(struct thread *, struct registers *);
 enum onward enter_send_many(struct thread *, struct registers *);
+enum onward enter_pass(struct thread *, struct registers *);
+enum onward enter_receive(struct thread *, struct registers *);
+enum onward enter_receive_many(struct thread *, struct registers *);
 int64_t leave_receive(struct thread *, int64_t);
 int64_t leave_receive_many(struct thread *, int64_t);
 enum onward enter_path(struct thread *, struct registers *);     /* proc.c */
@@ -91,6 +95,8 @@ enum onward enter_path_at(struct thread *, struct registers *);
 enum onward enter_open(struct thread *, struct registers *);
 enum onward enter_creat(struct thread *, struct registers *);
 enum onward enter_open_at(struct thread *, struct registers *);
+enum onward enter_open_at2(struct thread *, struct registers *);
+enum onward enter_rewind(struct thread *, struct registers *);   /* copies.c */
 enum onward enter_readlink(struct thread *, struct registers *);
 enum onward enter_readlink_at(struct thread *, struct registers *);
 enum onward enter_listing(struct thread *, struct registers *);

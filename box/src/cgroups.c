@@ -32,7 +32,7 @@ static enum kind kind_of(const char *path)
 }
 
 /* The folder that the path begins at: the program's root, its own, or that of a descriptor. None of these ways leaves the kernel's memory. */
-static int open_folder(const struct thread *thread, const char *path, int folder)
+int open_folder(const struct thread *thread, const char *path, int folder)
 {
 	char name[64];
 
@@ -67,8 +67,11 @@ static bool is_link(int at, const char *path)
  * that is called so, or is a link, is walked. */
 static int open_target(const struct thread *thread, const char *path, int folder)
 {
-	int at = open_folder(thread, path, folder), file;
+	int at, file;
 
+	if (!strncmp(path, "/proc/", 6))
+		return open(path, O_PATH | O_CLOEXEC);
+	at = open_folder(thread, path, folder);
 	if (at < 0)
 		return -1;
 	file = open_path(at, path, 0, RESOLVE_CACHED);
@@ -116,18 +119,40 @@ enum kind group_file(const struct thread *thread, const char *path, int folder, 
 	return kind;
 }
 
-/* A copy with the caller's numbers. Version 2 has a 0 for who cannot be seen, and version 1 leaves him out. */
-int group_open(const struct thread *thread, const char *path, int folder, enum kind kind)
+/* The file with the caller's numbers, in memory that the caller gives back. Version 2 has a 0 for who cannot be
+ * seen, and version 1 leaves him out. */
+char *group_text(const struct thread *thread, const char *path, size_t *size)
 {
-	int file = open_target(thread, path, folder), made;
+	int file = open(path, O_PATH | O_CLOEXEC);
 	bool is_second = false;
-	char link[64];
+	char link[64], *text = NULL;
+	enum kind kind;
+
+	if (file < 0)
+		return NULL;
+	snprintf(link, sizeof link, "/proc/self/fd/%d", file);
+	kind = kind_of_link(link, &is_second);
+	if (kind)
+		text = content_of_group(thread, link, kind, is_second, size);
+	close(file);
+	return text;
+}
+
+/* A copy with the caller's numbers; -1 if there is none. */
+int group_open(const struct thread *thread, const char *path, int folder)
+{
+	int file = open_target(thread, path, folder);
+	char link[64], name[LONGEST_NAME];
+	ssize_t length;
+	size_t size;
+	char *text;
 
 	if (file < 0)
 		return -1;
 	snprintf(link, sizeof link, "/proc/self/fd/%d", file);
-	kind_of_link(link, &is_second);
-	made = content_of_group(thread, link, kind, is_second);
+	length = readlink(link, name, sizeof name - 1);
+	name[length > 0 ? length : 0] = 0;
+	text = group_text(thread, link, &size);
 	close(file);
-	return made;
+	return copy_make(0, name, text, size);
 }

@@ -1,14 +1,10 @@
-/* content.c - files of /proc that have numbers, as this program writes them: it reads the kernel's, and the program opens a copy. */
+/* content.c - files that have numbers, as this program writes them of the kernel's. */
 #define _GNU_SOURCE
 #include "box.h"
 
-#include <fcntl.h>
 #include <stdlib.h>
 #include <string.h>
-#include <sys/mman.h>
-#include <sys/stat.h>
 #include <sys/wait.h>
-#include <unistd.h>
 
 /* The state of a thread that this program has stopped: to the program it runs, or is stopped by a signal. Its parent may know that before the
  * stop is reported here: so a report is fetched first. */
@@ -129,47 +125,32 @@ static void write_content(FILE *to, const struct process *caller, FILE *from, co
 		write_status(to, caller, from, real);
 }
 
-/* A file with the text, whose memory is given back. */
-static int make_file(const char *name, char *text, size_t size)
-{
-	int made = memfd_create(name, MFD_CLOEXEC);
-
-	if (made >= 0 && (write(made, text, size) != (ssize_t)size || fchmod(made, 0444))) {
-		close(made);
-		made = -1;
-	}
-	free(text);
-	return made;
-}
-
-/* A descriptor of this program with the file as the thread is to see it; -1 where the kernel is to answer. */
-int content_open(const struct thread *thread, const char *path, const char *file, pid_t real)
+/* The file as the thread is to see it, in memory that the caller gives back; none where the kernel is to answer. */
+char *content_of(const struct thread *thread, const char *path, const char *file, pid_t real, size_t *size)
 {
 	FILE *from = fopen(path, "re"), *to = NULL;
 	char *text = NULL;
-	size_t size = 0;
 
 	if (from)
-		to = open_memstream(&text, &size);
+		to = open_memstream(&text, size);
 	if (to) {
 		write_content(to, thread->process, from, file, real);
 		fclose(to);
 	}
 	if (from)
 		fclose(from);
-	return to ? make_file(file + 1, text, size) : -1;
+	return text;
 }
 
 /* The same of a file of a control group: who cannot be seen is a 0, or is left out. */
-int content_of_group(const struct thread *thread, const char *path, enum kind kind, bool has_unseen)
+char *content_of_group(const struct thread *thread, const char *path, enum kind kind, bool has_unseen, size_t *size)
 {
 	FILE *from = fopen(path, "re"), *to = NULL;
 	char *text = NULL;
-	size_t size = 0;
 	long real;
 
 	if (from)
-		to = open_memstream(&text, &size);
+		to = open_memstream(&text, size);
 	while (to && fscanf(from, "%ld", &real) == 1) {
 		int64_t number = to_number(thread->process, kind, real);
 
@@ -180,13 +161,5 @@ int content_of_group(const struct thread *thread, const char *path, enum kind ki
 		fclose(to);
 	if (from)
 		fclose(from);
-	return to ? make_file("group", text, size) : -1;
-}
-
-/* The program has opened it, or could not. */
-void content_done(struct thread *thread)
-{
-	if (thread->content >= 0)
-		close(thread->content);
-	thread->content = -1;
+	return text;
 }

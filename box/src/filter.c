@@ -14,6 +14,7 @@
 #include <string.h>
 #include <sys/prctl.h>
 #include <sys/syscall.h>
+#include <unistd.h>
 
 enum { MOST_CODE = 4096, LONGEST_JUMP = 255 };
 
@@ -61,18 +62,34 @@ static uint32_t verdict(const struct call *call)
 	switch (call ? call->decides : REFUSED) {
 	case PLAIN:
 		return SECCOMP_RET_ALLOW;
-	case ABSENT:
-		return SECCOMP_RET_ERRNO | ENOSYS;
 	default:
 		return call && is_about_proc(call) && !shows_proc ? SECCOMP_RET_ALLOW : SECCOMP_RET_TRACE;
 	}
+}
+
+/* Where the test does not hold, the code goes on at the place. */
+static void put_test(struct program *program, const struct test *test, int otherwise)
+{
+	uint8_t over = (uint8_t)(otherwise - program->first);
+
+	if (test->how == ALWAYS)
+		return;
+	put(program, STEP(BPF_JMP | BPF_JEQ, test->value, test->how == WHEN ? 0 : over, test->how == WHEN ? over : 0));
+	if (test->mask != UINT32_MAX)
+		put(program, (struct sock_filter)BPF_STMT(BPF_ALU | BPF_AND | BPF_K, test->mask));
+	put(program, FIELD(args[test->argument]));
 }
 
 /* What is done with one call: its rows in order, and where none fits it is plain. It is written from its last row to its first. */
 static void put_call(struct program *program, const struct call *call)
 {
 	const struct call *last = call;
+	int first;
 
+	if (call && data_is_kept() && data_is_carried(call->number[MACHINE])) {
+		put(program, GIVE(SECCOMP_RET_TRACE));
+		return;
+	}
 	if (!call || call->test.how == ALWAYS) {
 		put(program, GIVE(verdict(call)));
 		return;
@@ -86,13 +103,10 @@ static void put_call(struct program *program, const struct call *call)
 
 		if (test->how == NEVER)
 			continue;
+		first = program->first;
 		put(program, GIVE(verdict(last)));
-		if (test->how == ALWAYS)
-			continue;
-		put(program, STEP(BPF_JMP | BPF_JEQ, test->value, test->how == WHEN ? 0 : 1, test->how == WHEN ? 1 : 0));
-		if (test->mask != UINT32_MAX)
-			put(program, (struct sock_filter)BPF_STMT(BPF_ALU | BPF_AND | BPF_K, test->mask));
-		put(program, FIELD(args[test->argument]));
+		put_test(program, &last->also, first);
+		put_test(program, test, first);
 	}
 }
 
@@ -118,7 +132,8 @@ static int make_ranges(struct range *ranges)
 
 	for (int64_t number = 0; number <= MOST_CALLS; number++) {
 		const struct call *call = number < MOST_CALLS ? call_first(number) : NULL;
-		bool is_simple = !call || (call->decides == PLAIN && call->test.how == ALWAYS);
+		bool is_kept = call && data_is_kept() && data_is_carried(number);
+		bool is_simple = !call || (call->decides == PLAIN && call->test.how == ALWAYS && !is_kept);
 
 		if (count && is_simple) {
 			const struct call *last = ranges[count - 1].call;
@@ -200,51 +215,86 @@ static bool are_alike(const struct process *process)
 }
 
 /* The call that adds the filter in the thread's room, for it alone or for all threads. */
-static bool inject_filter(struct thread *thread, const struct registers *registers, enum injected injected)
+static bool inject_filter(struct thread *thread, enum injected injected)
 {
-	struct registers changed = *registers;
+	uint64_t flags = injected == ADD_FILTER_TO_ALL ? SECCOMP_FILTER_FLAG_TSYNC : 0;
 
-	registers_repeat(&changed, SYS_seccomp);
-	registers_set_argument(&changed, 0, SECCOMP_SET_MODE_FILTER);
-	registers_set_argument(&changed, 1, injected == ADD_FILTER_TO_ALL ? SECCOMP_FILTER_FLAG_TSYNC : 0);
-	registers_set_argument(&changed, 2, thread->room);
-	thread->phase = INJECTED;
-	thread->injected = injected;
-	return registers_write(thread->tid, &changed);
+	return inject(thread, injected, SYS_seccomp, (const uint64_t[4]){ SECCOMP_SET_MODE_FILTER, flags, thread->room, 0 });
+}
+
+enum { MOST_ADDED = 16 };
+
+/* Has the thread add a filter behind its call. */
+static bool add_filter(struct thread *thread, const struct sock_filter *code, size_t size)
+{
+	struct { struct sock_fprog made; struct sock_filter code[MOST_ADDED]; } given;
+
+	memcpy(given.code, code, size);
+	given.made.len = (unsigned short)(size / sizeof *code);
+	given.made.filter = (struct sock_filter *)(thread->room + offsetof(__typeof__(given), code));
+	if (!write_memory(thread->tid, thread->room, &given, sizeof given))
+		return false;
+	return inject_filter(thread, are_alike(thread->process) ? ADD_FILTER_TO_ALL : ADD_FILTER);
 }
 
 /* Has the thread add a filter by which reads of the descriptor stop; with the last filter, those of all. */
-bool filter_for_reads(struct thread *thread, const struct registers *registers, int file)
+bool filter_for_reads(struct thread *thread)
 {
 	struct process *process = thread->process;
 	bool is_last = process->read_filters == MOST_READ_FILTERS - 1;
-	struct { struct sock_fprog made; struct sock_filter code[8]; } given = {
-		.code = {
-			FIELD(nr),
-			STEP(BPF_JMP | BPF_JEQ, SYS_read, 2, 0),
-			STEP(BPF_JMP | BPF_JEQ, SYS_readv, 1, 0),
-			STEP(BPF_JMP | BPF_JEQ, SYS_preadv2, 0, 3),
-			FIELD(args[0]),
-			is_last ? (struct sock_filter)BPF_JUMP(BPF_JMP | BPF_JA, 0, 0, 0) : STEP(BPF_JMP | BPF_JEQ, (uint32_t)file, 0, 1),
-			GIVE(SECCOMP_RET_TRACE),
-			GIVE(SECCOMP_RET_ALLOW)
-		}
+	int file = thread->behind_reads;
+	const struct sock_filter code[] = {
+		FIELD(nr),
+		STEP(BPF_JMP | BPF_JEQ, SYS_read, 2, 0),
+		STEP(BPF_JMP | BPF_JEQ, SYS_readv, 1, 0),
+		STEP(BPF_JMP | BPF_JEQ, SYS_preadv2, 0, 3),
+		FIELD(args[0]),
+		is_last ? (struct sock_filter)BPF_JUMP(BPF_JMP | BPF_JA, 0, 0, 0) : STEP(BPF_JMP | BPF_JEQ, (uint32_t)file, 0, 1),
+		GIVE(SECCOMP_RET_TRACE),
+		GIVE(SECCOMP_RET_ALLOW)
 	};
 
 	thread->behind_reads = -1;
-	given.made = (struct sock_fprog){ .len = 8, .filter = (struct sock_filter *)(thread->room + offsetof(__typeof__(given), code)) };
-	if (!write_memory(thread->tid, thread->room, &given, sizeof given))
+	if (!add_filter(thread, code, sizeof code))
 		return false;
 	process->filtered[process->read_filters++] = file;
-	thread->behind = *registers;
-	return inject_filter(thread, registers, are_alike(process) ? ADD_FILTER_TO_ALL : ADD_FILTER);
+	return true;
+}
+
+/* The same once the thread has descriptors of /proc. For calls that read a file from its beginning, or go back
+ * there: its copy is written anew. And for those that ask for a descriptor or for a path from its folder: they are
+ * fstat(3) in nearly all programs. */
+bool filter_for_proc(struct thread *thread)
+{
+	static const struct sock_filter code[] = {
+		FIELD(nr),
+		STEP(BPF_JMP | BPF_JEQ, SYS_newfstatat, 12, 0),
+		STEP(BPF_JMP | BPF_JEQ, SYS_statx, 11, 0),
+		STEP(BPF_JMP | BPF_JEQ, SYS_lseek, 4, 0),
+		STEP(BPF_JMP | BPF_JEQ, SYS_pread64, 7, 0),
+		STEP(BPF_JMP | BPF_JEQ, SYS_preadv, 6, 0),
+		STEP(BPF_JMP | BPF_JEQ, SYS_preadv2, 5, 0),
+		GIVE(SECCOMP_RET_ALLOW),
+		FIELD(args[2]),
+		STEP(BPF_JMP | BPF_JEQ, SEEK_SET, 0, 5),
+		FIELD(args[1]),
+		(struct sock_filter)BPF_JUMP(BPF_JMP | BPF_JA, 1, 0, 0),
+		FIELD(args[3]),
+		STEP(BPF_JMP | BPF_JEQ, 0, 0, 1),
+		GIVE(SECCOMP_RET_TRACE),
+		GIVE(SECCOMP_RET_ALLOW)
+	};
+
+	thread->wants_filter = false;
+	thread->process->sees_proc = add_filter(thread, code, sizeof code);
+	return thread->process->sees_proc;
 }
 
 /* The filter was added, or was not. If the threads have different ones after all, the caller alone gets it. Returns whether that follows. */
 bool filter_added(struct thread *thread, int64_t result)
 {
 	if (thread->injected == ADD_FILTER_TO_ALL && result != 0)
-		return inject_filter(thread, &thread->behind, ADD_FILTER);
+		return inject_filter(thread, ADD_FILTER);
 	room_give_back(thread);
 	return false;
 }

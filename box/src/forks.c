@@ -172,13 +172,14 @@ static void tell_numbers(struct thread *parent, struct thread *child)
 }
 
 /* The child begins with the registers and the options of its parent. */
-static void inherit(const struct thread *parent, struct thread *child)
+static void inherit(struct thread *parent, struct thread *child)
 {
-	child->has_options_of_init = parent->process->is_init;
+	child->sees_end = parent->sees_end;
 	child->has_call_of_parent = parent->phase == IN_CALL && parent->has_changed_call;
 	child->made = parent->made;
 	child->flags = parent->flags;
 	child->given_flags = parent->given_flags;
+	child->data = data_of_child(parent->data);
 }
 
 /* The registers of a child are those of the call that made it, but for the result; with a stack or a thread area of its own, or where the
@@ -207,9 +208,13 @@ static void inherit_state(struct process *parent, struct process *child, uint64_
 	child->may_catch_end = parent->may_catch_end;
 	child->ends_unheard = (flags & CSIGNAL) != SIGCHLD;
 	child->read_filters = parent->read_filters;
+	child->sees_proc = parent->sees_proc;
 	memcpy(child->filtered, parent->filtered, sizeof child->filtered);
 	memory_leave(child->memory);
 	child->memory = flags & CLONE_VM ? memory_share(parent->memory) : memory_copy(parent->memory);
+	if ((flags & CLONE_VM) && !(flags & CLONE_VFORK))
+		parent->shares_memory = true;
+	child->shares_memory = parent->shares_memory;
 	if (flags & CLONE_SIGHAND)
 		parent->shares_handlers = child->shares_handlers = true;
 }
@@ -246,6 +251,8 @@ void forked(struct thread *thread, pid_t real)
 	thread->told = child->number;
 	tell_numbers(thread, child);
 	inherit(thread, child);
+	thread->process->had_threads |= is_thread;
+	set_options(thread);
 	if (happen(child, CLAIMED) & END)
 		thread_ended(child, child->status);
 	happen(thread, TOLD);

@@ -33,7 +33,6 @@ uint32_t reap(struct process *parent, struct process *child)
 {
 	uint32_t number;
 
-	name_keep(child->name);
 	number = number_of(child->name, parent);
 	compare("wait", number, table_do(PIDTAB_WAIT, parent->root, number, PIDTAB_CHILD));
 	process_free(child);
@@ -64,20 +63,6 @@ static void reap_unwanted(struct process *child)
 }
 
 /* ---- what an exit does to others ---- */
-
-/* The table is about to drop the members of the init's namespace, and their numbers with them. */
-static void keep_members(const struct process *init)
-{
-	uint64_t count;
-	const uint32_t *members = table_list(SUPERVISOR, PIDTAB_NAMESPACE_MEMBERS, init->root, &count);
-
-	for (uint64_t i = 0; i < count; i++) {
-		const struct process *member = process_of_root(members[i]);
-
-		if (member)
-			name_keep(member->name);
-	}
-}
 
 /* The table has killed a member of the init's namespace. */
 static void fall(struct process *process, struct process *init)
@@ -129,8 +114,6 @@ void process_ended(struct process *process, int status)
 		table_do(PIDTAB_EXIT, process->spare_root, 0, 0);
 		table_do(PIDTAB_WAIT, process->root, process->spare, PIDTAB_CHILD);
 	}
-	if (process->is_init)
-		keep_members(process);
 	/* The table's status has eight bits: a signal is told as a shell tells it. */
 	effects = table_exit(process->root, (uint32_t)code, &count);
 	process->ended = true;

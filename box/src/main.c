@@ -15,14 +15,15 @@
 enum { CANNOT_RUN = 126, NOT_FOUND = 127 };
 
 struct settings {
-	const char *log, *answers, *report;
+	const char *log, *answers, *report, *data;
 	int64_t pids_max; /* -1 for no limit */
 	uint32_t pid_max;
 	bool prints_calls;
 };
 
 static const char usage[] =
-	"usage: pidtab-box [--log FILE] [--answers FILE] [--check] [--report FILE] [--pids-max N] [--pid-max N] [--proc box|kernel] PROGRAM [WORD ..]\n"
+	"usage: pidtab-box [--log FILE] [--answers FILE] [--check] [--report FILE] [--data FILE]\n"
+	"                  [--pids-max N] [--pid-max N] [--proc box|kernel] PROGRAM [WORD ..]\n"
 	"       pidtab-box --calls | --help\n";
 
 static _Noreturn void misused(const char *what, const char *word)
@@ -58,7 +59,8 @@ static struct settings read_words(int count, char **words)
 	static const struct option known[] = {
 		{ "log", required_argument, 0, 'l' }, { "answers", required_argument, 0, 'a' }, { "check", no_argument, 0, 'c' },
 		{ "report", required_argument, 0, 'r' }, { "pids-max", required_argument, 0, 'p' }, { "pid-max", required_argument, 0, 'm' },
-		{ "proc", required_argument, 0, 'P' }, { "calls", no_argument, 0, 't' }, { "help", no_argument, 0, 'h' }, { 0, 0, 0, 0 }
+		{ "proc", required_argument, 0, 'P' }, { "calls", no_argument, 0, 't' }, { "data", required_argument, 0,
+			'd' }, { "help", no_argument, 0, 'h' }, { 0, 0, 0, 0 }
 	};
 	struct settings settings = { .pids_max = -1, .pid_max = 32768 };
 	int letter;
@@ -68,6 +70,7 @@ static struct settings read_words(int count, char **words)
 		case 'l': settings.log = optarg; break;
 		case 'a': settings.answers = optarg; break;
 		case 'c': checking = true; break;
+		case 'd': settings.data = optarg; break;
 		case 'r': settings.report = optarg; break;
 		case 'p': settings.pids_max = number_in(optarg, 0, MOST_REAL, "--pids-max takes 0 to 4194304"); break;
 		case 'm': settings.pid_max = (uint32_t)number_in(optarg, 301, MOST_REAL, "--pid-max takes 301 to 4194304"); break;
@@ -176,11 +179,18 @@ int main(int count, char **words)
 		return 0;
 	}
 	report_start(settings.report);
+	if (settings.data)
+		data_open(settings.data);
+	if (settings.data && !data_is_kept())
+		die(settings.data);
+	messages_start();
 	table_start(settings.pid_max, settings.log, settings.answers);
 	status = supervise(start(words + optind, settings.pids_max));
 	if (checking)
 		compare("tasks left", 0, table_do(PIDTAB_NEXT, SUPERVISOR, SUPERVISOR + 1, PIDTAB_TASKS));
 	report_stop();
+	if (!data_close())
+		die("the sums");
 	table_stop();
 	return status;
 }

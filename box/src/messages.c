@@ -2,9 +2,11 @@
 #define _GNU_SOURCE
 #include "calls.h"
 
+#include <dirent.h>
 #include <errno.h>
 #include <fcntl.h>
 #include <stddef.h>
+#include <stdlib.h>
 #include <sys/socket.h>
 #include <sys/uio.h>
 
@@ -45,6 +47,10 @@ int64_t leave_peer(struct thread *thread, int64_t result)
 
 enum { MOST_CONTROL = 65536 };
 
+/* The kernel cuts what has no room; the number comes first. */
+enum { LEAST_CONTROL = CMSG_LEN(sizeof(pid_t)) };
+_Static_assert(offsetof(struct ucred, pid) == 0, "the number comes first");
+
 typedef void act(struct thread *thread, uint64_t at, enum kind kind);
 
 static void show_it(struct thread *thread, uint64_t at, enum kind kind)
@@ -67,7 +73,7 @@ static void each_credentials(struct thread *thread, uint64_t message, act *act)
 		if (!read_memory(thread->tid, here, &control, sizeof control) || control.cmsg_len < sizeof control)
 			return;
 		size = control.cmsg_len;
-		if (size >= CMSG_LEN(sizeof(struct ucred)) && control.cmsg_level == SOL_SOCKET && control.cmsg_type == SCM_CREDENTIALS)
+		if (size >= LEAST_CONTROL && control.cmsg_level == SOL_SOCKET && control.cmsg_type == SCM_CREDENTIALS)
 			act(thread, here + CMSG_LEN(offsetof(struct ucred, pid)), PROCESS);
 	}
 }
@@ -83,6 +89,58 @@ enum onward enter_send_many(struct thread *thread, struct registers *registers)
 	for (uint64_t i = 0; i < registers_argument(registers, 2) && i < UIO_MAXIOV; i++)
 		each_credentials(thread, registers_argument(registers, 1) + i * sizeof(struct mmsghdr), lend);
 	return thread->lent_count ? watch(thread, registers) : GO;
+}
+
+/* The kernel hands over credentials where the socket has an option, and there is room for them. Whether any socket
+ * has it. */
+static bool are_passed;
+
+static void is_passing(int file)
+{
+	int is_so = 0;
+	socklen_t size = sizeof is_so;
+
+	are_passed |= !getsockopt(file, SOL_SOCKET, SO_PASSCRED, &is_so, &size) && is_so;
+}
+
+/* A socket that the program is begun with may have it. */
+void messages_start(void)
+{
+	DIR *files = opendir("/proc/self/fd");
+	struct dirent *entry;
+
+	while (files && (entry = readdir(files)))
+		is_passing((int)strtol(entry->d_name, NULL, 10));
+	if (files)
+		closedir(files);
+	else
+		are_passed = true;
+}
+
+enum onward enter_pass(struct thread *thread, struct registers *registers)
+{
+	(void)thread;
+	(void)registers;
+	are_passed = true;
+	return GO;
+}
+
+static bool has_room(const struct thread *thread, uint64_t message)
+{
+	struct msghdr head;
+
+	return !read_memory(thread->tid, message, &head, sizeof head) || (head.msg_control &&
+		head.msg_controllen >= LEAST_CONTROL);
+}
+
+enum onward enter_receive(struct thread *thread, struct registers *registers)
+{
+	return are_passed && has_room(thread, registers_argument(registers, 1)) ? watch(thread, registers) : GO;
+}
+
+enum onward enter_receive_many(struct thread *thread, struct registers *registers)
+{
+	return are_passed ? watch(thread, registers) : GO;
 }
 
 int64_t leave_receive(struct thread *thread, int64_t result)

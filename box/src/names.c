@@ -69,51 +69,31 @@ struct process *process_seen(const struct process *caller, uint32_t number)
 	return process_of_root(table_stat(caller->root, number).root);
 }
 
-/* ---- the numbers of a name ---- */
+/* ---- the numbers of a name. A group may still use them, and a signal or a message that comes late may say them,
+ * when the table has them no more ---- */
 
-/* From the root namespace inwards, and how many. The table is asked for those that are not kept. */
-static uint32_t read_levels(const struct name *name, struct level *levels)
+static void read_levels(struct name *name)
 {
-	struct pidtab_task task;
-	uint64_t space;
+	struct pidtab_task task = table_stat(SUPERVISOR, name->root);
+	uint64_t space = task.space;
 
-	if (name->kept) {
-		memcpy(levels, name->kept, name->count * sizeof *levels);
-		return name->count;
-	}
-	task = table_stat(SUPERVISOR, name->root);
-	space = task.space;
+	name->count = task.count;
+	name->kept = need(calloc(task.count + 1, sizeof *name->kept));
 	for (uint32_t i = task.count; i-- > 0;) {
-		levels[i] = (struct level){ space, task.levels[i] };
+		name->kept[i] = (struct level){ space, task.levels[i] };
 		space = i > 0 ? table_around(space) : 0;
 	}
-	return task.count;
-}
-
-/* The process is about to leave the table, which then has its numbers no more. A group may still use them, and a signal or a message that
- * comes late may say them. */
-void name_keep(struct name *name)
-{
-	struct level levels[PIDTAB_LEVELS_MAX];
-
-	if (name->kept)
-		return;
-	name->count = read_levels(name, levels);
-	name->kept = need(malloc(name->count * sizeof *levels));
-	memcpy(name->kept, levels, name->count * sizeof *levels);
 }
 
 /* Those in the caller's namespace and in the ones inside it, and how many; none where the caller cannot see it. */
 uint32_t numbers_of(const struct name *name, const struct process *caller, uint32_t *numbers)
 {
-	uint64_t space = table_stat(SUPERVISOR, caller->root).space;
-	struct level levels[PIDTAB_LEVELS_MAX];
-	uint32_t count = name ? read_levels(name, levels) : 0, first = 0;
+	uint32_t count = name ? name->count : 0, first = 0;
 
-	while (first < count && levels[first].space != space)
+	while (first < count && name->kept[first].space != caller->space)
 		first++;
 	for (uint32_t i = first; i < count; i++)
-		numbers[i - first] = levels[i].number;
+		numbers[i - first] = name->kept[i].number;
 	return count - first;
 }
 
@@ -131,7 +111,10 @@ struct process *process_new(struct name *name)
 {
 	struct process *process = need(calloc(1, sizeof *process));
 
-	*process = (struct process){ .name = name, .real = name->real, .root = name->root, .memory = memory_new(), .next = processes };
+	read_levels(name);
+	*process = (struct process){ .name = name, .real = name->real, .root = name->root,
+		.space = name->kept[name->count - 1].space, .memory = memory_new(),
+		.next = processes };
 	if (processes)
 		processes->previous = process;
 	name->process = process;

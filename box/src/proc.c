@@ -1,13 +1,11 @@
 /* proc.c - paths and listings of /proc: a number in a path becomes the kernel's, and a listing has the numbers of the caller's namespace. */
 #define _GNU_SOURCE
-#include "calls.h"
+#include "proc.h"
 
 #include <ctype.h>
 #include <dirent.h>
 #include <errno.h>
 #include <fcntl.h>
-#include <limits.h>
-#include <linux/openat2.h>
 #include <stddef.h>
 #include <stdlib.h>
 #include <string.h>
@@ -15,21 +13,12 @@
 
 bool shows_proc = true;
 
-enum { LONGEST_PATH = PATH_MAX, PAGE = 4096 };
-_Static_assert(PATH_MAX <= ROOM, "a path fits into the room of a thread");
+enum { PAGE = 4096 };
+_Static_assert((int)LONGEST_PATH <= (int)ROOM, "a path fits into the room of a thread");
 
 /* ---- a path, component by component ---- */
 
-/* Where a path leads, by the kernel's numbers. */
-struct place {
-	enum { ELSEWHERE, IN_PROC, IN_PROCESS, IN_TASKS, IN_TASK, BELOW } where;
-	pid_t process, task;
-	char rest[LONGEST_PATH]; /* below these */
-	bool is_translated;      /* a number was the program's */
-	bool is_self;            /* `self`, or `thread-self`, is the last component */
-};
-
-static bool is_number(const char *word)
+bool is_number(const char *word)
 {
 	return *word && strspn(word, "0123456789") == strlen(word);
 }
@@ -49,8 +38,8 @@ static void go_below(struct place *place, const char *word)
 {
 	size_t length = strlen(place->rest);
 
+	snprintf(place->rest + length, sizeof place->rest - length, place->where == IN_TASKS ? "/task/%s" : "/%s", word);
 	place->where = BELOW;
-	snprintf(place->rest + length, sizeof place->rest - length, "/%s", word);
 }
 
 static void step_from_proc(struct place *place, const struct thread *caller, const char *word)
@@ -73,7 +62,9 @@ static void step_from_proc(struct place *place, const struct thread *caller, con
 /* Up from a folder; below one there may be links, so the kernel has to go. */
 static void step_up(struct place *place)
 {
-	static const int above[] = { [ELSEWHERE] = ELSEWHERE, [IN_PROC] = ELSEWHERE, [IN_PROCESS] = IN_PROC, [IN_TASKS] = IN_PROCESS, [IN_TASK] = IN_TASKS };
+	static const int above[] = { [ELSEWHERE] = ELSEWHERE, [AT_ROOT] = AT_ROOT, [IN_PROC] = AT_ROOT,
+		[IN_PROCESS] = IN_PROC, [IN_TASKS] = IN_PROCESS,
+		[IN_TASK] = IN_TASKS };
 
 	if (place->where == BELOW) {
 		go_below(place, "..");
@@ -84,11 +75,14 @@ static void step_up(struct place *place)
 	place->task = 0;
 }
 
-static void step(struct place *place, const struct thread *caller, const char *word)
+/* The next component of a path; the caller is none where its numbers are the kernel's. */
+void place_step(struct place *place, const struct thread *caller, const char *word)
 {
 	place->is_self = false;
 	if (!strcmp(word, "..")) {
 		step_up(place);
+	} else if (place->where == AT_ROOT) {
+		place->where = strcmp(word, "proc") ? ELSEWHERE : IN_PROC;
 	} else if (place->where == IN_PROC) {
 		step_from_proc(place, caller, word);
 	} else if (place->where == IN_PROCESS && !strcmp(word, "task")) {
@@ -107,11 +101,11 @@ static void walk(struct place *place, const struct thread *caller, char *text)
 
 	for (char *word = strtok_r(text, "/", &rest); word; word = strtok_r(NULL, "/", &rest))
 		if (strcmp(word, "."))
-			step(place, caller, word);
+			place_step(place, caller, word);
 }
 
 /* The path by the kernel's numbers; false where it is too long. */
-static bool write_place(const struct place *place, char *path)
+bool place_write(const struct place *place, char *path)
 {
 	int size = snprintf(path, LONGEST_PATH, "/proc");
 
@@ -124,30 +118,34 @@ static bool write_place(const struct place *place, char *path)
 	return size + snprintf(path + size, (size_t)(LONGEST_PATH - size), "%s", place->rest) < LONGEST_PATH;
 }
 
-/* ---- the paths of a program ---- */
-
-/* Whether the text begins so, as far as it goes. */
-static bool begins(const char *text, size_t size, const char *with)
+/* The file whose numbers are translated, as it is named below a process or a thread; or none. */
+const char *place_file(const struct place *place)
 {
-	return !strncmp(text, with, size < strlen(with) ? size : strlen(with));
+	static const char *const files[] = { "/stat", "/status", "/children" };
+
+	if (!place->process || place->where != BELOW)
+		return NULL;
+	for (size_t i = 0; i < sizeof files / sizeof files[0]; i++)
+		if (!strcmp(place->rest, files[i]))
+			return files[i];
+	return strncmp(place->rest, "/fdinfo/", 8) ? NULL : "/fdinfo";
 }
 
-/* A look at the first bytes, which nearly all paths end with: below /proc, or relative and an entry of it that has numbers. */
-static bool may_be_in_proc(pid_t tid, uint64_t at)
+/* ---- the paths of a program ---- */
+
+/* What nearly all paths end with: a look at the first bytes. In /proc are those below it, and relative ones of its
+ * entries that have numbers. */
+static bool may_be_in_proc(const char *head, size_t size)
 {
 	static const char *const entries[] = { "/proc", "self", "thread", "task", "stat", "childr", "fdinfo" };
-	char head[6];
-	size_t size = PAGE - at % PAGE < sizeof head ? PAGE - at % PAGE : sizeof head;
 
-	if (!at || !read_memory(tid, at, head, size))
-		return false;
 	for (size_t i = 0; i < sizeof entries / sizeof entries[0]; i++)
-		if (begins(head, size, entries[i]))
+		if (!strncmp(head, entries[i], size < strlen(entries[i]) ? size : strlen(entries[i])))
 			return true;
 	return isdigit((unsigned char)head[0]);
 }
 
-static bool read_path(pid_t tid, uint64_t at, char *path)
+bool read_path(pid_t tid, uint64_t at, char *path)
 {
 	for (size_t done = 0; done < LONGEST_PATH;) {
 		size_t size = PAGE - (at + done) % PAGE;
@@ -163,7 +161,7 @@ static bool read_path(pid_t tid, uint64_t at, char *path)
 }
 
 /* The directory that a descriptor of the thread is of, or its own. */
-static bool read_folder(const struct thread *thread, int file, char *folder)
+bool read_folder(const struct thread *thread, int file, char *folder)
 {
 	char link[64];
 	ssize_t size;
@@ -177,25 +175,28 @@ static bool read_folder(const struct thread *thread, int file, char *folder)
 	return size > 0;
 }
 
-/* The place of a path, which is ELSEWHERE where it is not below /proc. */
-static void find_place(struct place *place, const struct thread *thread, char *path, int folder)
+/* Where a folder is, by the kernel's name of it, which is from the root. */
+void place_begin(struct place *place, const char *folder)
 {
-	char base[LONGEST_PATH];
+	char copy[LONGEST_PATH];
 
-	*place = (struct place){ .where = ELSEWHERE };
-	if (path[0] == '/') {
-		path += strspn(path, "/");
-		if (strncmp(path, "proc", 4) || (path[4] && path[4] != '/'))
-			return;
-		place->where = IN_PROC;
-		path += 4;
-	} else {
-		if (!read_folder(thread, folder, base) || strncmp(base, "/proc", 5) || (base[5] && base[5] != '/'))
-			return;
-		place->where = IN_PROC;
-		walk(place, NULL, base + 5);
-	}
-	walk(place, thread, path);
+	place->where = folder[0] == '/' ? AT_ROOT : ELSEWHERE;
+	place->process = place->task = 0;
+	place->is_translated = place->is_self = false;
+	place->rest[0] = 0;
+	walk(place, NULL, strcpy(copy, folder));
+}
+
+/* Whether the path names a place in /proc. */
+bool place_find(struct place *place, const struct thread *thread, const char *path, int folder)
+{
+	char text[LONGEST_PATH] = "/";
+
+	if (!may_be_in_proc(path, LONGEST_PATH) || (path[0] != '/' && !read_folder(thread, folder, text)))
+		return false;
+	place_begin(place, text);
+	walk(place, thread, strcpy(text, path));
+	return place->where >= IN_PROC;
 }
 
 static int folder_of(const struct thread *thread, int index, bool has_folder)
@@ -207,16 +208,17 @@ static int folder_of(const struct thread *thread, int index, bool has_folder)
 static bool is_in_proc(struct place *place, const struct thread *thread, int index, bool has_folder)
 {
 	uint64_t at = registers_argument(&thread->made, index);
-	char path[LONGEST_PATH];
+	char path[LONGEST_PATH], head[6];
+	size_t size = PAGE - at % PAGE < sizeof head ? PAGE - at % PAGE : sizeof head;
 
-	if (!may_be_in_proc(thread->tid, at) || !read_path(thread->tid, at, path))
+	if (!at || !read_memory(thread->tid, at, head, size) || !may_be_in_proc(head, size) || !read_path(thread->tid, at,
+		path))
 		return false;
-	find_place(place, thread, path, folder_of(thread, index, has_folder));
-	return place->where != ELSEWHERE;
+	return place_find(place, thread, path, folder_of(thread, index, has_folder));
 }
 
 /* The call gets another path. */
-static enum onward take_path(struct thread *thread, struct registers *registers, int index, const char *path)
+enum onward take_path(struct thread *thread, struct registers *registers, int index, const char *path)
 {
 	if (!write_memory(thread->tid, thread->room, path, strlen(path) + 1))
 		return answer_with(thread, -EFAULT);
@@ -231,7 +233,7 @@ static enum onward path_enter(struct thread *thread, struct registers *registers
 
 	if (!is_in_proc(&place, thread, index, has_folder) || !place.is_translated)
 		return GO;
-	if (!write_place(&place, path))
+	if (!place_write(&place, path))
 		return answer_with(thread, -ENAMETOOLONG);
 	return room_take(thread) ? take_path(thread, registers, index, path) : room_map(thread);
 }
@@ -244,104 +246,6 @@ enum onward enter_path(struct thread *thread, struct registers *registers)
 enum onward enter_path_at(struct thread *thread, struct registers *registers)
 {
 	return path_enter(thread, registers, 1, true);
-}
-
-int64_t leave_path(struct thread *thread, int64_t result)
-{
-	content_done(thread);
-	return result;
-}
-
-/* ---- opens: some files are given as this program writes them ---- */
-
-/* The file whose numbers are translated, as it is named below a process or a thread; or none. */
-static const char *translated_file(const struct place *place)
-{
-	static const char *const files[] = { "/stat", "/status", "/children" };
-
-	if (!place->process || place->where != BELOW)
-		return NULL;
-	for (size_t i = 0; i < sizeof files / sizeof files[0]; i++)
-		if (!strcmp(place->rest, files[i]))
-			return files[i];
-	return strncmp(place->rest, "/fdinfo/", 8) ? NULL : "/fdinfo";
-}
-
-/* The call opens the file of this program that the thread has been given, or else what the path names. */
-static enum onward take_file(struct thread *thread, struct registers *registers, int index, char *path)
-{
-	if (thread->content >= 0) {
-		snprintf(path, LONGEST_PATH, "/proc/%d/fd/%d", getpid(), thread->content);
-		if (strcmp(thread->call->name, "openat2") && strcmp(thread->call->name, "creat"))
-			registers_set_argument(registers, index + 1, registers_argument(registers, index + 1) & ~(uint64_t)O_NOFOLLOW); /* this one is a link */
-	}
-	return take_path(thread, registers, index, path);
-}
-
-/* A file of a control group that has numbers. */
-static enum onward open_group(struct thread *thread, struct registers *registers, int index, char *path, int folder, enum kind kind)
-{
-	if (!room_take(thread))
-		return room_map(thread);
-	thread->content = group_open(thread, path, folder, kind);
-	return thread->content >= 0 ? take_file(thread, registers, index, path) : watch(thread, registers);
-}
-
-static enum onward proc_enter(struct thread *thread, struct registers *registers, int index, bool has_folder, int flags)
-{
-	struct place place;
-	char path[LONGEST_PATH];
-	const char *file;
-
-	if (!is_in_proc(&place, thread, index, has_folder))
-		return GO;
-	file = (flags & O_ACCMODE) == O_RDONLY && !(flags & O_PATH) ? translated_file(&place) : NULL;
-	if (!file && !place.is_translated)
-		return GO;
-	if (!write_place(&place, path))
-		return answer_with(thread, -ENAMETOOLONG);
-	if (!room_take(thread))
-		return room_map(thread);
-	thread->content = file ? content_open(thread, path, file, place.task ? place.task : place.process) : -1;
-	return take_file(thread, registers, index, path);
-}
-
-static enum onward open_enter(struct thread *thread, struct registers *registers, int index, bool has_folder, int flags)
-{
-	bool is_written = (flags & O_ACCMODE) != O_RDONLY && !(flags & O_PATH);
-	int folder = folder_of(thread, index, has_folder);
-	char path[LONGEST_PATH];
-	struct place place;
-	enum kind kind;
-
-	if (!read_path(thread->tid, registers_argument(&thread->made, index), path))
-		return GO;
-	if (is_written && is_in_proc(&place, thread, index, has_folder) && !write_place(&place, path))
-		return answer_with(thread, -ENAMETOOLONG); /* by way of a descriptor, as /proc/self/fd/5 */
-	kind = flags & O_PATH ? NO_KIND : group_file(thread, path, folder, is_written);
-	if (!kind)
-		return proc_enter(thread, registers, index, has_folder, flags);
-	return is_written ? refuse(thread) : open_group(thread, registers, index, path, folder, kind);
-}
-
-/* As open(2) with these flags. */
-enum onward enter_creat(struct thread *thread, struct registers *registers)
-{
-	return open_enter(thread, registers, 0, false, O_WRONLY | O_CREAT | O_TRUNC);
-}
-
-enum onward enter_open(struct thread *thread, struct registers *registers)
-{
-	return open_enter(thread, registers, 0, false, (int)registers_argument(registers, 1));
-}
-
-enum onward enter_open_at(struct thread *thread, struct registers *registers)
-{
-	uint64_t flags = registers_argument(registers, 2);
-
-	if (!strcmp(thread->call->name, "openat2") && !read_memory(thread->tid, flags + offsetof(struct open_how, flags), &flags, sizeof flags))
-		return GO;
-	return open_enter(thread, registers, 1, true, (int)flags);
 }
 
 /* ---- readlink: what /proc/self links to ---- */
@@ -382,13 +286,12 @@ enum { LEAST_ROOM = 64, MOST_ROOM = 1 << 20 };
 enum onward enter_listing(struct thread *thread, struct registers *registers)
 {
 	uint64_t room = registers_argument(registers, 2);
-	struct place place = { .where = ELSEWHERE };
+	struct place place;
 	char folder[LONGEST_PATH];
 
-	if (!read_folder(thread, (int)call_argument(thread, 0), folder) || strncmp(folder, "/proc", 5) || (folder[5] && folder[5] != '/'))
+	if (!read_folder(thread, (int)call_argument(thread, 0), folder))
 		return GO;
-	place.where = IN_PROC;
-	walk(&place, NULL, folder + 5);
+	place_begin(&place, folder);
 	if ((place.where != IN_PROC && place.where != IN_TASKS) || room < LEAST_ROOM)
 		return GO;
 	thread->lists_tasks = place.where == IN_TASKS;

@@ -8,7 +8,7 @@
 bool checking;
 uint64_t checks, differences, stops, hidden_waits;
 
-enum { MOST_UNKNOWN = 1024 };
+enum { MOST_UNKNOWN = 1024, MOST_HIDDEN = 32 };
 
 static FILE *file;
 static uint64_t *refused;                 /* by row */
@@ -46,6 +46,39 @@ void report_refused(const struct call *call, int64_t number)
 		refused_unknown[number >= 0 && number < MOST_UNKNOWN ? number : MOST_UNKNOWN - 1]++;
 }
 
+/* Programs by their names, which the kernel cuts at 15 bytes. The last one stands for all that have no room. */
+static struct hidden {
+	char name[16];
+	uint64_t times;
+} hidden[MOST_HIDDEN] = { [MOST_HIDDEN - 1] = { "others", 0 } };
+
+static void read_name(pid_t tid, char name[16])
+{
+	char path[32];
+	FILE *from;
+
+	snprintf(path, sizeof path, "/proc/%d/comm", tid);
+	from = fopen(path, "re");
+	if (!from || fscanf(from, "%15[^\n]", name) != 1)
+		strcpy(name, "ended");
+	if (from)
+		fclose(from);
+}
+
+/* The memory of the process cannot be read. */
+void report_hidden(pid_t tid)
+{
+	char name[16];
+	int i = 0;
+
+	read_name(tid, name);
+	while (i < MOST_HIDDEN - 1 && hidden[i].times && strcmp(hidden[i].name, name))
+		i++;
+	if (i < MOST_HIDDEN - 1)
+		strcpy(hidden[i].name, name);
+	hidden[i].times++;
+}
+
 void report_stop(void)
 {
 	if (!file)
@@ -56,6 +89,10 @@ void report_stop(void)
 	for (int i = 0; i < MOST_UNKNOWN; i++)
 		if (refused_unknown[i])
 			fprintf(file, "pidtab-box: refused: call %d (not in the table): %lu\n", i, refused_unknown[i]);
+	for (int i = 0; i < MOST_HIDDEN; i++)
+		if (hidden[i].times)
+			fprintf(file, "pidtab-box: undumpable: %s (numbers in its memory are the kernel's): %lu\n", hidden[i].name,
+				hidden[i].times);
 	fprintf(file, "pidtab-box: calls %lu stops %lu checks %lu differences %lu hidden %lu\n",
 	        log_line, stops, checks, differences, hidden_waits);
 	if (fclose(file))

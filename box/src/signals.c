@@ -243,16 +243,21 @@ static bool is_signalfd(const struct thread *thread)
 	return readlink(link, found, sizeof found) == sizeof name - 1 && !memcmp(found, name, sizeof name - 1);
 }
 
-enum onward enter_signalfd_read(struct thread *thread, struct registers *registers)
+enum onward enter_read(struct thread *thread, struct registers *registers)
 {
-	return is_signalfd(thread) ? watch(thread, registers) : GO;
+	if (is_signalfd(thread))
+		return watch(thread, registers);
+	return is_copy_of_none(thread, (int)call_argument(thread, 0)) ? answer_with(thread, -ESRCH) : GO;
 }
 
 /* The bytes of a signalfd may be anywhere. */
-enum onward enter_signalfd_readv(struct thread *thread, struct registers *registers)
+enum onward enter_readv(struct thread *thread, struct registers *registers)
 {
-	(void)registers;
-	return is_signalfd(thread) ? refuse(thread) : GO;
+	if (is_signalfd(thread))
+		return refuse(thread);
+	if (is_copy_of_none(thread, (int)call_argument(thread, 0)))
+		return answer_with(thread, -ESRCH);
+	return strcmp(thread->call->name, "preadv2") ? GO : enter_rewind(thread, registers);
 }
 
 int64_t leave_signalfd_read(struct thread *thread, int64_t result)

@@ -42,7 +42,8 @@ void thread_free(struct thread *thread)
 	if (thread->number)
 		by_number[thread->number - FIRST_THREAD] = NULL;
 	by_real[thread->tid] = NULL;
-	content_done(thread);
+	copy_done(thread);
+	data_end(thread->data);
 	free(thread->lent);
 	kill_all_over(thread);
 	if (thread->process)
@@ -66,5 +67,5 @@ const struct thread *thread_named(const struct process *caller, int64_t number)
 /* The number by which it sees itself. */
 uint32_t thread_seen(const struct thread *thread)
 {
-	return thread->number ? thread->number : table_stat(thread->process->root, 0).levels[0];
+	return thread->number ? thread->number : number_of(thread->process->name, thread->process);
 }

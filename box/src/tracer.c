@@ -27,27 +27,73 @@ void trace(int request, pid_t tid, long data)
 	ptrace(request, tid, 0, data);
 }
 
+/* A program that may not be dumped hides its memory from all but root, from its tracer too: the numbers in it are
+ * the kernel's then. */
+static void is_hidden(pid_t tid)
+{
+	const struct thread *thread = errno == EPERM ? thread_of_real(tid) : NULL;
+
+	if (!thread || !thread->process || thread->process->is_hidden)
+		return;
+	thread->process->is_hidden = true;
+	report_hidden(tid);
+}
+
 bool read_memory(pid_t tid, uint64_t at, void *to, size_t size)
 {
 	struct iovec here = { to, size }, there = { (void *)at, size };
+	ssize_t done = process_vm_readv(tid, &here, 1, &there, 1, 0);
 
-	return process_vm_readv(tid, &here, 1, &there, 1, 0) == (ssize_t)size;
+	if (done < 0)
+		is_hidden(tid);
+	return done == (ssize_t)size;
 }
 
 bool write_memory(pid_t tid, uint64_t at, const void *from, size_t size)
 {
 	struct iovec here = { (void *)from, size }, there = { (void *)at, size };
 
-	return process_vm_writev(tid, &here, 1, &there, 1, 0) == (ssize_t)size;
+	ssize_t done = process_vm_writev(tid, &here, 1, &there, 1, 0);
+
+	if (done < 0)
+		is_hidden(tid);
+	return done == (ssize_t)size;
+}
+
+/* The thread is in a stop: it is to stop at its end too, or not any more. */
+void set_options(struct thread *thread)
+{
+	bool is_seen = end_is_seen(thread->process);
+
+	if (thread->sees_end != is_seen)
+		trace(PTRACE_SETOPTIONS, thread->tid, options | (is_seen ? PTRACE_O_TRACEEXIT : 0));
+	thread->sees_end = is_seen;
 }
 
 void trace_first(pid_t init, struct process *process)
 {
+	struct thread *thread = thread_new(init, process);
+
 	if (ptrace(PTRACE_SEIZE, init, 0, options | PTRACE_O_TRACEEXIT))
 		die("ptrace");
-	thread_number(thread_new(init, process));
+	thread->sees_end = true;
+	thread->data = data_of_first();
+	thread_number(thread);
 	happen(thread_of_real(init), CLAIMED);
 	happen(thread_of_real(init), STOPS);
+}
+
+/* Has the thread make a call of ours, and then go on as it was before. */
+bool inject(struct thread *thread, enum injected what, int64_t call, const uint64_t words[4])
+{
+	struct registers registers = thread->behind;
+
+	registers_repeat(&registers, call);
+	for (int i = 0; i < 4; i++)
+		registers_set_argument(&registers, i, words[i]);
+	thread->phase = INJECTED;
+	thread->injected = what;
+	return registers_write(thread->tid, &registers);
 }
 
 /* An init takes the orphans of its namespace, in the kernel too: it is made a subreaper by a call that it does not know of. The box's own is
@@ -59,27 +105,21 @@ static bool make_subreaper(struct thread *thread)
 	if (!registers_read(thread->tid, &registers))
 		return false;
 	thread->behind = registers;
-	registers_repeat(&registers, SYS_prctl);
-	registers_set_argument(&registers, 0, PR_SET_CHILD_SUBREAPER);
-	registers_set_argument(&registers, 1, 1);
-	thread->phase = INJECTED;
-	thread->injected = MAKE_SUBREAPER;
-	return registers_write(thread->tid, &registers);
+	return inject(thread, MAKE_SUBREAPER, SYS_prctl, (const uint64_t[4]){ PR_SET_CHILD_SUBREAPER, 1, 0, 0 });
 }
 
 /* The first stop of a process or a thread. Options are inherited, and those of an init are its own. */
 void begin(struct thread *thread)
 {
 	const struct process *process = thread->process;
-	int32_t number = (int32_t)thread_seen(thread);
-	bool is_main = thread->tid == process->real, is_nested = process->is_init && is_main;
+	bool is_nested = process->is_init && thread->tid == process->real;
 
-	if (is_main && thread->has_options_of_init != process->is_init)
-		trace(PTRACE_SETOPTIONS, thread->tid, options | (process->is_init ? PTRACE_O_TRACEEXIT : 0));
+	thread->seen = thread_seen(thread);
+	set_options(thread);
 	if (thread->has_call_of_parent)
 		give_registers_back(thread);
 	if (thread->tid_at)
-		write_memory(thread->tid, thread->tid_at, &number, sizeof number);
+		write_memory(thread->tid, thread->tid_at, &thread->seen, sizeof thread->seen);
 	trace(is_nested && make_subreaper(thread) ? PTRACE_SYSCALL : PTRACE_CONT, thread->tid, 0);
 }
 
@@ -96,13 +136,17 @@ static void executed(struct thread *thread)
 			setpgid_over(thread, -1); /* the main one may have been within a call */
 	}
 	happen(thread, EXECUTES);
+	data_executed(thread->data);
 	thread->phase = FREE;
 	thread->has_no_exit = false;
 	thread->lent_count = 0;
 	room_give_back(thread);
+	copy_done(thread);
 	memory_leave(process->memory);
 	process->memory = memory_new();
-	process->wants_no_zombies = process->may_catch_end = false;
+	process->wants_no_zombies = process->may_catch_end = process->had_threads = process->shares_memory = false;
+	process->is_hidden = false;
+	set_options(thread);
 	process->exec_waits = true;
 	if (!process->asked)
 		exec_told(process);
@@ -119,12 +163,18 @@ void exec_told(struct process *process)
 	trace(PTRACE_CONT, process->real, 0);
 }
 
-/* A thread of an init is at its end: with the last one its namespace falls, and it is held until all the others are dead. */
+/* A thread is at its end. Of an init: with the last one its namespace falls, and it is held until all the others
+ * are dead. */
 static void leaving(struct thread *thread)
 {
 	struct process *process = thread->process;
 	unsigned long status = 0;
 
+	robust_end(thread);
+	if (process && !process->is_init) {
+		trace(PTRACE_CONT, thread->tid, 0); /* its end is reported next */
+		return;
+	}
 	happen(thread, LEAVES);
 	if (thread->stage != LEAVING)
 		return;
@@ -145,6 +195,8 @@ void thread_ended(struct thread *thread, int status)
 
 	if (!process->ended)
 		setpgid_over(thread, -1);
+	if (WIFSIGNALED(status))
+		data_killed(thread->data);
 	thread_free(thread);
 	if (tid != process->real)
 		return;
@@ -192,10 +244,22 @@ static bool injected_over(struct thread *thread)
 {
 	struct registers registers;
 	int64_t result = registers_read(thread->tid, &registers) ? registers_result(&registers) : -ESRCH;
+	bool goes_on = false;
 
-	if (thread->injected == MAP_ROOM)
+	switch (thread->injected) {
+	case MAKE_SUBREAPER:
+		break;
+	case MAP_ROOM:
 		room_mapped(thread, result);
-	else if (thread->injected != MAKE_SUBREAPER && filter_added(thread, result))
+		break;
+	case ADD_FILTER:
+	case ADD_FILTER_TO_ALL:
+		goes_on = filter_added(thread, result);
+		break;
+	default:
+		goes_on = copy_goes_on(thread, result);
+	}
+	if (goes_on)
 		return true;
 	registers_write(thread->tid, &thread->behind);
 	thread->phase = FREE;

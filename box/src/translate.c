@@ -126,6 +126,16 @@ static void wait_again(struct thread *thread, struct registers *registers)
 	registers_write(thread->tid, registers);
 }
 
+/* The exit of a call that carries bytes is seen too where they are summed. */
+static enum onward keep_data(struct thread *thread, enum onward onward)
+{
+	if (onward == SEE_EXIT || !thread->data || !data_is_carried(registers_call(&thread->made)))
+		return onward;
+	thread->phase = IN_CALL;
+	thread->entered = events;
+	return SEE_EXIT;
+}
+
 enum onward call_enter(struct thread *thread)
 {
 	struct registers registers;
@@ -136,9 +146,12 @@ enum onward call_enter(struct thread *thread)
 		wait_again(thread, &registers);
 	thread->made = registers;
 	thread->call = call_row(&registers);
+	if (thread->call && thread->call->decides == PLAIN && thread->process->sees_proc)
+		thread->call = call_row_translated(&registers);
 	if (!thread->call || (thread->call->decides == REFUSED && !thread->call->enter))
 		return refuse(thread);
-	return thread->call->enter ? thread->call->enter(thread, &registers) : translate(thread, &registers);
+	return keep_data(thread, thread->call->enter ? thread->call->enter(thread, &registers) : translate(thread,
+		&registers));
 }
 
 /* Behind a wait whose exit is not seen. */
@@ -147,6 +160,17 @@ void wait_over(struct thread *thread)
 	thread->has_no_exit = false;
 	if (!thread->process->ended)
 		call_leave(thread);
+}
+
+/* Whether calls of ours follow behind the call. */
+static bool is_followed(struct thread *thread, const struct registers *registers)
+{
+	thread->behind = *registers;
+	if (thread->wants_copy && copy_begin(thread))
+		return true;
+	if (thread->behind_reads >= 0 && filter_for_reads(thread))
+		return true;
+	return thread->wants_filter && filter_for_proc(thread);
 }
 
 /* The exit of a call. The program finds its arguments as it passed them. */
@@ -162,12 +186,13 @@ enum onward call_leave(struct thread *thread)
 	result = registers_result(&registers);
 	give_back(thread);
 	result = thread->call->leave ? thread->call->leave(thread, result) : translate_back(thread, result);
+	data_add(thread->data, thread->tid, &thread->made, result);
 	registers_restore(&registers, &thread->made);
 	registers_set_result(&registers, result);
 	if (thread->once_more)
 		registers_repeat(&registers, registers_call(&thread->made));
 	thread->once_more = false;
-	if (thread->behind_reads >= 0 && filter_for_reads(thread, &registers, thread->behind_reads))
+	if (is_followed(thread, &registers))
 		return SEE_EXIT;
 	room_give_back(thread);
 	registers_change(thread->tid, &present, &registers);

@@ -177,8 +177,10 @@ static int count_filters(void)
 /* Filters slow all calls, and cannot be taken away. */
 static int filters(void)
 {
-	int before = count_filters();
+	int before;
 
+	count_filters(); /* a first open of a file of /proc has one of its own */
+	before = count_filters();
 	for (int i = 0; i < 5 * MANY; i++)
 		make_signalfd(0);
 	printf("at most 8 filters more: %d\n", count_filters() - before <= 8);

@@ -7,7 +7,7 @@ from rig import OUT, TESTS, TOP, in_box
 
 # A name; a file of box/src, what is taken from it, and what is put in its place; and the program that meets it.
 FAULTS = (
-    ("no subreaper", "tracer.c", "registers_set_argument(&registers, 1, 1);", "registers_set_argument(&registers, 1, 0);", "nested"),
+    ("no subreaper", "tracer.c", "PR_SET_CHILD_SUBREAPER, 1, 0, 0", "PR_SET_CHILD_SUBREAPER, 0, 0, 0", "nested"),
     ("no setpgid of the kernel", "groups.c", "\treturn translate(thread, registers);", "\treturn answer_with(thread, thread->told);", "groups"),
     ("no setsid of the kernel", "groups.c", "&& !checking ? answer_with(thread, thread->told) : watch(thread, registers)",
      "|| registers ? answer_with(thread, thread->told) : GO", "groups"),

@@ -1,9 +1,12 @@
 """What must hold under load: processes that begin and end all at once, and an end of the box that always comes."""
+import contextlib
 import os
 import shutil
 import signal
+import socket
 import subprocess
 import tempfile
+import threading
 import time
 
 import parts
@@ -27,14 +30,33 @@ BOMBS = (20, 100, 200, 300, 500)
 
 
 def often(tell, name, words, times, **how):
-    """The program in the kernel's namespace once, and in the box so often: the same output and status, and no difference."""
-    kernel = in_kernel(words, SECONDS)
+    """The program in the kernel's namespace once, and in the box so often: the same output and status, and no
+    difference. On a machine that has other work the box has ten times as long as the kernel."""
+    begun = time.monotonic()
+    kernel = in_kernel([*how.get("before", ()), *words], 10 * SECONDS)
+    seconds = max(SECONDS, 10 * (time.monotonic() - begun))
     for run in range(times):
-        box = in_box(words, name, SECONDS, **how)
+        box = in_box(words, name, seconds, **how)
         if (kernel.output, kernel.status) != (box.output, box.status):
             tell.fault(name, f"run {run + 1}: kernel {kernel.status} {kernel.output!r}, box {box.status} {box.output!r}")
             return
         tell.differences(name, box)
+
+
+# How often a call stops at most. A fork is counted with the end of its child and the wait for it.
+STOPS = (("query", 1), ("open", 1), ("receive", 1), ("receive-passed", 2), ("descriptor", 0), ("descriptor-proc", 1),
+    ("fork", 5))
+OFTEN = 200
+
+
+def stops(tell):
+    """How many stops each call takes, on average."""
+    program = rig.compiled("stops")
+    for way, most in STOPS:
+        none, many = (in_box([program, way, str(count)], f"stops-{way}", options=()).stops for count in (0, OFTEN))
+        if (many - none) / OFTEN > most + 0.2:
+            tell.fault(f"stops of {way}", f"{(many - none) / OFTEN}, in place of {most}")
+    tell.say("stops", "at most " + ", ".join(f"{way} {most}" for way, most in STOPS))
 
 
 BEHIND = (0, 1, 3, 30)
@@ -73,17 +95,49 @@ def groups(tell):
     return tell.say("groups", f"{len(REFUSED.splitlines())} lines")
 
 
+@contextlib.contextmanager
+def passing_socket():
+    """A path where each who connects gets a pair of sockets, the first of which is to have credentials."""
+    home = rig.folder()
+    server = socket.socket(socket.AF_UNIX)
+    server.bind(f"{home}/socket")
+    os.chmod(f"{home}/socket", 0o777)
+    server.listen()
+
+    def serve():
+        with contextlib.suppress(OSError):
+            while True:
+                one, other = socket.socketpair(socket.AF_UNIX, socket.SOCK_DGRAM)
+                one.setsockopt(socket.SOL_SOCKET, socket.SO_PASSCRED, 1)
+                socket.send_fds(server.accept()[0], [b"x"], [one.fileno(), other.fileno()])
+
+    threading.Thread(target=serve, daemon=True).start()
+    try:
+        yield f"{home}/socket"
+    finally:
+        server.shutdown(socket.SHUT_RDWR)
+        server.close()
+        shutil.rmtree(home)
+
+
 def unseen(tell):
     """Each number that the page says passes unseen does so, and is right in the kernel's namespace."""
-    words = ["env", f"OUTSIDE={os.readlink('/proc/self/ns/pid')}", PYTHON, str(rig.TESTS / "inside/unseen.py")]
-    box, kernel = in_box(words, "unseen", options=("--pid-max", "1000")), in_kernel(words)
-    lines = box.output.splitlines()
-    for line, other in zip(lines, kernel.output.splitlines()):
-        if not line.endswith(" True") or (other != line.replace(" True", " False") and not line.startswith("limit")):
-            tell.fault("unseen", f"box: {line}, kernel: {other}")
-    if len(lines) != 17 or box.status:
-        tell.fault("unseen", box.output)
-    tell.say("unseen", f"{len(lines)} kinds of numbers")
+    count = 0
+    for as_root, most in ((False, 25), (True, 2))[:1 + rig.IS_ROOT]:
+        with passing_socket() as path:
+            words = ["env", f"SOCKET={path}", f"OUTSIDE={os.readlink('/proc/self/ns/pid')}", PYTHON,
+                str(rig.TESTS / "inside/unseen.py")]
+            box, kernel = in_box(words, "unseen", options=("--pid-max", "1000"), as_root=as_root), in_kernel(words,
+                as_root=as_root)
+        lines = box.output.splitlines()
+        for line, other in zip(lines, kernel.output.splitlines()):
+            if not line.endswith(" True") or (other != line.replace(" True", " False")
+                and not line.startswith("limit")):
+                tell.fault("unseen", f"box: {line}, kernel: {other}")
+        if len(lines) != most or box.status:
+            tell.fault("unseen", box.output)
+        count += len(lines)
+    tell.say("unseen", f"{count} lines")
 
 
 def orders(tell):
@@ -132,6 +186,20 @@ def memory(tell):
     for way in BYTES:
         often(tell, f"bytes-{way}", [program, way], 5)
     tell.say("memory", f"{len(BYTES)} ways")
+
+
+LOCKS = (("thread", "private"), ("words", "private"), ("lists", "private"), ("processes", "mapping"), ("processes",
+    "system-v"), ("grandchild", "mapping"),
+         ("sleepers", "mapping"), ("words", "mapping"))
+
+
+def locks(tell):
+    """A robust lock says that its owner has ended, whoever that was, and wakes who sleeps for it."""
+    program, box = rig.compiled("locks", "-pthread"), rig.checked_box()
+    for way, memory in LOCKS:
+        often(tell, f"locks-{way}-{memory}", ["sh", "-c", f"{program} {way} {memory}; exit $?"], 5,
+            box=box) # an init's end is seen anyway
+    tell.say("locks", f"{len(LOCKS)} ways")
 
 
 # What a program does with SIGTERM, how often it is sent, the status, and how many seconds the end takes at most.

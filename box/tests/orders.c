@@ -18,6 +18,7 @@ struct task {
 	bool was_killed, tells_end; /* it stops at its end, as an init's threads do */
 	bool has_asked, has_made, has_been_told, has_been_delayed;
 	bool is_thread;             /* of its parent's process */
+	bool is_late;               /* others have reported since it was killed */
 	int parent;
 	struct thread *thread;
 };
@@ -27,6 +28,7 @@ static struct task tasks[TASKS];
 static struct process made[TASKS];
 static bool in_init;      /* the forkers are threads of the init */
 static int thread_makers; /* how many of them, from the first, make threads */
+static bool has_outsider; /* the last forker is in another namespace, which does not fall */
 static bool has_killed, has_fallen;
 static int open_forks;   /* children of the table without one of the kernel */
 
@@ -40,6 +42,11 @@ void report_difference(const char *what, uint32_t root, int64_t kernel, int64_t 
 {
 	fprintf(stderr, "%s: stage %u, event %ld %ld\n", what, root, kernel, table);
 	wrong++;
+}
+
+static bool is_outside(int number)
+{
+	return has_outsider && (number == FORKERS || number == 2 * FORKERS);
 }
 
 static struct task *task_of(const struct thread *thread)
@@ -138,7 +145,7 @@ static void fall(void)
 {
 	has_fallen = made[INIT].ended = true;
 	for (struct process *process = processes; process; process = process->next) {
-		if (process->is_init || process->dead)
+		if (process->is_init || process->dead || is_outside(process->real))
 			continue;
 		process->ended = true;
 		process->killer = &made[INIT];
@@ -224,14 +231,16 @@ static bool may_be(int number, enum choice choice)
 		return is_forker && number > thread_makers && is_alive(task) && task->has_asked && !task->has_made;
 	case DELAY:
 		return is_forker && number > thread_makers && is_alive(task) && task->has_asked && !task->has_made && !task->has_been_delayed;
-	case TELL: /* a stop may be reported after the kill, and before the stop of the end */
-		return is_forker && task->has_made && !task->has_been_told && (task->life == RUNS || task->life == (task->tells_end ? AT_END : ENDED));
+	/* A stop may be reported after the kill, and before that of the end; really, only if none of others is between. */
+	case TELL:
+		return is_forker && !(has_outsider && task->is_late) && task->has_made && !task->has_been_told &&
+			(task->life == RUNS || task->life == (task->tells_end ? AT_END : ENDED));
 	case RETURN:
 		return is_forker && is_alive(task) && task->thread->stage == MADE;
 	case REPORT:
 		return task->life == FRESH || task->life == AT_END || (task->life == ENDED && (number != INIT || is_alone()));
 	case EXIT:
-		return number == INIT && is_alive(task);
+		return (number == INIT || is_outside(number)) && is_alive(task);
 	default: /* a forker, or a child that may not have begun */
 		return (number == 1 || number == 1 + FORKERS) && !in_init && !has_killed && task->life >= FRESH && task->life <= RUNS && !task->was_killed;
 	}
@@ -252,7 +261,8 @@ static void make_child(int forker)
 	bool is_thread = forker <= thread_makers;
 
 	tasks[forker].has_made = true;
-	*child = (struct task){ .life = FRESH, .parent = forker, .is_thread = is_thread, .tells_end = in_init };
+	*child = (struct task){ .life = FRESH, .parent = forker, .is_thread = is_thread, .tells_end = in_init &&
+		!is_outside(forker) };
 	if (is_thread && tasks[forker].was_killed)
 		kill_task(child);
 }
@@ -279,6 +289,8 @@ static void report(int number)
 {
 	struct task *task = &tasks[number];
 
+	for (int i = 0; i < TASKS; i++)
+		tasks[i].is_late |= tasks[i].was_killed;
 	if (!task->thread)
 		new_thread(number, NULL);
 	if (task->life == FRESH) {
@@ -294,9 +306,11 @@ static void report(int number)
 }
 
 /* The init's threads end with it. */
-static void exit_init(void)
+static void leave_kernel(int number)
 {
-	for (int i = 0; i < TASKS; i++)
+	if (number != INIT)
+		kill_task(&tasks[number]);
+	for (int i = 0; i < TASKS && number == INIT; i++)
 		if (i == INIT || (tasks[i].life != UNMADE && tasks[i].is_thread))
 			kill_task(&tasks[i]);
 }
@@ -313,7 +327,7 @@ static void take(int number, enum choice choice)
 	case TELL: tell(number); break;
 	case RETURN: happen(task->thread, RETURNS); break;
 	case REPORT: report(number); break;
-	case EXIT: exit_init(); break;
+	case EXIT: leave_kernel(number); break;
 	default: has_killed = true; kill_task(task);
 	}
 	stages_settle();
@@ -335,7 +349,8 @@ static void start(void)
 	has_killed = has_fallen = false;
 	open_forks = 0;
 	for (int i = 0; i <= FORKERS; i++) {
-		tasks[i] = (struct task){ .life = RUNS, .tells_end = i == INIT || in_init, .is_thread = in_init && i != INIT };
+		tasks[i] = (struct task){ .life = RUNS, .tells_end = i == INIT || (in_init && !is_outside(i)),
+			.is_thread = in_init && i != INIT && !is_outside(i) };
 		new_thread(i, tasks[i].is_thread ? &made[INIT] : new_process(i));
 		happen(tasks[i].thread, CLAIMED);
 		happen(tasks[i].thread, STOPS);
@@ -413,7 +428,8 @@ static void write_state(unsigned char *state)
 		*state++ = (unsigned char)(task->thread && task->thread->is_killed);
 		*state++ = (unsigned char)(made[i].ended | made[i].dead << 1 | (made[i].killer != NULL) << 2);
 	}
-	*state++ = (unsigned char)(tasks[1].has_been_delayed | tasks[2].has_been_delayed << 1);
+	*state++ = (unsigned char)(tasks[1].has_been_delayed | tasks[2].has_been_delayed << 1 | (has_outsider
+		? tasks[1].is_late << 2 | tasks[2].is_late << 3 : 0));
 	*state = (unsigned char)(has_killed | has_fallen << 1 | stages_lost() << 2 | (open_forks & 15) << 3);
 }
 
@@ -479,5 +495,10 @@ int main(void)
 	play_all("a thread and a fork of an init's threads");
 	thread_makers = 2;
 	play_all("threads of an init's threads");
+	has_outsider = true;
+	thread_makers = 0;
+	play_all("a fork of an init's thread, and one in another namespace");
+	in_init = false;
+	play_all("a fork, and one in another namespace");
 	return 0;
 }

@@ -41,12 +41,14 @@ def programs(tell):
 
 def inside(tell):
     """Scripts whose lines are the same in a namespace of the kernel."""
-    for name in ("carried", "proc", "nested", "all"):
+    for name in ("carried", "proc", "opened", "opened by root", "nested", "all"):
         if name == "nested" and not rig.IS_ROOT:
             tell.skip(name, "the kernel lets only root unshare")
             continue
-        words = [PYTHON, str(TESTS / "inside" / f"{name}.py")]
-        kernel, box = in_kernel(words, as_root=name in ("nested", "all")), in_box(words, name, as_root=name == "all")
+        is_by_root = name in ("opened by root", "all") and rig.IS_ROOT
+        words = [PYTHON, str(TESTS / "inside" / f"{name.split()[0]}.py")]
+        kernel, box = in_kernel(words, as_root=is_by_root or name == "nested"), in_box(words, name.replace(" ", "-"),
+            as_root=is_by_root)
         if (kernel.output, kernel.status) != (box.output, box.status):
             tell.fault(name, f"kernel:\n{kernel.output}\nbox:\n{box.output}")
         tell.differences(name, box)
@@ -63,18 +65,44 @@ def jobs(tell):
 
 
 def refused(tell):
-    """Each call that is refused has ENOSYS, and the report names it; but what the filter alone refuses."""
-    unseen = {"set_robust_list"}
+    """Each call that is refused has ENOSYS, and the report names it."""
     box = in_box([PYTHON, str(TESTS / "inside/refused.py")], "refused", options=())
     lines = [line.rsplit(" ", 1) for line in box.output.splitlines()]
     for name, error in lines:
         if error != "ENOSYS":
             tell.fault(f"refused {name}", error)
-        if name not in unseen and f"refused: {name} (" not in box.report:
+        if f"refused: {name} (" not in box.report:
             tell.fault(f"refused {name}", "the report does not name it")
     if len(lines) < 20 or box.status:
         tell.fault("refused", box.output)
     tell.say("refused", f"{len(lines)} calls")
+
+
+# Two processes of a name and one of another that may not be dumped, a thread of one of them, and one that may: each
+# waits twice for a child.
+HIDDEN = """
+import ctypes, os, socket, threading
+libc = ctypes.CDLL(None)
+for name, dumpable in ((b"first", 0), (b"first", 0), (b"a second", 0), (b"third", 1)):
+    if os.fork() == 0:
+        libc.prctl(15, name, 0, 0, 0)
+        libc.prctl(4, dumpable, 0, 0, 0)
+        ask = lambda: socket.socketpair()[0].getsockopt(socket.SOL_SOCKET, socket.SO_PEERCRED, 12)
+        ask()
+        thread = threading.Thread(target=ask)
+        thread.start()
+        thread.join()
+        os._exit(0)
+    os.wait()
+"""
+
+
+def hidden(tell):
+    """The report names each program whose memory the box may not read, as often as there were processes of it."""
+    found = re.findall(r"undumpable: (.*) \(.*\): (\d+)", in_box([PYTHON, "-c", HIDDEN], "hidden").report)
+    if found != [("first", "2"), ("a second", "1")]:
+        tell.fault("hidden", str(found))
+    tell.say("hidden", f"{len(found)} programs are named")
 
 
 def host(tell):
@@ -99,6 +127,8 @@ def misuse(tell):
         ([], 125, "usage:"), (["--pids-max", "x", "true"], 125, "--pids-max takes 0 to 4194304: x"),
         (["--pid-max", "300", "true"], 125, "--pid-max takes 301 to 4194304: 300"), (["--proc", "none", "true"], 125, "--proc takes box or kernel: none"),
         (["--log", "/no/file", "true"], 125, "pidtab-box: /no/file: No such file or directory"), (["--log", "/dev/full", "true"], 125, "the log"),
+        (["--data", "/no/file", "true"], 125, "pidtab-box: /no/file: No such file or directory"),
+        (["--data", "/dev/full", "true"], 125, "the sums"),
         (["/no/program"], 127, "pidtab-box: /no/program: No such file or directory"), (["/dev/null"], 126, "Permission denied"),
         (["sh", "-c", "exit 7"], 7, ""), (["sh", "-c", "sh -c 'kill -9 $$'; exit $?"], 137, ""), (["--pids-max", "1", "sh", "-c", "true | true"], 2, "fork"),
     ]

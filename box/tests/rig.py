@@ -68,7 +68,7 @@ class Run:
 
 def environment(home):
     return {"PATH": "/usr/local/bin:/usr/bin:/bin:/usr/sbin:/sbin" if not IS_ROOT else "/usr/bin:/bin:/usr/sbin:/sbin",
-            "HOME": home, "TMPDIR": home, "LANG": "C.UTF-8", "PYTHONDONTWRITEBYTECODE": "1"}
+            "HOME": home, "TMPDIR": home, "LANG": "C.UTF-8", "PYTHONDONTWRITEBYTECODE": "1", "PYTHONHASHSEED": "0"}
 
 
 def start(words, seconds, home, stdin):

@@ -1,10 +1,11 @@
-"""Suites of others: Python's own tests of processes, and stressors of stress-ng, in the kernel's namespace and in the box."""
+"""Suites of others, in the kernel's namespace and in the box: Python's tests of processes, the kernel's, stress-ng."""
 import concurrent.futures
+import glob
 import re
 import shutil
 import subprocess
 
-from rig import in_box, in_kernel
+from rig import IS_ROOT, OUT, in_box, in_kernel
 
 PYTHON = "/usr/bin/python3"
 SUITES = ("fork1 wait3 wait4 popen pty posix os subprocess signal threading multiprocessing_main_handling multiprocessing_fork asyncio "
@@ -57,6 +58,56 @@ def python(tell):
             tell.say(f"python {suite}", f"{here} of {sum(it == 'ok' for it in one.values())} ok, {box.calls} calls")
             tell.differences(f"python {suite}", box)
     return tell.say("python", f"{ok} ok in the box, {calls} calls")
+
+
+SOURCES = "/usr/src/linux-source-*.tar.xz"
+TOPICS = ("pidfd", "pid_namespace", "clone3")
+KERNEL_SECONDS = 240
+RESULT = re.compile(r"^((?:not )?ok) \d+ (.*)", re.MULTILINE)
+
+
+def kernel_tests(tell, archive):
+    """The programs of the kernel's own tests, built in out/box/kernel of its sources."""
+    folder = OUT / "kernel"
+    folder.mkdir(parents=True, exist_ok=True)
+    wanted = [f"*/tools/testing/selftests/{it}" for it in (*TOPICS, "kselftest*.h")]
+    subprocess.run(["tar", "-xJf", archive, "-C", folder, "--strip-components=4", "--wildcards", *wanted], check=True)
+    made = []
+    for source in sorted(it for topic in TOPICS for it in folder.glob(f"{topic}/*.c")):
+        program = folder / f"{source.stem}.built"
+        if subprocess.run(["cc", "-O2", "-w", f"-I{folder}", "-o", program, source, "-pthread"], capture_output=True,
+            check=False).returncode:
+            tell.skip(f"kernel {source.stem}", "it does not compile with the headers of this machine")
+        else:
+            made.append(program)
+    return made
+
+
+def results(output):
+    """Whether each test that was not skipped went well, by its name without what is said of this run."""
+    return {re.sub(r"[\[(:].*|0x\w*$", "", name).strip(): word for word, name in RESULT.findall(output) if "# SKIP"
+        not in name}
+
+
+def kernel(tell):
+    """The kernel's own tests of pidfds, PID namespaces and clone3: each has the same result in both."""
+    archives = sorted(glob.glob(SOURCES))
+    if not archives or not IS_ROOT:
+        return tell.skip("kernel", f"no {SOURCES} (Debian: linux-source)" if not archives
+            else "the kernel lets only root unshare")
+    count = calls = 0
+    for program in kernel_tests(tell, archives[-1]):
+        what = f"kernel {program.stem}"
+        one, box = in_kernel([program], KERNEL_SECONDS, as_root=True), in_box([program], f"kernel-{program.stem}",
+            KERNEL_SECONDS, as_root=True)
+        natively, inside = results(one.output), results(box.output)
+        others = [it for it in natively if inside.get(it) != natively[it]]
+        for name in others:
+            tell.fault(what if what in tell.expected else f"{what} {name}",
+                f"{name}: natively {natively[name]}, in the box {inside.get(name)}")
+        count, calls = count + len(natively) - len(others), calls + box.calls
+        tell.differences(what, box)
+    return tell.say("kernel", f"{count} results of {archives[-1]} are the same, {calls} calls")
 
 
 def stress(tell):

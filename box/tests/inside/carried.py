@@ -93,6 +93,8 @@ def sockets():
     _, control, _, _ = right.recvmsg(10, 100)
     say("SCM_CREDENTIALS of a child", struct.unpack("3i", control[0][2])[0] == child)
     os.waitpid(child, 0)
+    left.send(b"d")
+    say("SCM_CREDENTIALS cut", [struct.unpack("i", it[2][:4])[0] == os.getpid() for it in right.recvmsg(10, 20)[1]])
     say("SO_PEERCRED", struct.unpack("3i", left.getsockopt(socket.SOL_SOCKET, socket.SO_PEERCRED, 12)) == me)
 
 
