@@ -19,7 +19,7 @@ BIN = REPOSITORY / "bindings" / "python" / "bin"
 LAUNCHER = BIN / "pidtabctl"
 
 BESIDE = ("check", "tree", "play", "top", "replay", "compare", "keep")
-ALL = {"run", "list", "work", "diff", "whatif", "completion", "help", *BESIDE}
+ALL = {"run", "list", "work", "conform", "diff", "whatif", "completion", "help", *BESIDE}
 
 # The first example of docs/SCRIPT.md, and its list.
 SCRIPT = b"fork 1 new\nfork 2\nnspid 1 3\ngetppid 2\n"
