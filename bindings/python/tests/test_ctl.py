@@ -249,7 +249,7 @@ class Completion(Files):
             line = " ".join(f"'{word}'" for word in ("pidtabctl", *words))
             return self.ask("bash", f'. {{file}}; COMP_WORDS=({line}); COMP_CWORD={len(words)}; _pidtabctl; printf "%s\\n" "${{{{COMPREPLY[@]}}}}"')
 
-        self.assertEqual(complete("co"), ["compare", "completion"])
+        self.assertEqual(complete("co"), ["compare", "conform", "completion"])
         self.assertEqual(set(complete("")), ALL | {"--help", "--version"})
         self.assertEqual(set(complete("help", "")), ALL)
         self.assertEqual(complete("completion", "b"), ["bash"])
