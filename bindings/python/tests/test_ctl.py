@@ -271,7 +271,7 @@ class Completion(Files):
         def complete(line: str) -> set[str]:
             return {it.partition("\t")[0] for it in self.ask("fish", f"cd {self.folder}; source {{file}}; complete -C '{line}'")}
 
-        self.assertEqual(complete("pidtabctl co"), {"compare", "completion"})
+        self.assertEqual(complete("pidtabctl co"), {"compare", "conform", "completion"})
         self.assertEqual(complete("pidtabctl "), ALL)
         self.assertEqual(complete("pidtabctl help "), ALL)
         self.assertEqual(complete("pidtabctl completion "), {"bash", "zsh", "fish"})
