@@ -249,7 +249,7 @@ func (it calls) do(call C.struct_pidtab_call) (*C.struct_pidtab_reply, error) {
 		return reply, err
 	}
 	if reply.kind == C.PIDTAB_REFUSED {
-		return reply, refusalOf(reply)
+		return reply, withCall(refusalOf(reply), callOf(&call).text())
 	}
 	return reply, nil
 }

@@ -46,7 +46,7 @@ func (it *caseWorld) begin(shared *Shared, tables []*Table) {
 		it.same(it.seats[i].Worker(), i)
 	}
 	_, err := shared.Seat()
-	it.same(err, ErrOutOfRange)
+	it.same(err, ErrNoSeat)
 }
 
 func (it *caseWorld) open(settings Settings) error {
@@ -55,7 +55,7 @@ func (it *caseWorld) open(settings Settings) error {
 	var tables []*Table
 	for i := 0; i < 3 && isAlone; i++ {
 		table, fault := Open(settings.PidMax)
-		it.same(fault, err)
+		it.same(status(fault), status(err))
 		tables = append(tables, table)
 	}
 	if err != nil {
@@ -71,7 +71,7 @@ func (it *caseWorld) load(text string, counts []uint64, keep uint64) error {
 	var tables []*Table
 	for i := 0; i < 3 && len(counts) == 1 && counts[0]+keep == 0; i++ {
 		table, fault := FromDump(text)
-		it.same(fault, err)
+		it.same(status(fault), status(err))
 		tables = append(tables, table)
 	}
 	if err != nil {
@@ -126,7 +126,7 @@ func (it *caseWorld) call(line string) string {
 	})
 	it.sameByMethod(elsewhere.calls, entry)
 	it.same([]any{entry.Worker, sayReply(entry.Reply)}, []any{uint32(it.at), answer})
-	asked := told{Reply{}, ErrOutOfRange}
+	asked := told{Reply{}, RangeError{"Call", line, "a query, as the operations say"}}
 	for _, query := range queryWords {
 		if strings.HasPrefix(line, query+" ") {
 			asked = told{entry.Reply, nil}
@@ -244,8 +244,12 @@ func byItsMethod(it calls, call Call) told {
 
 // sameByMethod makes a call by its method, which tells what the entry has.
 func (it *caseWorld) sameByMethod(by calls, entry Entry) {
-	found := byItsMethod(by, entry.Call)
-	it.same(found.err, entry.Reply.Err())
+	found, wanted := byItsMethod(by, entry.Call), entry.Reply.Err()
+	if refusal, isRefusal := wanted.(Refusal); isRefusal {
+		refusal.Call, _ = entry.Call.Line()
+		wanted = refusal
+	}
+	it.same(found.err, wanted)
 	if found.err == nil {
 		it.same(found.answer, answerOf(entry.Reply))
 	}
@@ -274,6 +278,9 @@ func answerOf(reply Reply) any {
 func status(err error) string {
 	if refusal, isRefusal := err.(Refusal); isRefusal {
 		return errnoNames[refusal.Errno] + " " + refusal.Why
+	}
+	if errors.Is(err, ErrOutOfRange) {
+		return "OUT_OF_RANGE"
 	}
 	return statusNames[err]
 }
@@ -475,7 +482,7 @@ func (it *caseWorld) replay(change string, place uint64) {
 		recorded = place + 1
 	case "stranger":
 		saved[place].Worker = settings.Workers
-		it.same(again.Replay(saved), ReplayError{int(place), ErrOutOfRange})
+		it.same(again.Replay(saved), ReplayError{int(place), outside("Entry.Worker", settings.Workers, 0, settings.Workers-1)})
 		recorded = place
 	default:
 		it.same(again.Replay(saved), nil)

@@ -103,8 +103,8 @@ func SharedFromDump(text string, counts []uint64, keep uint64) (*Shared, error) 
 	if err := compareVersions(); err != nil {
 		return nil, err
 	}
-	if len(counts) == 0 {
-		return nil, ErrOutOfRange
+	if err := workersRange("len(counts)", len(counts)); err != nil {
+		return nil, err
 	}
 	numbers, before := make([]C.uint64_t, len(counts)), uint64(0)
 	for i, count := range counts {
@@ -115,6 +115,9 @@ func SharedFromDump(text string, counts []uint64, keep uint64) (*Shared, error) 
 	held.goesOn = true
 	at, workers := &numbers[0], C.size_t(len(numbers))
 	status := C.pidtab_record_load(held.raw, unsafe.Pointer(&bytes[0]), C.size_t(len(text)), at, workers, fault)
+	if status == C.PIDTAB_OUT_OF_RANGE {
+		return nil, RangeError{"the sum of counts", fmt.Sprint(before), "less than the stamp of the text"}
+	}
 	if err := textFaultOf(status, fault); err != nil {
 		return nil, err
 	}

@@ -67,9 +67,9 @@ func effectOf(numbers *C.struct_pidtab_effect) Effect {
 	return effect
 }
 
-// toldOf is what a call has told with its effects; nothing where it was not made.
-func toldOf(reply *C.struct_pidtab_reply, effects []Effect, status C.uint32_t) (Reply, []Effect, error) {
-	if err := faultOf(uint32(status)); err != nil {
+// toldOf is what the call has told with its effects; nothing where it was not made.
+func toldOf(call Call, reply *C.struct_pidtab_reply, effects []Effect, status C.uint32_t) (Reply, []Effect, error) {
+	if err := named(status, call.rangeFault); err != nil {
 		return Reply{}, nil, err
 	}
 	return replyOf(reply), effects, nil

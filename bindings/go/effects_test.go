@@ -80,8 +80,8 @@ func TestWhatCallsDoToTasks(t *testing.T) {
 		if reply := isTold(t, it, forkOf(1)); childIn(reply) != (Child{6, 6}) {
 			t.Error(reply)
 		}
-		isNotMade(t, it, exitOf(6, 256), ErrOutOfRange)
-		isNotMade(t, it, Call{Operation: 99}, ErrOutOfRange)
+		isNotMade(t, it, exitOf(6, 256), RangeError{"Call.Number (status)", "256", "0 to 255"})
+		isNotMade(t, it, Call{Operation: 99}, RangeError{"Call.Operation", "99", "0 to 18"})
 	}
 	if ordinal, made := seat.Ordinal(); ordinal != 9 || !made {
 		t.Error(ordinal, made)

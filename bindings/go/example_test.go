@@ -245,7 +245,7 @@ func ExampleTable_NamespaceMembers() {
 	// [2 3 5 6] <nil>
 	// [3 5] <nil>
 	// [5] <nil>
-	// [] pidtab: no such process: no-caller
+	// [] pidtab: namespace members 4 0 2: no such process: no-caller
 	// [] <nil>
 	// [2 3 5] <nil>
 }

@@ -121,7 +121,7 @@ func TestALabelGoesWithItsTask(t *testing.T) {
 
 func TestLabelsThatAreNone(t *testing.T) {
 	table := open(t, 32768)
-	want(t, "nobody", only(table.Label(9, "x")), nil, Refusal{syscall.ESRCH, "no-task", NoTask, 0})
+	want(t, "nobody", only(table.Label(9, "x")), nil, Refusal{syscall.ESRCH, "no-task", NoTask, 0, "label 9"})
 	for _, text := range []string{"a\nb", "\x07", "\xff", "\u2028"} {
 		want(t, text, only(table.Label(1, text)), nil, ErrBadLabel)
 	}
@@ -160,6 +160,6 @@ func TestLabelsOfASharedTable(t *testing.T) {
 		}
 		want(t, name, of(labelsOf(t, shared), nil), map[uint32]string{}, nil)
 	}
-	want(t, "nobody", only(shared.Label(9, "x")), nil, Refusal{syscall.ESRCH, "no-task", NoTask, 0})
+	want(t, "nobody", only(shared.Label(9, "x")), nil, Refusal{syscall.ESRCH, "no-task", NoTask, 0, "label 9"})
 	want(t, "no label", only(shared.Label(1, "a\nb")), nil, ErrBadLabel)
 }

@@ -19,9 +19,10 @@ func (table *Table) Label(task uint32, text string) error {
 	held := table.held()
 	held.lock.Lock()
 	defer held.lock.Unlock()
-	return held.labels.put(text, func(found *C.struct_pidtab_task) C.uint32_t {
+	err := held.labels.put(text, func(found *C.struct_pidtab_task) C.uint32_t {
 		return C.pidtab_stat(&held.raw, 1, C.uint32_t(task), found)
 	})
+	return withCall(err, "label", uint64(task))
 }
 
 // Label names a task, as that of a Table does: whoever lists the table sees the name. A Replay that stops takes all names away.
@@ -29,9 +30,10 @@ func (shared *Shared) Label(task uint32, text string) error {
 	held := shared.held()
 	held.lock.Lock()
 	defer held.lock.Unlock()
-	return held.labels.put(text, func(found *C.struct_pidtab_task) C.uint32_t {
+	err := held.labels.put(text, func(found *C.struct_pidtab_task) C.uint32_t {
 		return C.pidtab_record_stat(held.raw, 1, C.uint32_t(task), found)
 	})
+	return withCall(err, "label", uint64(task))
 }
 
 // labels are names of tasks by their root numbers.

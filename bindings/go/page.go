@@ -42,9 +42,10 @@ func (table *Table) ControlTasks(caller uint32, control uint64, from uint32) ([]
 	held := table.held()
 	held.lock.RLock()
 	defer held.lock.RUnlock()
-	return allOf(func(numbers *C.uint32_t, room C.size_t, reply *C.struct_pidtab_reply) C.uint32_t {
+	found, err := allOf(func(numbers *C.uint32_t, room C.size_t, reply *C.struct_pidtab_reply) C.uint32_t {
 		return C.pidtab_control_tasks(&held.raw, C.uint32_t(caller), C.uint64_t(control), C.uint32_t(from), numbers, room, reply)
 	})
+	return found, withCall(err, "control tasks", uint64(caller), control, uint64(from))
 }
 
 // ControlTasks are the numbers of the live tasks directly in a control group, as ControlTasks of a Table has them; it is not recorded.
@@ -52,9 +53,10 @@ func (shared *Shared) ControlTasks(caller uint32, control uint64, from uint32) (
 	held := shared.held()
 	held.lock.RLock()
 	defer held.lock.RUnlock()
-	return allOf(func(numbers *C.uint32_t, room C.size_t, reply *C.struct_pidtab_reply) C.uint32_t {
+	found, err := allOf(func(numbers *C.uint32_t, room C.size_t, reply *C.struct_pidtab_reply) C.uint32_t {
 		return C.pidtab_record_control_tasks(held.raw, C.uint32_t(caller), C.uint64_t(control), C.uint32_t(from), numbers, room, reply)
 	})
+	return found, withCall(err, "control tasks", uint64(caller), control, uint64(from))
 }
 
 // Children are the numbers of the children of the task pid, as Children of a Table has them; it is not recorded. Refused as no-caller; ErrNoMemory.
@@ -86,18 +88,29 @@ func (table *Table) page(whom, caller, number, from uint32) ([]uint32, error) {
 	held := table.held()
 	held.lock.RLock()
 	defer held.lock.RUnlock()
-	return allOf(func(numbers *C.uint32_t, room C.size_t, reply *C.struct_pidtab_reply) C.uint32_t {
+	found, err := allOf(func(numbers *C.uint32_t, room C.size_t, reply *C.struct_pidtab_reply) C.uint32_t {
 		return C.pidtab_page(&held.raw, C.uint32_t(caller), C.uint32_t(whom), C.uint32_t(number), C.uint32_t(from), numbers, room, reply)
 	})
+	return found, withCall(err, whomNames[whom], uint64(caller), uint64(number), uint64(from))
 }
 
 func (shared *Shared) page(whom, caller, number, from uint32) ([]uint32, error) {
 	held := shared.held()
 	held.lock.RLock()
 	defer held.lock.RUnlock()
-	return allOf(func(numbers *C.uint32_t, room C.size_t, reply *C.struct_pidtab_reply) C.uint32_t {
+	found, err := allOf(func(numbers *C.uint32_t, room C.size_t, reply *C.struct_pidtab_reply) C.uint32_t {
 		return C.pidtab_record_page(held.raw, C.uint32_t(caller), C.uint32_t(whom), C.uint32_t(number), C.uint32_t(from), numbers, room, reply)
 	})
+	return found, withCall(err, whomNames[whom], uint64(caller), uint64(number), uint64(from))
+}
+
+// What a page of each kind is called in a refusal.
+var whomNames = [...]string{
+	C.PIDTAB_CHILDREN:          "children",
+	C.PIDTAB_GROUP_MEMBERS:     "group members",
+	C.PIDTAB_SESSION_MEMBERS:   "session members",
+	C.PIDTAB_NAMESPACE_MEMBERS: "namespace members",
+	C.PIDTAB_NAMESPACE_OWN:     "namespace own",
 }
 
 // allOf are all numbers of a function of the library that writes as many as there is room for, and whose reply counts all. Nothing changes

@@ -6,22 +6,28 @@ import "C"
 import (
 	"errors"
 	"fmt"
+	"os"
+	"strconv"
 	"syscall"
 )
 
 // Why a call was not made, or another function not done. The table and its history are as they were, but where a Replay has ErrDiffers.
 var (
-	ErrClosed     = errors.New("pidtab: the table is closed")
+	// ErrClosed is os.ErrClosed too, by errors.Is.
+	ErrClosed     = error(&special{"pidtab: the table is closed", os.ErrClosed})
 	ErrNoMemory   = errors.New("pidtab: no memory")
 	ErrSpent      = errors.New("pidtab: spent: the table has made 2^64 - 2 calls")
-	ErrOutOfRange = errors.New("pidtab: out of range: pid_max (301 to 4194304), workers (1 to 16), a worker, a seat, a number, no query, or what a call takes")
-	ErrEmptyLine  = errors.New("pidtab: an empty line has no answer")
-	ErrBadLine    = errors.New("pidtab: bad line")
-	ErrBusy       = errors.New("pidtab: busy: a thread that is not here is in a call, as in the forked child of a process with threads")
-	ErrNotKept    = errors.New("pidtab: no entry with the ordinal is kept: it was cut away, or is not reached yet")
-	ErrAgain      = errors.New("pidtab: another number of calls was recorded by now")
-	ErrDiffers    = errors.New("pidtab: a reply is not the saved one")
-	ErrUnsaved    = errors.New("pidtab: too many calls are not saved, and the saver has failed or ended")
+	ErrOutOfRange = errors.New("pidtab: out of range") // most often in a RangeError, which names the argument
+	// ErrNoSeat is ErrOutOfRange too, by errors.Is, as ErrNoNamespace is.
+	ErrNoSeat      = error(&special{"pidtab: each seat is given: there are as many as Settings.Workers", ErrOutOfRange})
+	ErrNoNamespace = error(&special{"pidtab: no namespace has the id", ErrOutOfRange})
+	ErrEmptyLine   = errors.New("pidtab: an empty line has no answer")
+	ErrBadLine     = errors.New("pidtab: bad line")
+	ErrBusy        = errors.New("pidtab: busy: a thread that is not here is in a call, as in the forked child of a process with threads")
+	ErrNotKept     = errors.New("pidtab: no entry with the ordinal is kept: it was cut away, or is not reached yet")
+	ErrAgain       = errors.New("pidtab: another number of calls was recorded by now")
+	ErrDiffers     = errors.New("pidtab: a reply is not the saved one")
+	ErrUnsaved     = errors.New("pidtab: too many calls are not saved, and the saver has failed or ended")
 )
 
 // ReplayError is why a replay stopped: the entries before the place were made again, and none behind it. ErrDiffers says that the call of the
@@ -81,25 +87,93 @@ func (word Word) hasID() bool {
 	return word == NoNumber || word == PidsLimit
 }
 
+// The errors of the words: errors.Is finds each in a Refusal that has its word.
+var (
+	ErrNoCaller     = errors.New("pidtab: no-caller: no live task has the caller's root number")
+	ErrNoTask       = errors.New("pidtab: no-task: no task is there, or none that the call may be made on")
+	ErrNoChild      = errors.New("pidtab: no-child: no child matches")
+	ErrNoNumber     = errors.New("pidtab: no-number: the namespace with the id has no free number")
+	ErrPidsLimit    = errors.New("pidtab: pids-limit: the control group with the id has as many tasks as its limit allows")
+	ErrSpaceFallen  = errors.New("pidtab: space-fallen: the namespace for the caller's children has fallen")
+	ErrTooDeep      = errors.New("pidtab: too-deep: a namespace below one of level 32, the deepest")
+	ErrElsewhere    = errors.New("pidtab: elsewhere: a new namespace from a caller whose children go into another namespace")
+	ErrBadGroup     = errors.New("pidtab: bad-group: a negative process group")
+	ErrOtherSession = errors.New("pidtab: other-session: a child in another session")
+	ErrIsLeader     = errors.New("pidtab: is-leader: a session leader, or a process group leader")
+	ErrNoGroup      = errors.New("pidtab: no-group: no such process group in the caller's session")
+	ErrExecuted     = errors.New("pidtab: executed: a child that has executed")
+	ErrRootInit     = errors.New("pidtab: root-init: the exit of the root namespace's init")
+	ErrNoControl    = errors.New("pidtab: no-control: no control group has the id")
+	ErrControlBusy  = errors.New("pidtab: control-busy: a control group with live tasks or children")
+	ErrRootControl  = errors.New("pidtab: root-control: the root control group, which has no limit and stays")
+	ErrBadLimit     = errors.New("pidtab: bad-limit: a limit above 4194304")
+	ErrControlDepth = errors.New("pidtab: control-depth: a control group below one of level 64, the deepest")
+)
+
+// The error of each word.
+var wordErrors = map[Word]error{
+	NoCaller:     ErrNoCaller,
+	NoTask:       ErrNoTask,
+	NoChild:      ErrNoChild,
+	NoNumber:     ErrNoNumber,
+	PidsLimit:    ErrPidsLimit,
+	SpaceFallen:  ErrSpaceFallen,
+	TooDeep:      ErrTooDeep,
+	Elsewhere:    ErrElsewhere,
+	BadGroup:     ErrBadGroup,
+	OtherSession: ErrOtherSession,
+	IsLeader:     ErrIsLeader,
+	NoGroup:      ErrNoGroup,
+	Executed:     ErrExecuted,
+	RootInit:     ErrRootInit,
+	NoControl:    ErrNoControl,
+	ControlBusy:  ErrControlBusy,
+	RootControl:  ErrRootControl,
+	BadLimit:     ErrBadLimit,
+	ControlDepth: ErrControlDepth,
+}
+
 // The end of refusals.
 
-// Refusal is an error of a call that the table refuses, which changes nothing but that the call is counted. Its errno is wrapped:
-// errors.Is(err, syscall.ESRCH).
+// Refusal is an error of a call that the table refuses, which changes nothing but that the call is counted. errors.Is finds the error of its
+// word in it, as ErrNoTask, and its errno, as syscall.ESRCH.
 type Refusal struct {
 	Errno syscall.Errno // the error that the kernel would give
 	Why   string        // the word, and behind it the id if there is one, as the script language has them
 	Word  Word          // the word alone, as NoCaller
 	ID    uint64        // behind NoNumber and PidsLimit: the id of what refuses; else 0
+	Call  string        // what was asked, as `fork 99` or `stat 1 99`; empty where a Reply tells the refusal
 }
 
-// Error tells the errno and the word.
+// Error tells the call, the errno and the word.
 func (refusal Refusal) Error() string {
-	return fmt.Sprintf("pidtab: %v: %s", refusal.Errno, refusal.Why)
+	if refusal.Call == "" {
+		return fmt.Sprintf("pidtab: %v: %s", refusal.Errno, refusal.Why)
+	}
+	return fmt.Sprintf("pidtab: %s: %v: %s", refusal.Call, refusal.Errno, refusal.Why)
+}
+
+// Is tells errors.Is that the error of the word is in it.
+func (refusal Refusal) Is(target error) bool {
+	return target != nil && target == wordErrors[refusal.Word]
 }
 
 // Unwrap is the errno.
 func (refusal Refusal) Unwrap() error {
 	return refusal.Errno
+}
+
+// withCall is the error, with what was asked where it is a refusal: a name and its numbers.
+func withCall(err error, name string, numbers ...uint64) error {
+	refusal, isRefusal := err.(Refusal)
+	if !isRefusal {
+		return err
+	}
+	refusal.Call = name
+	for _, number := range numbers {
+		refusal.Call += " " + strconv.FormatUint(number, 10)
+	}
+	return refusal
 }
 
 // refusalOf is what a reply says that is a refusal.

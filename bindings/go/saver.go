@@ -4,6 +4,7 @@ package pidtab
 import "C"
 
 import (
+	"context"
 	"io"
 	"sync"
 	"sync/atomic"
@@ -68,21 +69,46 @@ type saving struct {
 // The errors are those of Save, and that of sync in a SavedError. WaitSaved answers them too. Serve may be called again; but behind a Sync of a file
 // that failed, nobody knows what the disk has: load it.
 func (shared *Shared) Serve(to io.Writer, saved *Saved, keep uint64, sync func() error) error {
-	if to == nil || saved == nil {
+	return shared.ServeContext(context.Background(), to, saved, keep, sync)
+}
+
+// ServeContext is Serve until the context is done too. Then it saves what was recorded, and answers the context's Err in a SavedError, as WaitSaved does
+// until a turn does better. A write or a sync that does not return is not ended.
+func (shared *Shared) ServeContext(ctx context.Context, to io.Writer, saved *Saved, keep uint64, sync func() error) error {
+	if ctx == nil || to == nil || saved == nil {
 		return SavedError{Err: ErrNil}
 	}
+	held := shared.held()
+	defer held.watch(ctx)()
 	// One turn more behind the end, for what was recorded before it.
 	for isLast, hasEnded := false, false; !isLast; {
 		isLast = hasEnded
 		err := shared.serveOnce(to, saved, keep, sync)
 		if err == nil {
-			hasEnded, err = shared.held().sleepUntilCall(saved)
+			hasEnded, err = held.sleepUntilCall(ctx, saved)
 		}
 		if err != nil {
 			return err
 		}
 	}
-	return nil
+	return held.leave(ctx, saved)
+}
+
+// leave ends a saver: what waits is told of a context that is done, but not behind EndSaving.
+func (held *heldRecord) leave(ctx context.Context, saved *Saved) error {
+	saved.lock.Lock()
+	defer saved.lock.Unlock()
+	if held.isEnded() {
+		return nil
+	}
+	return held.tell(saved, ctx.Err())
+}
+
+// isEnded is whether EndSaving was called.
+func (held *heldRecord) isEnded() bool {
+	held.lock.RLock()
+	defer held.lock.RUnlock()
+	return held.saving.hasEnded
 }
 
 // WaitSaved waits until the call with the ordinal is saved: behind the Save, the load or the turn of Serve that has it. Each of these wakes all that
@@ -91,19 +117,58 @@ func (shared *Shared) Serve(to io.Writer, saved *Saved, keep uint64, sync func()
 // An error is that of the saver's last turn, at once until a turn does better: whether the call is saved is not known. ErrEnded behind EndSaving, and
 // ErrClosed behind Close. Before the first turn it waits.
 func (shared *Shared) WaitSaved(ordinal uint64) error {
+	return shared.WaitSavedContext(context.Background(), ordinal)
+}
+
+// WaitSavedContext is WaitSaved, and a context that is done ends the wait for a call that is not saved, with its Err. ErrNil.
+func (shared *Shared) WaitSavedContext(ctx context.Context, ordinal uint64) error {
+	if ctx == nil {
+		return ErrNil
+	}
 	held := shared.held()
 	held.lock.Lock()
 	defer held.lock.Unlock()
-	for held.raw.is_open && held.saving.saved <= ordinal {
-		if held.saving.fault != nil {
-			return held.saving.fault
-		}
-		held.saving.told.Wait()
-	}
-	if !held.raw.is_open {
+	err := held.waitTold(ctx, func() (bool, error) { return !bool(held.raw.is_open) || held.saving.saved > ordinal, held.saving.fault })
+	if err == nil && !held.raw.is_open {
 		return ErrClosed
 	}
+	return err
+}
+
+// waitTold waits for the saver until something is so, or there is a fault, or the context is done. The lock is held, but not meanwhile.
+func (held *heldRecord) waitTold(ctx context.Context, look func() (bool, error)) error {
+	is, err := look()
+	if is {
+		return nil
+	}
+	defer held.watch(ctx)()
+	for !is {
+		if err == nil {
+			err = ctx.Err()
+		}
+		if err != nil {
+			return err
+		}
+		held.saving.told.Wait()
+		is, err = look()
+	}
 	return nil
+}
+
+// watch has all that wait, and the saver, look again once the context is done. What it answers ends that.
+func (held *heldRecord) watch(ctx context.Context) func() {
+	done, over := ctx.Done(), make(chan struct{})
+	if done == nil {
+		return func() {}
+	}
+	go func() {
+		select {
+		case <-done:
+			held.change(func(*saving) {})
+		case <-over:
+		}
+	}()
+	return func() { close(over) }
 }
 
 // BoundUnsaved has at most so many calls be recorded and not saved from now on; 0, as at first, is any number. A call of a seat that would be one
@@ -171,12 +236,12 @@ func (held *heldRecord) change(do func(*saving)) {
 	held.saving.recorded.Broadcast()
 }
 
-// sleepUntilCall sleeps until a call is recorded that is not saved. Whether the saver has ended.
-func (held *heldRecord) sleepUntilCall(saved *Saved) (bool, error) {
+// sleepUntilCall sleeps until a call is recorded that is not saved. Whether the saver has ended, or its context is done.
+func (held *heldRecord) sleepUntilCall(ctx context.Context, saved *Saved) (bool, error) {
 	calls, bytes := saved.Calls(), saved.Bytes()
 	held.lock.Lock()
 	defer held.lock.Unlock()
-	for !held.saving.hasEnded {
+	for !held.saving.hasEnded && ctx.Err() == nil {
 		counts, err := held.counts()
 		if err != nil {
 			return false, SavedError{calls, bytes, err}
@@ -204,17 +269,27 @@ func (held *heldRecord) wakeSleepers() {
 }
 
 // waitForSaver waits until the saver is near enough for so many calls, where there is a bound; for more than the bound, until all are saved. It
-// answers the status of calls that are not to be made. The lock is held.
-func (held *heldRecord) waitForSaver(calls int) C.uint32_t {
-	for held.saving.most != 0 {
-		counts, err := held.counts()
-		if err != nil || counts.Recorded <= held.saving.saved || counts.Recorded-held.saving.saved+uint64(calls) <= held.saving.most {
-			break
-		}
-		if held.saving.fault != nil {
-			return C.PIDTAB_ENDED
-		}
-		held.saving.told.Wait()
+// answers why calls are not to be made: ErrUnsaved, or the Err of the context. The lock is held.
+func (held *heldRecord) waitForSaver(ctx context.Context, calls int) error {
+	if ctx == nil && bool(held.raw.is_open) {
+		return ErrNil
 	}
-	return C.PIDTAB_DONE
+	if held.isNear(calls) {
+		return nil
+	}
+	return held.waitTold(ctx, func() (bool, error) {
+		if held.saving.fault != nil {
+			return held.isNear(calls), ErrUnsaved
+		}
+		return held.isNear(calls), nil
+	})
+}
+
+// isNear is whether so many calls may be made, as the bound has it. The lock is held.
+func (held *heldRecord) isNear(calls int) bool {
+	if held.saving.most == 0 {
+		return true
+	}
+	counts, err := held.counts()
+	return err != nil || counts.Recorded <= held.saving.saved || counts.Recorded-held.saving.saved+uint64(calls) <= held.saving.most
 }

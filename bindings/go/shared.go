@@ -5,6 +5,7 @@ import "C"
 
 import (
 	"context"
+	"fmt"
 	"runtime"
 	"unsafe"
 )
@@ -63,7 +64,7 @@ func OpenShared(settings Settings) (*Shared, error) {
 	held := newRecord()
 	held.settings = settings
 	status := C.pidtab_record_open(held.raw, C.uint32_t(settings.PidMax), C.uint64_t(settings.FirstStamp), C.uint32_t(settings.Workers))
-	if err := faultOf(uint32(status)); err != nil {
+	if err := named(status, settings.rangeFault); err != nil {
 		return nil, err
 	}
 	runtime.SetFinalizer(held, (*heldRecord).close)
@@ -81,7 +82,7 @@ func (shared *Shared) Settings() Settings {
 	return shared.held().settings
 }
 
-// Seat is a seat for the next worker. Each worker's number is given once, from 0 on. ErrOutOfRange where all are given.
+// Seat is a seat for the next worker. Each worker's number is given once, from 0 on. ErrNoSeat where all are given.
 func (shared *Shared) Seat() (*Seat, error) {
 	held := shared.held()
 	held.lock.Lock()
@@ -90,11 +91,11 @@ func (shared *Shared) Seat() (*Seat, error) {
 		return nil, ErrClosed
 	}
 	if held.seated == held.settings.Workers {
-		return nil, ErrOutOfRange
+		return nil, ErrNoSeat
 	}
 	own := &seated{held: held, worker: held.seated}
 	held.seated++
-	return &Seat{calls{own}, own}, nil
+	return own.seat(context.Background()), nil
 }
 
 // Ask answers a query as its call would be answered, refusals too. It is no call: nothing changes, and it is not recorded. The operations say
@@ -103,7 +104,7 @@ func (shared *Shared) Ask(query Call) (Reply, error) {
 	numbers, reply, held := query.numbers(), new(C.struct_pidtab_reply), shared.held()
 	held.lock.RLock()
 	defer held.lock.RUnlock()
-	if err := faultOf(uint32(C.pidtab_record_ask(held.raw, &numbers, reply))); err != nil {
+	if err := named(C.pidtab_record_ask(held.raw, &numbers, reply), query.queryFault); err != nil {
 		return Reply{}, err
 	}
 	return replyOf(reply), nil
@@ -115,7 +116,7 @@ func (shared *Shared) Would(call Call) (Reply, error) {
 	numbers, reply, held := call.numbers(), new(C.struct_pidtab_reply), shared.held()
 	held.lock.RLock()
 	defer held.lock.RUnlock()
-	if err := faultOf(uint32(C.pidtab_record_would(held.raw, &numbers, reply))); err != nil {
+	if err := named(C.pidtab_record_would(held.raw, &numbers, reply), call.rangeFault); err != nil {
 		return Reply{}, err
 	}
 	return replyOf(reply), nil
@@ -138,11 +139,11 @@ func (shared *Shared) Counts() (Counts, error) {
 // Worker is how many calls of the worker were recorded, the cut ones too. ErrOutOfRange where there are not so many workers: they are numbered
 // from 0 on.
 func (shared *Shared) Worker(worker uint32) (uint64, error) {
-	var made C.uint64_t
-	err := shared.beside(func(raw *C.struct_pidtab_record) C.uint32_t {
-		return C.pidtab_record_worker(raw, C.uint32_t(worker), &made)
-	})
-	return uint64(made), err
+	held, made := shared.held(), new(C.uint64_t)
+	held.lock.RLock()
+	defer held.lock.RUnlock()
+	status := C.pidtab_record_worker(held.raw, C.uint32_t(worker), made)
+	return uint64(*made), named(status, func() error { return held.workerFault("worker", worker) })
 }
 
 // Entry is a recorded call with its reply; == compares two.
@@ -173,7 +174,7 @@ const batch = 64
 // is neither a kept entry nor the next call, ErrOutOfRange where most is negative.
 func (shared *Shared) Entries(from uint64, most int) ([]Entry, error) {
 	if most < 0 {
-		return nil, ErrOutOfRange
+		return nil, RangeError{"most", fmt.Sprint(most), "0 or more"}
 	}
 	held := shared.held()
 	held.lock.RLock()
@@ -241,11 +242,7 @@ func (shared *Shared) WaitChanged(ctx context.Context, ordinal uint64) (uint64, 
 	if err != nil || recorded > ordinal {
 		return recorded, err
 	}
-	if done := ctx.Done(); done != nil {
-		over := make(chan struct{})
-		defer close(over)
-		go held.wakeBehind(done, over)
-	}
+	defer held.watch(ctx)()
 	for err == nil && recorded <= ordinal {
 		held.sleep()
 		recorded, err = held.isRecorded(ctx, ordinal)
@@ -260,17 +257,6 @@ func (held *heldRecord) isRecorded(ctx context.Context, ordinal uint64) (uint64,
 		err = ctx.Err()
 	}
 	return counts.Recorded, err
-}
-
-// wakeBehind wakes all that sleep once a context is done, if the wait is not over before.
-func (held *heldRecord) wakeBehind(done, over <-chan struct{}) {
-	select {
-	case <-done:
-		held.lock.Lock()
-		defer held.lock.Unlock()
-		held.wakeSleepers()
-	case <-over:
-	}
 }
 
 // followPage makes the calls of entries on a replica.
@@ -351,7 +337,7 @@ func (shared *Shared) Replay(saved []Entry) error {
 		for range room {
 			held.cutWhereLong()
 		}
-		if err := faultOf(uint32(status)); err != nil {
+		if err := named(status, func() error { return held.entryFault(saved[first+int(place)]) }); err != nil {
 			// Which number a fork has drawn that has another reply, nobody is told.
 			held.labels = nil
 			return ReplayError{first + int(place), err}
@@ -459,6 +445,7 @@ func least(a, b int) int {
 type Seat struct {
 	calls
 	own *seated
+	ctx context.Context
 }
 
 // What a seat knows; the lock of the record guards it.
@@ -467,6 +454,12 @@ type seated struct {
 	worker  uint32
 	ordinal uint64
 	made    bool
+}
+
+// With is the same seat with a context. A call of it that waits for the saver, as BoundUnsaved says, is not made where the context is done before, and
+// answers its Err. Each other call does not look at it. ErrNil of each call where it is nil.
+func (seat *Seat) With(ctx context.Context) *Seat {
+	return seat.place().seat(ctx)
 }
 
 // Worker is the worker's number, from 0 on.
@@ -498,18 +491,18 @@ func (seat *Seat) Calls(calls []Call) ([]Reply, error) {
 	defer own.held.lock.Unlock()
 	var made C.size_t
 	var ordinal C.uint64_t
-	status := own.held.waitForSaver(len(calls))
-	if status == C.PIDTAB_DONE {
-		count := C.size_t(len(calls))
-		status = C.pidtab_record_calls(own.held.raw, C.uint32_t(own.worker), &numbers[0], count, &told[0], count, &made, &ordinal)
+	if err := own.held.waitForSaver(seat.ctx, len(calls)); err != nil {
+		return []Reply{}, err
 	}
+	count := C.size_t(len(calls))
+	status := C.pidtab_record_calls(own.held.raw, C.uint32_t(own.worker), &numbers[0], count, &told[0], count, &made, &ordinal)
 	replies := make([]Reply, made)
 	for i := range replies {
 		own.held.labels.replied(&told[i])
 		own.after(C.PIDTAB_DONE, ordinal)
 		replies[i] = replyOf(&told[i])
 	}
-	return replies, faultOf(uint32(status))
+	return replies, named(status, func() error { return callsFault(calls) })
 }
 
 // ForkAt makes a fork, if its child gets exactly these numbers, as ForkAt of a Table does. Else nothing changes or is recorded, and it is false.
@@ -518,11 +511,11 @@ func (seat *Seat) ForkAt(caller uint32, newSpace bool, child Child) (bool, error
 	own.held.lock.LockForCall()
 	defer own.held.lock.Unlock()
 	var ordinal C.uint64_t
-	status := own.held.waitForSaver(1)
-	if status == C.PIDTAB_DONE {
-		numbers := [...]C.uint32_t{C.uint32_t(caller), number(newSpace), C.uint32_t(child.Number), C.uint32_t(child.Root)}
-		status = C.pidtab_record_fork_at(own.held.raw, C.uint32_t(own.worker), numbers[0], numbers[1], numbers[2], numbers[3], reply, &ordinal)
+	if err := own.held.waitForSaver(seat.ctx, 1); err != nil {
+		return false, err
 	}
+	numbers := [...]C.uint32_t{C.uint32_t(caller), number(newSpace), C.uint32_t(child.Number), C.uint32_t(child.Root)}
+	status := C.pidtab_record_fork_at(own.held.raw, C.uint32_t(own.worker), numbers[0], numbers[1], numbers[2], numbers[3], reply, &ordinal)
 	if status == C.PIDTAB_DONE {
 		own.held.labels.replied(reply)
 	}
@@ -535,17 +528,16 @@ func (seat *Seat) Told(call Call) (Reply, []Effect, error) {
 	own.held.lock.LockForCall()
 	defer own.held.lock.Unlock()
 	var ordinal C.uint64_t
-	var effects []Effect
-	status := own.held.waitForSaver(1)
-	if status == C.PIDTAB_DONE {
-		effects, status = tellEffects(func(effects *C.struct_pidtab_effect, room C.size_t, count *C.uint64_t) C.uint32_t {
-			return C.pidtab_record_call_told(own.held.raw, C.uint32_t(own.worker), &numbers, reply, &ordinal, effects, room, count)
-		})
+	if err := own.held.waitForSaver(seat.ctx, 1); err != nil {
+		return Reply{}, nil, err
 	}
+	effects, status := tellEffects(func(effects *C.struct_pidtab_effect, room C.size_t, count *C.uint64_t) C.uint32_t {
+		return C.pidtab_record_call_told(own.held.raw, C.uint32_t(own.worker), &numbers, reply, &ordinal, effects, room, count)
+	})
 	if status == C.PIDTAB_DONE {
 		own.held.labels.replied(reply)
 	}
-	return toldOf(reply, effects, own.after(status, ordinal))
+	return toldOf(call, reply, effects, own.after(status, ordinal))
 }
 
 // Line makes the call on a line of the script language, without its newline. What the table refuses is an answer, as `ESRCH no-caller`.
@@ -554,11 +546,11 @@ func (seat *Seat) Line(line string) (string, error) {
 	own := seat.place()
 	own.held.lock.LockForCall()
 	defer own.held.lock.Unlock()
+	if err := own.held.waitForSaver(seat.ctx, 1); err != nil {
+		return "", err
+	}
 	said, err := answer(line, func(line unsafe.Pointer, length C.size_t, room unsafe.Pointer, size *C.size_t) C.uint32_t {
 		var ordinal C.uint64_t
-		if status := own.held.waitForSaver(1); status != C.PIDTAB_DONE {
-			return status
-		}
 		status := C.pidtab_record_line(own.held.raw, C.uint32_t(own.worker), line, length, room, C.PIDTAB_LONGEST_ANSWER, size, &ordinal)
 		return own.after(status, ordinal)
 	})
@@ -574,19 +566,30 @@ func (seat *Seat) place() *seated {
 	return seat.own
 }
 
+// seat is the seat with a context.
+func (own *seated) seat(ctx context.Context) *Seat {
+	return &Seat{calls{seatedIn{own, ctx}}, own, ctx}
+}
+
+// A seatedIn makes calls by a seat, with a context.
+type seatedIn struct {
+	*seated
+	ctx context.Context
+}
+
 // step makes a call.
-func (own *seated) step(call *C.struct_pidtab_call, reply *C.struct_pidtab_reply) error {
+func (own seatedIn) step(call *C.struct_pidtab_call, reply *C.struct_pidtab_reply) error {
 	own.held.lock.LockForCall()
 	defer own.held.lock.Unlock()
 	var ordinal C.uint64_t
-	if status := own.held.waitForSaver(1); status != C.PIDTAB_DONE {
-		return faultOf(uint32(status))
+	if err := own.held.waitForSaver(own.ctx, 1); err != nil {
+		return err
 	}
 	status := C.pidtab_record_call(own.held.raw, C.uint32_t(own.worker), call, reply, &ordinal)
 	if status == C.PIDTAB_DONE {
 		own.held.labels.replied(reply)
 	}
-	return faultOf(uint32(own.after(status, ordinal)))
+	return named(own.after(status, ordinal), callOf(call).rangeFault)
 }
 
 // after keeps the ordinal of a call that was made, and cuts a history that is long enough. The lock is held.

@@ -125,7 +125,7 @@ func theCountsAddUp(t *testing.T, shared *Shared) {
 	for i := uint32(0); i < workers; i++ {
 		want(t, "worker", of(shared.Worker(i)), uint64(each), nil)
 	}
-	want(t, "no seat", of(shared.Seat()), (*Seat)(nil), ErrOutOfRange)
+	want(t, "no seat", of(shared.Seat()), (*Seat)(nil), ErrNoSeat)
 }
 
 // theReceiptsAreTheEntries compares each worker's receipts with its entries, in order.
@@ -250,7 +250,7 @@ func TestATableThatFollows(t *testing.T) {
 func TestWhatAReplayThatStopsSays(t *testing.T) {
 	shared := openShared(t, Settings{PidMax: 32768, Workers: 2})
 	stopped := shared.Replay([]Entry{{Call: Call{Operation: 99}}})
-	want(t, "no call", only(stopped), nil, ReplayError{0, ErrOutOfRange})
+	want(t, "no call", only(stopped), nil, ReplayError{0, RangeError{"Call.Operation", "99", "0 to 18"}})
 	if differs := (ReplayError{10, ErrDiffers}); !errors.Is(differs, ErrDiffers) || differs.Error() != "pidtab: a reply is not the saved one: saved entry 10" {
 		t.Error(differs)
 	}
@@ -380,7 +380,7 @@ func TestTurnsAsSingleCalls(t *testing.T) {
 	wantOrdinal(t, seat, 264)
 	text, err := other.Dump()
 	want(t, "the text", of(shared.Dump()), text, err)
-	want(t, "a turn with what is no call", of(seat.Calls(append(mixed(5), Call{Operation: 99}))), []Reply{}, ErrOutOfRange)
+	want(t, "a turn with what is no call", of(seat.Calls(append(mixed(5), Call{Operation: 99}))), []Reply{}, RangeError{"calls[5].Operation", "99", "0 to 18"})
 	wantCounts(t, shared, 0, 265)
 	shared.Close()
 	want(t, "a closed table", of(seat.Calls(nil)), []Reply{}, ErrClosed)

@@ -19,7 +19,7 @@ type SpaceStat struct {
 }
 
 // Space reads the namespace with the id, where 0 is the root namespace. It is no call, as Ask makes none, and costs two searches and a few reads.
-// ErrOutOfRange, by errors.Is, where no namespace has the id, or it is gone; ErrClosed, ErrBusy.
+// ErrNoNamespace, by errors.Is, where no namespace has the id, or it is gone; ErrClosed, ErrBusy.
 func (table *Table) Space(id uint64) (SpaceStat, error) {
 	held, space := table.held(), new(C.struct_pidtab_space)
 	held.lock.RLock()
@@ -27,7 +27,7 @@ func (table *Table) Space(id uint64) (SpaceStat, error) {
 	return spaceOf(id, C.pidtab_space(&held.raw, C.uint64_t(id), space), space)
 }
 
-// Space reads the namespace with the id, as that of a Table does; it is not recorded. ErrOutOfRange, by errors.Is, where there is none.
+// Space reads the namespace with the id, as that of a Table does; it is not recorded. ErrNoNamespace, by errors.Is, where there is none.
 func (shared *Shared) Space(id uint64) (SpaceStat, error) {
 	held, space := shared.held(), new(C.struct_pidtab_space)
 	held.lock.RLock()
@@ -36,12 +36,13 @@ func (shared *Shared) Space(id uint64) (SpaceStat, error) {
 }
 
 // SpacesInside are the ids of the namespaces directly in the one with the id, from one on, in rising order. It is no call, as Ask makes none. It costs
-// what is read of each of them, and takes memory for a list. ErrOutOfRange, by errors.Is, where there is no such namespace; ErrNoMemory, ErrClosed, ErrBusy.
+// what is read of each of them, and takes memory for a list. ErrNoNamespace, by errors.Is, where there is none; ErrNoMemory, ErrClosed, ErrBusy.
 func (table *Table) SpacesInside(id, from uint64) ([]uint64, error) {
 	return table.inside(C.PIDTAB_SPACES, id, from)
 }
 
-// ControlsInside are the ids of the control groups directly in the one with the id, as SpacesInside has those of a namespace.
+// ControlsInside are the ids of the control groups directly in the one with the id, as SpacesInside has those of a namespace. ErrNoControl, by
+// errors.Is, where there is none.
 func (table *Table) ControlsInside(id, from uint64) ([]uint64, error) {
 	return table.inside(C.PIDTAB_CONTROLS, id, from)
 }
@@ -110,6 +111,11 @@ func (id noControl) Unwrap() error {
 	return ErrOutOfRange
 }
 
+// Is tells errors.Is that ErrNoControl is in it.
+func (id noControl) Is(target error) bool {
+	return target == ErrNoControl
+}
+
 // noSpace is an id that no namespace has.
 type noSpace uint64
 
@@ -118,9 +124,9 @@ func (id noSpace) Error() string {
 	return fmt.Sprintf("pidtab: no namespace has the id %d: it is gone, or there was none", uint64(id))
 }
 
-// Unwrap is the error of all that is out of range.
+// Unwrap is the error of each such id.
 func (id noSpace) Unwrap() error {
-	return ErrOutOfRange
+	return ErrNoNamespace
 }
 
 // spaceOf is the namespace that the library has read.

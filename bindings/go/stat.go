@@ -27,7 +27,8 @@ func (table *Table) Stat(caller, pid uint32) (Stat, error) {
 	held, task := table.held(), new(C.struct_pidtab_task)
 	held.lock.RLock()
 	defer held.lock.RUnlock()
-	return statOf(C.pidtab_stat(&held.raw, C.uint32_t(caller), C.uint32_t(pid), task), task)
+	stat, err := statOf(C.pidtab_stat(&held.raw, C.uint32_t(caller), C.uint32_t(pid), task), task)
+	return stat, withCall(err, "stat", uint64(caller), uint64(pid))
 }
 
 // Stat reads the task pid, as that of a Table does; it is not recorded. Refused as no-caller, no-task.
@@ -35,7 +36,8 @@ func (shared *Shared) Stat(caller, pid uint32) (Stat, error) {
 	held, task := shared.held(), new(C.struct_pidtab_task)
 	held.lock.RLock()
 	defer held.lock.RUnlock()
-	return statOf(C.pidtab_record_stat(held.raw, C.uint32_t(caller), C.uint32_t(pid), task), task)
+	stat, err := statOf(C.pidtab_record_stat(held.raw, C.uint32_t(caller), C.uint32_t(pid), task), task)
+	return stat, withCall(err, "stat", uint64(caller), uint64(pid))
 }
 
 // foundIn is why there is no such task; nothing where the library has read it.

@@ -37,7 +37,8 @@ func Open(pidMax uint32) (*Table, error) {
 		return nil, err
 	}
 	held := new(heldTable)
-	if err := faultOf(uint32(C.pidtab_open(&held.raw, C.uint32_t(pidMax)))); err != nil {
+	status := C.pidtab_open(&held.raw, C.uint32_t(pidMax))
+	if err := named(status, func() error { return pidMaxRange("pidMax", pidMax) }); err != nil {
 		return nil, err
 	}
 	runtime.SetFinalizer(held, (*heldTable).close)
@@ -64,7 +65,7 @@ func (table *Table) Ask(query Call) (Reply, error) {
 	held, numbers, reply := table.held(), query.numbers(), new(C.struct_pidtab_reply)
 	held.lock.RLock()
 	defer held.lock.RUnlock()
-	if err := faultOf(uint32(C.pidtab_ask(&held.raw, &numbers, reply))); err != nil {
+	if err := named(C.pidtab_ask(&held.raw, &numbers, reply), query.queryFault); err != nil {
 		return Reply{}, err
 	}
 	return replyOf(reply), nil
@@ -76,7 +77,7 @@ func (table *Table) Would(call Call) (Reply, error) {
 	held, numbers, reply := table.held(), call.numbers(), new(C.struct_pidtab_reply)
 	held.lock.RLock()
 	defer held.lock.RUnlock()
-	if err := faultOf(uint32(C.pidtab_would(&held.raw, &numbers, reply))); err != nil {
+	if err := named(C.pidtab_would(&held.raw, &numbers, reply), call.rangeFault); err != nil {
 		return Reply{}, err
 	}
 	return replyOf(reply), nil
@@ -112,7 +113,7 @@ func (table *Table) Told(call Call) (Reply, []Effect, error) {
 	if status == C.PIDTAB_DONE {
 		held.labels.replied(reply)
 	}
-	return toldOf(reply, effects, status)
+	return toldOf(call, reply, effects, status)
 }
 
 // isMade is whether a fork was made with the numbers that were wanted.
@@ -168,8 +169,9 @@ func (held *heldTable) step(call *C.struct_pidtab_call, reply *C.struct_pidtab_r
 	status := C.pidtab_call(&held.raw, call, reply)
 	if status == C.PIDTAB_DONE {
 		held.labels.replied(reply)
+		return nil
 	}
-	return faultOf(uint32(status))
+	return named(status, callOf(call).rangeFault)
 }
 
 // list is the list as text.

@@ -74,7 +74,7 @@ func TestWords(t *testing.T) {
 func TestWhatErrorsSay(t *testing.T) {
 	table := open(t, 32768)
 	_, err := table.Getpid(9)
-	if err == nil || err.Error() != "pidtab: no such process: no-caller" {
+	if err == nil || err.Error() != "pidtab: getpid 9: no such process: no-caller" {
 		t.Error(err)
 	}
 	if errors.Is(err, syscall.EPERM) || !errors.Is(table.Rm(7), fs.ErrNotExist) || !errors.Is(table.Setpgid(1, 0, 5), fs.ErrPermission) {
@@ -95,8 +95,8 @@ func TestStatuses(t *testing.T) {
 func TestWhatIsNoCall(t *testing.T) {
 	table := open(t, 32768)
 	want(t, "two lines", of(table.Line("fork 1\n")), "", ErrBadLine)
-	want(t, "no kind", of(table.Next(1, Kind(3), 0)), uint32(0), ErrOutOfRange)
-	want(t, "no operation", of(table.Call(Call{Operation: 99})), Reply{}, ErrOutOfRange)
+	want(t, "no kind", of(table.Next(1, Kind(3), 0)), uint32(0), RangeError{"Call.Choice (kind)", "3", "0 to 2"})
+	want(t, "no operation", of(table.Call(Call{Operation: 99})), Reply{}, RangeError{"Call.Operation", "99", "0 to 18"})
 	want(t, "mk", of(table.Mk(0)), uint64(1), nil)
 }
 

@@ -1,6 +1,6 @@
 """The package for Go, whose other numbers are those of the headers of C."""
 
-from arguments import queries
+from arguments import arguments_of, queries
 from names import camel, capitals, columns, strings, takes, with_id, wrapped
 
 
@@ -26,6 +26,16 @@ def refusals(tables):
         "// hasID is whether an id stands behind the word.",
         "func (word Word) hasID() bool {",
         f"\treturn {having}",
+        "}",
+        "",
+        "// The errors of the words: errors.Is finds each in a Refusal that has its word.",
+        "var (",
+        *[f"\t{line}" for line in columns([(f"Err{camel(it.word)}", f'= errors.New("pidtab: {it.word}: {with_id(it.sentence)}")') for it in rows])],
+        ")",
+        "",
+        "// The error of each word.",
+        "var wordErrors = map[Word]error{",
+        *columns([(f"\t{camel(it.word)}:", f"Err{camel(it.word)},") for it in rows]),
         "}",
         "",
     ]
@@ -67,6 +77,37 @@ def errors(tables):
     return [line for it in rows for line in (f"\tcase C.PIDTAB_{it.name}:", f"\t\treturn {OTHER_ERRORS.get(it.name, 'Err' + camel(it.name))}")]
 
 
+# What the fields of a call that have a bound are called, and the greatest value of each, by the kind of the argument.
+SWITCHES = ("new", "on", "most")
+
+
+def greatest(kind, tables):
+    """The field of a call that an argument of the kind bounds, and its greatest value; none where the kind has no bound."""
+    if kind == "byte":
+        return "Number", 255
+    if kind in SWITCHES:
+        return "Choice", 1
+    if kind in ("which", "use"):
+        return "Choice", max(int(it.number) for it in tables["kinds"] if it.of == kind)
+    return None
+
+
+def ranges(tables):
+    """The bounds of what opens a table, and of the fields of calls."""
+    bounds = {it.name: it.value for it in tables["bounds"]}
+    rows = []
+    for row in tables["calls"]:
+        found = [(argument.name, *it) for argument in arguments_of(row) if (it := greatest(argument.kind, tables))]
+        rows += [(f"\tOp{camel(row.call)}:", f'{{"{field}", "{name}", {most}}},') for name, field, most in found]
+    return [
+        "", "// The bounds of pid_max.",
+        *constants([("leastPidMax", f"= {bounds['LEAST_PID_MAX']}"), ("greatestPidMax", f"= {bounds['GREATEST_PID_MAX']}")]), "",
+        "// The greatest operation.", f"const lastOperation = Op{camel(tables['calls'][-1].call)}", "",
+        "// The field of a call that is bounded, by its operation. All others may have any value.",
+        "var bounded = map[Operation]bound{", *columns(rows), "}", "",
+    ]  # fmt: skip
+
+
 def used_errnos(tables):
     """The errors of the kernel that refusals have."""
     return [it.name for it in tables["errnos"] if it.name in {row.error for row in tables["refusals"]}]
@@ -89,7 +130,7 @@ def names(tables):
 
 
 PARTS = {
-    ("bindings/go/refusal.go", "errors"): errors,
+    ("bindings/go/refusal.go", "errors"): errors, ("bindings/go/ranges.go", "ranges"): ranges,
     ("bindings/go/json.go", "errnos"): errnos,
     ("bindings/go/cases_test.go", "names"): names,
     ("bindings/go/values.go", "operations"): operations, ("bindings/go/values.go", "kinds"): kinds, ("bindings/go/refusal.go", "refusals"): refusals, ("bindings/go/dump.go", "faults"): faults}

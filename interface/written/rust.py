@@ -88,10 +88,14 @@ def kinds(tables):
     return numbers("kinds", "The kinds of a reply, and what a choice says.", [(it.name, "u32", it.number) for it in tables["kinds"] if it.of != "outcome"])
 
 
+# What is in no header, and a package names in its errors.
+OF_PID_MAX = ("LEAST_PID_MAX", "GREATEST_PID_MAX")
+
+
 def bounds(tables):
     """The bounds of the headers."""
     types = {"number": "u32", "long": "u64", "size": "usize"}
-    rows = [(it.name, types[it.type], it.value) for it in tables["bounds"] if it.of in ("interface", "saved")]
+    rows = [(it.name, types[it.type], it.value) for it in tables["bounds"] if it.of in ("interface", "saved") or it.name in OF_PID_MAX]
     return numbers("bounds", "The bounds of the headers.", rows)
 
 

@@ -84,6 +84,7 @@ COMMANDS = {
     "diff": Command("compares two lists", diff),
     "replay": Command("plays the log of a table on many hosts", beside("replay")),
     "compare": Command("compares a command of yours with a table", beside("compare")),
+    "conform": Command("says which calls of a command or a class agree with a table", beside("conform")),
     "keep": Command("writes snapshots of a table on many hosts", beside("keep")),
     "whatif": Command("plays a log again under other bounds", beside("whatif")),
     "completion": Command("completes these words in bash, zsh or fish", say_completion),

@@ -19,7 +19,7 @@ BIN = REPOSITORY / "bindings" / "python" / "bin"
 LAUNCHER = BIN / "pidtabctl"
 
 BESIDE = ("check", "tree", "play", "top", "replay", "compare", "keep")
-ALL = {"run", "list", "work", "diff", "whatif", "completion", "help", *BESIDE}
+ALL = {"run", "list", "work", "conform", "diff", "whatif", "completion", "help", *BESIDE}
 
 # The first example of docs/SCRIPT.md, and its list.
 SCRIPT = b"fork 1 new\nfork 2\nnspid 1 3\ngetppid 2\n"
@@ -249,7 +249,7 @@ class Completion(Files):
             line = " ".join(f"'{word}'" for word in ("pidtabctl", *words))
             return self.ask("bash", f'. {{file}}; COMP_WORDS=({line}); COMP_CWORD={len(words)}; _pidtabctl; printf "%s\\n" "${{{{COMPREPLY[@]}}}}"')
 
-        self.assertEqual(complete("co"), ["compare", "completion"])
+        self.assertEqual(complete("co"), ["compare", "conform", "completion"])
         self.assertEqual(set(complete("")), ALL | {"--help", "--version"})
         self.assertEqual(set(complete("help", "")), ALL)
         self.assertEqual(complete("completion", "b"), ["bash"])
@@ -271,7 +271,7 @@ class Completion(Files):
         def complete(line: str) -> set[str]:
             return {it.partition("\t")[0] for it in self.ask("fish", f"cd {self.folder}; source {{file}}; complete -C '{line}'")}
 
-        self.assertEqual(complete("pidtabctl co"), {"compare", "completion"})
+        self.assertEqual(complete("pidtabctl co"), {"compare", "conform", "completion"})
         self.assertEqual(complete("pidtabctl "), ALL)
         self.assertEqual(complete("pidtabctl help "), ALL)
         self.assertEqual(complete("pidtabctl completion "), {"bash", "zsh", "fish"})

@@ -1,6 +1,6 @@
 //! Blocks of a saved history in memory, a call at a time: for a program that keeps the calls of a [`Table`] itself. `docs/SAVED.md` has their
 //! form.
-use crate::{raw, Call, Error, Reply, SavedFault, Table};
+use crate::{raw, Argument, Call, Error, Reply, SavedFault, Table};
 
 /// The settings at the head of a saved history.
 #[derive(Clone, Copy, Debug, PartialEq, Eq, Hash)]
@@ -87,7 +87,7 @@ impl Blocks {
     /// Writes the head behind the bytes.
     ///
     /// # Errors
-    /// `OutOfRange` for settings outside their ranges.
+    /// `Argument` for settings outside their ranges.
     pub fn begin(head: &Head, to: &mut Vec<u8>) -> Result<Blocks, Error> {
         let numbers = raw::SavedHead {
             pid_max: head.pid_max,
@@ -95,7 +95,9 @@ impl Blocks {
             first_stamp: head.first_stamp,
         };
         let (mut block, mut sum) = ([0; raw::SAVED_BLOCK], 0);
-        raw::put_head(&numbers, &mut block, &mut sum).map_err(Error::of)?;
+        let outside = || Argument::settings(head.pid_max, head.workers, head.first_stamp);
+        raw::put_head(&numbers, &mut block, &mut sum)
+            .map_err(|status| Error::of_argument(status, outside))?;
         to.extend_from_slice(&block);
         Ok(Blocks::behind(sum))
     }

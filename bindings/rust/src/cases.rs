@@ -24,7 +24,7 @@ impl World {
         let seats = (0..shared.workers())
             .map(|_| shared.seat().expect("a seat"))
             .collect();
-        assert_eq!(shared.seat().err(), Some(Error::OutOfRange));
+        assert_eq!(shared.seat().err(), Some(Error::NoSeat));
         World {
             tables,
             shared,
@@ -114,7 +114,7 @@ impl World {
         let asked = if is_query {
             Ok(entry.reply.clone())
         } else {
-            Err(Error::OutOfRange)
+            Err(Error::NoQuery)
         };
         assert_eq!(self.shared.ask(entry.call), asked, "{line}");
         if let [_, by_value, by_method] = &mut self.tables[..] {
@@ -292,7 +292,12 @@ impl World {
         };
         let error = match what {
             "differs" => Error::Differs,
-            _ => Error::OutOfRange,
+            _ => Error::Argument(Argument {
+                name: "worker",
+                value: self.shared.workers().into(),
+                least: 0,
+                most: u64::from(self.shared.workers()) - 1,
+            }),
         };
         match error {
             Error::Differs => saved[place].reply = Reply::Done,
@@ -347,6 +352,8 @@ fn status(fault: &dyn std::fmt::Debug) -> String {
     }
     match name.as_str() {
         "EMPTY" | "BAD" => name + "_LINE",
+        "NO_QUERY" | "NO_SEAT" => "OUT_OF_RANGE".to_owned(),
+        _ if name.starts_with("ARGUMENT(") => "OUT_OF_RANGE".to_owned(),
         _ => name,
     }
 }

@@ -1,5 +1,5 @@
 //! Why a call has no other answer.
-use crate::raw;
+use crate::{raw, Argument};
 use std::{fmt, io};
 
 // Written by tools/interface: refusals.
@@ -168,8 +168,13 @@ pub enum Error {
     NoMemory,
     /// The table has made 2^64 - 2 calls.
     Spent,
-    /// What was given is outside its range: `pid_max` 301 to 4194304, 1 to 16 workers, a first stamp from 1 on, a worker below their number.
-    /// Or there are no more seats, or what was asked is no query.
+    /// The argument is outside its range.
+    Argument(Argument),
+    /// What was asked is no query.
+    NoQuery,
+    /// Each seat is given.
+    NoSeat,
+    /// What a saved history has is outside its range, or what is written there.
     OutOfRange,
     /// A call that another thread began is under way. A table has one owner, and a record has a lock, so this comes in the forked child of a
     /// process with threads alone, where that thread is not.
@@ -206,6 +211,49 @@ impl Error {
         }
     }
 
+    /// The same, and of what is out of range which argument it is.
+    pub(crate) fn of_argument(status: u32, outside: impl FnOnce() -> Option<Argument>) -> Error {
+        match status {
+            raw::OUT_OF_RANGE => outside().map_or(Error::OutOfRange, Error::Argument),
+            _ => Error::of(status),
+        }
+    }
+
+    /// Nothing where a query is answered; else why not.
+    pub(crate) fn unless_asked(status: u32) -> Result<(), Error> {
+        match status {
+            raw::OUT_OF_RANGE => Err(Error::NoQuery),
+            _ => Error::unless_done(status),
+        }
+    }
+
+    /// The number of Linux's errno, as [`io::Error::raw_os_error`] would have it: of a refusal the one that the kernel would give.
+    ///
+    /// ```
+    /// use pidtab::{Calls, Table};
+    ///
+    /// let fault = Table::open(32768)?.getpid(99).unwrap_err();
+    /// assert_eq!(fault.raw_os_error(), Some(3)); // ESRCH
+    /// # Ok::<(), pidtab::Error>(())
+    /// ```
+    ///
+    /// An [`io::Error`] that holds this error has none itself: `error.downcast_ref::<pidtab::Error>()` of its `get_ref` has it.
+    pub fn raw_os_error(&self) -> Option<i32> {
+        let status = match self {
+            Error::Refused { errno, .. } => return Some(*errno),
+            Error::NoMemory => raw::NO_MEMORY,
+            Error::Spent => raw::SPENT,
+            Error::Argument(_) | Error::NoQuery | Error::NoSeat => raw::OUT_OF_RANGE,
+            Error::OutOfRange | Error::BadLabel => raw::OUT_OF_RANGE,
+            Error::Busy => raw::BUSY,
+            Error::NotKept => raw::NOT_KEPT,
+            Error::Again => raw::AGAIN,
+            Error::Differs => raw::DIFFERS,
+            Error::Unsaved | Error::Ended => raw::ENDED,
+        };
+        Some(status as i32)
+    }
+
     /// Nothing where the status is `DONE`; else what it says.
     pub(crate) fn unless_done(status: u32) -> Result<(), Error> {
         raw::done(status, ()).map_err(Error::of)
@@ -218,14 +266,17 @@ impl fmt::Display for Error {
             Error::Refused { errno, refusal } => write!(to, "{refusal} (errno {errno})"),
             Error::NoMemory => to.write_str("no memory"),
             Error::Spent => to.write_str("spent"),
-            Error::OutOfRange => to.write_str(
-                "out of range: pid_max (301 to 4194304), workers (1 to 16), a first stamp (from 1), a worker, a seat, or no query",
-            ),
+            Error::Argument(outside) => outside.fmt(to),
+            Error::NoQuery => to.write_str("the call is no query"),
+            Error::NoSeat => to.write_str("each seat is given: there are as many as workers"),
+            Error::OutOfRange => to.write_str("out of range"),
             Error::Busy => to.write_str("busy"),
             Error::NotKept => to.write_str("no entry with the ordinal is kept"),
             Error::Again => to.write_str("another number of calls was recorded by now"),
             Error::Differs => to.write_str("a reply is not the saved one"),
-            Error::Unsaved => to.write_str("too many calls are not saved, and the saver has failed or ended"),
+            Error::Unsaved => {
+                to.write_str("too many calls are not saved, and the saver has failed or ended")
+            }
             Error::Ended => to.write_str("the waits were ended"),
             Error::BadLabel => to.write_str("a label is printable text of one line"),
         }
@@ -241,6 +292,7 @@ impl From<Error> for io::Error {
         let kind = match error {
             Error::Refused { errno, .. } => kind_of(errno),
             Error::NoMemory => io::ErrorKind::OutOfMemory,
+            Error::Argument(_) | Error::NoQuery | Error::NoSeat => io::ErrorKind::InvalidInput,
             Error::OutOfRange | Error::BadLabel => io::ErrorKind::InvalidInput,
             Error::Busy => kind_of(raw::BUSY as i32),
             Error::NotKept => kind_of(raw::NOT_KEPT as i32),
@@ -260,7 +312,7 @@ impl From<Error> for io::Error {
 pub struct ReplayError {
     /// The entry's place among the saved ones, from 0 on.
     pub place: usize,
-    /// `Differs`: its call was made and recorded, and has another reply. Any other says that it was not made: `OutOfRange` where no worker
+    /// `Differs`: its call was made and recorded, and has another reply. Any other says that it was not made: `Argument` where no worker
     /// has its number; `NoMemory`, `Spent`, `Busy`.
     pub error: Error,
 }
@@ -440,6 +492,8 @@ pub enum TextError {
         fault: TextFault,
     },
     /// There are not 1 to 16 workers, or the calls before add up to the stamp of the text or more.
+    Argument(Argument),
+    /// Comes no more.
     OutOfRange,
     /// There was no memory for the table.
     NoMemory,
@@ -464,9 +518,8 @@ impl fmt::Display for TextError {
     fn fmt(&self, to: &mut fmt::Formatter<'_>) -> fmt::Result {
         match self {
             TextError::Bad { line, fault } => write!(to, "line {line}: {fault}"),
-            TextError::OutOfRange => to.write_str(
-                "out of range: workers (1 to 16), or calls before that add up to the stamp",
-            ),
+            TextError::Argument(outside) => outside.fmt(to),
+            TextError::OutOfRange => to.write_str("out of range"),
             TextError::NoMemory => to.write_str("no memory"),
         }
     }
@@ -479,7 +532,7 @@ impl From<TextError> for io::Error {
     fn from(error: TextError) -> io::Error {
         let kind = match error {
             TextError::Bad { .. } => io::ErrorKind::InvalidData,
-            TextError::OutOfRange => io::ErrorKind::InvalidInput,
+            TextError::Argument(_) | TextError::OutOfRange => io::ErrorKind::InvalidInput,
             TextError::NoMemory => io::ErrorKind::OutOfMemory,
         };
         io::Error::new(kind, error)
@@ -505,6 +558,29 @@ mod tests {
         assert_eq!(within.downcast_ref(), Some(&error));
     }
 
+    /// The numbers are those of errno(3).
+    #[test]
+    fn each_error_has_an_errno() {
+        let refused = |errno, refusal| Error::Refused { errno, refusal };
+        for (error, errno) in [
+            (refused(3, Refusal::NoTask), 3),
+            (refused(11, Refusal::PidsLimit(4)), 11),
+            (Error::NoMemory, 12),
+            (Error::Spent, 75),
+            (Error::NoQuery, 22),
+            (Error::NoSeat, 22),
+            (Error::Busy, 16),
+            (Error::NotKept, 2),
+            (Error::Again, 11),
+            (Error::Differs, 74),
+            (Error::Unsaved, 32),
+            (Error::Ended, 32),
+            (Error::BadLabel, 22),
+        ] {
+            assert_eq!(error.raw_os_error(), Some(errno), "{error:?}");
+        }
+    }
+
     #[test]
     fn each_error_is_one_of_io() {
         let refused = |errno, refusal| Error::Refused { errno, refusal };
@@ -513,6 +589,12 @@ mod tests {
         as_io(refused(11, Refusal::PidsLimit(4)), 11);
         as_io(Error::NoMemory, 12);
         as_io(Error::OutOfRange, 22);
+        as_io(Error::NoQuery, 22);
+        as_io(Error::NoSeat, 22);
+        as_io(
+            Error::Argument(Argument::pid_max(300).expect("no pid_max")),
+            22,
+        );
         as_io(Error::Busy, 16);
         as_io(Error::NotKept, 2);
         as_io(Error::Again, 11);

@@ -22,6 +22,7 @@
 //! `pidtab.h`, which the library leaves to its callers.
 #![deny(missing_docs, unsafe_code, unsafe_op_in_unsafe_fn)]
 
+mod argument;
 mod blocks;
 mod calls;
 #[cfg(test)]
@@ -41,13 +42,14 @@ mod stat;
 pub mod testing;
 mod texts;
 
+pub use argument::Argument;
 pub use blocks::{Blocks, Head, Made, Replayed};
 pub use calls::{Call, Calls, Kind, Reply, Which};
 pub use effects::{Effect, Told};
 pub use fault::{Error, LineError, Refusal, ReplayError, TextError, TextFault};
 pub use listing::{BadList, Control, Listing, Space, Task};
 pub use saved::{Saved, SavedError, SavedFault};
-pub use shared::{Counts, Entry, Locked, Options, Record, Seat, Shared, Turn};
+pub use shared::{Counts, Entry, Locked, Options, OwnedSeat, Record, Seat, Shared, Turn};
 pub use space::SpaceStat;
 pub use stat::Stat;
 
@@ -86,7 +88,10 @@ pub struct Reaped {
 /// ```compile_fail,E0004
 /// use pidtab::Error::*;
 /// fn all(it: pidtab::Error) {
-///     match it { Refused { .. } | NoMemory | Spent | OutOfRange | Busy | NotKept | Again | Differs | Unsaved | BadLabel => {} }
+///     match it {
+///         Refused { .. } | NoMemory | Spent | Argument(_) | NoQuery | NoSeat | OutOfRange | Busy | NotKept | Again | Differs |
+///         Unsaved | Ended | BadLabel => {}
+///     }
 /// }
 /// ```
 ///
@@ -104,7 +109,7 @@ pub struct Reaped {
 ///
 /// ```compile_fail,E0004
 /// use pidtab::TextError::*;
-/// fn all(it: pidtab::TextError) { match it { Bad { .. } | OutOfRange | NoMemory => {} } }
+/// fn all(it: pidtab::TextError) { match it { Bad { .. } | Argument(_) | OutOfRange | NoMemory => {} } }
 /// ```
 ///
 /// ```compile_fail,E0004
@@ -208,12 +213,14 @@ impl Table {
     /// A table with the root init alone, whose numbers are below `pid_max`.
     ///
     /// # Errors
-    /// `OutOfRange` for a `pid_max` outside 301 to 4194304, `NoMemory`.
+    /// `Argument` for a `pid_max` outside 301 to 4194304, `NoMemory`.
     ///
     /// # Panics
     /// Where the library that was linked has another interface than this crate is written for.
     pub fn open(pid_max: u32) -> Result<Table, Error> {
-        let raw = raw::Table::open(pid_max).map_err(Error::of)?;
+        let raw = raw::Table::open(pid_max);
+        let raw =
+            raw.map_err(|status| Error::of_argument(status, || Argument::pid_max(pid_max)))?;
         Ok(Table::over(raw))
     }
 
@@ -267,10 +274,10 @@ impl Table {
     /// [`Call`] says which are queries.
     ///
     /// # Errors
-    /// `OutOfRange` for each other call, `Busy`.
+    /// `NoQuery` for each other call, `Busy`.
     pub fn ask(&self, query: Call) -> Result<Reply, Error> {
         let mut reply = raw::Reply::BLANK;
-        Error::unless_done(self.raw.ask(&query.numbers(), &mut reply))?;
+        Error::unless_asked(self.raw.ask(&query.numbers(), &mut reply))?;
         Ok(Reply::of(&reply))
     }
 
@@ -278,7 +285,7 @@ impl Table {
     /// changes, and it is not counted. It takes no memory, and does not tell whether the call would find some.
     ///
     /// # Errors
-    /// `OutOfRange`, `Spent`, `Busy`.
+    /// `Spent`, `Busy`.
     pub fn would(&self, call: Call) -> Result<Reply, Error> {
         let mut reply = raw::Reply::BLANK;
         Error::unless_done(self.raw.would(&call.numbers(), &mut reply))?;

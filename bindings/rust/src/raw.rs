@@ -116,6 +116,8 @@ mod bounds {
     pub(crate) const SAVED_VERSION: u32 = 1;
     pub(crate) const SAVED_BLOCK: usize = 48;
     pub(crate) const SAVED_LONGEST: usize = 192;
+    pub(crate) const LEAST_PID_MAX: u32 = 301;
+    pub(crate) const GREATEST_PID_MAX: u32 = 4194304;
 }
 pub(crate) use bounds::*;
 // The end of bounds.

@@ -5,13 +5,14 @@
 use crate::calls::sealed::Sealed;
 use crate::labels::Labels;
 use crate::{
-    effects, page, raw, space, texts, Call, Calls, Child, Error, LineError, Listing, ReplayError,
-    Reply, SavedError, SpaceStat, Stat, Table, TextError, Told,
+    effects, page, raw, space, texts, Argument, Call, Calls, Child, Error, LineError, Listing,
+    ReplayError, Reply, SavedError, SpaceStat, Stat, Table, TextError, Told,
 };
 use std::ops::{Deref, DerefMut};
 use std::sync::atomic::{AtomicBool, AtomicU32, AtomicU64, Ordering};
 use std::sync::{
-    Condvar, LockResult, Mutex, MutexGuard, PoisonError, RwLock, RwLockReadGuard, RwLockWriteGuard,
+    Arc, Condvar, LockResult, Mutex, MutexGuard, PoisonError, RwLock, RwLockReadGuard,
+    RwLockWriteGuard,
 };
 use std::time::{Duration, Instant};
 use std::{fmt, mem};
@@ -69,13 +70,15 @@ impl Options {
     /// Opens it, with the root init alone.
     ///
     /// # Errors
-    /// `OutOfRange` for a `pid_max` outside 301 to 4194304, for workers outside 1 to 16, and for a first stamp of 0; `NoMemory`.
+    /// `Argument` for a `pid_max` outside 301 to 4194304, for workers outside 1 to 16, and for a first stamp of 0; `NoMemory`.
     ///
     /// # Panics
     /// Where the library that was linked has another interface than this crate is written for.
     pub fn open(self) -> Result<Shared, Error> {
         let raw = raw::Record::open(self.pid_max, self.first_stamp, self.workers);
-        let record = Record::of(raw.map_err(Error::of)?, self.keep);
+        let outside = || Argument::settings(self.pid_max, self.workers, self.first_stamp);
+        let raw = raw.map_err(|status| Error::of_argument(status, outside))?;
+        let record = Record::of(raw, self.keep);
         let head = raw::SavedHead {
             pid_max: self.pid_max,
             workers: self.workers,
@@ -174,7 +177,7 @@ impl Shared {
     /// Its calls are saved to no writer, as those before them are not there: [`Shared::save`] is `Table(NotKept)`.
     ///
     /// # Errors
-    /// `Bad` with the line; `OutOfRange` for another number of workers, and where the counts add up to the stamp of the text or more; `NoMemory`.
+    /// `Bad` with the line; `Argument` for another number of workers, and where the counts add up to the stamp of the text or more; `NoMemory`.
     ///
     /// # Panics
     /// As [`Shared::open`].
@@ -185,7 +188,10 @@ impl Shared {
     ) -> Result<Shared, TextError> {
         let (text, mut fault) = (text.as_ref(), raw::Fault::BLANK);
         let loaded = raw::Record::load(text, counts, &mut fault);
-        let raw = loaded.map_err(|status| TextError::of(status, fault))?;
+        let raw = loaded.map_err(|status| match status {
+            raw::OUT_OF_RANGE => TextError::Argument(bad_counts(text, counts)),
+            _ => TextError::of(status, fault),
+        })?;
         let (pid_max, stamp) = head_of(text);
         let head = raw::SavedHead {
             pid_max,
@@ -199,7 +205,7 @@ impl Shared {
     /// history is never cut unasked; [`Shared::options`] has other ways.
     ///
     /// # Errors
-    /// `OutOfRange` for a `pid_max` outside 301 to 4194304, and for workers outside 1 to 16; `NoMemory`.
+    /// `Argument` for a `pid_max` outside 301 to 4194304, and for workers outside 1 to 16; `NoMemory`.
     ///
     /// # Panics
     /// Where the library that was linked has another interface than this crate is written for.
@@ -235,17 +241,45 @@ impl Shared {
     /// A seat for the next worker. Each worker's number is given once, from 0 on; a seat that is dropped is not given again.
     ///
     /// # Errors
-    /// `OutOfRange` where all are given.
+    /// `NoSeat` where all are given.
     pub fn seat(&self) -> Result<Seat<'_>, Error> {
-        let next = |seated| (seated < self.head.workers).then_some(seated + 1);
-        let given = self
-            .seated
-            .fetch_update(Ordering::Relaxed, Ordering::Relaxed, next);
         Ok(Seat {
             shared: self,
-            worker: given.map_err(|_| Error::OutOfRange)?,
+            worker: self.next_worker()?,
             ordinal: None,
         })
+    }
+
+    /// The same seat, which owns its table with others: for a thread without a scope, a task of a runtime, or a struct.
+    ///
+    /// ```
+    /// use pidtab::{Calls, Shared};
+    /// use std::sync::Arc;
+    /// use std::thread;
+    ///
+    /// let shared = Arc::new(Shared::open(32768, 1)?);
+    /// let mut seat = shared.owned_seat()?;
+    /// let forked = thread::spawn(move || seat.fork(1, false));
+    /// assert_eq!(forked.join().unwrap()?.root, 2);
+    /// # Ok::<(), pidtab::Error>(())
+    /// ```
+    ///
+    /// # Errors
+    /// `NoSeat` where all are given.
+    pub fn owned_seat(self: &Arc<Shared>) -> Result<OwnedSeat, Error> {
+        Ok(OwnedSeat {
+            worker: self.next_worker()?,
+            shared: Arc::clone(self),
+            ordinal: None,
+        })
+    }
+
+    /// The number of the next worker, if it is not given yet.
+    fn next_worker(&self) -> Result<u32, Error> {
+        let next = |seated| (seated < self.head.workers).then_some(seated + 1);
+        self.seated
+            .fetch_update(Ordering::Relaxed, Ordering::Relaxed, next)
+            .map_err(|_| Error::NoSeat)
     }
 
     /// The record, for several functions in one go, such as a list and the counts that it belongs to. All others wait while the guard lives.
@@ -351,7 +385,7 @@ impl Shared {
     /// As [`Record::ask`].
     ///
     /// # Errors
-    /// `OutOfRange` for each other call, `Busy`.
+    /// `NoQuery` for each other call, `Busy`.
     pub fn ask(&self, query: Call) -> Result<Reply, Error> {
         self.look().ask(query)
     }
@@ -359,7 +393,7 @@ impl Shared {
     /// As [`Record::would`].
     ///
     /// # Errors
-    /// `OutOfRange`, `Spent`, `Busy`.
+    /// `Spent`, `Busy`.
     pub fn would(&self, call: Call) -> Result<Reply, Error> {
         self.look().would(call)
     }
@@ -455,7 +489,7 @@ impl Shared {
     /// As [`Record::worker`].
     ///
     /// # Errors
-    /// `OutOfRange` where there are not so many workers: they are numbered from 0 on. `Busy`.
+    /// `Argument` where there are not so many workers: they are numbered from 0 on. `Busy`.
     pub fn worker(&self, worker: u32) -> Result<u64, Error> {
         self.look_first().worker(worker)
     }
@@ -527,7 +561,7 @@ impl Shared {
     /// As [`Record::replay`].
     ///
     /// # Errors
-    /// It stops at the first entry that has another reply, `Differs`, or cannot be made: `OutOfRange` for a worker that is not there;
+    /// It stops at the first entry that has another reply, `Differs`, or cannot be made: `Argument` for a worker that is not there;
     /// `NoMemory`, `Spent`, `Busy`. What was made before stays made.
     pub fn replay(&self, saved: &[Entry]) -> Result<(), ReplayError> {
         self.lock().replay(saved)
@@ -692,10 +726,10 @@ impl Record {
     /// [`Call`] says which are queries.
     ///
     /// # Errors
-    /// `OutOfRange` for each other call, `Busy`.
+    /// `NoQuery` for each other call, `Busy`.
     pub fn ask(&self, query: Call) -> Result<Reply, Error> {
         let mut reply = raw::Reply::BLANK;
-        Error::unless_done(self.raw.ask(&query.numbers(), &mut reply))?;
+        Error::unless_asked(self.raw.ask(&query.numbers(), &mut reply))?;
         Ok(Reply::of(&reply))
     }
 
@@ -703,7 +737,7 @@ impl Record {
     /// changes, and it is not recorded. It takes no memory, and does not tell whether the call would find some.
     ///
     /// # Errors
-    /// `OutOfRange`, `Spent`, `Busy`.
+    /// `Spent`, `Busy`.
     pub fn would(&self, call: Call) -> Result<Reply, Error> {
         let mut reply = raw::Reply::BLANK;
         Error::unless_done(self.raw.would(&call.numbers(), &mut reply))?;
@@ -847,11 +881,19 @@ impl Record {
     /// How many calls of the worker were recorded, the cut ones too.
     ///
     /// # Errors
-    /// `OutOfRange` where there are not so many workers: they are numbered from 0 on. `Busy`.
+    /// `Argument` where there are not so many workers: they are numbered from 0 on. `Busy`.
     pub fn worker(&self, worker: u32) -> Result<u64, Error> {
         let mut calls = 0;
-        Error::unless_done(self.raw.worker(worker, &mut calls))?;
-        Ok(calls)
+        let status = self.raw.worker(worker, &mut calls);
+        raw::done(status, calls)
+            .map_err(|status| Error::of_argument(status, || self.no_worker(worker)))
+    }
+
+    /// The number of a worker, if there are not so many.
+    fn no_worker(&self, worker: u32) -> Option<Argument> {
+        let is_there = |it: &u32| self.raw.worker(*it, &mut 0) != raw::OUT_OF_RANGE;
+        let workers = (0..raw::MOST_WORKERS).take_while(is_there).count() as u64;
+        Argument::outside("worker", worker, 0u32, workers - 1)
     }
 
     /// The kept entry with the ordinal.
@@ -953,7 +995,7 @@ impl Record {
     /// It costs what the calls cost. A history that cuts itself does so each 64 entries, and at the end.
     ///
     /// # Errors
-    /// It stops at the first entry that has another reply, `Differs`, or cannot be made: `OutOfRange` for a worker that is not there;
+    /// It stops at the first entry that has another reply, `Differs`, or cannot be made: `Argument` for a worker that is not there;
     /// `NoMemory`, `Spent`, `Busy`. What was made before stays made.
     pub fn replay(&mut self, saved: &[Entry]) -> Result<(), ReplayError> {
         for (batch, entries) in saved.chunks(BATCH).enumerate() {
@@ -962,12 +1004,21 @@ impl Record {
                 *numbers = entry.numbers();
             }
             let made = self.make_again(&room[..entries.len()]);
-            made.map_err(|stopped| ReplayError {
-                place: batch * BATCH + stopped.place,
-                ..stopped
+            made.map_err(|stopped| {
+                let place = batch * BATCH + stopped.place;
+                let error = self.error_of(stopped.error, &saved[place]);
+                ReplayError { place, error }
             })?;
         }
         Ok(())
+    }
+
+    /// Why an entry was not made again, by its worker where there is none such.
+    fn error_of(&self, error: Error, entry: &Entry) -> Error {
+        match (error, self.no_worker(entry.worker)) {
+            (Error::OutOfRange, Some(worker)) => Error::Argument(worker),
+            _ => error,
+        }
     }
 
     /// The same of entries as numbers.
@@ -1285,6 +1336,108 @@ impl fmt::Debug for Seat<'_> {
     }
 }
 
+/// A [`Seat`] that owns its table with others, by [`Shared::owned_seat`], so that it may go to any thread and be kept in any struct. Its functions are
+/// those of a seat. The table is closed with its last owner.
+///
+/// It cannot be cloned, as it is one worker's:
+///
+/// ```compile_fail,E0599
+/// let shared = std::sync::Arc::new(pidtab::Shared::open(32768, 1).unwrap());
+/// let other = shared.owned_seat().unwrap().clone();
+/// ```
+pub struct OwnedSeat {
+    shared: Arc<Shared>,
+    worker: u32,
+    ordinal: Option<u64>,
+}
+
+impl OwnedSeat {
+    /// The table.
+    pub fn shared(&self) -> &Arc<Shared> {
+        &self.shared
+    }
+
+    /// As [`Seat::worker`].
+    pub fn worker(&self) -> u32 {
+        self.worker
+    }
+
+    /// As [`Seat::ordinal`].
+    pub fn ordinal(&self) -> Option<u64> {
+        self.ordinal
+    }
+
+    /// As [`Seat::line`].
+    ///
+    /// # Errors
+    /// `Empty`, `Bad`; `NoMemory` for any call, `Spent`, `Busy`, `Unsaved`.
+    pub fn line(&mut self, line: impl AsRef<[u8]>) -> Result<String, LineError> {
+        self.by_seat(|seat| seat.line(line))
+    }
+
+    /// As [`Seat::calls`].
+    ///
+    /// # Errors
+    /// `NoMemory`, `Spent`, `Busy`, `Unsaved`.
+    pub fn calls(&mut self, calls: &[Call], replies: &mut Vec<Reply>) -> Result<(), Error> {
+        self.by_seat(|seat| seat.calls(calls, replies))
+    }
+
+    /// As [`Seat::fork_at`].
+    ///
+    /// # Errors
+    /// `NoMemory`, `Spent`, `Busy`, `Unsaved`.
+    pub fn fork_at(&mut self, caller: u32, new_space: bool, child: Child) -> Result<bool, Error> {
+        self.by_seat(|seat| seat.fork_at(caller, new_space, child))
+    }
+
+    /// As [`Seat::told`].
+    ///
+    /// # Errors
+    /// `NoMemory`, `Spent`, `Busy`, `Unsaved`.
+    pub fn told(&mut self, call: Call) -> Result<Told, Error> {
+        self.by_seat(|seat| seat.told(call))
+    }
+
+    /// As [`Seat::lock`].
+    pub fn lock(&mut self) -> Turn<'_> {
+        Turn {
+            locked: self.shared.lock(),
+            worker: self.worker,
+            ordinal: &mut self.ordinal,
+        }
+    }
+
+    /// Has a seat of the same worker do something.
+    fn by_seat<T>(&mut self, act: impl FnOnce(&mut Seat<'_>) -> T) -> T {
+        let mut seat = Seat {
+            shared: &self.shared,
+            worker: self.worker,
+            ordinal: self.ordinal,
+        };
+        let answer = act(&mut seat);
+        self.ordinal = seat.ordinal;
+        answer
+    }
+}
+
+impl Sealed for OwnedSeat {}
+
+impl Calls for OwnedSeat {
+    fn call(&mut self, call: Call) -> Result<Reply, Error> {
+        self.by_seat(|seat| seat.call(call))
+    }
+}
+
+impl fmt::Debug for OwnedSeat {
+    fn fmt(&self, to: &mut fmt::Formatter<'_>) -> fmt::Result {
+        to.debug_struct("OwnedSeat")
+            .field("worker", &self.worker)
+            .field("ordinal", &self.ordinal)
+            .finish_non_exhaustive()
+    }
+}
+
 /// The lock of a [`Shared`], by [`Seat::lock`]: a worker's calls and the functions of a [`Record`], until this is dropped.
 #[derive(Debug)]
 pub struct Turn<'a> {
@@ -1362,6 +1515,16 @@ impl DerefMut for Turn<'_> {
     fn deref_mut(&mut self) -> &mut Record {
         &mut self.locked
     }
+}
+
+/// Which is at fault where the counts of calls are not taken beside a text: how many there are, or their sum.
+fn bad_counts(text: &[u8], counts: &[u64]) -> Argument {
+    Argument::workers(counts.len() as u64).unwrap_or_else(|| Argument {
+        name: "the sum of counts",
+        value: counts.iter().fold(0, |sum, it| sum.saturating_add(*it)),
+        least: 0,
+        most: head_of(text).1 - 1,
+    })
 }
 
 /// `pid_max` and the stamp of the next call, of a text that was loaded: `pidtab table 1 pid-max N stamp S`.

@@ -647,7 +647,10 @@ fn files_that_are_begun() {
             .resume(&empty.open())
             .map(|_| ())
             .expect_err("a fault");
-        assert!(matches!(failed.fault, SavedFault::Table(Error::OutOfRange)));
+        assert!(matches!(
+            failed.fault,
+            SavedFault::Table(Error::Argument(_))
+        ));
         assert_eq!(empty.bytes(), b"\x89pid");
     }
 }

@@ -95,7 +95,7 @@ fn the_counts_add_up(shared: &Shared) {
     for worker in 0..WORKERS {
         assert_eq!(shared.worker(worker), Ok(EACH as u64));
     }
-    assert_eq!(shared.seat().err(), Some(Error::OutOfRange));
+    assert_eq!(shared.seat().err(), Some(Error::NoSeat));
 }
 
 /// Each worker's receipts are its entries, in their order.
@@ -184,9 +184,15 @@ fn a_table_that_follows() {
         assert!(seat.fork(1, false).is_ok());
     }
     let differs = Err(Error::Differs);
-    assert_eq!((shared.follow(&mut replica, &mut next), next), (differs, 72));
+    assert_eq!(
+        (shared.follow(&mut replica, &mut next), next),
+        (differs, 72)
+    );
     for mut lacking in [0, 92] {
-        assert_eq!(shared.follow(&mut replica, &mut lacking), Err(Error::NotKept));
+        assert_eq!(
+            shared.follow(&mut replica, &mut lacking),
+            Err(Error::NotKept)
+        );
     }
 }
 
@@ -216,10 +222,7 @@ fn what_a_replay_that_stops_says() {
         place: 70,
         error: Error::OutOfRange,
     };
-    assert_eq!(
-        stopped.to_string().split(',').next(),
-        Some("saved entry 70: out of range: pid_max (301 to 4194304)")
-    );
+    assert_eq!(stopped.to_string(), "saved entry 70: out of range");
     assert_eq!(Error::from(stopped), Error::OutOfRange);
     assert_eq!(open(1).replay(&[]), Ok(()));
 }
@@ -390,7 +393,10 @@ fn mixed(count: usize) -> Vec<Call> {
 #[test]
 fn turns_as_single_calls() {
     let (shared, other) = (open(2), open(2));
-    let (mut seat, mut alone) = (shared.seat().expect("a seat"), other.seat().expect("a seat"));
+    let (mut seat, mut alone) = (
+        shared.seat().expect("a seat"),
+        other.seat().expect("a seat"),
+    );
     let mut wanted = Vec::new();
     for length in [0, 1, 64, 65, 200] {
         let (calls, mut replies) = (mixed(length), vec![Reply::Done]);
@@ -430,7 +436,11 @@ fn turns_of_threads() {
                 for turn in 0..300 {
                     let mut replies = Vec::new();
                     assert_eq!(seat.calls(&calls, &mut replies), Ok(()));
-                    assert_eq!((replies.len(), seat.ordinal().expect("one") % 10), (10, 9), "{turn}");
+                    assert_eq!(
+                        (replies.len(), seat.ordinal().expect("one") % 10),
+                        (10, 9),
+                        "{turn}"
+                    );
                 }
             });
         }
