@@ -2,6 +2,7 @@
 #![forbid(unsafe_code)]
 
 mod accounts;
+mod asks;
 mod book;
 mod checksum;
 mod commands;

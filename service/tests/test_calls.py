@@ -1,9 +1,11 @@
 """What each command answers: by docs/SCRIPT.md, by Redis's own words, and by what the service promises besides."""
+import errno
 import os
 import pathlib
 import random
 import re
 import subprocess
+import sys
 import textwrap
 import threading
 import time
@@ -173,6 +175,129 @@ class Commands(Case):
         script = "fork 1\n" * 5000
         if os.access(PIDTAB, os.X_OK):
             self.assertEqual(listed, subprocess.run([PIDTAB, "list"], input=script, capture_output=True, text=True, check=True).stdout)
+
+
+class Asked(Case):
+    """Pages, namespaces, what a call would answer, and what it did: by the words of pidtab.h, and by the functions of C."""
+
+    def setUp(self):
+        super().setUp()
+        self.one = self.daemon("--fsync", "always").start()
+        self.client = self.one.client()
+        # 3 is 1 of the namespace 2, and its child 4 is 2 there. 2 leads a session, of which is its child 5, a zombie. 4 is in the cgroup 7.
+        for line in ("FORK 1", "FORK 1 NEW", "FORK 3", "SETSID 2", "FORK 2", "EXIT 5 0", "MK 0", "MOVE 4 7"):
+            self.client.say(line)
+
+    def each(self, wanted):
+        self.assertEqual({line: self.client.say(line) for line in wanted}, wanted)
+
+    def test_pages(self):
+        self.each({"PAGE 1 CHILDREN 0 0": [2, [2, 3]], "PAGE 1 CHILDREN 1 3": [1, [3]], "PAGE 1 CHILDREN 0 0 1": [2, [2]],
+                   "PAGE 1 CHILDREN 0 0 0": [2, []], "PAGE 3 CHILDREN 0 0": [1, [2]], "PAGE 1 CHILDREN 9 0": [0, []],
+                   "page 1 session 2 0": [2, [2, 5]], "PAGE 2 GROUP 0 3": [1, [5]], "PAGE 1 NAMESPACE 3 0": [2, [3, 4]],
+                   "PAGE 1 NAMESPACE 0 0": [5, [1, 2, 3, 4, 5]], "PAGE 1 OWN 0 0": [3, [1, 2, 5]], "PAGE 1 CONTROL 7 0": [1, [4]],
+                   "PIDTAB.PAGE 1 CONTROL 0 0": [3, [1, 2, 3]], "PAGE 3 CONTROL 7 0": [1, [2]], "POSITION": 8})
+        self.refused(self.client, "PAGE 9 CHILDREN 0 0", "ESRCH no-caller")
+        self.refused(self.client, "PAGE 1 CONTROL 9 0", "ENOENT no-control")
+        for words in ("CHILDREN 0", "PARENTS 0 0", "CHILDREN 4294967296 0", "CHILDREN 0 4294967296", "CHILDREN 0 0 1001", "CHILDREN 0 0 x", "CONTROL 7"):
+            self.refused(self.client, f"PAGE 1 {words}", "ERR syntax: PAGE C CHILDREN P|GROUP P|")
+        self.client.socket.sendall(b"FORK 1\r\n" * 1100)
+        self.assertEqual([self.client.answer() for _ in range(1100)][-1], [1105, 1105])
+        self.assertEqual(self.client.say("PAGE 1 CHILDREN 0 4"), [1100, list(range(6, 1006))])
+
+    def test_namespaces(self):
+        root, other = ["id", 0, "parent", None, "level", 0, "init", 1, "fallen", 0], ["id", 2, "parent", 0, "level", 1, "init", 3, "fallen", 0]
+        self.each({"SPACE 0": root, "SPACE 2": other, "SPACE 7": None, "INSIDE SPACES 0 0": [1, [2]], "INSIDE SPACES 0 3": [0, []],
+                   "INSIDE SPACES 2 0": [0, []], "INSIDE SPACES 7 0": None, "INSIDE CONTROLS 0 0": [1, [7]], "inside controls 0 7 0": [1, []],
+                   "INSIDE CONTROLS 2 0": None, "POSITION": 8})
+        self.client.say("EXIT 3 0")
+        self.each({"SPACE 2": [*other[:-1], 1], "WAIT 1 PID 3": [3, 0], "SPACE 2 ": None, "INSIDE SPACES 0 0": [0, []]})
+        for line in ("SPACE x", "SPACE 18446744073709551616", "INSIDE TASKS 0 0", "INSIDE SPACES 0", "INSIDE SPACES 0 0 1001"):
+            self.refused(self.client, line, "ERR syntax: " + line.split(" ", maxsplit=1)[0])
+
+    def test_what_a_call_would_answer(self):
+        self.each({"WOULD fork 1": [6, 6], "WOULD FORK 3 NEW": [3, 6], "WOULD wait 2 any": [5, 0], "WOULD mk 7": 9, "WOULD getpid 4": 2, "POSITION": 8})
+        self.refused(self.client, "WOULD fork 9", "ESRCH no-caller")
+        self.refused(self.client, "WOULD list", "ERR syntax: WOULD VERB ..")
+        self.refused(self.client, "WOULD fork", "ERR syntax: FORK C [NEW]")
+        self.assertEqual([self.client.say("CALL wait 2 any"), self.client.say("WOULD mk 0")], [[5, 0], 10])
+
+    def test_a_fork_with_given_numbers(self):
+        for words, why in (("1 7 7", "child 6 root 6"), ("1 6 7", "child 6 root 6"), ("3 6 6", "child 3 root 6"), ("9 6 6", "ESRCH no-caller")):
+            self.refused(self.client, f"FORKAT {words}", f"DIFFERS {why}")
+        self.each({"POSITION": 8, "FORKAT 1 6 6": [6, 6], "FORKAT 3 3 7 NEW": [3, 7], "SPACE 10": ["id", 10, "parent", 2, "level", 2, "init", 7, "fallen", 0]})
+        for words in ("1 8", "1 8 x", "1 8 8 OLD", "1 8 8 NEW NEW"):
+            self.refused(self.client, f"FORKAT {words}", "ERR syntax: FORKAT C N R [NEW]")
+
+    def test_what_a_call_did(self):
+        self.each({"TOLD exit 2 7": ["OK", [["ended", 2, 7], ["adopted", 5, 1]]], "TOLD wait 1 pid 5": [[5, 0], [["gone", 5]]],
+                   "TOLD wait 1 pid 2": [[2, 7], [["gone", 2], ["group-gone", 2], ["session-gone", 2]]],
+                   "TOLD exit 3 9": ["OK", [["ended", 3, 9], ["ended", 4, "killed"], ["gone", 4], ["space-fell", 2]]],
+                   "TOLD wait 1 pid 3": [[3, 9], [["gone", 3], ["space-gone", 2]]], "TOLD getpid 1": [1, []], "TOLD fork 1": [[6, 6], []], "POSITION": 15})
+        refusal, effects = self.client.say("TOLD fork 99")
+        self.assertEqual((str(refusal), effects, self.client.say("POSITION")), ("ESRCH no-caller", [], 16))
+        self.refused(self.client, "TOLD list", "ERR syntax: TOLD VERB ..")
+
+    def test_they_are_saved_and_leased(self):
+        """What is made by these is in the log as by FORK, and bound to the lease of its connection."""
+        self.each({"LEASE rig 60000": "OK", "FORKAT 1 6 6": [6, 6], "TOLD fork 1": [[7, 7], []], "LEASES": [["rig", 60000, 1, [6, 7]]]})
+        self.client.say("TOLD exit 3 9")
+        self.client.say("TOLD exit 99 0")
+        listed = self.client.say("LIST")
+        self.one.kill()
+        again = self.one.start().client()
+        self.assertEqual((again.say("LIST"), again.say("POSITION"), again.say("LEASES")), (listed, 12, [["rig", 60000, 0, [6, 7]]]))
+
+    def test_not_in_a_multi(self):
+        for line in ("WOULD fork 1", "TOLD fork 1", "FORKAT 1 6 6", "PAGE 1 CHILDREN 0 0"):
+            self.client.say("MULTI")
+            self.refused(self.client, line, "ERR only calls")
+            self.client.say("DISCARD")
+
+    def test_by_the_functions_of_c(self):
+        """Behind each of 600 random calls, on a table of the library for C too, some pages, a namespace, what is inside."""
+        if not (TOP / "out/libpidtab.so").exists():
+            self.skipTest("no library")
+        sys.path.insert(0, str(TOP / "bindings/python"))
+        import pidtab
+        dice, client = random.Random(7), self.daemon(name="two", kept=False).start().client()
+        with pidtab.Table() as table:
+            whose = {"CHILDREN": table.ask.children, "GROUP": table.ask.group_members, "SESSION": table.ask.session_members,
+                     "NAMESPACE": table.ask.namespace_members, "OWN": table.ask.namespace_own, "CONTROL": table.ask.control_tasks}
+            trees = {"SPACES": table.ask.spaces_inside, "CONTROLS": table.ask.controls_inside}
+            for number in range(600):
+                line = random_line(dice, number)
+                self.assertEqual(shown(line, self.answer(client, f"TOLD {line}", 0)), table.answers([line])[0])
+                caller, of, first, at = dice.randrange(1, 12), dice.randrange(10), dice.randrange(6), dice.randrange(number + 1)
+                for name, page in whose.items():
+                    told = self.answer(client, f"PAGE {caller} {name} {of} {first} 4", None)
+                    self.assertEqual(told, read(lambda: page(caller, of, first), lambda it: [len(it), list(it[:4])]), f"{number}: {caller} {name} {of} {first}")
+                for name, page in trees.items():
+                    self.assertEqual(self.answer(client, f"INSIDE {name} {at} {first}", None), read(lambda: page(at, first), lambda it: [len(it), list(it)]))
+                self.assertEqual(self.answer(client, f"SPACE {at}", None), read(lambda: table.ask.space(at), fields_of))
+
+    def answer(self, client, line, place):
+        """The answer, or what is at that place of it; of a refusal its words."""
+        client.send(*line.split())
+        told = client.answer()
+        if isinstance(told, Refused):
+            return told if place is not None else str(told)
+        return told if place is None else told[place]
+
+
+def fields_of(space):
+    """A namespace of Python, as the service tells it."""
+    return ["id", space.id, "parent", space.parent, "level", space.level, "init", space.init, "fallen", int(space.fallen)]
+
+
+def read(ask, form):
+    """What a function of the package for Python reads; of a refusal its words, and nothing where there is no such id."""
+    try:
+        return form(ask())
+    except LookupError:
+        return None
+    except OSError as error:
+        return f"{errno.errorcode[error.errno]} {str(error).rsplit(' ', 1)[1]}"
 
 
 class Waits(Case):
@@ -478,7 +603,7 @@ class Users(Case):
         listed = client.say("LIST")
         forbidden = ["FORK 1", "FORK 3", "EXIT 3 0", "EXIT 4 0", "EXEC 3", "WAIT 1 ANY", "WAITCHILD 1 ANY", "SETSID 3", "SUBREAPER 3 ON"]
         forbidden += ["SETPGID 2 3 2", "SETPGID 3 0 0", "JOIN 2 4", "JOIN 3 2", "MOVE 3 1", "MOVE 2 0", "MOVE 2 6", "MK 0", "MK 6", "RM 1", "RM 6"]
-        forbidden += ["LIMIT 1 MAX", "LIMIT 6 3", "LIMIT 0 3", "CALL fork 1", "CALL getpid 1", "CALL count 0", "FORK 99", "PIDTAB.EXIT 3 0"]
+        forbidden += ["LIMIT 1 MAX", "LIMIT 6 3", "LIMIT 0 3", "CALL fork 1", "CALL getpid 1", "CALL count 0", "FORK 99", "PIDTAB.EXIT 3 0", "TOLD exit 3 0", "FORKAT 3 5 5"]
         forbidden += ["BGSAVE", "SHUTDOWN", "FOLLOW", "TAKEOVER"]
         told = self.as_enemy(one, forbidden)
         self.assertEqual(re.findall("^-NOPERM", told, re.MULTILINE), ["-NOPERM"] * len(forbidden), told)
@@ -539,8 +664,9 @@ class Users(Case):
 
     def test_who_may_only_ask(self):
         one = self.daemon("--mode", "666", "--allow", f"0,{self.ENEMY}:ro").start()
-        told = self.as_enemy(one, ["GETPID 1", "FORK 1", "CALL getpid 1", "LEASE x 1", "SHUTDOWN", "BGSAVE", "WAITCHILD 1 ANY"])
-        self.assertEqual(told, ":1\r\n" + "-NOPERM this user may only ask\r\n" * 6)
+        told = self.as_enemy(one, ["GETPID 1", "FORK 1", "CALL getpid 1", "LEASE x 1", "SHUTDOWN", "BGSAVE", "WAITCHILD 1 ANY", "FORKAT 1 2 2", "TOLD fork 1"])
+        self.assertEqual(told, ":1\r\n" + "-NOPERM this user may only ask\r\n" * 8)
+        self.assertEqual(self.as_enemy(one, ["WOULD fork 1", "PAGE 1 CHILDREN 0 0"]), "*2\r\n:2\r\n:2\r\n*2\r\n:0\r\n*0\r\n")
         self.assertEqual(one.client().say("POSITION"), 0)
 
     def test_where_users_cannot_be_told_apart(self):
