@@ -2,6 +2,7 @@
 use crate::accounts::{MOST_LEASES, REQUESTS_AT_ONCE};
 use crate::asks::{Answered, Query};
 use crate::book::INIT;
+use crate::clients::set_name;
 use crate::commands::{find, without_prefix, Action, Command, Values, Verb, COMMANDS};
 use crate::conn::{Conn, Follower, Held, Multi, Pause};
 use crate::directory::{Fault, SEATS};
@@ -43,6 +44,7 @@ impl Service {
         if is_end {
             return self.end_multi(conn);
         }
+        (conn.last, conn.asked) = (command.name, self.now);
         let Some(values) = command.read(words) else {
             return self.misused(conn, command);
         };
@@ -75,7 +77,7 @@ impl Service {
         say::unknown(&mut conn.out, word);
     }
 
-    fn misused(&mut self, conn: &mut Conn, command: &Command) {
+    pub fn misused(&mut self, conn: &mut Conn, command: &Command) {
         self.figures.faults += 1;
         fail_multi(conn);
         say::syntax(&mut conn.out, command);
@@ -276,7 +278,7 @@ impl Service {
             }
             Action::Help => say::help(&mut conn.out),
             Action::Command => run_command_of_commands(conn, words),
-            Action::Config => conn.out.array(0),
+            Action::Metrics => conn.out.bulk(crate::metrics::text(self).as_bytes()),
             Action::Select => conn.out.ok(),
             Action::Auth => conn.out.line(NO_PASSWORDS),
             Action::Quit => {
@@ -291,6 +293,9 @@ impl Service {
         match command.action {
             Action::Seat => self.run_seat(conn, command, words),
             Action::Client => self.run_client(conn, command, words),
+            Action::Config if !is_word(words.at(1), "GET") => self.misused(conn, command),
+            Action::Config => crate::config::tell(conn, &self.options, self.engine.pid_max, words.from(2)),
+            Action::Slowlog => self.run_slowlog(conn, command, words),
             Action::Hello => self.run_hello(conn, command, words),
             Action::Subscribe => self.run_subscribe(conn, words.from(1)),
             Action::Unsubscribe => self.run_unsubscribe(conn, words.from(1)),
@@ -329,15 +334,6 @@ impl Service {
         conn.out.number(u64::from(conn.seat));
     }
 
-    fn run_client(&mut self, conn: &mut Conn, command: &Command, words: Words) {
-        match words.at(1).to_ascii_uppercase().as_slice() {
-            b"ID" => conn.out.number(conn.id),
-            b"SETINFO" | b"SETNAME" => conn.out.ok(),
-            b"GETNAME" => conn.out.line("$-1"),
-            _ => self.misused(conn, command),
-        }
-    }
-
     fn run_hello(&mut self, conn: &mut Conn, command: &Command, words: Words) {
         if words.len() > 1 && words.at(1) != b"2" {
             return conn.out.line("-NOPROTO unsupported protocol version");
@@ -345,7 +341,11 @@ impl Service {
         let (options, count) = (words.from(2), words.len().saturating_sub(2));
         match count {
             0 => {}
-            2 if is_word(options.at(0), "SETNAME") => {}
+            2 if is_word(options.at(0), "SETNAME") => {
+                if !set_name(conn, options.at(1)) {
+                    return;
+                }
+            }
             3 | 5 if is_word(options.at(0), "AUTH") => return conn.out.line(NO_PASSWORDS),
             _ => return self.misused(conn, command),
         }

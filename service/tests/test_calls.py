@@ -300,6 +300,145 @@ def read(ask, form):
         return f"{errno.errorcode[error.errno]} {str(error).rsplit(' ', 1)[1]}"
 
 
+class Looked(Case):
+    """What an operator asks: by Redis's own words, and by what the test has done."""
+
+    def setUp(self):
+        super().setUp()
+        self.one = self.daemon("--slowlog-log-slower-than", "0", "--fsync", "always", "--pid-max", "400").start()
+        self.client, self.other = self.one.client(), self.one.client()
+
+    def listed(self, client, words=""):
+        """The connections that CLIENT LIST tells, each by the names of its fields."""
+        lines = client.say(f"CLIENT LIST{words}").splitlines()
+        return [dict(field.split("=", 1) for field in line.split(" ")) for line in lines]
+
+    def test_clients(self):
+        say, own, its = self.client.say, self.client.say("CLIENT ID"), self.other.say("CLIENT ID")
+        self.assertEqual((say("CLIENT GETNAME"), say("CLIENT SETNAME me"), say("CLIENT GETNAME"), say("CLIENT SETINFO LIB-NAME x")), (None, "OK", "me", "OK"))
+        self.other.say("HELLO 2 SETNAME it")
+        self.other.say("SUBSCRIBE exit")
+        me, it = self.listed(self.client)
+        # By the fields of Redis 7.0's CLIENT LIST, which its clients read.
+        wanted = {"id", "addr", "laddr", "fd", "name", "age", "idle", "flags", "db", "sub", "psub", "ssub", "multi", "qbuf", "qbuf-free", "obl", "oll", "omem"}
+        self.assertEqual(set(me), wanted | {"events", "cmd", "user", "redir", "resp"})
+        told = [(row["id"], row["name"], row["flags"], row["sub"], row["cmd"], row["user"], row["addr"]) for row in (me, it)]
+        place, user = f"{self.one.socket}:0", str(os.geteuid())
+        self.assertEqual(told, [(str(own), "me", "U", "0", "client", user, place), (str(its), "it", "PU", "1", "subscribe", user, place)])
+        self.assertEqual([row["id"] for row in self.listed(self.client, " TYPE pubsub")], [str(its)])
+        self.assertEqual([row["id"] for row in self.listed(self.client, f" ID {own} 999")], [str(own)])
+        self.assertEqual((self.listed(self.client, " TYPE replica"), say("CLIENT INFO").split(" ")[0]), ([], f"id={own}"))
+        self.client.send("CLIENT", "SETNAME", "a\nid=7")
+        self.assertTrue(str(self.client.answer()).startswith("ERR Client names cannot contain spaces"))
+        self.client.send("HELLO", "2", "SETNAME", "a b")
+        self.assertTrue(str(self.client.answer()).startswith("ERR Client names cannot contain spaces"))
+        for words in ("LIST ID", "LIST ID x", "LIST TYPE friends", "LIST SKIPME no", "KILL", "KILL x:0", "KILL SKIPME maybe", "NOTHING", "ID 3", "SETNAME"):
+            self.refused(self.client, f"CLIENT {words}", "ERR syntax: CLIENT")
+
+    def test_kill(self):
+        """Who is killed is gone, with his wait and his lease; who kills stays, until he says otherwise."""
+        third = self.one.client()
+        self.client.say("FORK 1")
+        self.assertEqual((third.say("LEASE rig 100"), third.say("FORK 1")), ("OK", [3, 3]))
+        third.send(*"WAITCHILD 1 ANY".split())
+        its, own = self.other.say("CLIENT ID"), self.client.say("CLIENT ID")
+        self.assertEqual((self.client.say(f"CLIENT KILL ID {its}"), self.client.say(f"CLIENT KILL ID {its}")), (1, 0))
+        self.assertRaises((EOFError, ConnectionError), self.other.say, "PING")
+        self.assertEqual((self.client.say("CLIENT KILL TYPE pubsub"), self.client.say(f"CLIENT KILL ID {own}"), self.client.say("CLIENT KILL USER 77")), (0, 0, 0))
+        self.assertEqual(self.client.say(f"CLIENT KILL TYPE normal USER {os.geteuid()}"), 1)
+        self.assertRaises((EOFError, ConnectionError), third.answer)
+        self.assertEqual(self.client.say("WAITCHILD 1 ANY TIMEOUT 5000"), [3, 137])
+        self.assertEqual(self.client.say(f"CLIENT KILL ID {own} SKIPME no"), 1)
+        self.assertRaises((EOFError, ConnectionError), self.client.say, "PING")
+        self.assertEqual(self.one.client().say("PING"), "PONG")
+
+    def test_slowlog(self):
+        """All is slow that takes 0 us; by default what takes 10 ms, so nothing of this."""
+        self.client.say("CLIENT SETNAME me")
+        self.client.say("SLOWLOG RESET")
+        before = int(time.time())
+        self.client.send("ECHO", "x" * 200)
+        self.client.answer()
+        self.refused(self.client, "AUTH secret", "ERR AUTH")
+        self.client.send("COMMAND", "INFO", *["PING"] * 40)
+        self.client.answer()
+        entries = self.client.say("SLOWLOG GET 3")
+        words = [["COMMAND", "INFO"] + ["PING"] * 29 + ["... (11 more arguments)"], ["AUTH", "(redacted)"], ["ECHO", "x" * 128 + "... (72 more bytes)"]]
+        self.assertEqual([it[3] for it in entries], words)
+        for number, at, took, _, place, name in entries:
+            self.assertTrue(before <= at <= time.time() and took < 10**6, entries)
+            self.assertEqual((place, name), (f"{self.one.socket}:0", "me"))
+        self.assertEqual([it[0] for it in entries], [entries[2][0] + 2, entries[2][0] + 1, entries[2][0]])
+        self.assertEqual(self.client.say("SLOWLOG LEN"), 5)
+        for _ in range(140):
+            self.client.say("PING")
+        self.assertEqual((self.client.say("SLOWLOG LEN"), len(self.client.say("SLOWLOG GET")), len(self.client.say("SLOWLOG GET -1"))), (128, 10, 128))
+        self.assertEqual((self.client.say("SLOWLOG RESET"), self.client.say("SLOWLOG LEN")), ("OK", 1))
+        usual = self.daemon(name="two", kept=False).start().client()
+        usual.say("PING")
+        self.assertEqual((usual.say("SLOWLOG LEN"), usual.say("SLOWLOG GET")), (0, []))
+        for words in ("GET x", "LEN 1", "RESET 1", "NOTHING"):
+            self.refused(self.client, f"SLOWLOG {words}", "ERR syntax: SLOWLOG")
+
+    def test_what_takes_long_is_slow(self):
+        """The exit of an init with 25,000 tasks, which is one call."""
+        client = self.daemon("--slowlog-log-slower-than", "2000", name="two", kept=False).start().client()
+        client.say("FORK 1 NEW")
+        client.socket.sendall(b"FORK 2\r\n" * 25000)
+        self.assertEqual([client.answer() for _ in range(25000)][-1], [25001, 25002])
+        client.say("SLOWLOG RESET")
+        began = time.monotonic()
+        self.assertEqual(client.say("EXIT 2 0"), "OK")
+        most = (time.monotonic() - began) * 10**6
+        entry = client.say("SLOWLOG GET")[0]
+        self.assertEqual(entry[3], ["EXIT", "2", "0"])
+        self.assertTrue(2000 <= entry[2] <= most, (entry, most))
+
+    def test_settings(self):
+        def read(words):
+            told = self.client.say(f"CONFIG GET {words}")
+            return dict(zip(told[::2], told[1::2]))
+
+        self.assertEqual(read("maxclients"), {"maxclients": "1000"})
+        self.assertEqual(read("append* DIR"), {"appendfsync": "always", "appendonly": "yes", "dir": str(self.one.kept)})
+        self.assertEqual(read("slowlog-???-* save nothing"), {"slowlog-log-slower-than": "0", "slowlog-max-len": "128", "save": ""})
+        self.assertEqual(read("unixsocket* pid-max pid-max"), {"unixsocket": str(self.one.socket), "unixsocketperm": "600", "pid-max": "400"})
+        self.assertGreater(len(read("*")), 15)
+        for words in ("SET maxclients 3", "GET", "RESETSTAT"):
+            self.refused(self.client, f"CONFIG {words}", "ERR syntax: CONFIG")
+
+    def test_metrics(self):
+        """By the text format of Prometheus, version 0.0.4, and by what the test has done."""
+        for line in ("FORK 1", "FORK 99", "MK 0", "GETPID 1", "LEASE rig 1000"):
+            self.client.send(*line.split())
+            self.client.answer()
+        told = subprocess.run([DAEMON, "--metrics", str(self.one.socket)], capture_output=True, text=True, check=True).stdout
+        self.assertEqual(self.client.say("METRICS").count("\n"), told.count("\n"))
+        kinds, values = {}, {}
+        for line in told.splitlines():
+            if line.startswith("# TYPE "):
+                _, _, name, kind = line.split(" ")
+                self.assertNotIn(name, kinds)
+                kinds[name] = kind
+            elif not line.startswith("# HELP "):
+                name, labels, value = re.fullmatch(r'([a-z_:]+)(\{(?:[a-z_]+="[^"\\]*",?)*\})? ([0-9]+)', line).groups()
+                self.assertIn(name, kinds)
+                self.assertNotIn(name, values)
+                values[name] = int(value)
+                self.assertEqual(name.endswith("_total"), kinds[name] == "counter", name)
+                self.assertEqual(bool(labels), name == "pidtabd_info")
+        self.assertEqual(set(kinds), set(values))
+        wanted = {"position": 3, "waiting_calls": 0, "tasks": 2, "controls": 1, "calls_total": 3, "refusals_total": 1, "queries_total": 1, "clients": 3,
+                  "clients_accepted_total": 4, "clients_max": 1000, "leases": 1, "followers": 0, "follower_lag_bytes": 0, "stuck": 0, "pid_max": 400, "faults_total": 0,
+                  "snapshot_position": 0, "info": 1, "leader_link": 0}
+        self.assertEqual({name: values[f"pidtabd_{name}"] for name in wanted}, wanted)
+        self.assertTrue(1 <= values["pidtabd_commits_total"] <= 3 and values["pidtabd_log_bytes"] > 0 and values["pidtabd_slow_requests_total"] == 5, values)
+        self.one.end()
+        done = subprocess.run([DAEMON, "--metrics", str(self.one.socket)], capture_output=True, text=True, check=False)
+        self.assertEqual((done.returncode, done.stdout), (1, ""))
+        self.assertRegex(done.stderr, f"^pidtabd: {self.one.socket}: No such file")
+
+
 class Waits(Case):
     def setUp(self):
         super().setUp()
@@ -668,6 +807,22 @@ class Users(Case):
         self.assertEqual(told, ":1\r\n" + "-NOPERM this user may only ask\r\n" * 8)
         self.assertEqual(self.as_enemy(one, ["WOULD fork 1", "PAGE 1 CHILDREN 0 0"]), "*2\r\n:2\r\n:2\r\n*2\r\n:0\r\n*0\r\n")
         self.assertEqual(one.client().say("POSITION"), 0)
+
+    def test_who_may_only_ask_kills_nobody(self):
+        """He is told of his own connections and requests alone, and ends and forgets none, his own neither."""
+        one = self.daemon("--mode", "666", "--slowlog-log-slower-than", "0", "--allow", f"0,{self.ENEMY}:ro").start()
+        client = one.client()
+        client.say("ECHO mine")
+        told = self.as_enemy(one, ["CLIENT KILL ID 1", "CLIENT KILL TYPE normal SKIPME no", "SLOWLOG RESET"])
+        self.assertEqual(told, "-NOPERM this user may only ask\r\n" * 3)
+        listed, logged = self.as_enemy(one, ["CLIENT LIST"]), self.as_enemy(one, ["PING", "SLOWLOG GET 99"])
+        self.assertEqual(re.findall(r"\buser=([0-9]+)\b", listed), [str(self.ENEMY)])
+        self.assertTrue("PING" in logged and "KILL" in logged and "mine" not in logged, logged)
+        own = client.say("CLIENT LIST").count("\n")
+        words = [it[3] for it in client.say("SLOWLOG GET 99")]
+        self.assertTrue(own == 1 and ["ECHO", "mine"] in words and ["PING"] in words, words)
+        below = self.daemon("--mode", "666", "--allow", f"0,{self.ENEMY}:below=1", name="two").start()
+        self.assertIn("-NOPERM", self.as_enemy(below, ["CLIENT KILL TYPE normal"]))
 
     def test_where_users_cannot_be_told_apart(self):
         """In a user namespace that has only some users, all others have one number: --allow is refused there."""
