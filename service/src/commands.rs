@@ -1,6 +1,7 @@
 //! The one table of commands. The parser, `COMMAND`, `HELP`, the tables of the pages and the tests of arity come from it.
+use crate::asks::{Tree, Whom, MOST_ON_A_PAGE};
 use crate::resp::{is_word, number, signed, Words};
-use pidtab::{Call, Kind, Which};
+use pidtab::{Call, Child, Kind, Which};
 
 /// Each name may have it in front, as some are commands of Redis too.
 pub const PREFIX: &[u8] = b"PIDTAB.";
@@ -35,7 +36,13 @@ pub enum Action {
     Call(Verb),
     Line,
     WaitChild,
+    ForkAt,
+    Told,
+    Would,
     Stat,
+    Page,
+    Space,
+    Inside,
     Multi,
     Discard,
     Subscribe,
@@ -54,6 +61,8 @@ pub enum Action {
     Seat,
     Client,
     Config,
+    Slowlog,
+    Metrics,
     Hello,
     Select,
     Auth,
@@ -79,9 +88,20 @@ pub enum Argument {
     Kind,
     Switch,
     Limit,
+    /// The numbers of a child, in its parent's namespace and in the root.
+    Child,
+    Whom,
+    Tree,
+    Id,
+    /// The first number that is asked for, with the greatest that there may be.
+    From(u64),
+    Room,
     /// As it is, with the least and the greatest number of words.
     Other(&'static str, usize, usize),
 }
+
+/// No number of a task is greater.
+const MOST_PROCESS: u64 = u32::MAX as u64;
 
 /// What was read of the arguments.
 #[derive(Clone, Copy, Debug)]
@@ -95,6 +115,11 @@ pub struct Values {
     pub which: Which,
     kind: Kind,
     limit: Option<u32>,
+    pub child: Child,
+    pub whom: Whom,
+    pub tree: Tree,
+    pub from: u64,
+    pub room: usize,
 }
 
 impl Default for Values {
@@ -109,6 +134,11 @@ impl Default for Values {
             which: Which::Any,
             kind: Kind::Task,
             limit: None,
+            child: Child { number: 0, root: 0 },
+            whom: Whom::Children(0),
+            tree: Tree::Spaces,
+            from: 0,
+            room: MOST_ON_A_PAGE,
         }
     }
 }
@@ -128,6 +158,12 @@ impl Argument {
             Argument::Kind => "TASK|GROUP|SESSION",
             Argument::Switch => "ON|OFF",
             Argument::Limit => "N|MAX",
+            Argument::Child => "N R",
+            Argument::Whom => "CHILDREN P|GROUP P|SESSION P|NAMESPACE P|OWN P|CONTROL I",
+            Argument::Tree => "SPACES|CONTROLS",
+            Argument::Id => "ID",
+            Argument::From(_) => "FROM",
+            Argument::Room => "[ROOM]",
             Argument::Other(words, ..) => words,
         }
     }
@@ -135,7 +171,8 @@ impl Argument {
     /// How many words it has, at least and at most.
     fn counts(self) -> (usize, usize) {
         match self {
-            Argument::New => (0, 1),
+            Argument::New | Argument::Room => (0, 1),
+            Argument::Child | Argument::Whom => (2, 2),
             Argument::Which => (1, 2),
             Argument::Other(_, least, most) => (least, most),
             _ => (1, 1),
@@ -145,7 +182,7 @@ impl Argument {
     /// Reads it from the front of the words: how many it has. None: it is not there.
     fn read(self, words: Words, to: &mut Values) -> Option<usize> {
         let word = words.at(0);
-        let process = || number(word, u64::from(u32::MAX)).map(|it| it as u32);
+        let process = || read_process(word);
         match self {
             Argument::Caller | Argument::Task => to.caller = process()?,
             Argument::Process => to.number = process()?,
@@ -166,9 +203,37 @@ impl Argument {
             Argument::Limit if is_word(word, "MAX") => to.limit = None,
             Argument::Limit => to.limit = Some(process()?),
             Argument::Other(..) => return Some(words.len()),
+            _ => return self.read_of_page(words, to),
         }
         Some(1)
     }
+
+    /// What is of a page, or of a fork with given numbers.
+    fn read_of_page(self, words: Words, to: &mut Values) -> Option<usize> {
+        let word = words.at(0);
+        match self {
+            Argument::Child => {
+                let (number, root) = (read_process(word)?, read_process(words.at(1))?);
+                to.child = Child { number, root };
+                return Some(2);
+            }
+            Argument::Whom => {
+                to.whom = Whom::read(words)?;
+                return Some(2);
+            }
+            Argument::Tree => to.tree = Tree::read(word)?,
+            Argument::Id => to.id = number(word, u64::MAX)?,
+            Argument::From(most) => to.from = number(word, most)?,
+            Argument::Room if words.len() == 0 => return Some(0),
+            Argument::Room => to.room = number(word, MOST_ON_A_PAGE as u64)? as usize,
+            _ => return None,
+        }
+        Some(1)
+    }
+}
+
+fn read_process(word: &[u8]) -> Option<u32> {
+    number(word, MOST_PROCESS).map(|it| it as u32)
 }
 
 fn read_which(words: Words, to: &mut Values) -> Option<usize> {
@@ -259,7 +324,8 @@ impl Command {
     pub fn asks(&self) -> bool {
         match self.action {
             Action::Call(verb) => verb.asks(),
-            Action::Line | Action::WaitChild | Action::Lease | Action::Release => false,
+            Action::Line | Action::WaitChild | Action::ForkAt | Action::Told => false,
+            Action::Lease | Action::Release => false,
             Action::Save | Action::Takeover | Action::Shutdown => false,
             _ => true,
         }
@@ -269,7 +335,9 @@ impl Command {
     pub fn waits_for_disk(&self) -> bool {
         match self.action {
             Action::Call(verb) => !verb.asks(),
-            Action::Stat | Action::Ping | Action::Echo | Action::Info | Action::Help | Action::Command => false,
+            Action::Would | Action::Stat | Action::Page | Action::Space | Action::Inside => false,
+            Action::Ping | Action::Echo | Action::Info | Action::Help | Action::Command => false,
+            Action::Slowlog | Action::Metrics => false,
             Action::Client | Action::Config | Action::Hello | Action::Select | Action::Auth | Action::Quit => false,
             _ => true,
         }
@@ -294,9 +362,9 @@ pub const COMMANDS: &[Command] = &[
     row("AUTH", A::Auth, &[Other("[USER] PASSWORD", 1, 2)], "an error: the socket's mode and --allow say who may connect"),
     row("BGSAVE", A::Save, &[Other("[SCHEDULE]", 0, 1)], "goes on in a new file of the log, and makes a snapshot beside"),
     row("CALL", A::Line, &[Other("VERB ..", 1, 5)], "a line of the script language: recorded, the queries too"),
-    row("CLIENT", A::Client, &[Other("ID|SETNAME|SETINFO|GETNAME ..", 1, 4)], "for the libraries of clients"),
+    row("CLIENT", A::Client, &[Other("ID|INFO|LIST|KILL|SETNAME|GETNAME|SETINFO ..", 1, 63)], "connections: LIST and KILL take ID N .., USER UID, TYPE normal|replica|pubsub; KILL also SKIPME yes|no"),
     row("COMMAND", A::Command, &[Other("[COUNT|DOCS|INFO|LIST ..]", 0, 63)], "the commands"),
-    row("CONFIG", A::Config, &[Other("GET NAME", 1, 63)], "nothing, for redis-benchmark"),
+    row("CONFIG", A::Config, &[Other("GET NAME ..", 2, 63)], "settings and their values, by names in which * and ? stand for others"),
     row("COUNT", A::Call(Verb::Count), &[Control], "how many tasks the cgroup and those below it have"),
     row("DISCARD", A::Discard, &[], "forgets a MULTI"),
     row("DUMP", A::Dump, &[], "the text of the table"),
@@ -306,6 +374,7 @@ pub const COMMANDS: &[Command] = &[
     row("EXIT", A::Call(Verb::Exit), &[Caller, Status], "the caller ends with the status"),
     row("FOLLOW", A::Follow, &[Other("[IDENTITY]", 0, 1)], "the table's identity, if asked, its text, and then each call that is recorded: for a follower"),
     row("FORK", A::Call(Verb::Fork), &[Caller, New], "a child, perhaps in a new namespace: its number in the caller's and in the root"),
+    row("FORKAT", A::ForkAt, &[Caller, Child, New], "FORK, if the child has these numbers, as WOULD tells them; else nothing changes"),
     row("GETPGID", A::Call(Verb::Getpgid), &[Caller, Process], "the group of the task"),
     row("GETPID", A::Call(Verb::Getpid), &[Caller], "the caller's number"),
     row("GETPPID", A::Call(Verb::Getppid), &[Caller], "the number of the caller's parent"),
@@ -313,16 +382,19 @@ pub const COMMANDS: &[Command] = &[
     row("HELLO", A::Hello, &[Other("[2 ..]", 0, 6)], "the protocol is RESP2"),
     row("HELP", A::Help, &[Other("[NAME]", 0, 1)], "these lines"),
     row("INFO", A::Info, &[Other("[SECTION ..]", 0, 63)], "figures of the service"),
+    row("INSIDE", A::Inside, &[Tree, Id, From(u64::MAX), Room], "how many namespaces, or cgroups, stand directly in that one, from the id FROM on, and their ids, ROOM at most"),
     row("JOIN", A::Call(Verb::Join), &[Caller, Process], "the caller's later children go into the namespace of the task"),
     row("LEASE", A::Lease, &[Other("NAME TTL", 2, 2)], "what this connection forks ends TTL ms after the last connection with the lease has gone"),
     row("LEASES", A::Leases, &[], "each lease: its name, TTL, connections and tasks"),
     row("LIMIT", A::Call(Verb::Limit), &[Control, Limit], "the limit of the cgroup"),
     row("LIST", A::List, &[], "the table for reading"),
+    row("METRICS", A::Metrics, &[], "figures of the service in the text format of Prometheus"),
     row("MK", A::Call(Verb::Mk), &[Control], "a cgroup below the one with the id: its id"),
     row("MOVE", A::Call(Verb::Move), &[Task, Control], "the task goes into the cgroup"),
     row("MULTI", A::Multi, &[], "the next calls come together, at EXEC"),
     row("NEXT", A::Call(Verb::Next), &[Caller, Kind, Process], "the least number from P on that is in use, or nil"),
     row("NSPID", A::Call(Verb::Nspid), &[Caller, Process], "the task's numbers, outermost first"),
+    row("PAGE", A::Page, &[Caller, Whom, From(MOST_PROCESS), Room], "how many children or members there are from the number FROM on, and their numbers, ROOM at most"),
     row("PING", A::Ping, &[Other("[TEXT]", 0, 1)], "PONG"),
     row("POSITION", A::Position, &[], "how many calls are recorded"),
     row("QUIT", A::Quit, &[], "closes the connection"),
@@ -333,13 +405,17 @@ pub const COMMANDS: &[Command] = &[
     row("SETPGID", A::Call(Verb::Setpgid), &[Caller, Pid, Pgid], "the task goes into the group"),
     row("SETSID", A::Call(Verb::Setsid), &[Caller], "the caller leads a new session"),
     row("SHUTDOWN", A::Shutdown, &[Other("[SAVE|NOSAVE]", 0, 1)], "ends the service, with all saved"),
+    row("SLOWLOG", A::Slowlog, &[Other("GET [N]|LEN|RESET", 1, 2)], "requests that took long, the last one first, as Redis has them"),
+    row("SPACE", A::Space, &[Id], "the namespace, or nil where there is none"),
     row("STAT", A::Stat, &[Caller, Process], "the task as the caller's namespace sees it"),
     row("SUBREAPER", A::Call(Verb::Subreaper), &[Caller, Switch], "the caller takes orphans"),
     row("SUBSCRIBE", A::Subscribe, &[Other("CHANNEL ..", 1, 63)], "events: exit, fork or fall, alone or of space:ID or control:ID, as exit:control:5"),
     row("TAKEOVER", A::Takeover, &[Other("[FORCE]", 0, 1)], "a follower serves from now on"),
+    row("TOLD", A::Told, &[Other("VERB ..", 1, 5)], "CALL, with what the call did besides: who ended, has another parent, or is gone"),
     row("UNSUBSCRIBE", A::Unsubscribe, &[Other("[CHANNEL ..]", 0, 63)], "no more events of these, or of any"),
     row("WAIT", A::Call(Verb::Wait), &[Caller, Which], "reaps an ended child: its number, and its status or killed; nil where none has ended"),
     row("WAITCHILD", A::WaitChild, &[Caller, Which, Other("[TIMEOUT MS]", 0, 2)], "WAIT that sleeps until a child has ended, or for so long"),
+    row("WOULD", A::Would, &[Other("VERB ..", 1, 5)], "the reply that the call would get now: nothing changes"),
 ];
 
 /// No name is longer.

@@ -61,6 +61,12 @@ pub struct Conn {
     pub seat: u32,
     pub user: u32,
     pub rights: Rights,
+    /// What CLIENT SETNAME has given it.
+    pub name: Vec<u8>,
+    /// Its last command, when it said it, and when it came, in ms.
+    pub last: &'static str,
+    pub asked: u64,
+    pub born: u64,
     pub rest: Vec<u8>,
     pub out: Vec<u8>,
     sent: usize,
@@ -102,6 +108,10 @@ impl Conn {
             seat,
             user,
             rights,
+            name: Vec::new(),
+            last: "NULL",
+            asked: now,
+            born: now,
             rest: Vec::new(),
             out: Vec::new(),
             sent: 0,

@@ -18,12 +18,13 @@
 //! - Adopting, of a follower: the leases are forgotten, the leader's text is the snapshot, a new log and a new machine begin, and texts that were ordered
 //!   are ordered anew.
 //! - Stopping: what is batched is written, or waited for up to 5 s; then the machine ends the log.
+use crate::asks::{Answered, Query};
 use crate::book::Book;
 use crate::directory::{new_identity, Directory, Fault, SEATS};
 use crate::log::{Closed, Committed, Log, Sync};
 use crate::recover::{End, Recovery};
-use crate::replica::{loose_blocks, Asker, Order, Query, Replica, Report, Source};
-use pidtab::{Blocks, Call, Error, Head, Made, Reply, Stat, Table};
+use crate::replica::{loose_blocks, Asker, Order, Replica, Report, Source};
+use pidtab::{Blocks, Call, Error, Head, Made, Reply, Table, Told};
 use std::path::PathBuf;
 use std::sync::Arc;
 use std::time::{Duration, Instant};
@@ -33,6 +34,8 @@ const LOOSE: usize = 1 << 20;
 
 /// So long the name of the last log is waited for at the end.
 const LAST_NAME: Duration = Duration::from_secs(2);
+
+const HAS_A_PLACE: &str = "each call that was made, and its reply, have a place in the form";
 
 /// What is kept, and how.
 #[derive(Clone, Debug)]
@@ -211,18 +214,35 @@ impl Engine {
 
     /// Makes a call, and records it.
     pub fn make(&mut self, seat: u32, call: Call) -> Result<Reply, Refused> {
-        if matches!(call, Call::Mk { .. }) && self.book.controls() >= self.keep.most_controls {
-            return Err(Refused::TooManyControls);
-        }
-        self.book.foresee(&mut self.table, call);
+        self.foresee(call)?;
         self.table.make(seat, call, &mut self.last).map_err(Refused::Table)?;
         let reply = self.last.reply();
         let before = self.batch.len();
         let put = self.blocks.put_made(&self.last, &mut self.batch);
-        put.expect("each call that was made, and its reply, have a place in the form");
+        put.expect(HAS_A_PLACE);
         self.take(before);
         self.note(seat, call, &reply);
         Ok(reply)
+    }
+
+    /// The same, and tells what the call did.
+    pub fn make_told(&mut self, seat: u32, call: Call) -> Result<Told, Refused> {
+        self.foresee(call)?;
+        let told = self.table.told(call).map_err(Refused::Table)?;
+        let before = self.batch.len();
+        self.blocks.put(seat, call, &told.reply, &mut self.batch).expect(HAS_A_PLACE);
+        self.take(before);
+        self.note(seat, call, &told.reply);
+        Ok(told)
+    }
+
+    /// What will not be known behind the call, if there is room for what it makes.
+    fn foresee(&mut self, call: Call) -> Result<(), Refused> {
+        if matches!(call, Call::Mk { .. }) && self.book.controls() >= self.keep.most_controls {
+            return Err(Refused::TooManyControls);
+        }
+        self.book.foresee(&mut self.table, call);
+        Ok(())
     }
 
     /// What the batch has from there on is a call.
@@ -244,9 +264,9 @@ impl Engine {
         self.table.ask(call)
     }
 
-    pub fn stat(&mut self, caller: u32, number: u32) -> Result<Stat, Error> {
+    pub fn answer(&mut self, query: Query) -> Answered {
         self.asked += 1;
-        self.table.stat(caller, number)
+        query.answer(&self.table)
     }
 
     /// Has written what was recorded. What is written stays in `written` until it is taken, however many turns that takes.

@@ -2,9 +2,12 @@
 #![forbid(unsafe_code)]
 
 mod accounts;
+mod asks;
 mod book;
 mod checksum;
+mod clients;
 mod commands;
+mod config;
 mod conn;
 mod directory;
 mod engine;
@@ -15,6 +18,7 @@ mod leader;
 mod lease_file;
 mod leases;
 mod log;
+mod metrics;
 mod options;
 mod recover;
 mod replica;
@@ -24,6 +28,7 @@ mod run;
 mod say;
 mod service;
 mod sleepers;
+mod slowlog;
 mod syncer;
 
 use listenfd::ListenFd;
@@ -55,6 +60,10 @@ fn main() -> ExitCode {
         Ok(Wanted::Serve(options)) => serve(*options),
         Ok(Wanted::Help) => show(USAGE),
         Ok(Wanted::Version) => show(concat!("pidtabd ", env!("CARGO_PKG_VERSION"), "\n")),
+        Ok(Wanted::Metrics(socket)) => match metrics::ask(&socket) {
+            Ok(text) => show(&text),
+            Err(fault) => fail(&fault, 1),
+        },
         Ok(Wanted::Commands) => {
             let lines: Vec<_> = commands::COMMANDS.iter().map(say::help_line).collect();
             show(&(lines.join("\n") + "\n"))

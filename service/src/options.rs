@@ -24,6 +24,8 @@ usage: pidtabd [OPTION ..]
   --max-output BYTES  of LIST and DUMP that wait to be taken (268435456)
   --reap              what a lease has ended is waited for, where task 1 has to
   --stall SECONDS     who takes no answer for so long is closed: 1 to 86400 (60)
+  --slowlog-log-slower-than N  SLOWLOG has what takes so many microseconds: 0 or more (10000)
+  --metrics SOCKET    writes the figures of the service there for Prometheus, and ends
   --commands          writes the table of commands, and ends
   --version, --help
 ";
@@ -49,6 +51,8 @@ pub struct Options {
     pub most_user_clients: Option<usize>,
     pub most_output: usize,
     pub stall: u64,
+    /// In microseconds.
+    pub slower_than: u64,
     /// What a lease has ended is waited for, where task 1 has to.
     pub reaps: bool,
 }
@@ -59,6 +63,8 @@ pub enum Wanted {
     Help,
     Version,
     Commands,
+    /// The figures of the service at that socket.
+    Metrics(PathBuf),
 }
 
 impl Default for Options {
@@ -74,13 +80,14 @@ impl Default for Options {
             most_user_clients: None,
             most_output: 256 << 20,
             stall: 60,
+            slower_than: 10_000,
             reaps: false,
         }
     }
 }
 
 /// The options behind which a value comes.
-const WITH_VALUES: [&str; 13] = [
+const WITH_VALUES: [&str; 14] = [
     "socket",
     "follow",
     "dir",
@@ -94,6 +101,7 @@ const WITH_VALUES: [&str; 13] = [
     "max-controls",
     "max-output",
     "stall",
+    "slowlog-log-slower-than",
 ];
 
 /// Reads the command line. What is wrong with it is a sentence.
@@ -105,6 +113,7 @@ pub fn read(words: impl IntoIterator<Item = OsString> + 'static) -> Result<Wante
             Long("help") => return Ok(Wanted::Help),
             Long("version") => return Ok(Wanted::Version),
             Long("commands") => return Ok(Wanted::Commands),
+            Long("metrics") => return parser.value().map(|it| Wanted::Metrics(it.into())).map_err(|it| it.to_string()),
             Long("archive") => options.keep.archive = true,
             Long("reap") => options.reaps = true,
             Long(name) if !WITH_VALUES.contains(&name) => return Err(format!("there is no option --{name}")),
@@ -140,6 +149,7 @@ fn take(options: &mut Options, name: &str, value: OsString) -> Result<(), String
         "max-controls" => options.keep.most_controls = number(0, u64::MAX)? as usize,
         "max-output" => options.most_output = number(1, u64::MAX)? as usize,
         "stall" => options.stall = number(1, 86_400)?,
+        "slowlog-log-slower-than" => options.slower_than = number(0, u64::MAX)?,
         _ => return Err(format!("there is no option --{name}")),
     }
     Ok(())
@@ -201,7 +211,7 @@ mod tests {
 
     #[test]
     fn what_is_wrong_is_said() {
-        let wrong: [&[&str]; 12] = [
+        let wrong: [&[&str]; 14] = [
             &["--nothing", "x"],
             &["--pid-max", "300"],
             &["--fsync", "often"],
@@ -214,6 +224,8 @@ mod tests {
             &["--segment", "4095"],
             &["word"],
             &["--stall"],
+            &["--metrics"],
+            &["--slowlog-log-slower-than", "-1"],
         ];
         assert_eq!(wrong.iter().find(|it| options(it).is_ok()), None);
         assert_eq!(options(&["--nosuch"]).unwrap_err(), "there is no option --nosuch");

@@ -1,8 +1,9 @@
 //! A second table in a thread of its own, which makes the calls again that the log has. Its text is a snapshot, or the answer to LIST or DUMP:
 //! so the table that serves is never copied, and each log is seen to replay, reply for reply, before it is taken away.
+use crate::asks::{Answered, Query};
 use crate::directory::{fault_at, Directory, Fault, SEATS};
 use crate::recover::Recovery;
-use pidtab::{Blocks, Call, Error, Head, Reply, Stat, Table};
+use pidtab::{Blocks, Head, Table};
 use std::sync::mpsc::{channel, Receiver, Sender};
 use std::sync::Arc;
 use std::thread;
@@ -28,18 +29,6 @@ pub enum Order {
 /// A connection: its token, and its own number.
 pub type Asker = (usize, u64);
 
-#[derive(Clone, Copy)]
-pub enum Query {
-    Call(Call),
-    Stat { caller: u32, number: u32 },
-}
-
-/// What a query was answered.
-pub enum Told {
-    Reply(Result<Reply, Error>),
-    Stat(Box<Result<Stat, Error>>),
-}
-
 /// What the thread has done.
 pub enum Report {
     /// Whether `current` names that log.
@@ -58,7 +47,7 @@ pub enum Report {
     },
     Told {
         asker: Asker,
-        told: Result<Told, Fault>,
+        told: Result<Answered, Fault>,
     },
 }
 
@@ -146,7 +135,7 @@ impl Copy {
                 Some(Report::Text { is_dump, ordinal, text })
             }
             Order::Ask { asker, query } => {
-                let told = self.table().map(|it| answer(it, query));
+                let told = self.table().map(|it| query.answer(it));
                 self.begin_anew();
                 Some(Report::Told { asker, told })
             }
@@ -235,13 +224,6 @@ impl Copy {
         let path = directory.snapshot(recovery.made);
         directory.write(&path, &[text?.as_bytes()]).map_err(fault_at(&path))?;
         Ok(recovery.made)
-    }
-}
-
-fn answer(table: &Table, query: Query) -> Told {
-    match query {
-        Query::Call(call) => Told::Reply(table.ask(call)),
-        Query::Stat { caller, number } => Told::Stat(Box::new(table.stat(caller, number))),
     }
 }
 

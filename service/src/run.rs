@@ -1,13 +1,15 @@
 //! What each command does.
 use crate::accounts::{MOST_LEASES, REQUESTS_AT_ONCE};
+use crate::asks::{Answered, Query};
 use crate::book::INIT;
+use crate::clients::set_name;
 use crate::commands::{find, without_prefix, Action, Command, Values, Verb, COMMANDS};
 use crate::conn::{Conn, Follower, Held, Multi, Pause};
 use crate::directory::{Fault, SEATS};
 use crate::events::{self, Channel, MOST_CHANNELS};
 use crate::leases::{is_name, read_ttl, Lease};
 use crate::options::Rights;
-use crate::replica::{Asker, Query, Told};
+use crate::replica::Asker;
 use crate::resp::{is_word, number, Answer, Words};
 use crate::rights::may_make;
 use crate::say;
@@ -42,6 +44,7 @@ impl Service {
         if is_end {
             return self.end_multi(conn);
         }
+        (conn.last, conn.asked) = (command.name, self.now);
         let Some(values) = command.read(words) else {
             return self.misused(conn, command);
         };
@@ -56,8 +59,13 @@ impl Service {
             Action::Call(verb) => self.run_call(conn, verb.call(&values), verb.asks()),
             Action::Line => self.run_line(conn, command, words.from(1)),
             Action::WaitChild => self.run_wait_child(conn, command, &values, words),
-            Action::Stat => self.run_stat(conn, &values),
-            _ => self.run_other(conn, command, words),
+            Action::Would => self.run_would(conn, command, words.from(1)),
+            Action::Told => self.run_told(conn, command, words.from(1)),
+            Action::ForkAt => self.run_fork_at(conn, &values),
+            action => match Query::of(action, &values) {
+                Some(query) => self.run_query(conn, query),
+                None => self.run_other(conn, command, words),
+            },
         }
     }
 
@@ -69,7 +77,7 @@ impl Service {
         say::unknown(&mut conn.out, word);
     }
 
-    fn misused(&mut self, conn: &mut Conn, command: &Command) {
+    pub fn misused(&mut self, conn: &mut Conn, command: &Command) {
         self.figures.faults += 1;
         fail_multi(conn);
         say::syntax(&mut conn.out, command);
@@ -94,28 +102,55 @@ impl Service {
 
     /// Makes the call, if the client may.
     fn make(&mut self, conn: &mut Conn, call: Call) {
-        if let Some(why) = self.refusal(conn.rights, Some(call)) {
+        if let Some(why) = self.refusal_of_call(conn, call) {
             return conn.out.line(&why);
+        }
+        match self.engine.make(conn.seat, call) {
+            Ok(reply) => {
+                self.note_made(conn, &reply);
+                say::reply(&mut conn.out, &reply);
+            }
+            Err(why) => say::refused(&mut conn.out, &why),
+        }
+    }
+
+    /// The same, and tells what the call did.
+    fn make_told(&mut self, conn: &mut Conn, call: Call) {
+        if let Some(why) = self.refusal_of_call(conn, call) {
+            return conn.out.line(&why);
+        }
+        match self.engine.make_told(conn.seat, call) {
+            Ok(told) => {
+                self.note_made(conn, &told.reply);
+                say::told(&mut conn.out, &told);
+            }
+            Err(why) => say::refused(&mut conn.out, &why),
+        }
+    }
+
+    /// Why the client may not make the call now. One that may take long is counted as such.
+    fn refusal_of_call(&mut self, conn: &Conn, call: Call) -> Option<String> {
+        let why = self.refusal(conn.rights, Some(call));
+        if why.is_some() {
+            return why;
         }
         let is_fork = matches!(call, Call::Fork { .. });
         if is_fork && conn.lease.as_ref().is_some_and(|it| !self.leases.is_there(it.number)) {
-            return conn
-                .out
-                .line("-NOLEASE the lease of this connection was released: say LEASE, or RELEASE and its name");
+            let why = "-NOLEASE the lease of this connection was released: say LEASE, or RELEASE and its name";
+            return Some(why.to_owned());
         }
         if matches!(call, Call::Exit { .. }) {
             self.accounts.count(REQUESTS_AT_ONCE);
         }
-        match self.engine.make(conn.seat, call) {
-            Ok(reply) => {
-                self.figures.calls += 1;
-                self.figures.refused += u64::from(matches!(reply, Reply::Refused { .. }));
-                if let (Reply::Forked(child), Some(held)) = (&reply, &conn.lease) {
-                    self.leases.bind(held.number, child.root, self.engine.made);
-                }
-                say::reply(&mut conn.out, &reply);
-            }
-            Err(why) => say::refused(&mut conn.out, &why),
+        None
+    }
+
+    /// A call was made: its child is the lease's.
+    fn note_made(&mut self, conn: &Conn, reply: &Reply) {
+        self.figures.calls += 1;
+        self.figures.refused += u64::from(matches!(reply, Reply::Refused { .. }));
+        if let (Reply::Forked(child), Some(held)) = (reply, &conn.lease) {
+            self.leases.bind(held.number, child.root, self.engine.made);
         }
     }
 
@@ -133,13 +168,47 @@ impl Service {
 
     /// A line of the script language: each is recorded, the queries too.
     fn run_line(&mut self, conn: &mut Conn, line: &Command, words: Words) {
+        if let Some(call) = self.read_line(conn, line, words) {
+            self.run_call(conn, call, false);
+        }
+    }
+
+    fn run_would(&mut self, conn: &mut Conn, line: &Command, words: Words) {
+        if let Some(call) = self.read_line(conn, line, words) {
+            self.run_query(conn, Query::Would(call));
+        }
+    }
+
+    fn run_told(&mut self, conn: &mut Conn, line: &Command, words: Words) {
+        if let Some(call) = self.read_line(conn, line, words) {
+            self.make_told(conn, call);
+        }
+    }
+
+    /// The call of a line of the script language. If it is none, the client is told so.
+    fn read_line(&mut self, conn: &mut Conn, line: &Command, words: Words) -> Option<Call> {
         let named = find(words.at(0)).filter(|_| without_prefix(words.at(0)).is_none());
         let Some((command, verb)) = named.and_then(|it| Some((it, verb_of(it)?))) else {
-            return self.misused(conn, line);
+            self.misused(conn, line);
+            return None;
         };
-        match command.read(words) {
-            Some(values) => self.run_call(conn, verb.call(&values), false),
-            None => self.misused(conn, command),
+        let call = command.read(words).map(|it| verb.call(&it));
+        if call.is_none() {
+            self.misused(conn, command);
+        }
+        call
+    }
+
+    /// A fork whose child has these numbers, or none. Nobody makes a call between the look and the fork.
+    fn run_fork_at(&mut self, conn: &mut Conn, values: &Values) {
+        let call = Verb::Fork.call(values);
+        if let Some(why) = self.refusal_of_call(conn, call) {
+            return conn.out.line(&why);
+        }
+        match self.engine.table.would(call) {
+            Ok(Reply::Forked(child)) if child == values.child => self.make(conn, call),
+            Ok(other) => conn.out.line(&format!("-DIFFERS {}", other.line().unwrap_or_default())),
+            Err(error) => say::error(&mut conn.out, &error),
         }
     }
 
@@ -165,31 +234,25 @@ impl Service {
     }
 
     /// The second table has answered.
-    pub fn tell(&mut self, (token, id): Asker, told: Result<Told, Fault>) {
+    pub fn tell(&mut self, (token, id): Asker, told: Result<Answered, Fault>) {
         let Some(conn) = self.conn(token).filter(|it| it.id == id) else { return };
         conn.pause = Pause::None;
         match told {
-            Ok(Told::Reply(Ok(reply))) => say::reply(&mut conn.out, &reply),
-            Ok(Told::Reply(Err(error))) => say::error(&mut conn.out, &error),
-            Ok(Told::Stat(stat)) => match *stat {
-                Ok(task) => say::stat(&mut conn.out, &task),
-                Err(error) => say::error(&mut conn.out, &error),
-            },
+            Ok(answered) => answered.say(&mut conn.out),
             Err(fault) => conn.out.line(&format!("-ERR no answer: {}", fault.replace(['\r', '\n'], " "))),
         }
         self.touch(token);
         self.queue(token);
     }
 
-    fn run_stat(&mut self, conn: &mut Conn, values: &Values) {
+    fn run_query(&mut self, conn: &mut Conn, query: Query) {
+        if matches!(query, Query::Page { .. } | Query::Inside { .. }) {
+            self.accounts.count(REQUESTS_AT_ONCE);
+        }
         if self.is_stuck() {
-            let Values { caller, number, .. } = *values;
-            return self.ask_saved(conn, Query::Stat { caller, number });
+            return self.ask_saved(conn, query);
         }
-        match self.engine.stat(values.caller, values.number) {
-            Ok(task) => say::stat(&mut conn.out, &task),
-            Err(error) => say::error(&mut conn.out, &error),
-        }
+        self.engine.answer(query).say(&mut conn.out);
     }
 
     /// What a service needs besides, and what is for the libraries of clients.
@@ -215,7 +278,7 @@ impl Service {
             }
             Action::Help => say::help(&mut conn.out),
             Action::Command => run_command_of_commands(conn, words),
-            Action::Config => conn.out.array(0),
+            Action::Metrics => conn.out.bulk(crate::metrics::text(self).as_bytes()),
             Action::Select => conn.out.ok(),
             Action::Auth => conn.out.line(NO_PASSWORDS),
             Action::Quit => {
@@ -230,6 +293,9 @@ impl Service {
         match command.action {
             Action::Seat => self.run_seat(conn, command, words),
             Action::Client => self.run_client(conn, command, words),
+            Action::Config if !is_word(words.at(1), "GET") => self.misused(conn, command),
+            Action::Config => crate::config::tell(conn, &self.options, self.engine.pid_max, words.from(2)),
+            Action::Slowlog => self.run_slowlog(conn, command, words),
             Action::Hello => self.run_hello(conn, command, words),
             Action::Subscribe => self.run_subscribe(conn, words.from(1)),
             Action::Unsubscribe => self.run_unsubscribe(conn, words.from(1)),
@@ -268,15 +334,6 @@ impl Service {
         conn.out.number(u64::from(conn.seat));
     }
 
-    fn run_client(&mut self, conn: &mut Conn, command: &Command, words: Words) {
-        match words.at(1).to_ascii_uppercase().as_slice() {
-            b"ID" => conn.out.number(conn.id),
-            b"SETINFO" | b"SETNAME" => conn.out.ok(),
-            b"GETNAME" => conn.out.line("$-1"),
-            _ => self.misused(conn, command),
-        }
-    }
-
     fn run_hello(&mut self, conn: &mut Conn, command: &Command, words: Words) {
         if words.len() > 1 && words.at(1) != b"2" {
             return conn.out.line("-NOPROTO unsupported protocol version");
@@ -284,7 +341,11 @@ impl Service {
         let (options, count) = (words.from(2), words.len().saturating_sub(2));
         match count {
             0 => {}
-            2 if is_word(options.at(0), "SETNAME") => {}
+            2 if is_word(options.at(0), "SETNAME") => {
+                if !set_name(conn, options.at(1)) {
+                    return;
+                }
+            }
             3 | 5 if is_word(options.at(0), "AUTH") => return conn.out.line(NO_PASSWORDS),
             _ => return self.misused(conn, command),
         }

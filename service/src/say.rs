@@ -2,7 +2,7 @@
 use crate::commands::{Command, COMMANDS};
 use crate::engine::Refused;
 use crate::resp::Answer;
-use pidtab::{Ended, Error, Reply, Stat};
+use pidtab::{Effect, Ended, Error, Reply, SpaceStat, Stat, Told};
 
 /// The names of the errors that the table gives, by `errno(3)`.
 const ERRORS: [(i32, &str); 10] = [
@@ -47,10 +47,7 @@ pub fn reply(out: &mut Vec<u8>, reply: &Reply) {
         Reply::Reaped(it) => {
             out.array(2);
             out.number(u64::from(it.child));
-            match it.ended {
-                Ended::Exited(status) => out.number(u64::from(status)),
-                Ended::Killed => out.line("+killed"),
-            }
+            ended(out, it.ended);
         }
         Reply::NoneYet => out.line("*-1"),
         Reply::End => out.line("$-1"),
@@ -59,6 +56,13 @@ pub fn reply(out: &mut Vec<u8>, reply: &Reply) {
             error(out, &Error::Refused { errno, refusal });
         }
         other => out.line(&format!("-ERR unknown reply {other:?}")),
+    }
+}
+
+fn ended(out: &mut Vec<u8>, ended: Ended) {
+    match ended {
+        Ended::Exited(status) => out.number(u64::from(status)),
+        Ended::Killed => out.line("+killed"),
     }
 }
 
@@ -91,6 +95,64 @@ pub fn stat(out: &mut Vec<u8>, task: &Stat) {
     for (name, value) in fields {
         out.bulk(name.as_bytes());
         out.number(value);
+    }
+}
+
+/// How many there are, and as many of them as there is room for.
+pub fn page(out: &mut Vec<u8>, numbers: &[u64], room: usize) {
+    let told = &numbers[..numbers.len().min(room)];
+    out.array(2);
+    out.number(numbers.len() as u64);
+    out.array(told.len());
+    told.iter().for_each(|it| out.number(*it));
+}
+
+/// Names and values, by turns. The root namespace is in none, and of an init that was reaped there is no number.
+pub fn space(out: &mut Vec<u8>, space: &SpaceStat) {
+    let fields = [
+        ("id", Some(space.id)),
+        ("parent", space.parent),
+        ("level", Some(u64::from(space.level))),
+        ("init", space.init.map(u64::from)),
+        ("fallen", Some(u64::from(space.fallen))),
+    ];
+    out.array(2 * fields.len());
+    for (name, value) in fields {
+        out.bulk(name.as_bytes());
+        match value {
+            Some(value) => out.number(value),
+            None => out.line("$-1"),
+        }
+    }
+}
+
+/// The reply, and an array of what the call did.
+pub fn told(out: &mut Vec<u8>, told: &Told) {
+    out.array(2);
+    reply(out, &told.reply);
+    out.array(told.effects.len());
+    told.effects.iter().for_each(|it| effect(out, it));
+}
+
+fn effect(out: &mut Vec<u8>, effect: &Effect) {
+    let (what, number) = match *effect {
+        Effect::Ended { number, .. } => ("ended", u64::from(number)),
+        Effect::Adopted { number, .. } => ("adopted", u64::from(number)),
+        Effect::Gone { number } => ("gone", u64::from(number)),
+        Effect::GroupGone { number } => ("group-gone", u64::from(number)),
+        Effect::SessionGone { number } => ("session-gone", u64::from(number)),
+        Effect::SpaceFell { id } => ("space-fell", id),
+        Effect::SpaceGone { id } => ("space-gone", id),
+        _ => ("unknown", 0),
+    };
+    let has_more = matches!(effect, Effect::Ended { .. } | Effect::Adopted { .. });
+    out.array(2 + usize::from(has_more));
+    out.bulk(what.as_bytes());
+    out.number(number);
+    match *effect {
+        Effect::Ended { ended: it, .. } => ended(out, it),
+        Effect::Adopted { parent, .. } => out.number(u64::from(parent)),
+        _ => {}
     }
 }
 

@@ -12,6 +12,7 @@ use crate::options::{Options, Rights};
 use crate::replica::Report;
 use crate::resp::{Answer, Reader, LONGEST_REQUEST};
 use crate::sleepers::Sleepers;
+use crate::slowlog::Slowlog;
 use mio::event::Event;
 use mio::net::{UnixListener, UnixStream};
 use mio::{Events, Interest, Poll, Token, Waker};
@@ -66,6 +67,7 @@ pub struct Service {
     pub leases: Leases,
     pub sleepers: Sleepers,
     pub accounts: Accounts,
+    pub slowlog: Slowlog,
     pub leader: Option<Leader>,
     pub is_ending: bool,
     pub now: u64,
@@ -149,6 +151,7 @@ impl Service {
             leases,
             sleepers: Sleepers::default(),
             accounts: Accounts::of(&options),
+            slowlog: Slowlog::new(options.slower_than),
             leader: options.follow.clone().map(Leader::of),
             is_ending: false,
             now: 0,
@@ -354,6 +357,7 @@ impl Service {
     fn run_requests(&mut self, conn: &mut Conn, bytes: &[u8]) -> usize {
         let mut reader = std::mem::take(&mut self.reader);
         let mut at = 0;
+        self.slowlog.begin();
         while at < bytes.len() && conn.is_free() && !conn.is_cut {
             match reader.take(&bytes[at..]) {
                 Ok(None) => break,
@@ -365,6 +369,7 @@ impl Service {
                     }
                     if words.len() > 0 {
                         self.run_command(conn, words);
+                        self.slowlog.note(conn, words);
                     }
                     at += size;
                     self.accounts.count(1);
@@ -468,8 +473,13 @@ impl Service {
         }
     }
 
+    /// Those that are not being served at the moment.
+    pub fn connections(&self) -> impl Iterator<Item = &Conn> {
+        self.conns.iter().flatten().map(|it| &**it)
+    }
+
     /// The client is gone: its place is free in the next turn, since events of it may be in hand.
-    fn end(&mut self, token: usize) {
+    pub fn end(&mut self, token: usize) {
         let Some(mut conn) = self.conns[token].take() else { return };
         let _ = self.poll.registry().deregister(&mut conn.socket);
         self.freed.push(token);

@@ -1,9 +1,11 @@
 """What each command answers: by docs/SCRIPT.md, by Redis's own words, and by what the service promises besides."""
+import errno
 import os
 import pathlib
 import random
 import re
 import subprocess
+import sys
 import textwrap
 import threading
 import time
@@ -173,6 +175,268 @@ class Commands(Case):
         script = "fork 1\n" * 5000
         if os.access(PIDTAB, os.X_OK):
             self.assertEqual(listed, subprocess.run([PIDTAB, "list"], input=script, capture_output=True, text=True, check=True).stdout)
+
+
+class Asked(Case):
+    """Pages, namespaces, what a call would answer, and what it did: by the words of pidtab.h, and by the functions of C."""
+
+    def setUp(self):
+        super().setUp()
+        self.one = self.daemon("--fsync", "always").start()
+        self.client = self.one.client()
+        # 3 is 1 of the namespace 2, and its child 4 is 2 there. 2 leads a session, of which is its child 5, a zombie. 4 is in the cgroup 7.
+        for line in ("FORK 1", "FORK 1 NEW", "FORK 3", "SETSID 2", "FORK 2", "EXIT 5 0", "MK 0", "MOVE 4 7"):
+            self.client.say(line)
+
+    def each(self, wanted):
+        self.assertEqual({line: self.client.say(line) for line in wanted}, wanted)
+
+    def test_pages(self):
+        self.each({"PAGE 1 CHILDREN 0 0": [2, [2, 3]], "PAGE 1 CHILDREN 1 3": [1, [3]], "PAGE 1 CHILDREN 0 0 1": [2, [2]],
+                   "PAGE 1 CHILDREN 0 0 0": [2, []], "PAGE 3 CHILDREN 0 0": [1, [2]], "PAGE 1 CHILDREN 9 0": [0, []],
+                   "page 1 session 2 0": [2, [2, 5]], "PAGE 2 GROUP 0 3": [1, [5]], "PAGE 1 NAMESPACE 3 0": [2, [3, 4]],
+                   "PAGE 1 NAMESPACE 0 0": [5, [1, 2, 3, 4, 5]], "PAGE 1 OWN 0 0": [3, [1, 2, 5]], "PAGE 1 CONTROL 7 0": [1, [4]],
+                   "PIDTAB.PAGE 1 CONTROL 0 0": [3, [1, 2, 3]], "PAGE 3 CONTROL 7 0": [1, [2]], "POSITION": 8})
+        self.refused(self.client, "PAGE 9 CHILDREN 0 0", "ESRCH no-caller")
+        self.refused(self.client, "PAGE 1 CONTROL 9 0", "ENOENT no-control")
+        for words in ("CHILDREN 0", "PARENTS 0 0", "CHILDREN 4294967296 0", "CHILDREN 0 4294967296", "CHILDREN 0 0 1001", "CHILDREN 0 0 x", "CONTROL 7"):
+            self.refused(self.client, f"PAGE 1 {words}", "ERR syntax: PAGE C CHILDREN P|GROUP P|")
+        self.client.socket.sendall(b"FORK 1\r\n" * 1100)
+        self.assertEqual([self.client.answer() for _ in range(1100)][-1], [1105, 1105])
+        self.assertEqual(self.client.say("PAGE 1 CHILDREN 0 4"), [1100, list(range(6, 1006))])
+
+    def test_namespaces(self):
+        root, other = ["id", 0, "parent", None, "level", 0, "init", 1, "fallen", 0], ["id", 2, "parent", 0, "level", 1, "init", 3, "fallen", 0]
+        self.each({"SPACE 0": root, "SPACE 2": other, "SPACE 7": None, "INSIDE SPACES 0 0": [1, [2]], "INSIDE SPACES 0 3": [0, []],
+                   "INSIDE SPACES 2 0": [0, []], "INSIDE SPACES 7 0": None, "INSIDE CONTROLS 0 0": [1, [7]], "inside controls 0 7 0": [1, []],
+                   "INSIDE CONTROLS 2 0": None, "POSITION": 8})
+        self.client.say("EXIT 3 0")
+        self.each({"SPACE 2": [*other[:-1], 1], "WAIT 1 PID 3": [3, 0], "SPACE 2 ": None, "INSIDE SPACES 0 0": [0, []]})
+        for line in ("SPACE x", "SPACE 18446744073709551616", "INSIDE TASKS 0 0", "INSIDE SPACES 0", "INSIDE SPACES 0 0 1001"):
+            self.refused(self.client, line, "ERR syntax: " + line.split(" ", maxsplit=1)[0])
+
+    def test_what_a_call_would_answer(self):
+        self.each({"WOULD fork 1": [6, 6], "WOULD FORK 3 NEW": [3, 6], "WOULD wait 2 any": [5, 0], "WOULD mk 7": 9, "WOULD getpid 4": 2, "POSITION": 8})
+        self.refused(self.client, "WOULD fork 9", "ESRCH no-caller")
+        self.refused(self.client, "WOULD list", "ERR syntax: WOULD VERB ..")
+        self.refused(self.client, "WOULD fork", "ERR syntax: FORK C [NEW]")
+        self.assertEqual([self.client.say("CALL wait 2 any"), self.client.say("WOULD mk 0")], [[5, 0], 10])
+
+    def test_a_fork_with_given_numbers(self):
+        for words, why in (("1 7 7", "child 6 root 6"), ("1 6 7", "child 6 root 6"), ("3 6 6", "child 3 root 6"), ("9 6 6", "ESRCH no-caller")):
+            self.refused(self.client, f"FORKAT {words}", f"DIFFERS {why}")
+        self.each({"POSITION": 8, "FORKAT 1 6 6": [6, 6], "FORKAT 3 3 7 NEW": [3, 7], "SPACE 10": ["id", 10, "parent", 2, "level", 2, "init", 7, "fallen", 0]})
+        for words in ("1 8", "1 8 x", "1 8 8 OLD", "1 8 8 NEW NEW"):
+            self.refused(self.client, f"FORKAT {words}", "ERR syntax: FORKAT C N R [NEW]")
+
+    def test_what_a_call_did(self):
+        self.each({"TOLD exit 2 7": ["OK", [["ended", 2, 7], ["adopted", 5, 1]]], "TOLD wait 1 pid 5": [[5, 0], [["gone", 5]]],
+                   "TOLD wait 1 pid 2": [[2, 7], [["gone", 2], ["group-gone", 2], ["session-gone", 2]]],
+                   "TOLD exit 3 9": ["OK", [["ended", 3, 9], ["ended", 4, "killed"], ["gone", 4], ["space-fell", 2]]],
+                   "TOLD wait 1 pid 3": [[3, 9], [["gone", 3], ["space-gone", 2]]], "TOLD getpid 1": [1, []], "TOLD fork 1": [[6, 6], []], "POSITION": 15})
+        refusal, effects = self.client.say("TOLD fork 99")
+        self.assertEqual((str(refusal), effects, self.client.say("POSITION")), ("ESRCH no-caller", [], 16))
+        self.refused(self.client, "TOLD list", "ERR syntax: TOLD VERB ..")
+
+    def test_they_are_saved_and_leased(self):
+        """What is made by these is in the log as by FORK, and bound to the lease of its connection."""
+        self.each({"LEASE rig 60000": "OK", "FORKAT 1 6 6": [6, 6], "TOLD fork 1": [[7, 7], []], "LEASES": [["rig", 60000, 1, [6, 7]]]})
+        self.client.say("TOLD exit 3 9")
+        self.client.say("TOLD exit 99 0")
+        listed = self.client.say("LIST")
+        self.one.kill()
+        again = self.one.start().client()
+        self.assertEqual((again.say("LIST"), again.say("POSITION"), again.say("LEASES")), (listed, 12, [["rig", 60000, 0, [6, 7]]]))
+
+    def test_not_in_a_multi(self):
+        for line in ("WOULD fork 1", "TOLD fork 1", "FORKAT 1 6 6", "PAGE 1 CHILDREN 0 0"):
+            self.client.say("MULTI")
+            self.refused(self.client, line, "ERR only calls")
+            self.client.say("DISCARD")
+
+    def test_by_the_functions_of_c(self):
+        """Behind each of 600 random calls, on a table of the library for C too, some pages, a namespace, what is inside."""
+        if not (TOP / "out/libpidtab.so").exists():
+            self.skipTest("no library")
+        sys.path.insert(0, str(TOP / "bindings/python"))
+        import pidtab
+        dice, client = random.Random(7), self.daemon(name="two", kept=False).start().client()
+        with pidtab.Table() as table:
+            whose = {"CHILDREN": table.ask.children, "GROUP": table.ask.group_members, "SESSION": table.ask.session_members,
+                     "NAMESPACE": table.ask.namespace_members, "OWN": table.ask.namespace_own, "CONTROL": table.ask.control_tasks}
+            trees = {"SPACES": table.ask.spaces_inside, "CONTROLS": table.ask.controls_inside}
+            for number in range(600):
+                line = random_line(dice, number)
+                self.assertEqual(shown(line, self.answer(client, f"TOLD {line}", 0)), table.answers([line])[0])
+                caller, of, first, at = dice.randrange(1, 12), dice.randrange(10), dice.randrange(6), dice.randrange(number + 1)
+                for name, page in whose.items():
+                    told = self.answer(client, f"PAGE {caller} {name} {of} {first} 4", None)
+                    self.assertEqual(told, read(lambda: page(caller, of, first), lambda it: [len(it), list(it[:4])]), f"{number}: {caller} {name} {of} {first}")
+                for name, page in trees.items():
+                    self.assertEqual(self.answer(client, f"INSIDE {name} {at} {first}", None), read(lambda: page(at, first), lambda it: [len(it), list(it)]))
+                self.assertEqual(self.answer(client, f"SPACE {at}", None), read(lambda: table.ask.space(at), fields_of))
+
+    def answer(self, client, line, place):
+        """The answer, or what is at that place of it; of a refusal its words."""
+        client.send(*line.split())
+        told = client.answer()
+        if isinstance(told, Refused):
+            return told if place is not None else str(told)
+        return told if place is None else told[place]
+
+
+def fields_of(space):
+    """A namespace of Python, as the service tells it."""
+    return ["id", space.id, "parent", space.parent, "level", space.level, "init", space.init, "fallen", int(space.fallen)]
+
+
+def read(ask, form):
+    """What a function of the package for Python reads; of a refusal its words, and nothing where there is no such id."""
+    try:
+        return form(ask())
+    except LookupError:
+        return None
+    except OSError as error:
+        return f"{errno.errorcode[error.errno]} {str(error).rsplit(' ', 1)[1]}"
+
+
+class Looked(Case):
+    """What an operator asks: by Redis's own words, and by what the test has done."""
+
+    def setUp(self):
+        super().setUp()
+        self.one = self.daemon("--slowlog-log-slower-than", "0", "--fsync", "always", "--pid-max", "400").start()
+        self.client, self.other = self.one.client(), self.one.client()
+
+    def listed(self, client, words=""):
+        """The connections that CLIENT LIST tells, each by the names of its fields."""
+        lines = client.say(f"CLIENT LIST{words}").splitlines()
+        return [dict(field.split("=", 1) for field in line.split(" ")) for line in lines]
+
+    def test_clients(self):
+        say, own, its = self.client.say, self.client.say("CLIENT ID"), self.other.say("CLIENT ID")
+        self.assertEqual((say("CLIENT GETNAME"), say("CLIENT SETNAME me"), say("CLIENT GETNAME"), say("CLIENT SETINFO LIB-NAME x")), (None, "OK", "me", "OK"))
+        self.other.say("HELLO 2 SETNAME it")
+        self.other.say("SUBSCRIBE exit")
+        me, it = self.listed(self.client)
+        # By the fields of Redis 7.0's CLIENT LIST, which its clients read.
+        wanted = {"id", "addr", "laddr", "fd", "name", "age", "idle", "flags", "db", "sub", "psub", "ssub", "multi", "qbuf", "qbuf-free", "obl", "oll", "omem"}
+        self.assertEqual(set(me), wanted | {"events", "cmd", "user", "redir", "resp"})
+        told = [(row["id"], row["name"], row["flags"], row["sub"], row["cmd"], row["user"], row["addr"]) for row in (me, it)]
+        place, user = f"{self.one.socket}:0", str(os.geteuid())
+        self.assertEqual(told, [(str(own), "me", "U", "0", "client", user, place), (str(its), "it", "PU", "1", "subscribe", user, place)])
+        self.assertEqual([row["id"] for row in self.listed(self.client, " TYPE pubsub")], [str(its)])
+        self.assertEqual([row["id"] for row in self.listed(self.client, f" ID {own} 999")], [str(own)])
+        self.assertEqual((self.listed(self.client, " TYPE replica"), say("CLIENT INFO").split(" ")[0]), ([], f"id={own}"))
+        self.client.send("CLIENT", "SETNAME", "a\nid=7")
+        self.assertTrue(str(self.client.answer()).startswith("ERR Client names cannot contain spaces"))
+        self.client.send("HELLO", "2", "SETNAME", "a b")
+        self.assertTrue(str(self.client.answer()).startswith("ERR Client names cannot contain spaces"))
+        for words in ("LIST ID", "LIST ID x", "LIST TYPE friends", "LIST SKIPME no", "KILL", "KILL x:0", "KILL SKIPME maybe", "NOTHING", "ID 3", "SETNAME"):
+            self.refused(self.client, f"CLIENT {words}", "ERR syntax: CLIENT")
+
+    def test_kill(self):
+        """Who is killed is gone, with his wait and his lease; who kills stays, until he says otherwise."""
+        third = self.one.client()
+        self.client.say("FORK 1")
+        self.assertEqual((third.say("LEASE rig 100"), third.say("FORK 1")), ("OK", [3, 3]))
+        third.send(*"WAITCHILD 1 ANY".split())
+        its, own = self.other.say("CLIENT ID"), self.client.say("CLIENT ID")
+        self.assertEqual((self.client.say(f"CLIENT KILL ID {its}"), self.client.say(f"CLIENT KILL ID {its}")), (1, 0))
+        self.assertRaises((EOFError, ConnectionError), self.other.say, "PING")
+        self.assertEqual((self.client.say("CLIENT KILL TYPE pubsub"), self.client.say(f"CLIENT KILL ID {own}"), self.client.say("CLIENT KILL USER 77")), (0, 0, 0))
+        self.assertEqual(self.client.say(f"CLIENT KILL TYPE normal USER {os.geteuid()}"), 1)
+        self.assertRaises((EOFError, ConnectionError), third.answer)
+        self.assertEqual(self.client.say("WAITCHILD 1 ANY TIMEOUT 5000"), [3, 137])
+        self.assertEqual(self.client.say(f"CLIENT KILL ID {own} SKIPME no"), 1)
+        self.assertRaises((EOFError, ConnectionError), self.client.say, "PING")
+        self.assertEqual(self.one.client().say("PING"), "PONG")
+
+    def test_slowlog(self):
+        """All is slow that takes 0 us; by default what takes 10 ms, so nothing of this."""
+        self.client.say("CLIENT SETNAME me")
+        self.client.say("SLOWLOG RESET")
+        before = int(time.time())
+        self.client.send("ECHO", "x" * 200)
+        self.client.answer()
+        self.refused(self.client, "AUTH secret", "ERR AUTH")
+        self.client.send("COMMAND", "INFO", *["PING"] * 40)
+        self.client.answer()
+        entries = self.client.say("SLOWLOG GET 3")
+        words = [["COMMAND", "INFO"] + ["PING"] * 29 + ["... (11 more arguments)"], ["AUTH", "(redacted)"], ["ECHO", "x" * 128 + "... (72 more bytes)"]]
+        self.assertEqual([it[3] for it in entries], words)
+        for number, at, took, _, place, name in entries:
+            self.assertTrue(before <= at <= time.time() and took < 10**6, entries)
+            self.assertEqual((place, name), (f"{self.one.socket}:0", "me"))
+        self.assertEqual([it[0] for it in entries], [entries[2][0] + 2, entries[2][0] + 1, entries[2][0]])
+        self.assertEqual(self.client.say("SLOWLOG LEN"), 5)
+        for _ in range(140):
+            self.client.say("PING")
+        self.assertEqual((self.client.say("SLOWLOG LEN"), len(self.client.say("SLOWLOG GET")), len(self.client.say("SLOWLOG GET -1"))), (128, 10, 128))
+        self.assertEqual((self.client.say("SLOWLOG RESET"), self.client.say("SLOWLOG LEN")), ("OK", 1))
+        usual = self.daemon(name="two", kept=False).start().client()
+        usual.say("PING")
+        self.assertEqual((usual.say("SLOWLOG LEN"), usual.say("SLOWLOG GET")), (0, []))
+        for words in ("GET x", "LEN 1", "RESET 1", "NOTHING"):
+            self.refused(self.client, f"SLOWLOG {words}", "ERR syntax: SLOWLOG")
+
+    def test_what_takes_long_is_slow(self):
+        """The exit of an init with 25,000 tasks, which is one call."""
+        client = self.daemon("--slowlog-log-slower-than", "2000", name="two", kept=False).start().client()
+        client.say("FORK 1 NEW")
+        client.socket.sendall(b"FORK 2\r\n" * 25000)
+        self.assertEqual([client.answer() for _ in range(25000)][-1], [25001, 25002])
+        client.say("SLOWLOG RESET")
+        began = time.monotonic()
+        self.assertEqual(client.say("EXIT 2 0"), "OK")
+        most = (time.monotonic() - began) * 10**6
+        entry = client.say("SLOWLOG GET")[0]
+        self.assertEqual(entry[3], ["EXIT", "2", "0"])
+        self.assertTrue(2000 <= entry[2] <= most, (entry, most))
+
+    def test_settings(self):
+        def read(words):
+            told = self.client.say(f"CONFIG GET {words}")
+            return dict(zip(told[::2], told[1::2]))
+
+        self.assertEqual(read("maxclients"), {"maxclients": "1000"})
+        self.assertEqual(read("append* DIR"), {"appendfsync": "always", "appendonly": "yes", "dir": str(self.one.kept)})
+        self.assertEqual(read("slowlog-???-* save nothing"), {"slowlog-log-slower-than": "0", "slowlog-max-len": "128", "save": ""})
+        self.assertEqual(read("unixsocket* pid-max pid-max"), {"unixsocket": str(self.one.socket), "unixsocketperm": "600", "pid-max": "400"})
+        self.assertGreater(len(read("*")), 15)
+        for words in ("SET maxclients 3", "GET", "RESETSTAT"):
+            self.refused(self.client, f"CONFIG {words}", "ERR syntax: CONFIG")
+
+    def test_metrics(self):
+        """By the text format of Prometheus, version 0.0.4, and by what the test has done."""
+        for line in ("FORK 1", "FORK 99", "MK 0", "GETPID 1", "LEASE rig 1000"):
+            self.client.send(*line.split())
+            self.client.answer()
+        told = subprocess.run([DAEMON, "--metrics", str(self.one.socket)], capture_output=True, text=True, check=True).stdout
+        self.assertEqual(self.client.say("METRICS").count("\n"), told.count("\n"))
+        kinds, values = {}, {}
+        for line in told.splitlines():
+            if line.startswith("# TYPE "):
+                _, _, name, kind = line.split(" ")
+                self.assertNotIn(name, kinds)
+                kinds[name] = kind
+            elif not line.startswith("# HELP "):
+                name, labels, value = re.fullmatch(r'([a-z_:]+)(\{(?:[a-z_]+="[^"\\]*",?)*\})? ([0-9]+)', line).groups()
+                self.assertIn(name, kinds)
+                self.assertNotIn(name, values)
+                values[name] = int(value)
+                self.assertEqual(name.endswith("_total"), kinds[name] == "counter", name)
+                self.assertEqual(bool(labels), name == "pidtabd_info")
+        self.assertEqual(set(kinds), set(values))
+        wanted = {"position": 3, "waiting_calls": 0, "tasks": 2, "controls": 1, "calls_total": 3, "refusals_total": 1, "queries_total": 1, "clients": 3,
+                  "clients_accepted_total": 4, "clients_max": 1000, "leases": 1, "followers": 0, "follower_lag_bytes": 0, "stuck": 0, "pid_max": 400, "faults_total": 0,
+                  "snapshot_position": 0, "info": 1, "leader_link": 0}
+        self.assertEqual({name: values[f"pidtabd_{name}"] for name in wanted}, wanted)
+        self.assertTrue(1 <= values["pidtabd_commits_total"] <= 3 and values["pidtabd_log_bytes"] > 0 and values["pidtabd_slow_requests_total"] == 5, values)
+        self.one.end()
+        done = subprocess.run([DAEMON, "--metrics", str(self.one.socket)], capture_output=True, text=True, check=False)
+        self.assertEqual((done.returncode, done.stdout), (1, ""))
+        self.assertRegex(done.stderr, f"^pidtabd: {self.one.socket}: No such file")
 
 
 class Waits(Case):
@@ -478,7 +742,7 @@ class Users(Case):
         listed = client.say("LIST")
         forbidden = ["FORK 1", "FORK 3", "EXIT 3 0", "EXIT 4 0", "EXEC 3", "WAIT 1 ANY", "WAITCHILD 1 ANY", "SETSID 3", "SUBREAPER 3 ON"]
         forbidden += ["SETPGID 2 3 2", "SETPGID 3 0 0", "JOIN 2 4", "JOIN 3 2", "MOVE 3 1", "MOVE 2 0", "MOVE 2 6", "MK 0", "MK 6", "RM 1", "RM 6"]
-        forbidden += ["LIMIT 1 MAX", "LIMIT 6 3", "LIMIT 0 3", "CALL fork 1", "CALL getpid 1", "CALL count 0", "FORK 99", "PIDTAB.EXIT 3 0"]
+        forbidden += ["LIMIT 1 MAX", "LIMIT 6 3", "LIMIT 0 3", "CALL fork 1", "CALL getpid 1", "CALL count 0", "FORK 99", "PIDTAB.EXIT 3 0", "TOLD exit 3 0", "FORKAT 3 5 5"]
         forbidden += ["BGSAVE", "SHUTDOWN", "FOLLOW", "TAKEOVER"]
         told = self.as_enemy(one, forbidden)
         self.assertEqual(re.findall("^-NOPERM", told, re.MULTILINE), ["-NOPERM"] * len(forbidden), told)
@@ -539,9 +803,26 @@ class Users(Case):
 
     def test_who_may_only_ask(self):
         one = self.daemon("--mode", "666", "--allow", f"0,{self.ENEMY}:ro").start()
-        told = self.as_enemy(one, ["GETPID 1", "FORK 1", "CALL getpid 1", "LEASE x 1", "SHUTDOWN", "BGSAVE", "WAITCHILD 1 ANY"])
-        self.assertEqual(told, ":1\r\n" + "-NOPERM this user may only ask\r\n" * 6)
+        told = self.as_enemy(one, ["GETPID 1", "FORK 1", "CALL getpid 1", "LEASE x 1", "SHUTDOWN", "BGSAVE", "WAITCHILD 1 ANY", "FORKAT 1 2 2", "TOLD fork 1"])
+        self.assertEqual(told, ":1\r\n" + "-NOPERM this user may only ask\r\n" * 8)
+        self.assertEqual(self.as_enemy(one, ["WOULD fork 1", "PAGE 1 CHILDREN 0 0"]), "*2\r\n:2\r\n:2\r\n*2\r\n:0\r\n*0\r\n")
         self.assertEqual(one.client().say("POSITION"), 0)
+
+    def test_who_may_only_ask_kills_nobody(self):
+        """He is told of his own connections and requests alone, and ends and forgets none, his own neither."""
+        one = self.daemon("--mode", "666", "--slowlog-log-slower-than", "0", "--allow", f"0,{self.ENEMY}:ro").start()
+        client = one.client()
+        client.say("ECHO mine")
+        told = self.as_enemy(one, ["CLIENT KILL ID 1", "CLIENT KILL TYPE normal SKIPME no", "SLOWLOG RESET"])
+        self.assertEqual(told, "-NOPERM this user may only ask\r\n" * 3)
+        listed, logged = self.as_enemy(one, ["CLIENT LIST"]), self.as_enemy(one, ["PING", "SLOWLOG GET 99"])
+        self.assertEqual(re.findall(r"\buser=([0-9]+)\b", listed), [str(self.ENEMY)])
+        self.assertTrue("PING" in logged and "KILL" in logged and "mine" not in logged, logged)
+        own = client.say("CLIENT LIST").count("\n")
+        words = [it[3] for it in client.say("SLOWLOG GET 99")]
+        self.assertTrue(own == 1 and ["ECHO", "mine"] in words and ["PING"] in words, words)
+        below = self.daemon("--mode", "666", "--allow", f"0,{self.ENEMY}:below=1", name="two").start()
+        self.assertIn("-NOPERM", self.as_enemy(below, ["CLIENT KILL TYPE normal"]))
 
     def test_where_users_cannot_be_told_apart(self):
         """In a user namespace that has only some users, all others have one number: --allow is refused there."""

@@ -573,6 +573,7 @@ class Full(Case):
         client.socket.settimeout(5)
         self.assertEqual((client.say("PING"), client.say("GETPPID 2"), client.say(f"GETPID {answered + 1}")), ("PONG", 1, answered + 1))
         self.assertEqual(client.say(f"STAT 1 {answered + 1}")[5], answered + 1)
+        self.assertEqual((client.say("PAGE 1 CHILDREN 0 0 0"), client.say("WOULD fork 1")), ([answered, []], [answered + 2, answered + 2]))
         self.refused(client, f"GETPID {answered + 2}", "ESRCH no-caller")
         self.refused(client, f"STAT 1 {answered + 2}", "ESRCH no-task")
         told = client.say("INFO")
