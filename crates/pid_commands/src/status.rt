@@ -1,13 +1,11 @@
 //! How a command ends: its exit status, and the line that it leaves on standard error.
-ghost use Rattle.std.specs.Prelude.{◌≡◌};
-ghost use Rattle.pid_commands.specs.{
-  Commands.{IsSaid},
-  Faults.{fault_line, usage_line},
-  declared.status.Status.TheVariants.{Done, Failed, Misused},
-};
+ghost use Rattle.std.specs.{Prelude.{◌≡◌, OnOk}, Io.KnownBytes.{Appends}};
+ghost use Rattle.pid_script.specs.Script.{with_newline};
+ghost use Rattle.pid_commands.specs.{Faults.{usage_line}, declared.status.Status.TheVariants.{Done, Failed, Misused}};
 
-use crate::fault::{Fault, put, write_fault_line};
-use pid_types::device::Sink;
+use crate::fault::{Fault, write_fault_line};
+use std::io;
+use std::io::Write;
 
 /// How a command ended.
 #[derive(Clone, Copy)]
@@ -35,21 +33,25 @@ impl Status {
     }
 }
 
-/// Writes how the program is called. Where that cannot be written nothing more is done.
-pub fn say_usage<E: Sink>(errors: &mut E) -> Status
-    ensures status { result ≡ Misused }
-    ensures said { IsSaid (E.contents errors.old) (E.contents errors.new) (E.has_failed errors.new)
-        (E.is_full errors.new) usage_line }
+/// Writes the line that says how the program is called, and its newline. The only error is that of
+/// the writer.
+pub(crate) fn write_usage_line<W: Write>(writer: &mut W) -> io::Result<()>
+    ensures { OnOk result (Appends (W.contents writer.old) (W.contents writer.new) (with_newline usage_line)) }
 {
-    let _ = put(errors, b"pidtab: usage\n");
+    writer.write_all(b"pidtab: usage\n")
+}
+
+/// Writes how the program is called. Where that cannot be written nothing more is done.
+pub fn say_usage<E: Write>(errors: &mut E) -> Status
+    ensures { result ≡ Misused }
+{
+    let _ = write_usage_line(errors);
     Status::Misused
 }
 
 /// Writes the line of the fault. Where that cannot be written nothing more is done.
-pub fn say_fault<E: Sink>(errors: &mut E, fault: &Fault) -> Status
-    ensures status { result ≡ Failed }
-    ensures said { IsSaid (E.contents errors.old) (E.contents errors.new) (E.has_failed errors.new)
-        (E.is_full errors.new) (fault_line fault.now) }
+pub fn say_fault<E: Write>(errors: &mut E, fault: &Fault) -> Status
+    ensures { result ≡ Failed }
 {
     let _ = write_fault_line(errors, fault);
     Status::Failed

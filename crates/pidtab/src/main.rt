@@ -4,7 +4,6 @@
 #![tactic(auto)]
 
 use pid_commands::{Fault, Status, WordsFault, run_answer, say_fault, say_usage};
-use pid_types::device::{FromReader, ToWriter};
 use pid_words::read_words;
 use std::io::ErrorKind;
 use std::process::ExitCode;
@@ -12,16 +11,13 @@ use std::rt::Env;
 use std::{env, io};
 
 fn main(rt: HostRuntime) -> ExitCode {
-    let mut stderr = rt.stderr();
-    let mut errors = ToWriter::new(&mut stderr);
-    // What prints holds no byte back, so nothing is to be flushed.
-    let mut stdout = io::writer(&rt);
+    let mut errors = rt.stderr();
     let status = match given_words(&rt) {
         Ok(words) => run_answer(
             &rt,
             read_words(rt.alloc(), words.as_slice()),
-            &mut FromReader::new(rt.reader()),
-            &mut ToWriter::new(&mut stdout),
+            rt.reader(),
+            &mut io::writer(&rt),
             &mut errors,
         ),
         Err(WordsFault::Usage) => say_usage(&mut errors),
