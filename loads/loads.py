@@ -446,6 +446,38 @@ def wait_group(s, n):
         s.num.release(c)
 
 
+def wait_own_many(s, n):
+    """Waits for one's own group among so many of it who have ended."""
+    children = [s.fork(1) for _ in range(n)]
+    for c in children:
+        s.add(f"exit {c} 1")
+    s.body()
+    for _ in range(min(n, 1000)):
+        s.add("wait 1 own")
+
+
+def wait_group_each(s, n):
+    """Waits for groups in random order, where so many children have ended and each of them led one."""
+    children = [s.fork(1) for _ in range(n)]
+    for c in children:
+        s.add(f"setpgid 1 {c} 0")
+        s.add(f"exit {c} 1")
+    s.body()
+    for c in s.rng.sample(children, min(n, 1000)):
+        s.add(f"wait 1 group {c}")
+
+
+def move_siblings(s, n):
+    """A task goes back and forth between two control groups of one parent, below so many."""
+    parent = control_chain(s, n)[-1]
+    a, b = s.mk(parent), s.mk(parent)
+    task = s.fork(1)
+    s.add(f"move {task} {a}")
+    s.body()
+    for turn in range(10000):
+        s.add(f"move {task} {a if turn % 2 else b}")
+
+
 def remove_control(s, n):
     """Removals of control groups, each with so many zombies."""
     groups = []
@@ -495,6 +527,9 @@ LOADS = {
     "chain": (chain, 4194304, (300, 3000, 30000), 1107),
     "deep_end": (deep_end, 4194304, (300, 3000), None),
     "wait_group": (wait_group, 4194304, (300, 30000), None),
+    "wait_own_many": (wait_own_many, 4194304, (3000, 30000), {3000: 1351, 30000: 1316}),
+    "wait_group_each": (wait_group_each, 4194304, (3000, 30000), {3000: 40680, 30000: 464312}),
+    "move_siblings": (move_siblings, 32768, (62,), 705),
     "remove_control": (remove_control, 4194304, (100, 10000), None),
     "getpid": (one_line("getpid 1"), 32768, (20000,), 492),
     "count": (one_line("count 0"), 32768, (20000,), 550),

@@ -1,6 +1,7 @@
 -- The way up from a key: what a step leaves of it.
-use Rattle.std.proofs.Common.{◌≡◌, ℕ, zero, suc, ◌+◌, ◌-◌, ◌<◌, ◌≤◌, ◌==◌, Bool, true, ◌||◌, if◌then◌else◌, Option, Some, None, option_and_then, refl, sym, ap, ◌∙◌, arith, List, set, length}
+use Rattle.std.proofs.Common.{◌≡◌, ℕ, zero, suc, ◌+◌, ◌-◌, ◌<◌, ◌≤◌, ◌==◌, Bool, true, false, ◌||◌, if◌then◌else◌, Option, Some, None, option_and_then, refl, sym, ap, ◌∙◌, arith, List, set, length}
 use Rattle.pids_charge.proofs.Words.{cases_eq, eq-eqb, eqb-true, get_or-set_other, get_or-set_same, option_map_or, Slab, get, counter_at, total_at, HasLevels}
+use Rattle.pids_charge.specs.Nodes.{depth}
 use Rattle.pids_charge.proofs.Words.{TreeOfNodes, is_under, left, reaches, tree_of, weight, Counter, Node}
 pub use Rattle.std.proofs.lemmas.Bool.{ne_eqb as eqb-apart}
 
@@ -63,3 +64,12 @@ weight_true t j k some = grind arith
 
 pub weight_one : (t : TreeOfNodes) (j k : ℕ) → is_under t j k ≡ true → weight t j k ≡ 1
 weight_one t j k is = ap one_if is
+
+-- no walk comes to a node that is deeper
+pub none_deeper : (t : TreeOfNodes) → HasLevels t → (at : Option ℕ) (b : ℕ) → depth t at < suc (t.level b) → left t at b ≡ 0
+none_deeper t w None b less = refl
+none_deeper t w (Some a) b less = go (is_under t a b) refl
+  where
+    go : (v : Bool) → is_under t a b ≡ v → weight t a b ≡ 0
+    go true e = absurd (let low = reaches_low t.up t.level (up_levels t w) (t.level a) a b refl e in omega (arith, low, less))
+    go false e = ap one_if e

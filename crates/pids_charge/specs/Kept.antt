@@ -1,5 +1,5 @@
 -- The view of the nodes, and what ties them to the counters, the lists of children and the ids.
-use Rattle.std.specs.Prelude.{◌≡◌, ◌≢◌, ℕ, zero, suc, ◌<◌, ◌≤◌, ◌^◌, nat_le, Bool, true, false, List, [], ◌∷◌, length, map, Option, Some, None, option_map, option_and_then, if◌then◌else◌, slice_index_or}
+use Rattle.std.specs.Prelude.{◌≡◌, ◌≢◌, ℕ, zero, suc, ◌+◌, ◌-◌, ◌<◌, ◌≤◌, ◌^◌, nat_le, Bool, true, false, List, [], ◌∷◌, length, map, Option, Some, None, option_map, option_and_then, if◌then◌else◌, slice_index_or}
 use Rattle.std.specs.Option.{option_map_or}
 use Rattle.std.specs.List.{AllByRecursion}
 use Rattle.slab.specs.Slab.{Slab, get, ContainsKey}
@@ -94,6 +94,12 @@ pub record ChangesTasks (old new : Slab Node) (home : ℕ) (change : Node → No
   pub limits : (k : ℕ) → limit_in new k ≡ limit_in old k
   pub here : get new home ≡ option_map change (get old home)
   pub others : (k : ℕ) → k ≢ home → get new k ≡ get old k
+
+-- a node has one live task less, and then another, or the same, has one more
+pub record MovesLive (old new : Slab Node) (from to : ℕ) : Type 0 where
+  pub mid : Slab Node
+  pub leaves : ChangesTasks old mid from (λ (n : Node). record n { live = n.live - 1 })
+  pub joins : ChangesTasks mid new to (λ (n : Node). record n { live = n.live + 1 })
 
 -- what does not stand and has no task may be gone
 pub record DropsEmpty (old new : Slab Node) : Type 0 where

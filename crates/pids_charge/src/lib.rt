@@ -38,7 +38,7 @@ use slab::Slab;
 use standing::standing_from;
 use std::alloc::{AllocError, Global};
 use std::marker::Model;
-use tasks::{drop_empty, end_live, put_live, take_live, take_zombie};
+use tasks::{drop_empty, end_live, move_live, put_live, take_zombie};
 use thiserror::Error;
 
 /// The level of the deepest control groups.
@@ -395,7 +395,8 @@ impl Controls {
     }
 
     /// A live task goes to another control group, or to the one that it is in. No limit blocks it: the
-    /// cgroup-v2 document, "Organisational operations are not blocked by cgroup policies".
+    /// cgroup-v2 document, "Organisational operations are not blocked by cgroup policies". It costs a step for each group
+    /// from both up to the nearest one that is above both.
     pub fn transfer(&mut self, from: ControlKey, to: ControlKey)
         requires some { 0 < live_at self.old from }
         requires stands { stands self.old to ≡ true }
@@ -403,7 +404,6 @@ impl Controls {
         ensures homes { (k : ℕ) → home_at self.new k ≡ option_map (after_move from to k) (home_at self.old k) }
         ensures tasks { all_tasks self.new ≡ all_tasks self.old }
     {
-        take_live(&mut self.nodes, &mut self.counters, from);
-        put_live(&mut self.nodes, &mut self.counters, to);
+        move_live(&mut self.nodes, &mut self.counters, from, to);
     }
 }

@@ -4,12 +4,12 @@ ghost use Rattle.std.specs.Prelude.{◌≡◌, ◌+◌, ◌-◌, ◌<◌, ◌^�
 ghost use Rattle.{
   slab.specs.Slab.{ContainsKey},
   pids_charge.specs.{declared.node.Node.{Node}, Nodes.{TreeOfNodes, tree_of, all_in, live_in, zombies_in, IsNodeTree}},
-  pids_charge.specs.Kept.{AreTotals, ChangesTasks, DropsEmpty, total_at, AreLinked},
+  pids_charge.specs.Kept.{AreTotals, ChangesTasks, DropsEmpty, MovesLive, total_at, AreLinked},
 };
 
 use crate::counter::Counter;
 use crate::node::{Node, node_at, set_tasks};
-use crate::walk::{lower, raise};
+use crate::walk::{lower, raise, shift};
 use pid_types::keys::ControlKey;
 use slab::Slab;
 
@@ -31,21 +31,30 @@ pub(crate) fn put_live(nodes: &mut Slab<Node>, counters: &mut Vec<Counter>, home
     raise(nodes, counters, home);
 }
 
-/// A live task goes.
-pub(crate) fn take_live(nodes: &mut Slab<Node>, counters: &mut Vec<Counter>, home: ControlKey)
+/// A live task goes from a node to another, or stays where it is.
+pub(crate) fn move_live(
+    nodes: &mut Slab<Node>,
+    counters: &mut Vec<Counter>,
+    from: ControlKey,
+    to: ControlKey,
+)
     requires tree { IsNodeTree (tree_of nodes.old) }
     requires counted { AreTotals nodes.old (total_at counters.old.items) None }
     requires linked { AreLinked nodes.old counters.old.items }
-    requires some { 0 < live_in nodes.old home }
-    ensures changes { ChangesTasks nodes.old nodes.new home (λ (n : Node). record n { live = n.live - 1 }) }
+    requires some { 0 < live_in nodes.old from }
+    requires stands { (tree_of nodes.old).stand to ≡ true }
+    ensures moves { MovesLive nodes.old nodes.new from to }
+    ensures all { all_in nodes.new ≡ all_in nodes.old }
     ensures counted { AreTotals nodes.new (total_at counters.new.items) None }
-    ensures all { all_in nodes.new + 1 ≡ all_in nodes.old }
     ensures linked { AreLinked nodes.new counters.new.items }
 {
-    let node = node_at(nodes, home);
-    let live = node.live - 1;
-    set_tasks(nodes, home, live, node.zombies);
-    lower(nodes, counters, home);
+    let left = node_at(nodes, from);
+    let live = left.live - 1;
+    set_tasks(nodes, from, live, left.zombies);
+    let joined = node_at(nodes, to);
+    let live = joined.live + 1;
+    set_tasks(nodes, to, live, joined.zombies);
+    shift(nodes, counters, from, to);
 }
 
 /// A zombie goes. What does not stand may then have no tasks, on the way up from there.

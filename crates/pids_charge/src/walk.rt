@@ -1,14 +1,49 @@
-//! The walks from a node to the root, which keep the totals of subtrees. They read counters alone. The nodes are named
-//! for the contracts, which speak of their tree.
+//! The walks from a node to the root, which keep the totals of subtrees. They read counters alone, but for the levels that
+//! say which of two nodes is deeper. The nodes are named for the contracts, which speak of their tree.
 
-ghost use Rattle.std.specs.Prelude.{◌≡◌, ℕ, ◌+◌, ◌<◌, ◌^◌, true};
+ghost use Rattle.std.specs.Prelude.{◌≡◌, ℕ, ◌+◌, ◌<◌, ◌≤◌, ◌^◌, true, Some};
 ghost use Rattle.slab.specs.Slab.{ContainsKey};
-ghost use Rattle.pids_charge.specs.{Nodes.{tree_of, is_under, weight, HasLevels}, Kept.{total_at, AreLinked}};
+ghost use Rattle.pids_charge.specs.Nodes.{depth, one_at, tree_of, is_under, weight, HasLevels};
+ghost use Rattle.pids_charge.specs.Kept.{total_at, AreLinked};
 
 use crate::counter::Counter;
-use crate::node::Node;
+use crate::node::{Node, node_at};
 use pid_types::keys::ControlKey;
 use slab::Slab;
+
+/// One task more below a node. It answers the node above.
+#[inline(always)]
+fn count_on(_nodes: &Slab<Node>, counters: &mut Vec<Counter>, key: ControlKey) -> Option<ControlKey>
+    requires there { ContainsKey _nodes.now key }
+    requires linked { AreLinked _nodes.now counters.old.items }
+    requires few { total_at counters.old.items key + 1 < 2 ^ 64 }
+    ensures up { result ≡ (tree_of _nodes.now).up key }
+    ensures totals { (k : ℕ) → total_at counters.new.items k ≡ total_at counters.old.items k + one_at key k }
+    ensures linked { AreLinked _nodes.now counters.new.items }
+{
+    let counter = &mut counters[key as usize];
+    counter.total += 1;
+    counter.parent
+}
+
+/// One task less below a node. It answers the node above.
+#[inline(always)]
+fn count_off(
+    _nodes: &Slab<Node>,
+    counters: &mut Vec<Counter>,
+    key: ControlKey,
+) -> Option<ControlKey>
+    requires there { ContainsKey _nodes.now key }
+    requires linked { AreLinked _nodes.now counters.old.items }
+    requires some { 0 < total_at counters.old.items key }
+    ensures up { result ≡ (tree_of _nodes.now).up key }
+    ensures totals { (k : ℕ) → total_at counters.new.items k + one_at key k ≡ total_at counters.old.items k }
+    ensures linked { AreLinked _nodes.now counters.new.items }
+{
+    let counter = &mut counters[key as usize];
+    counter.total -= 1;
+    counter.parent
+}
 
 /// One task more at a node: counts it there and at all above.
 pub(crate) fn raise(_nodes: &Slab<Node>, counters: &mut Vec<Counter>, home: ControlKey)
@@ -22,9 +57,7 @@ pub(crate) fn raise(_nodes: &Slab<Node>, counters: &mut Vec<Counter>, home: Cont
 {
     let mut at = Some(home);
     while let Some(key) = at {
-        let counter = &mut counters[key as usize];
-        counter.total += 1;
-        at = counter.parent;
+        at = count_on(_nodes, counters, key);
     }
 }
 
@@ -40,8 +73,52 @@ pub(crate) fn lower(_nodes: &Slab<Node>, counters: &mut Vec<Counter>, home: Cont
 {
     let mut at = Some(home);
     while let Some(key) = at {
-        let counter = &mut counters[key as usize];
-        counter.total -= 1;
-        at = counter.parent;
+        at = count_off(_nodes, counters, key);
+    }
+}
+
+/// How deep a walk is: one more than the level of its node, and 0 above the root.
+fn depth_at(nodes: &Slab<Node>, at: Option<ControlKey>) -> u32
+    requires there { (k : ℕ) → at ≡ Some k → ContainsKey nodes.now k }
+    requires deep { (k : ℕ) → (tree_of nodes.now).level k ≤ 64 }
+    ensures { result ≡ depth (tree_of nodes.now) at }
+{
+    match at {
+        Some(key) => node_at(nodes, key).level + 1,
+        None => 0,
+    }
+}
+
+/// One task goes from a node to another: it is counted off above the one and on above the other, up to where both ways
+/// to the root meet.
+pub(crate) fn shift(
+    nodes: &Slab<Node>,
+    counters: &mut Vec<Counter>,
+    from: ControlKey,
+    to: ControlKey,
+)
+    requires levels { HasLevels (tree_of nodes.now) }
+    requires deep { (k : ℕ) → (tree_of nodes.now).level k ≤ 64 }
+    requires from { ContainsKey nodes.now from }
+    requires to { ContainsKey nodes.now to }
+    requires linked { AreLinked nodes.now counters.old.items }
+    requires some { (k : ℕ) → is_under (tree_of nodes.now) from k ≡ true → 0 < total_at counters.old.items k }
+    requires few { (k : ℕ) → is_under (tree_of nodes.now) to k ≡ true
+        → total_at counters.old.items k + 1 < 2 ^ 64 + weight (tree_of nodes.now) from k }
+    ensures totals { (k : ℕ) → total_at counters.new.items k + weight (tree_of nodes.now) from k
+        ≡ total_at counters.old.items k + weight (tree_of nodes.now) to k }
+    ensures linked { AreLinked nodes.now counters.new.items }
+{
+    let mut less = Some(from);
+    let mut more = Some(to);
+    while less != more {
+        let is_below = depth_at(nodes, less) < depth_at(nodes, more);
+        if is_below {
+            let Some(key) = more else { unreachable!() };
+            more = count_on(nodes, counters, key);
+        } else {
+            let Some(key) = less else { unreachable!() };
+            less = count_off(nodes, counters, key);
+        }
     }
 }

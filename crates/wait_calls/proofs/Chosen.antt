@@ -1,4 +1,5 @@
--- A walk over all ended children ends with the choice among those of them in the group.
+-- A walk over all ended children ends with the choice among those of them in the group; one over the group's members with the choice
+-- among all its children.
 use Rattle.std.proofs.Common.{◌≡◌, ◌≢◌, ℕ, ◌+◌, ◌<◌, ◌≤◌, ◌==◌, Bool, true, false, List, [], ◌∷◌, Option, Some, None, option_map, cond, refl, sym, ap, ◌∙◌, arith}
 use Rattle.std.specs.Option.{option_eq}
 use Rattle.std.specs.Prelude.{nat_lt, if◌then◌else◌}
@@ -14,7 +15,7 @@ use Rattle.groups_sessions.specs.Membership.{group_of}
 use Rattle.wait_calls.specs.declared.selection.Selected.TheVariants.{Group}
 use Rattle.wait_calls.specs.declared.selection.Choice.{Choice}
 use Rattle.wait_calls.specs.declared.selection.Choice.TheVariants.{NoChild, NoneEnded, Ended}
-use Rattle.wait_calls.specs.Choice.{IsMatch, IsEndedChoice}
+use Rattle.wait_calls.specs.Choice.{IsMatch, IsChoice, IsEndedChoice}
 use Rattle.wait_calls.specs.Walk.{is_group_match, rank_alone, choice_with, looked_at, walked}
 
 -- what is 1 is not 0
@@ -185,3 +186,15 @@ module _ (s : Store) (caller group : ℕ) where
             let m = is_match child e in
             let z = zombie child rank m.0 own in
             (m, z.0, z.1, λ k r match at. covers k r match (ap (option_map (λ (p : ℕ × ℕ). p.1)) at) r (ap (option_map (λ (p : ℕ × ℕ). p.1)) at))
+
+    -- a list in which each child of the group is leads to the choice among all of them
+    pub chosen-all : (keys : List ℕ) → ((k : ℕ) → IsMatch s caller (Group group) k → 0 < times k keys) → IsChoice s caller (Group group) (walked s caller group NoChild keys)
+    chosen-all keys some = go (walked s caller group NoChild keys) (names_walked keys NoChild tt) (λ i m. covers_walked keys NoChild i (of_match i m) (some i m))
+      where
+        go : (choice : Choice) → Names choice → ((i : ℕ) → IsMatch s caller (Group group) i → Covers i choice) → IsChoice s caller (Group group) choice
+        go NoChild names covers = λ k m. covers k m
+        go NoneEnded (k, e) covers = ((k, is_match k e), λ j m. no_zombie j m.0 (covers j m))
+        go (Ended child rank) (e, own) covers =
+            let m = is_match child e in
+            let z = zombie child rank m.0 own in
+            (m, z.0, z.1, λ k r match at. covers k match r (ap (option_map (λ (p : ℕ × ℕ). p.1)) at))

@@ -1,9 +1,10 @@
 //! Whom a wait reaps: `waitpid(2)` with `WNOHANG`, over the tasks of a store, by their keys.
 //!
 //! Nothing is changed and no memory is taken. A wait for any child, or for one task, costs a few reads,
-//! however many children there are. A wait for a group costs a few reads for each child of the caller that has
-//! ended. Where none of those is in the group, it costs a few for each child up to the first one that is; and where the
-//! group's members are fewer than a quarter of the children, a few for each of them instead, and for four children.
+//! however many children there are. So does a wait for a group, if the first of all children that have ended is in it.
+//! If not, it costs a few reads for each child of the caller that has ended; and if none of those is in the group, a few
+//! for each child up to the first one that is. Where the group's members are fewer than a quarter of the children that
+//! it looks at, it costs a few reads for each member, and for four children, instead.
 
 ghost use Rattle.std.specs.Prelude.{◌≡◌, IsSome};
 ghost use Rattle.task_tree.specs.Tree.{task_at, parent_of};
@@ -68,7 +69,7 @@ pub(crate) fn counted(choice: Choice, child: TaskKey, rank: Option<Pid>) -> Choi
 
 /// The choice among all children.
 #[inline(always)]
-fn choose_any(store: &Tasks, caller: TaskKey) -> Choice
+pub(crate) fn choose_any(store: &Tasks, caller: TaskKey) -> Choice
     requires { IsSome (task_at store.now.tree caller) }
     ensures { IsChoice store.now caller Selected.Any result }
 {

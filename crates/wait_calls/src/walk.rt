@@ -1,7 +1,8 @@
-//! The wait for a process group: a walk over the caller's ended children, and then, where none of them is in the
-//! group, one over its children or over the group's members, whichever are fewer.
+//! The wait for a process group: a look at the ended child with the least rank, and, where that one is not in the group,
+//! a walk over the caller's ended children or over the group's members, whichever are fewer. Where no ended child is in
+//! the group, it walks over all children or over the members, whichever are fewer.
 
-ghost use Rattle.std.specs.Prelude.{◌≡◌, ◌≢◌, ◌<◌, ◌↔◌, ℕ, Some, IsSome, IsTrue, [], length, true, false};
+ghost use Rattle.std.specs.Prelude.{◌≡◌, ◌≢◌, ◌<◌, ◌↔◌, ℕ, Some, IfSome, IsSome, IsTrue, [], length, true, false};
 ghost use Rattle.std.specs.List.{AllByRecursion};
 ghost use Rattle.{
   member_lists.specs.Owners.{times},
@@ -12,7 +13,7 @@ ghost use Rattle.{
   groups_sessions.specs.Membership.{group_of},
 };
 
-use crate::selection::{Choice, Selected, counted, parent_in};
+use crate::selection::{Choice, Selected, choose_any, counted, parent_in};
 use member_lists::Members;
 use pid_types::call::Kind;
 use pid_types::keys::{IdentKey, TaskKey};
@@ -39,17 +40,56 @@ fn look_at(store: &Tasks, caller: TaskKey, group: IdentKey, choice: Choice, key:
     counted(choice, key, tree.rank(key))
 }
 
-/// The choice among the children in the group that have ended: no child where none has. It costs a few reads for
-/// each ended child of the caller, whatever group it is in.
-fn choose_ended(store: &Tasks, caller: TaskKey, group: IdentKey) -> Choice
+/// The choice among the children in the group that have ended, where a look at the first of all ended children is
+/// enough: no child where none has ended. It costs a few reads.
+fn choose_least(store: &Tasks, caller: TaskKey, group: IdentKey) -> Option<Choice>
     requires { IsSome (task_at store.now.tree caller) }
-    ensures { IsEndedChoice store.now caller group result }
+    ensures { IfSome result (λ choice. IsEndedChoice store.now caller group choice) }
+{
+    let least = choose_any(store, caller);
+    let Choice::Ended { child, rank: _ } = least else {
+        return Some(Choice::NoChild);
+    };
+    if is_group_match(store, caller, group, child) {
+        Some(least)
+    } else {
+        None
+    }
+}
+
+/// So many children are looked at for each member of the group.
+const CHILDREN_A_MEMBER: u32 = 4;
+
+/// The same by a look at all ended children, whatever group each is in: a few reads for each. The answer is none where
+/// they are more than so many for each member of the group.
+fn choose_ended(store: &Tasks, caller: TaskKey, group: IdentKey) -> Option<Choice>
+    requires { IsSome (task_at store.now.tree caller) }
+    ensures { IfSome result (λ choice. IsEndedChoice store.now caller group choice) }
 {
     let tree = store.tree();
     tree.laws();
+    let members = store.numbers().count(group, Kind::Group);
+    let mut left = members.saturating_mul(CHILDREN_A_MEMBER as u64);
     let mut choice = Choice::NoChild;
     for child in tree.ended_children(caller) {
+        if left == 0 {
+            return None;
+        }
+        left -= 1;
         choice = look_at(store, caller, group, choice, child);
+    }
+    Some(choice)
+}
+
+/// The choice among all children in the group, by a look at each of its members: a few reads for each.
+fn choose_member(store: &Tasks, caller: TaskKey, group: IdentKey) -> Choice
+    requires { group < length store.now.members }
+    ensures { IsChoice store.now caller (Group group) result }
+{
+    store.tree().laws();
+    let mut choice = Choice::NoChild;
+    for member in store.members().group_members(group) {
+        choice = look_at(store, caller, group, choice, member);
     }
     choice
 }
@@ -64,9 +104,6 @@ enum Looked {
     /// None is.
     More,
 }
-
-/// So many children are looked at for each member of the group.
-const CHILDREN_A_MEMBER: u32 = 4;
 
 /// Whether the caller's child is in the group.
 fn is_in(store: &Tasks, group: IdentKey, child: TaskKey) -> bool
@@ -149,13 +186,13 @@ pub(crate) fn choose_in_group(store: &Tasks, caller: TaskKey, group: IdentKey) -
     if !store.members().any_in_group(group) {
         return Choice::NoChild;
     }
-    let ended = choose_ended(store, caller, group);
-    if ended != Choice::NoChild {
-        return ended;
-    }
-    if has_match(store, caller, group) {
-        Choice::NoneEnded
-    } else {
-        Choice::NoChild
+    let ended = match choose_least(store, caller, group) {
+        Some(choice) => Some(choice),
+        None => choose_ended(store, caller, group),
+    };
+    match ended {
+        None => choose_member(store, caller, group),
+        Some(Choice::NoChild) if has_match(store, caller, group) => Choice::NoneEnded,
+        Some(choice) => choice,
     }
 }

@@ -1,31 +1,26 @@
 -- The weight left above the walk falls by one at each step, so what the totals lost and what they are to lose is one sum; no total falls below zero, as each had a task
-use Rattle.pids_charge.proofs.Words.{None, ap, arith, sym, ◌-◌, ◌<◌, ◌∙◌, get_or_read, tree_of, Counter}
+use Rattle.pids_charge.proofs.Words.{arith, sym, ◌∙◌, tree_of}
 use Rattle.pids_charge.proofs.Climbs as climbs
-use Rattle.pids_charge.proofs.Linked as linked
 use Rattle.pids_charge.proofs.walk.lower.Goals as goal
 
-pub overflow_sub-counter : goal.overflow_sub-counter
-overflow_sub-counter c = grind (arith, get_or_read, climbs.one-own, climbs.weight_true, climbs.weight_one)
+pub count_off-at-requires-clause-some : goal.count_off-at-requires-clause-some
+count_off-at-requires-clause-some c =
+    let a = c.in-Some.key in
+    let t = tree_of c.args._nodes.now in
+    let own = climbs.one-own t c.requires.levels c.loop-at.at a c.in-Some.is in
+    let under = climbs.weight_true t c.args.home a (omega (arith, own, c.loop-at.invariant.part a)) in
+    omega (arith, own, c.loop-at.invariant.totals a, climbs.weight_one t c.args.home a under, c.requires.some a under)
 
 pub loop-at-smaller : goal.loop-at-smaller
-loop-at-smaller c = grind (arith, get_or_read, climbs.left_smaller)
+loop-at-smaller c = climbs.left_smaller (tree_of c.args._nodes.now) c.requires.levels c.loop-at.at c.in-Some.key _ c.in-Some.is c.count_off-at.ensures.up
 
 pub loop-at-preserved : goal.loop-at-preserved
 loop-at-preserved c =
     let a = c.in-Some.key in
-    let t = tree_of c.args._nodes.now in
-    let on = c.loop-at.invariant.linked a (c.loop-at.invariant.here a c.in-Some.is) in
-    let read = get_or_read c.loop-at.counters.items a c.index_mut-counter.result.now on.room c.index_mut-counter.ensures.value (record { total = 0; limit = None; parent = None }) in
-    let total = ap (λ (x : Counter). x.total) read in
-    let own = climbs.one-own t c.requires.levels c.loop-at.at a c.in-Some.is in
-    let under = climbs.weight_true t c.args.home a (omega (arith, own, c.loop-at.invariant.part a)) in
-    let above = ap (λ (x : Counter). x.parent) read ∙ on.parent in
-    let step = climbs.left-step t c.requires.levels c.loop-at.at a c.index_mut-counter.result.now.parent c.in-Some.is above in
-    let some : 0 < c.index_mut-counter.result.now.total = omega (arith, total, own, c.requires.some a under, c.loop-at.invariant.totals a, climbs.weight_one t c.args.home a under) in
+    let step = climbs.left-step (tree_of c.args._nodes.now) c.requires.levels c.loop-at.at a c.count_off-at.result c.in-Some.is c.count_off-at.ensures.up in
     record {
-      here = λ p is. (c.requires.levels a p (sym above ∙ is)).0;
-      totals = λ k. omega (arith, step k, c.loop-at.invariant.totals k, climbs.set-minus c.loop-at.counters.items a k c.index_mut-counter.result.now on.room read some);
+      here = λ p is. (c.requires.levels a p (sym c.count_off-at.ensures.up ∙ is)).0;
+      totals = λ k. omega (arith, step k, c.loop-at.invariant.totals k, c.count_off-at.ensures.totals k);
       part = λ k. omega (arith, step k, c.loop-at.invariant.part k);
-      linked = linked.linked-counted c.loop-at.counters.items a (record c.index_mut-counter.result.now { total = c.index_mut-counter.result.now.total - 1 }) on.room c.args._nodes.now c.loop-at.invariant.linked
-          (ap (λ (x : Counter). x.limit) read) (ap (λ (x : Counter). x.parent) read);
+      linked = c.count_off-at.ensures.linked;
     }
