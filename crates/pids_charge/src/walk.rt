@@ -1,5 +1,5 @@
-//! The walks from a node to the root, which keep the totals of subtrees. They read counters alone, but for the levels that
-//! say which of two nodes is deeper. The nodes are named for the contracts, which speak of their tree.
+//! The walks from a node to the root, which keep the totals of subtrees. They read counters alone, except the levels
+//! that say which of two nodes is deeper. The nodes are named for the contracts, which speak of their tree.
 
 ghost use Rattle.std.specs.Prelude.{◌≡◌, ℕ, ◌+◌, ◌<◌, ◌≤◌, ◌^◌, true, Some};
 ghost use Rattle.slab.specs.Slab.{ContainsKey};

@@ -1,10 +1,10 @@
 //! Whom a wait reaps: `waitpid(2)` with `WNOHANG`, over the tasks of a store, by their keys.
 //!
 //! Nothing is changed and no memory is taken. A wait for any child, or for one task, costs a few reads,
-//! however many children there are. So does a wait for a group, if the first of all children that have ended is in it.
-//! If not, it costs a few reads for each child of the caller that has ended; and if none of those is in the group, a few
-//! for each child up to the first one that is. Where the group's members are fewer than a quarter of the children that
-//! it looks at, it costs a few reads for each member, and for four children, instead.
+//! however many children there are. So does a wait for a group, if the first of all ended children is in it. If not, it
+//! costs a few reads for each ended child; and if none of those is in the group, a few for each child up to the first
+//! one that is. If the group's members are fewer than a quarter of the children that it looks at, it costs a few reads
+//! for each member, and for four children, instead.
 
 ghost use Rattle.std.specs.Prelude.{◌≡◌, IsSome};
 ghost use Rattle.task_tree.specs.Tree.{task_at, parent_of};

@@ -1,6 +1,6 @@
-//! The wait for a process group: a look at the ended child with the least rank, and, where that one is not in the group,
-//! a walk over the caller's ended children or over the group's members, whichever are fewer. Where no ended child is in
-//! the group, it walks over all children or over the members, whichever are fewer.
+//! The wait for a process group: a look at the ended child with the least rank, and, if that one is not in the group, a
+//! walk over the caller's ended children or over the group's members, whichever are fewer. If no ended child is in the
+//! group, it walks over all children or over the members, whichever are fewer.
 
 ghost use Rattle.std.specs.Prelude.{◌≡◌, ◌≢◌, ◌<◌, ◌↔◌, ℕ, Some, IfSome, IsSome, IsTrue, [], length, true, false};
 ghost use Rattle.std.specs.List.{AllByRecursion};
