@@ -3,7 +3,8 @@
 The folder `stored` has `scripts`, each below a line `# NAME PID_MAX`, which ends in ` listed` where the list of the table
 that the script leaves is stored too; `answers`, with the same heads; and `commands`. There a line is `$ pidtab WORD ..`, and
 ` < FILE` at its end gives the command the file as its standard input, which is empty otherwise. Below it stand the
-command's output, its line on standard error, if any, and a line `status K`, if its exit status K is not 0.
+command's output, its line on standard error, if any, and a line `status K`, if its exit status K is not 0. A run of lines is one
+line there: `stored/stored.py` writes it out.
 """
 
 import os
@@ -11,6 +12,7 @@ import pathlib
 import re
 import resource
 import subprocess
+import sys
 import tempfile
 import threading
 import time
@@ -18,8 +20,10 @@ import unittest
 
 from hostile import TOP, builds_of, run
 
-STORED = TOP / "stored"
-DATA = STORED / "data"
+sys.path.insert(0, str(TOP / "stored"))
+import stored  # noqa: E402
+
+DATA = TOP / "stored" / "data"
 
 USAGE = (2, b"", b"pidtab: usage\n")
 READ_FAULT = b"pidtab: read fault\n"
@@ -54,7 +58,7 @@ def parts_of(text, sign):
 
 def stored_parts(name, sign):
     """The parts of a stored file."""
-    return parts_of((STORED / name).read_bytes(), sign)
+    return parts_of(stored.read(name), sign)
 
 
 class Stored(unittest.TestCase):

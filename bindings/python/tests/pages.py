@@ -1,11 +1,14 @@
 """What the pages and the examples of the repository say, as the tests expect it."""
 
 import re
+import sys
 from pathlib import Path
 
 REPOSITORY = Path(__file__).resolve().parents[3]
 EXAMPLES = REPOSITORY / "examples"
-STORED = REPOSITORY / "stored"
+
+sys.path.insert(0, str(REPOSITORY / "stored"))
+import stored  # noqa: E402
 
 # Two jobs for `pidtab work`, whose answers depend on the schedule.
 JOBS = {"worker0", "worker1"}
@@ -76,8 +79,8 @@ class StoredScript:
 
 def stored_scripts() -> list[StoredScript]:
     """The stored scripts that the gate plays."""
-    scripts = (STORED / "scripts").read_bytes().split(b"# ")[1:]
-    answers = (STORED / "answers").read_text(encoding="latin-1").split("# ")[1:]
+    scripts = stored.read("scripts").split(b"# ")[1:]
+    answers = stored.read("answers").decode("latin-1").split("# ")[1:]
     found = []
     for script, answer in zip(scripts, answers, strict=True):
         head, *lines = script.removesuffix(b"\n").split(b"\n")
