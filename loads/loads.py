@@ -501,44 +501,44 @@ def one_line(line):
     return load
 
 
-# name: (generator, pid_max, sizes, instructions a call of the peer, where there is a figure: at each size, or at some)
+# name: (generator, pid_max, sizes, instructions a call of the peer on the same script, by the size)
 LOADS = {
-    "fork_storm": (fork_storm, 4194304, (3000, 30000), 1094),
-    "cycle_among_100": (lambda s, n: cycle_among(s, n, 100), 32768, (30000,), 1051),
-    "cycle_among_10000": (lambda s, n: cycle_among(s, n, 10000), 32768, (30000,), 1051),
-    "deep_cycle": (deep_cycle, 32768, (10000,), 3239),
-    "deep_storm": (deep_storm, 32768, (3000, 15000), 6196),
-    "groups": (groups, 32768, (3000, 30000), 841),
-    "control_cycle_64": (lambda s, n: control_cycle(s, 64, n), 32768, (12000,), 1894),
-    "fall": (fall, 4194304, (300, 3000), 584),
-    "fall_beside": (fall_beside, 4194304, (30, 300, 3000), {3000: 1025}),
-    "fall_nested": (fall_nested, 4194304, (30, 300, 3000), None),
-    "queries": (queries, 32768, (300, 30000), 760),
-    "wait_any": (wait_any, 32768, (300, 30000), 1004),
-    "reap_all": (reap_all, 32768, (3000, 30000), 1268),
-    "nearly_full": (nearly_full, 32768, (30000,), 1119),
-    "refused": (refused, 32768, (20000,), 1108),
-    "exit_parent": (exit_parent, 4194304, (300, 3000), 63),
-    "exit_parent_of_zombies": (exit_parent_of_zombies, 4194304, (300, 3000, 30000), 18),
-    "wait_own": (wait_own, 4194304, (300, 3000, 30000), 493),
-    "wait_own_ended": (wait_own_ended, 4194304, (300, 3000, 30000), None),
-    "wait_group_miss": (wait_group_miss, 4194304, (300, 3000, 30000), {30000: 330575}),
-    "containers": (containers, 4194304, (300, 3000, 30000), 1600),
-    "chain": (chain, 4194304, (300, 3000, 30000), 1107),
-    "deep_end": (deep_end, 4194304, (300, 3000), None),
-    "wait_group": (wait_group, 4194304, (300, 30000), None),
+    "fork_storm": (fork_storm, 4194304, (3000, 30000), {3000: 1180, 30000: 1094}),
+    "cycle_among_100": (lambda s, n: cycle_among(s, n, 100), 32768, (30000,), {30000: 984}),
+    "cycle_among_10000": (lambda s, n: cycle_among(s, n, 10000), 32768, (30000,), {30000: 1052}),
+    "deep_cycle": (deep_cycle, 32768, (10000,), {10000: 3183}),
+    "deep_storm": (deep_storm, 32768, (3000, 15000), {3000: 6369, 15000: 6214}),
+    "groups": (groups, 32768, (3000, 30000), {3000: 808, 30000: 841}),
+    "control_cycle_64": (lambda s, n: control_cycle(s, 64, n), 32768, (12000,), {12000: 1888}),
+    "fall": (fall, 4194304, (300, 3000), {300: 599, 3000: 584}),
+    "fall_beside": (fall_beside, 4194304, (30, 300, 3000), {30: 987, 300: 1017, 3000: 1037}),
+    "fall_nested": (fall_nested, 4194304, (30, 300, 3000), {30: 651, 300: 653, 3000: 1075}),
+    "queries": (queries, 32768, (300, 30000), {300: 669, 30000: 760}),
+    "wait_any": (wait_any, 32768, (300, 30000), {300: 968, 30000: 984}),
+    "reap_all": (reap_all, 32768, (3000, 30000), {3000: 1251, 30000: 1304}),
+    "nearly_full": (nearly_full, 32768, (30000,), {30000: 1075}),
+    "refused": (refused, 32768, (20000,), {20000: 630}),
+    "exit_parent": (exit_parent, 4194304, (300, 3000), {300: 13, 3000: 10}),
+    "exit_parent_of_zombies": (exit_parent_of_zombies, 4194304, (300, 3000, 30000), {300: 433, 3000: 537, 30000: 645}),
+    "wait_own": (wait_own, 4194304, (300, 3000, 30000), {300: 585, 3000: 494, 30000: 494}),
+    "wait_own_ended": (wait_own_ended, 4194304, (300, 3000, 30000), {300: 1025, 3000: 978, 30000: 999}),
+    "wait_group_miss": (wait_group_miss, 4194304, (300, 3000, 30000), {300: 3939, 3000: 33659, 30000: 330679}),
+    "containers": (containers, 4194304, (300, 3000, 30000), {300: 1660, 3000: 1629, 30000: 1658}),
+    "chain": (chain, 4194304, (300, 3000, 30000), {300: 1132, 3000: 1132, 30000: 1155}),
+    "deep_end": (deep_end, 4194304, (300, 3000), {300: 22, 3000: 15}),
+    "wait_group": (wait_group, 4194304, (300, 30000), {300: 1011, 30000: 1020}),
     "wait_own_many": (wait_own_many, 4194304, (3000, 30000), {3000: 1351, 30000: 1316}),
     "wait_group_each": (wait_group_each, 4194304, (3000, 30000), {3000: 40680, 30000: 464312}),
-    "move_siblings": (move_siblings, 32768, (62,), 705),
-    "remove_control": (remove_control, 4194304, (100, 10000), None),
-    "getpid": (one_line("getpid 1"), 32768, (20000,), 492),
-    "count": (one_line("count 0"), 32768, (20000,), 550),
-    "nspid": (one_line("nspid 1 1"), 32768, (20000,), 675),
-    "getpgid": (one_line("getpgid 1 0"), 32768, (20000,), 576),
-    "wait_none": (one_line("wait 1 any"), 32768, (20000,), 477),
-    "bad_line": (one_line("fork  1"), 32768, (20000,), 183),
-    "empty_line": (one_line(""), 32768, (20000,), 76),
-    "fork_storm_million": (fork_storm, 4194304, (1000000,), 1094),
+    "move_siblings": (move_siblings, 32768, (62,), {62: 705}),
+    "remove_control": (remove_control, 4194304, (100, 10000), {100: 1783, 10000: 100833}),
+    "getpid": (one_line("getpid 1"), 32768, (20000,), {20000: 501}),
+    "count": (one_line("count 0"), 32768, (20000,), {20000: 559}),
+    "nspid": (one_line("nspid 1 1"), 32768, (20000,), {20000: 684}),
+    "getpgid": (one_line("getpgid 1 0"), 32768, (20000,), {20000: 585}),
+    "wait_none": (one_line("wait 1 any"), 32768, (20000,), {20000: 486}),
+    "bad_line": (one_line("fork  1"), 32768, (20000,), {20000: 176}),
+    "empty_line": (one_line(""), 32768, (20000,), {20000: 76}),
+    "fork_storm_million": (fork_storm, 4194304, (1000000,), {}),
 }
 
 # Those whose cost is told for each task that they concern, and how many these are.
@@ -580,7 +580,7 @@ def measure(program, names):
             s = make(name, n)
             calls = BY_TASK[name](n) if name in BY_TASK else len(s.lines) - s.split
             cost = (collected(program, pid_max, s.lines) - collected(program, pid_max, s.lines[: s.split])) / calls
-            theirs = peer.get(n) if isinstance(peer, dict) else peer
+            theirs = peer.get(n)
             compared = f"{theirs:,} | {cost / theirs:.2f}" if theirs else "| "
             print(f"| {name} | {n:,} | {calls:,} | {cost:,.0f} | {compared} |", flush=True)
 
