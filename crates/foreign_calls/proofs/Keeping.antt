@@ -3,24 +3,27 @@ use Rattle.std.proofs.Common.{◌≡◌, ℕ, ◌+◌, ◌≤◌, [], ◌∷◌,
 use Rattle.std.specs.Prelude.{◌⊎◌}
 use Rattle.std.proofs.lemmas.Option.{same_Some}
 use Rattle.pid_types.specs.declared.call.Call.{Call}
-use Rattle.kept_table.specs.Calls.{after_recorded, entry_of, to_cut, IsWithoutFirst}
+use Rattle.kept_table.specs.Calls.{after_recorded, entry_of, to_cut, FewerWait, IsWithoutFirst}
 use Rattle.kept_table.specs.Chronicle.{Chronicle}
-use Rattle.foreign_calls.specs.Records.{roomless, IsRecorded, IsRecordedKeeping}
+use Rattle.foreign_calls.specs.Records.{memoryless, IsRecorded, IsRecordedKeeping}
+use Rattle.kept_table.proofs.Waits.{fewer_behind}
 
--- the room for more entries is no matter
-without_roomless : (n : ℕ) (c d : Chronicle) → IsWithoutFirst n c d → IsWithoutFirst n (roomless c) d
-without_roomless n c d w = record { gone = w.gone; many = w.many; were = w.were; left = w.left; workers = w.workers; counts = w.counts }
+-- what memory there is beside is no matter
+without_memoryless : (n : ℕ) (c d : Chronicle) → IsWithoutFirst n c d → IsWithoutFirst n (memoryless c) d
+without_memoryless n c d w = record { gone = w.gone; many = w.many; were = w.were; left = w.left; workers = w.workers; counts = w.counts }
 
 pub recorded_keeping : (keep : ℕ) (c m d : Chronicle) (worker : ℕ) (call : Call) (ordinal : ℕ) → IsRecorded c worker call ordinal (Some m)
-    → IsWithoutFirst (to_cut m keep) m d → (length d.entries ≤ keep) ⊎ (length d.entries + 2 ≤ length m.entries) → IsRecordedKeeping keep c worker call ordinal d
-recorded_keeping keep c m d worker call ordinal made cut bound =
-    let is : roomless m ≡ after_recorded c worker call = same_Some (roomless m) (after_recorded c worker call) made.left in
+    → IsWithoutFirst (to_cut m keep) m d → (length d.entries ≤ keep) ⊎ (length d.entries + 2 ≤ length m.entries)
+    → (d.memory.waits ≡ m.memory.waits) ⊎ FewerWait m.memory.waits d.memory.waits → IsRecordedKeeping keep c worker call ordinal d
+recorded_keeping keep c m d worker call ordinal made cut bound waits =
+    let is : memoryless m ≡ after_recorded c worker call = same_Some (memoryless m) (after_recorded c worker call) made.left in
     let longer : length m.entries ≡ length c.entries + 1 = ap (λ r. length r.entries) is ∙ length-append c.entries (entry_of c worker call ∷ []) in
     record {
-      cut = subst (λ r. IsWithoutFirst (to_cut r keep) r d) is (without_roomless (to_cut m keep) m d cut);
+      cut = subst (λ r. IsWithoutFirst (to_cut r keep) r d) is (without_memoryless (to_cut m keep) m d cut);
       bound = elim bound [
         | inl few ↦ inl few
         | inr less ↦ inr (omega (arith, less, longer))
       ];
+      fewer = fewer_behind c.memory.waits m.memory.waits d.memory.waits made.moved waits;
       place = made.place;
     }

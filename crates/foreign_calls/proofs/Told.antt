@@ -8,14 +8,15 @@ use Rattle.pid_types.specs.declared.reply.CallFault.TheVariants.{NoMemory, Spent
 use Rattle.pid_types.specs.declared.reply.Reply.{Reply}
 use Rattle.pid_types.specs.Step.{may_grow}
 use Rattle.saved_form.specs.declared.numbers.ReplyNumbers.{ReplyNumbers}
-use Rattle.kept_table.specs.Calls.{counted, entry_of, outcome}
+use Rattle.kept_past.specs.Past.{IsCaughtUp, Waiting}
+use Rattle.kept_table.specs.Calls.{counted, entry_of, nothing_spare, outcome, MakesRoom}
 use Rattle.kept_table.specs.Chronicle.{Chronicle, next_stamp, total}
 use Rattle.foreign_numbers.specs.Numbers.{numbers_of}
 use Rattle.foreign_numbers.specs.declared.status.TheConstants.{DONE, NOT_KEPT, NO_ROOM, OUT_OF_RANGE, SPENT, NO_MEMORY}
 use Rattle.foreign_calls.specs.Asked.{TellsAnswer}
 use Rattle.foreign_calls.specs.Held.{IsDoneOr}
 use Rattle.foreign_calls.specs.Made.{IsSpent, TellsReply}
-use Rattle.foreign_calls.specs.Records.{RecordsCall, roomless}
+use Rattle.foreign_calls.specs.Records.{RecordsCall, memoryless, roomless}
 use Rattle.foreign_calls.specs.Replicas.{TellsFound}
 use Rattle.foreign_calls.specs.Rooms.{KeepsRoom, PutsLine}
 
@@ -61,12 +62,16 @@ tells_none found before none = record {
   not_done = λ _. refl;
 }
 
+-- only room was made
+roomless_same : (c d : Chronicle) → MakesRoom c d → roomless d ≡ roomless c
+roomless_same c d makes = ap roomless makes.same ∙ ap (λ (w : Waiting). record c { memory = record { room = 0; waits = w } }) makes.waits
+
 -- the worker's call was made, or not
 pub records_call : (c d : Chronicle) (worker : ℕ) (call : Call) (before place : ℕ) → worker < length c.cut → (IsSpent (next_stamp c) → ⊥) → place ≡ total c
-    → d.entries ≡ c.entries ++ entry_of c worker call ∷ [] → d.present ≡ (outcome c call).state → d ≡ counted c d.entries d.present d.room
+    → d.entries ≡ c.entries ++ entry_of c worker call ∷ [] → d.present ≡ (outcome c call).state → d ≡ counted c d.entries d.present d.memory → IsCaughtUp 2 c.memory.waits d.memory.waits
     → RecordsCall c worker call before place DONE d
-records_call c d worker call before place known unspent at history step others = record {
-  done = λ _. record { left = ap Some (ap roomless others ∙ (λ i. counted c (history i) (step i) 0)); place = at };
+records_call c d worker call before place known unspent at history step others moved = record {
+  done = λ _. record { left = ap Some (ap memoryless others ∙ (λ i. counted c (history i) (step i) nothing_spare)); moved = moved; place = at };
   not_done = λ not. absurd (not refl);
   why = record {
     out_of_range = (λ out. let z : DONE ≡ OUT_OF_RANGE = out in absurd (omega (arith, z)), λ past. absurd (omega (arith, past, known)));
@@ -77,13 +82,13 @@ records_call c d worker call before place known unspent at history step others =
 }
 
 pub records_none : {A : Type 0} (r : Result A CallFault) (fault : CallFault) (c d : Chronicle) (worker : ℕ) (call : Call) (ordinal status : ℕ) → r ≡ Err fault
-    → worker < length c.cut → d ≡ record c { room = d.room } → ((r ≡ Err Spent) ↔ IsSpent (next_stamp c))
-    → (r ≡ Err NoMemory → 0 < c.room → IsTrue (may_grow call)) → (fault ≡ NoMemory → status ≡ NO_MEMORY) → (fault ≡ Spent → status ≡ SPENT)
+    → worker < length c.cut → MakesRoom c d → ((r ≡ Err Spent) ↔ IsSpent (next_stamp c))
+    → (r ≡ Err NoMemory → 0 < c.memory.room → IsTrue (may_grow call)) → (fault ≡ NoMemory → status ≡ NO_MEMORY) → (fault ≡ Spent → status ≡ SPENT)
     → RecordsCall c worker call ordinal ordinal status d
-records_none r NoMemory c d worker call ordinal status err known same spent grows none spends =
+records_none r NoMemory c d worker call ordinal status err known makes spent grows none spends =
     let is : status ≡ NO_MEMORY = none refl in record {
       done = λ done. let z : NO_MEMORY ≡ DONE = sym is ∙ done in absurd (omega (arith, z));
-      not_done = λ _. (ap roomless same, refl);
+      not_done = λ _. (roomless_same c d makes, refl);
       why = record {
         out_of_range = (λ out. let z : NO_MEMORY ≡ OUT_OF_RANGE = sym is ∙ out in absurd (omega (arith, z)), λ past. absurd (omega (arith, past, known)));
         spent = (λ gone. let z : NO_MEMORY ≡ SPENT = sym is ∙ gone in absurd (omega (arith, z)), λ p. let never = sym err ∙ spent.1 p.1 in cc never);
@@ -91,10 +96,10 @@ records_none r NoMemory c d worker call ordinal status err known same spent grow
         statuses = inr (inr (inr is));
       };
     }
-records_none r Spent c d worker call ordinal status err known same spent grows none spends =
+records_none r Spent c d worker call ordinal status err known makes spent grows none spends =
     let is : status ≡ SPENT = spends refl in record {
       done = λ done. let z : SPENT ≡ DONE = sym is ∙ done in absurd (omega (arith, z));
-      not_done = λ _. (ap roomless same, refl);
+      not_done = λ _. (roomless_same c d makes, refl);
       why = record {
         out_of_range = (λ out. let z : SPENT ≡ OUT_OF_RANGE = sym is ∙ out in absurd (omega (arith, z)), λ past. absurd (omega (arith, past, known)));
         spent = (λ _. (known, spent.0 err), λ _. is);

@@ -48,7 +48,7 @@ MayWant call = IsTrue (may_grow call) ⊎ IsTrue (is_touching call)
 pub record IsToldStatus (c : Chronicle) (worker : ℕ) (call : Call) (status : ℕ) : Type 0 where
   pub out_of_range : (status ≡ OUT_OF_RANGE) ↔ (length c.cut ≤ worker)
   pub spent : (status ≡ SPENT) ↔ (worker < length c.cut) × IsSpent (next_stamp c)
-  pub no_memory : status ≡ NO_MEMORY → 0 < c.room → MayWant call
+  pub no_memory : status ≡ NO_MEMORY → 0 < c.memory.room → MayWant call
   pub statuses : IsDoneOr status (OUT_OF_RANGE ∷ SPENT ∷ NO_MEMORY ∷ NO_ROOM ∷ [])
 
 -- the worker's call was made and recorded, or the status says why not, and nothing shows of it

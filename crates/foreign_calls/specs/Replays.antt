@@ -2,12 +2,12 @@
 use Rattle.std.specs.Prelude.{◌≡◌, ◌≢◌, ◌<◌, ◌≤◌, ◌⊎◌, ℕ, List, [], ◌∷◌, length, take, slice_get, Some, None, IsTrue}
 use Rattle.pid_types.specs.declared.call.Call.{Call}
 use Rattle.pid_types.specs.Step.{may_grow}
-use Rattle.kept_table.specs.Calls.{after_recorded, outcome}
+use Rattle.kept_table.specs.Calls.{after_recorded, outcome, FewerWait}
 use Rattle.kept_table.specs.Chronicle.{Chronicle}
 use Rattle.saved_form.specs.declared.numbers.ReplyNumbers.{ReplyNumbers}
 use Rattle.saved_form.specs.declared.numbers.EntryNumbers.{EntryNumbers}
 use Rattle.foreign_numbers.specs.Numbers.{call_of, numbers_of}
-use Rattle.foreign_calls.specs.Records.{Has, roomless}
+use Rattle.foreign_calls.specs.Records.{Has, memoryless}
 
 -- the saved entry's call was made for its worker and recorded, once; the reply is this one
 pub record IsMadeAgain (c : Chronicle) (saved : EntryNumbers) (reply : ReplyNumbers) (d : Chronicle) : Type 0 where
@@ -30,6 +30,11 @@ abbrev pub ReplaysSaved : Chronicle → List EntryNumbers → Chronicle → Type
 ReplaysSaved c [] d = d ≡ c
 ReplaysSaved c (saved ∷ rest) d = (m : Chronicle) × IsSameAgain c saved m × ReplaysSaved m rest d
 
+-- so many calls were made one after another, and with each some of the cut calls that wait for the opening
+pub record WaitsBehind (made : ℕ) (c d : Chronicle) : Type 0 where
+  pub none_more : d.memory.waits.many ≤ c.memory.waits.many
+  pub fewer : 0 < made → FewerWait c.memory.waits d.memory.waits
+
 -- the numbers say no call, or there is no such worker
 abbrev pub CannotMake : Chronicle → EntryNumbers → Type 0
 CannotMake c saved = (call_of saved.call ≡ None) ⊎ (length c.cut ≤ saved.worker)
@@ -40,10 +45,10 @@ MayNeedMemory saved = Has (call_of saved.call) (λ made. IsTrue (may_grow made))
 
 -- those before the place had the saved replies, and nothing else was made
 abbrev pub StopsBefore : Chronicle → List EntryNumbers → ℕ → Chronicle → Type 0
-StopsBefore c saved place d = (place < length saved) × ReplaysSaved (roomless c) (take place saved) (roomless d)
+StopsBefore c saved place d = (place < length saved) × ReplaysSaved (memoryless c) (take place saved) (memoryless d)
 
 -- so had they, and the one at the place was made, had another reply, and is the last one made
 abbrev pub StopsAt : Chronicle → List EntryNumbers → ℕ → Chronicle → Type 0
 StopsAt c saved place d =
-    (m : Chronicle) × ReplaysSaved (roomless c) (take place saved) m
-    × Has (slice_get saved place) (λ n. IsOtherNow m n (roomless d))
+    (m : Chronicle) × ReplaysSaved (memoryless c) (take place saved) m
+    × Has (slice_get saved place) (λ n. IsOtherNow m n (memoryless d))

@@ -70,5 +70,5 @@ TellsTooManyCalls text counts =
 -- the record goes on as the text says, behind so many calls of each worker; its opening is a second table, which moves on by calls
 pub record IsResumed (text counts : List ℕ) (c : Chronicle) : Type 0 where
   pub says : text ≡ text_of (next_stamp c) c.present
-  pub left : c ≡ record (resumed c.present (next_stamp c) counts c.room) { by_steps = true }
+  pub left : c ≡ record (resumed c.present (next_stamp c) counts c.memory.room) { by_steps = true }
   pub before : sum counts < next_stamp c

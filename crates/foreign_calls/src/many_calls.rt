@@ -4,7 +4,8 @@ ghost use Rattle.{
   pid_types.specs.Step.{may_grow},
   kept_table.specs.Chronicle.{total, next_stamp},
   foreign_numbers.specs.Numbers.{call_of},
-  foreign_calls.specs.{Held.{IsDoneOr}, Records.{Has, roomless}, Replays.{IsSameAgain}},
+  kept_past.specs.Past.{IsCaughtUp},
+  foreign_calls.specs.{Held.{IsDoneOr}, Records.{Has, memoryless, roomless}, Replays.{IsSameAgain}},
   foreign_calls.specs.Turns.{turn, AreMade, CanMakeAll, MayGrowAt},
 };
 
@@ -31,13 +32,14 @@ fn turn_on(
     requires known { worker < length held.old.cut }
     requires read { IsSome (call_of call.now) }
     ensures done { result ≡ DONE
-        → IsSameAgain (roomless held.old) (turn worker call.now reply.new) (roomless held.new) }
+        → IsSameAgain (memoryless held.old) (turn worker call.now reply.new) (memoryless held.new) }
+    ensures moved { result ≡ DONE → IsCaughtUp 2 held.old.memory.waits held.new.memory.waits }
     ensures place { result ≡ DONE → ordinal.new + 1 ≡ total held.new }
     ensures not_done { result ≢ DONE
         → (roomless held.new ≡ roomless held.old) × (reply.new ≡ reply.old) × (ordinal.new ≡ ordinal.old) }
     ensures workers { length held.new.cut ≡ length held.old.cut }
-    ensures room { held.old.room ≤ held.new.room + 1 }
-    ensures no_memory { result ≡ NO_MEMORY → 0 < held.old.room
+    ensures room { held.old.memory.room ≤ held.new.memory.room + 1 }
+    ensures no_memory { result ≡ NO_MEMORY → 0 < held.old.memory.room
         → Has (call_of call.now) (λ made. IsTrue (may_grow made)) }
     ensures spent { (result ≡ SPENT) ↔ (next_stamp held.old ≡ u64.MAX) }
     ensures statuses { IsDoneOr result (SPENT ∷ NO_MEMORY ∷ []) }
@@ -76,7 +78,7 @@ pub fn calls_on(
         ↔ CanMakeAll held.old worker calls.now × (length replies.old < length calls.now) }
     ensures spent { (result ≡ SPENT) ⊎ (result ≡ NO_MEMORY)
         → ((result ≡ SPENT) ↔ (next_stamp held.new ≡ u64.MAX)) }
-    ensures no_memory { result ≡ NO_MEMORY → made.new < held.old.room → MayGrowAt calls.now made.new }
+    ensures no_memory { result ≡ NO_MEMORY → made.new < held.old.memory.room → MayGrowAt calls.now made.new }
     ensures statuses { IsDoneOr result (OUT_OF_RANGE ∷ NO_ROOM ∷ SPENT ∷ NO_MEMORY ∷ []) }
 {
     *made = 0;

@@ -38,7 +38,7 @@ pub fn make_on(
     ensures records { RecordsCall held.old worker made ordinal.old ordinal.new result held.new }
     ensures reply { result ≡ DONE → last_reply held.new ≡ Some (outcome held.old made).reply }
     ensures told { result ≡ DONE → IsReplyToLast held.new told.new }
-    ensures room { held.old.room ≤ held.new.room + 1 }
+    ensures room { held.old.memory.room ≤ held.new.memory.room + 1 }
 {
     if worker >= held.workers() {
         return unmade(OUT_OF_RANGE);

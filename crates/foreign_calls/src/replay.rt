@@ -1,9 +1,11 @@
 //! Saved entries on a record: their calls are made again, and their replies compared.
-ghost use Rattle.std.specs.Prelude.{◌≡◌, ◌≢◌, ◌+◌, ◌<◌, ◌≤◌, ◌↔◌, [], ◌∷◌, IsTrue, length, slice_get};
+ghost use Rattle.std.specs.Prelude.{◌≡◌, ◌≢◌, ◌+◌, ◌<◌, ◌≤◌, ◌↔◌, ◌⊎◌, [], ◌∷◌, IsTrue, length, slice_get};
 ghost use Rattle.{
+  kept_past.specs.Past.{IsCaughtUp},
   kept_table.specs.Chronicle.{next_stamp},
-  foreign_calls.specs.{Held.{IsDoneOr}, Records.{Has, roomless}},
-  foreign_calls.specs.Replays.{IsSameAgain, IsOtherNow, ReplaysSaved, CannotMake, MayNeedMemory, StopsBefore, StopsAt},
+  foreign_calls.specs.{Held.{IsDoneOr}, Records.{Has, memoryless, roomless}},
+  foreign_calls.specs.Replays.{IsSameAgain, IsOtherNow, ReplaysSaved, CannotMake, MayNeedMemory, StopsBefore},
+  foreign_calls.specs.Replays.{StopsAt, WaitsBehind},
 };
 
 use crate::read::EntryNumbers;
@@ -21,13 +23,15 @@ fn is_same(a: &ReplyNumbers, b: &ReplyNumbers) -> bool
 
 /// Makes the call of the saved entry, and compares its reply. The result is the status.
 fn replay_one(held: &mut Kept, saved: &EntryNumbers) -> u32
-    ensures done { result ≡ DONE → IsSameAgain (roomless held.old) saved.now (roomless held.new) }
-    ensures differs { result ≡ DIFFERS → IsOtherNow (roomless held.old) saved.now (roomless held.new) }
+    ensures done { result ≡ DONE → IsSameAgain (memoryless held.old) saved.now (memoryless held.new) }
+    ensures differs { result ≡ DIFFERS → IsOtherNow (memoryless held.old) saved.now (memoryless held.new) }
+    ensures moved { (result ≡ DONE) ⊎ (result ≡ DIFFERS)
+        → IsCaughtUp 2 held.old.memory.waits held.new.memory.waits }
     ensures not_made { result ≢ DONE → result ≢ DIFFERS → roomless held.new ≡ roomless held.old }
     ensures out_of_range { (result ≡ OUT_OF_RANGE) ↔ CannotMake held.old saved.now }
     ensures spent { result ≢ OUT_OF_RANGE → (result ≡ SPENT) ↔ (next_stamp held.old ≡ u64.MAX) }
-    ensures no_memory { result ≡ NO_MEMORY → 0 < held.old.room → MayNeedMemory saved.now }
-    ensures room { held.old.room ≤ held.new.room + 1 }
+    ensures no_memory { result ≡ NO_MEMORY → 0 < held.old.memory.room → MayNeedMemory saved.now }
+    ensures room { held.old.memory.room ≤ held.new.memory.room + 1 }
     ensures statuses { IsDoneOr result (DIFFERS ∷ OUT_OF_RANGE ∷ SPENT ∷ NO_MEMORY ∷ []) }
 {
     let Some(made) = read_call(&saved.call) else {
@@ -50,14 +54,15 @@ fn replay_one(held: &mut Kept, saved: &EntryNumbers) -> u32
 /// result is the status.
 pub fn replay_on(held: &mut Kept, saved: &[EntryNumbers], place: &mut usize) -> u32
     ensures done { result ≡ DONE
-        → (place.new ≡ length saved.now) × ReplaysSaved (roomless held.old) saved.now (roomless held.new) }
+        → (place.new ≡ length saved.now) × ReplaysSaved (memoryless held.old) saved.now (memoryless held.new) }
     ensures differs { result ≡ DIFFERS → StopsAt held.old saved.now place.new held.new }
     ensures not_made { result ≢ DONE → result ≢ DIFFERS → StopsBefore held.old saved.now place.new held.new }
     ensures out_of_range { result ≢ DONE → result ≢ DIFFERS → (result ≡ OUT_OF_RANGE)
         ↔ Has (slice_get saved.now place.new) (λ n. CannotMake held.new n) }
     ensures spent { result ≢ DONE → result ≢ DIFFERS → result ≢ OUT_OF_RANGE
         → (result ≡ SPENT) ↔ (next_stamp held.new ≡ u64.MAX) }
-    ensures no_memory { result ≡ NO_MEMORY → place.new < held.old.room
+    ensures waits { WaitsBehind place.new held.old held.new }
+    ensures no_memory { result ≡ NO_MEMORY → place.new < held.old.memory.room
         → Has (slice_get saved.now place.new) MayNeedMemory }
     ensures statuses { IsDoneOr result (DIFFERS ∷ OUT_OF_RANGE ∷ SPENT ∷ NO_MEMORY ∷ []) }
 {

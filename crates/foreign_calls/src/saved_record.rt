@@ -54,7 +54,7 @@ fn boxed_resume(
     requires before { sum counts.now < loaded.stamp }
     requires same { loaded.table ≡ saved_state saved.now }
     ensures { IfOk result (λ held. held.value
-        ≡ record (resumed loaded.table loaded.stamp counts.now held.value.room) { by_steps = true }) }
+        ≡ record (resumed loaded.table loaded.stamp counts.now held.value.memory.room) { by_steps = true }) }
 {
     let Loaded { table, stamp } = loaded;
     let mut held = Kept::resume(alloc, table, stamp, counts)?;

@@ -27,8 +27,13 @@ pub record Past : Type 0 where
   pub room : ℕ
 
 -- of the calls that waited at most so many were made; fewer only if the next one may find no memory
-abbrev pub IsCaughtUp : ℕ → Waiting → Waiting → Type 0
-IsCaughtUp most old new = (new.many ≡ old.many - most) ⊎ (new.may_starve ≡ true)
+pub record IsCaughtUp (most : ℕ) (old new : Waiting) : Type 0 where
+  pub made : (new.many ≡ old.many - most) ⊎ (new.may_starve ≡ true)
+  pub none_more : new.many ≤ old.many
+
+-- one more waits
+abbrev pub one_more : Waiting → Waiting
+one_more waits = record waits { many = waits.many + 1 }
 
 -- whether a call on what is held may find no memory: for what it makes, or for the table that it needs first
 abbrev pub starves_at : Held → Call → Bool

@@ -11,7 +11,7 @@ ghost use Rattle.{
   pid_types.specs.{Replay.{state_after, calls_of}, Short.{list_reply, reply_of}, Shown.{Shows}, Sound.{IsBelow}},
   pid_types.specs.{State.{State, root_state}, Step.{step, may_grow}, Written.{IsWritten}},
   kept_past.specs.Stored.{replies_of, IsToldOf, TellsIfShort},
-  kept_past.specs.Past.{held_fixed, moves_or, nobody_waits, opening_of, IsCaughtUp, IsCutOnce},
+  kept_past.specs.Past.{held_fixed, moves_or, nobody_waits, one_more, opening_of, IsCaughtUp, IsCutOnce},
   model_laws.specs.Refusals.{is_query},
   pid_table.specs.Lists.{answers_list},
   translate.specs.Zeroes.{HasZeroesBehind},
@@ -30,7 +30,7 @@ use pid_types::reply::{Refusal, Reply, ShortReply};
 use std::alloc::{AllocError, Global};
 use std::marker::Model;
 
-/// How many calls that wait a recorded call makes: one more than it can add.
+/// How many of the calls that wait a recorded call makes. A cut adds one to them, and makes one more.
 const STEPS: usize = 2;
 
 /// The kept entries, and the state that they begin in. Contracts see that state, the kept entries, the stamp of the
@@ -107,7 +107,8 @@ impl History {
     /// Whether the opening is the present state as it is.
     #[inline(always)]
     pub fn is_bare(&self) -> bool
-        ensures { IsTrue result ↔ (self.now.opening ≡ None) }
+        ensures bare { IsTrue result ↔ (self.now.opening ≡ None) }
+        ensures nobody { IsTrue result → self.now.waits.many ≡ 0 }
     {
         self.held.is_none()
     }
@@ -349,11 +350,12 @@ impl History {
     }
 
     /// Cuts the first kept entry away, and answers whose call it was; none where there is no entry, or no call can be
-    /// made on what is held.
+    /// made on what is held. The entry's call waits then. Of the calls that wait it makes three at most, and stops
+    /// where there is no memory.
     pub fn cut_first(&mut self) -> Option<usize>
         requires { self.old.stamp + length self.old.entries < 2 ^ 64 }
         ensures cut { IfSome result (λ worker. IsCutOnce worker self.old self.new) }
-        ensures moved { result ≢ None → IsCaughtUp (STEPS - 1) self.old.waits self.new.waits }
+        ensures moved { result ≢ None → IsCaughtUp (STEPS + 1) (one_more self.old.waits) self.new.waits }
         ensures room { self.old.room ≤ self.new.room }
         ensures none { result ≡ None → self.new ≡ self.old }
         ensures some { (result ≡ None) ↔ ((self.old.is_fixed ≡ true) ⊎ (self.old.entries ≡ [])) }
@@ -363,7 +365,7 @@ impl History {
         }
         let worker = self.ring.worker_at(self.lag);
         self.lag += 1;
-        self.catch_up(STEPS);
+        self.catch_up(STEPS + 1);
         Some(worker)
     }
 

@@ -51,7 +51,7 @@ in_two c d keep w =
     ap (λ b. to_cut_once c keep + once b (length d.entries) keep) same ∙ steps c.by_steps (length c.entries) (length d.entries) keep left
 
 -- the same behind a call
-pub kept-behind : (old made d : Chronicle) (worker : ℕ) (call : Call) (keep : ℕ) → made ≡ counted old made.entries made.present made.room → made.entries ≡ old.entries ++ entry_of old worker call ∷ [] → made.present ≡ (outcome old call).state
+pub kept-behind : (old made d : Chronicle) (worker : ℕ) (call : Call) (keep : ℕ) → made ≡ counted old made.entries made.present made.memory → made.entries ≡ old.entries ++ entry_of old worker call ∷ [] → made.present ≡ (outcome old call).state
     → IsWithoutFirst (to_cut made keep) made d → IsWithoutFirst (to_cut (after_recorded old worker call) keep) (after_recorded old worker call) d
 kept-behind old made d worker call keep is entries present w =
     let many : to_cut made keep ≡ to_cut (after_recorded old worker call) keep =

@@ -12,9 +12,9 @@ use Rattle.pid_types.specs.Settings.{Settings}
 use Rattle.pid_types.specs.State.{State}
 use Rattle.pid_types.specs.Step.{step}
 use Rattle.model_laws.specs.StepLaws.{BoundStays, RunsKeepSoundness}
-use Rattle.kept_table.specs.Calls.{after_recorded, counted, entry_of, outcome, IsWithoutFirst}
-use Rattle.kept_table.specs.Chronicle.{Chronicle, IsKept, by_worker, first_kept_stamp}
-use Rattle.kept_table.specs.Whole.{IsKeptCounted, IsKeptWhole, is_fresh, one_of, room_of, told}
+use Rattle.kept_table.specs.Calls.{after_recorded, counted, entry_of, nothing_spare, outcome, IsWithoutFirst}
+use Rattle.kept_table.specs.Chronicle.{Chronicle, IsKept, Memory, by_worker, first_kept_stamp}
+use Rattle.kept_table.specs.Whole.{IsKeptCounted, IsKeptWhole, is_fresh, memory_of, one_of, told}
 use Rattle.kept_past.specs.Past.{IsCutOnce, Past, Waiting, moves_or, opening_of}
 use Rattle.kept_past.proofs.Along.{state_after-append}
 use Rattle.kept_table.proofs.Counts.{counted-cut, recorded-cut}
@@ -23,9 +23,9 @@ use Rattle.kept_table.proofs.Invariant.{kept-once}
 by_worker_first : (w : ℕ) (e : Entry) (entries : List Entry) → by_worker w (e ∷ entries) ≡ one_of e.worker w + by_worker w entries
 by_worker_first w e entries = sum_by-cons (λ (x : Entry). cond (x.worker == w) 1 0) e entries
 
--- the room for entries is of no account, nor whether the opening moves on by calls
-freed : (calls : List ℕ) (c : Chronicle) (room : ℕ) (steps : Bool) → IsKeptCounted calls c → IsKeptCounted calls (record c { room = room; by_steps = steps })
-freed calls c room steps k = record {
+-- what memory there is beside is of no account, nor whether the opening moves on by calls
+freed : (calls : List ℕ) (c : Chronicle) (memory : Memory) (steps : Bool) → IsKeptCounted calls c → IsKeptCounted calls (record c { memory = memory; by_steps = steps })
+freed calls c memory steps k = record {
   kept = record {
     replayed = record { run = k.kept.replayed.run; starts = k.kept.replayed.starts };
     counted = record { booked = k.kept.counted.booked; places = k.kept.counted.places; cut = k.kept.counted.cut; known = k.kept.counted.known; fits = k.kept.counted.fits };
@@ -36,12 +36,12 @@ freed calls c room steps k = record {
 }
 
 -- the first entry is counted as cut away
-counted-once : RunsKeepSoundness → BoundStays → (calls cut : List ℕ) (c : Chronicle) (e : Entry) (entries : List Entry) (room : ℕ) → IsKeptCounted calls c → c.entries ≡ e ∷ entries
+counted-once : RunsKeepSoundness → BoundStays → (calls cut : List ℕ) (c : Chronicle) (e : Entry) (entries : List Entry) (memory : Memory) → IsKeptCounted calls c → c.entries ≡ e ∷ entries
     → ((w : ℕ) → slice_index cut w ≡ slice_index c.cut w + one_of e.worker w) → sum cut ≡ sum c.cut + 1 → length cut ≡ length c.cut
-    → IsKeptCounted calls (record c { opening = (step c.opening (first_kept_stamp c) e.call).state; first_kept = c.first_kept + 1; cut = cut; entries = entries; room = room })
-counted-once law stays calls cut c e entries room k are each more len = record {
-  kept = subst (λ n. IsKept n (record c { opening = (step c.opening (first_kept_stamp c) e.call).state; first_kept = c.first_kept + 1; cut = cut; entries = entries; room = room })) (sym len)
-      (kept-once law stays (length c.cut) c e entries cut room k.kept are len more);
+    → IsKeptCounted calls (record c { opening = (step c.opening (first_kept_stamp c) e.call).state; first_kept = c.first_kept + 1; cut = cut; entries = entries; memory = memory })
+counted-once law stays calls cut c e entries memory k are each more len = record {
+  kept = subst (λ n. IsKept n (record c { opening = (step c.opening (first_kept_stamp c) e.call).state; first_kept = c.first_kept + 1; cut = cut; entries = entries; memory = memory })) (sym len)
+      (kept-once law stays (length c.cut) c e entries cut memory k.kept are len more);
   len = k.len ∙ sym len;
   each = λ w lt. omega (arith, k.each w (omega (arith, lt, len)), each w, ap (by_worker w) are, by_worker_first w e entries);
 }
@@ -68,18 +68,18 @@ whole-once law stays past next worker config resumed first cut cut' calls presen
     let c : Chronicle = told config resumed past first cut present calls in
     let counts : (w : ℕ) → slice_index cut' w ≡ slice_index cut w + one_of once.first.worker w = λ w. each w ∙ ap (λ n. slice_index cut w + one_of n w) once.by in
     subst (λ (p : Past). IsKeptWhole p calls (told config resumed p (first + 1) cut' present calls)) (sym once.left) (record {
-      counted = freed calls (record c { opening = (step once.opening past.stamp once.first.call).state; first_kept = first + 1; cut = cut'; entries = next.entries }) next.room (not past.is_fixed)
-          (subst (λ (o : State). IsKeptCounted calls (record c { opening = o; first_kept = first + 1; cut = cut'; entries = next.entries; room = c.room })) (sym (moved past next worker config resumed first cut calls present k once))
-          (counted-once law stays calls cut' c once.first next.entries c.room k.counted once.were counts more len));
+      counted = freed calls (record c { opening = (step once.opening past.stamp once.first.call).state; first_kept = first + 1; cut = cut'; entries = next.entries }) (record { room = next.room; waits = next.waits }) (not past.is_fixed)
+          (subst (λ (o : State). IsKeptCounted calls (record c { opening = o; first_kept = first + 1; cut = cut'; entries = next.entries; memory = c.memory })) (sym (moved past next worker config resumed first cut calls present k once))
+          (counted-once law stays calls cut' c once.first next.entries c.memory k.counted once.were counts more len));
       bare = λ none. absurd (cc);
       at = omega (arith, k.at);
     })
 
-chronicle-with : (d c : Chronicle) (o o' : State) (f f' : ℕ) → d ≡ record c { opening = o; first_kept = f; cut = d.cut; entries = d.entries; room = d.room } → o ≡ o' → f ≡ f'
-    → d ≡ record c { opening = o'; first_kept = f'; cut = d.cut; entries = d.entries; room = d.room }
+chronicle-with : (d c : Chronicle) (o o' : State) (f f' : ℕ) → d ≡ record c { opening = o; first_kept = f; cut = d.cut; entries = d.entries; memory = d.memory } → o ≡ o' → f ≡ f'
+    → d ≡ record c { opening = o'; first_kept = f'; cut = d.cut; entries = d.entries; memory = d.memory }
 chronicle-with d c o o' f f' is a b =
-    is ∙ (ap (λ (s : State). record c { opening = s; first_kept = f; cut = d.cut; entries = d.entries; room = d.room }) a
-    ∙ ap (λ (n : ℕ). record c { opening = o'; first_kept = n; cut = d.cut; entries = d.entries; room = d.room }) b)
+    is ∙ (ap (λ (s : State). record c { opening = s; first_kept = f; cut = d.cut; entries = d.entries; memory = d.memory }) a
+    ∙ ap (λ (n : ℕ). record c { opening = o'; first_kept = n; cut = d.cut; entries = d.entries; memory = d.memory }) b)
 
 -- what is held goes on to move on by calls, or not
 moves_as : (past next : Past) (worker : ℕ) (otherwise otherwise' : Bool) → (once : IsCutOnce worker past next) → moves_or next.opening next.is_fixed otherwise' ≡ moves_or past.opening past.is_fixed otherwise
@@ -88,10 +88,10 @@ moves_as past next worker otherwise otherwise' once =
 
 opened-with : (past next : Past) (config : Settings) (resumed : Bool) (first : ℕ) (cut cut' calls : List ℕ) (present o : State) → next.opening ≡ Some o
     → moves_or next.opening next.is_fixed (is_fresh resumed (first + 1)) ≡ moves_or past.opening past.is_fixed (is_fresh resumed first)
-    → told config resumed next (first + 1) cut' present calls ≡ record (told config resumed past first cut present calls) { opening = o; first_kept = first + 1; cut = cut'; entries = next.entries; room = room_of next.opening next.room }
+    → told config resumed next (first + 1) cut' present calls ≡ record (told config resumed past first cut present calls) { opening = o; first_kept = first + 1; cut = cut'; entries = next.entries; memory = memory_of next.opening next.room next.waits }
 opened-with past next config resumed first cut cut' calls present o is moves =
     ap (λ b. record (told config resumed next (first + 1) cut' present calls) { by_steps = b }) moves
-    ∙ ap (λ x. record (told config resumed past first cut present calls) { opening = opening_of x present; first_kept = first + 1; cut = cut'; entries = next.entries; room = room_of next.opening next.room }) is
+    ∙ ap (λ x. record (told config resumed past first cut present calls) { opening = opening_of x present; first_kept = first + 1; cut = cut'; entries = next.entries; memory = memory_of next.opening next.room next.waits }) is
 
 pub without-first : (past next : Past) (worker : ℕ) (config : Settings) (resumed : Bool) (first : ℕ) (cut cut' calls : List ℕ) (present : State) → IsKeptWhole past calls (told config resumed past first cut present calls) → IsCutOnce worker past next
     → ((w : ℕ) → slice_index cut' w ≡ slice_index cut w + one_of worker w) → length cut' ≡ length cut
@@ -129,24 +129,24 @@ without-then n m c d e a b =
       many = omega (arith, length-append a.gone b.gone, a.many, b.many);
       were = a.were ∙ (ap (λ (es : List Entry). a.gone ++ es) b.were ∙ sym (append_assoc a.gone b.gone e.entries));
       left = chronicle-with e c _ _ _ _
-          (b.left ∙ ap (λ (x : Chronicle). record x { opening = state_after d.opening (first_kept_stamp d) (calls_of b.gone); first_kept = d.first_kept + m; cut = e.cut; entries = e.entries; room = e.room }) a.left)
+          (b.left ∙ ap (λ (x : Chronicle). record x { opening = state_after d.opening (first_kept_stamp d) (calls_of b.gone); first_kept = d.first_kept + m; cut = e.cut; entries = e.entries; memory = e.memory }) a.left)
           opened
           (omega (arith, ap (λ (x : Chronicle). x.first_kept) a.left));
       workers = b.workers ∙ a.workers;
       counts = λ w lt. b.counts w (omega (arith, lt, a.workers)) ∙ a.counts w lt;
     }
 
--- the room for entries is of no account
-pub without-room : (n room : ℕ) (c d : Chronicle) → IsWithoutFirst n c d → IsWithoutFirst n (record c { room = room }) d
-without-room n room c d w = record { gone = w.gone; many = w.many; were = w.were; left = w.left; workers = w.workers; counts = w.counts }
+-- what memory there is beside is of no account
+pub without-memory : (n : ℕ) (memory : Memory) (c d : Chronicle) → IsWithoutFirst n c d → IsWithoutFirst n (record c { memory = memory }) d
+without-memory n memory c d w = record { gone = w.gone; many = w.many; were = w.were; left = w.left; workers = w.workers; counts = w.counts }
 
 -- all are cut away: the present state is the opening
 pub whole-all : RunsKeepSoundness → BoundStays → (past next : Past) (config : Settings) (resumed fixed : Bool) (first first' stamp : ℕ) (waits : Waiting) (room : ℕ) (cut cut' calls : List ℕ) (present : State) → IsKeptWhole past calls (told config resumed past first cut present calls)
     → next ≡ record { opening = Some present; is_fixed = fixed; entries = []; stamp = stamp; waits = waits; room = room } → first' ≡ first + length past.entries → stamp ≡ past.stamp + length past.entries → cut' ≡ calls
     → IsKeptWhole next calls (told config resumed next first' cut' present calls)
-whole-all law stays past next config resumed fixed first first' stamp lag room cut cut' calls present k left firsts stamps same =
+whole-all law stays past next config resumed fixed first first' stamp waits room cut cut' calls present k left firsts stamps same =
     subst (λ (p : Past). IsKeptWhole p calls (told config resumed p first' cut' present calls)) (sym left) (record {
-      counted = freed calls (record (told config resumed past first cut present calls) { opening = present; first_kept = first'; cut = cut'; entries = [] }) room (not fixed)
+      counted = freed calls (record (told config resumed past first cut present calls) { opening = present; first_kept = first'; cut = cut'; entries = [] }) (record { room = room; waits = waits }) (not fixed)
           (counted-cut law stays calls cut' (told config resumed past first cut present calls) present [] first' _ k.counted refl refl refl firsts same);
       bare = λ none. absurd (cc);
       at = omega (arith, stamps, k.at, firsts);
@@ -156,9 +156,9 @@ whole-all law stays past next config resumed fixed first first' stamp lag room c
 pub whole-bare : RunsKeepSoundness → BoundStays → (past next : Past) (config : Settings) (resumed : Bool) (first first' stamp : ℕ) (waits : Waiting) (room : ℕ) (cut cut' calls : List ℕ) (present : State) → IsKeptWhole past calls (told config resumed past first cut present calls)
     → next ≡ record { opening = None; is_fixed = false; entries = []; stamp = stamp; waits = waits; room = room } → first' ≡ first + length past.entries → stamp ≡ config.first_stamp + first' → cut' ≡ calls
     → IsKeptWhole next calls (told config resumed next first' cut' present calls)
-whole-bare law stays past next config resumed first first' stamp lag room cut cut' calls present k left firsts stamps same =
+whole-bare law stays past next config resumed first first' stamp waits room cut cut' calls present k left firsts stamps same =
     subst (λ (p : Past). IsKeptWhole p calls (told config resumed p first' cut' present calls)) (sym left) (record {
-      counted = freed calls (record (told config resumed past first cut present calls) { opening = present; first_kept = first'; cut = cut'; entries = [] }) 0 (is_fresh resumed first')
+      counted = freed calls (record (told config resumed past first cut present calls) { opening = present; first_kept = first'; cut = cut'; entries = [] }) (record { room = 0; waits = waits }) (is_fresh resumed first')
           (counted-cut law stays calls cut' (told config resumed past first cut present calls) present [] first' _ k.counted refl refl refl firsts same);
       bare = λ _. refl;
       at = stamps;
@@ -184,7 +184,7 @@ without-all past next config resumed first first' cut cut' calls present k bare 
           (ap (λ o. opening_of o present) bare ∙ k.counted.kept.replayed.run.ends)
           firsts;
       workers = ap length same ∙ k.counted.len;
-      counts = λ w lt. ap (λ (es : List Entry). slice_index cut' w + by_worker w es) none ∙ recorded-cut calls cut' c present first' 0 k.counted same w lt;
+      counts = λ w lt. ap (λ (es : List Entry). slice_index cut' w + by_worker w es) none ∙ recorded-cut calls cut' c present first' c.memory k.counted same w lt;
     }
 
 -- a run ends in the present state
@@ -196,29 +196,29 @@ ends-of past config resumed first cut calls present k opening is =
     ∙ ap (λ n. state_after opening n (calls_of past.entries)) (sym k.at))
 
 -- some are cut away behind a call
-pub without-after : (n : ℕ) (old made d : Chronicle) (worker : ℕ) (call : Call) → made ≡ counted old made.entries made.present made.room → made.entries ≡ old.entries ++ entry_of old worker call ∷ [] → made.present ≡ (outcome old call).state
+pub without-after : (n : ℕ) (old made d : Chronicle) (worker : ℕ) (call : Call) → made ≡ counted old made.entries made.present made.memory → made.entries ≡ old.entries ++ entry_of old worker call ∷ [] → made.present ≡ (outcome old call).state
     → IsWithoutFirst n made d → IsWithoutFirst n (after_recorded old worker call) d
 without-after n old made d worker call is entries present w =
-    let same : record made { room = 0 } ≡ after_recorded old worker call =
-    ap (λ (c : Chronicle). record c { room = 0 }) is
-    ∙ (ap (λ (es : List Entry). counted old es made.present 0) entries
-    ∙ ap (λ (s : State). counted old (old.entries ++ entry_of old worker call ∷ []) s 0) present) in
-    subst (λ (c : Chronicle). IsWithoutFirst n c d) same (without-room n 0 made d w)
+    let same : record made { memory = nothing_spare } ≡ after_recorded old worker call =
+    ap (λ (c : Chronicle). record c { memory = nothing_spare }) is
+    ∙ (ap (λ (es : List Entry). counted old es made.present nothing_spare) entries
+    ∙ ap (λ (s : State). counted old (old.entries ++ entry_of old worker call ∷ []) s nothing_spare) present) in
+    subst (λ (c : Chronicle). IsWithoutFirst n c d) same (without-memory n nothing_spare made d w)
 
 -- a table of the opening is held
 pub whole-given : (past next : Past) (config : Settings) (resumed : Bool) (first : ℕ) (cut calls : List ℕ) (present table : State) → IsKeptWhole past calls (told config resumed past first cut present calls)
     → table ≡ opening_of past.opening present → next ≡ record past { opening = Some table; is_fixed = false }
     → IsKeptWhole next calls (told config resumed next first cut present calls)
-    × (told config resumed next first cut present calls ≡ record (told config resumed past first cut present calls) { room = room_of next.opening next.room; by_steps = true })
+    × (told config resumed next first cut present calls ≡ record (told config resumed past first cut present calls) { memory = memory_of next.opening next.room next.waits; by_steps = true })
 whole-given past next config resumed first cut calls present table k stays left =
-    let opened : (room : ℕ) → record (told config resumed past first cut present calls) { opening = table; room = room; by_steps = true } ≡ record (told config resumed past first cut present calls) { room = room; by_steps = true } =
-    λ room. ap (λ (s : State). record (told config resumed past first cut present calls) { opening = s; room = room; by_steps = true }) stays in (
+    let opened : (memory : Memory) → record (told config resumed past first cut present calls) { opening = table; memory = memory; by_steps = true } ≡ record (told config resumed past first cut present calls) { memory = memory; by_steps = true } =
+    λ memory. ap (λ (s : State). record (told config resumed past first cut present calls) { opening = s; memory = memory; by_steps = true }) stays in (
       subst (λ (p : Past). IsKeptWhole p calls (told config resumed p first cut present calls)) (sym left) (record {
-        counted = subst (λ (c : Chronicle). IsKeptCounted calls c) (sym (opened past.room)) (freed calls (told config resumed past first cut present calls) past.room true k.counted);
+        counted = subst (λ (c : Chronicle). IsKeptCounted calls c) (sym (opened (record { room = past.room; waits = past.waits }))) (freed calls (told config resumed past first cut present calls) (record { room = past.room; waits = past.waits }) true k.counted);
         bare = λ e. absurd (cc);
         at = k.at;
       }),
-      ap (λ (p : Past). record (told config resumed p first cut present calls) { room = room_of next.opening next.room }) left ∙ opened (room_of next.opening next.room),
+      ap (λ (p : Past). record (told config resumed p first cut present calls) { memory = memory_of next.opening next.room next.waits }) left ∙ opened (memory_of next.opening next.room next.waits),
     )
 
 -- nothing is held, or what is to be given

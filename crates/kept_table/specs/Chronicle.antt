@@ -6,10 +6,16 @@ use Rattle.pid_types.specs.Settings.{Settings}
 use Rattle.pid_types.specs.State.{State, root_state}
 use Rattle.pid_types.specs.Replay.{IsRun}
 use Rattle.pid_types.specs.Sound.{IsSound, IsBelow}
+use Rattle.kept_past.specs.Past.{Waiting}
+
+-- what memory the history has beside its entries: for how many more there is room, and what was cut away and waits
+pub record Memory : Type 0 where
+  pub room : ℕ
+  pub waits : Waiting
 
 -- the configuration, whether it goes on from a saved table, the state before the kept entries, the ordinal of the first kept entry, how
--- many entries of each worker were cut away before it, the kept entries, the present state, how many calls were counted, and for how
--- many entries there is room
+-- many entries of each worker were cut away before it, the kept entries, the present state, how many calls were counted, and what memory
+-- there is beside
 pub record Chronicle : Type 0 where
   pub config : Settings
   pub is_resumed : Bool
@@ -19,7 +25,7 @@ pub record Chronicle : Type 0 where
   pub entries : List Entry
   pub present : State
   pub booked : ℕ
-  pub room : ℕ
+  pub memory : Memory
   -- whether the opening moves on by calls, so that first entries are cut away: where it does not, all are cut at once
   pub by_steps : Bool
 

@@ -2,8 +2,8 @@
 use Rattle.std.specs.Prelude.{◌≡◌, ◌<◌, ℕ, Bool, true, false, List, length, sum, slice_index, if◌then◌else◌, ◌==◌, Option, None, Some, []}
 use Rattle.pid_types.specs.Settings.{Settings}
 use Rattle.pid_types.specs.State.{State}
-use Rattle.kept_past.specs.Past.{Past, moves_or, opening_of}
-use Rattle.kept_table.specs.Chronicle.{Chronicle, IsKept, first_kept_stamp, recorded}
+use Rattle.kept_past.specs.Past.{Past, Waiting, moves_or, opening_of}
+use Rattle.kept_table.specs.Chronicle.{Chronicle, IsKept, Memory, first_kept_stamp, recorded}
 
 -- one where both are the same worker
 abbrev pub one_of : ℕ → ℕ → ℕ
@@ -13,6 +13,10 @@ one_of worker w = if worker == w then 1 else 0
 abbrev pub room_of : Option State → ℕ → ℕ
 room_of None room = 0
 room_of (Some held) room = room
+
+-- that room, and what waits
+abbrev pub memory_of : Option State → ℕ → Waiting → Memory
+memory_of held room waits = record { room = room_of held room; waits = waits }
 
 -- whether the root init's state is the opening until something is cut away: nothing was, and the record goes on from no saved table
 abbrev pub is_fresh : Bool → ℕ → Bool
@@ -30,7 +34,7 @@ told config is_resumed past first_kept cut present calls = record {
   entries = past.entries;
   present = present;
   booked = sum calls;
-  room = room_of past.opening past.room;
+  memory = memory_of past.opening past.room past.waits;
   by_steps = moves_or past.opening past.is_fixed (is_fresh is_resumed first_kept);
 }
 

@@ -12,7 +12,8 @@ ghost use Rattle.{
   call_effects.specs.{Reckoned.{Reckons}, Touched.{is_touching, most_in, most_of, Watches}},
   kept_past.specs.Stored.{TellsIfShort},
   kept_table.specs.Calls.{begun, resumed, outcome, entry_of, after_recorded, counted, cut_at, IsWithoutFirst, to_cut},
-  kept_table.specs.Calls.{to_cut_once},
+  kept_past.specs.Past.{nobody_waits, one_more, IsCaughtUp},
+  kept_table.specs.Calls.{to_cut_once, FewerWait, MakesRoom, NoneWait, WaitsByCut},
   kept_table.specs.Chronicle.{Chronicle, total, next_stamp, recorded, recorded_by_all, kept_entry, last_reply},
   kept_table.specs.{Promise.{IsSubtreeCount, KeepsPromise}, Whole.{one_of, is_fresh}},
   model_laws.specs.Refusals.{is_query},
@@ -77,7 +78,7 @@ impl Kept {
     /// A table with the root init alone, an empty history, and no call of any of so many workers. The error is want
     /// of memory.
     pub fn new(alloc: Global, config: &Config, workers: usize) -> Result<Kept, AllocError>
-        ensures { IfOk result (λ r. r ≡ begun config.now workers r.room) }
+        ensures { IfOk result (λ r. r ≡ begun config.now workers r.memory.room) }
     {
         root_state_is_sound();
         // Stamp 0 is the id of what the table begins with.
@@ -119,7 +120,7 @@ impl Kept {
     ) -> Result<Kept, AllocError>
         requires below { IsBelow stamp table }
         requires fits { sum counts.now < stamp }
-        ensures { IfOk result (λ r. r ≡ resumed table stamp counts.now r.room) }
+        ensures { IfOk result (λ r. r ≡ resumed table stamp counts.now r.memory.room) }
     {
         table.laws();
         let before = added(counts);
@@ -388,10 +389,9 @@ impl Kept {
     /// [`Kept::resume`], the first room costs a copy of the whole table, which becomes the opening.
     #[inline(always)]
     pub fn reserve_calls(&mut self, n: usize) -> Result<(), AllocError>
-        ensures ok { OnOk result (n ≤ self.new.room) }
-        ensures others { self.new ≡ record self.old { room = self.new.room } }
-        ensures room { self.old.room ≤ self.new.room }
-        ensures enough { n ≤ self.old.room → IsOk result }
+        ensures ok { OnOk result (n ≤ self.new.memory.room) }
+        ensures makes { MakesRoom self.old self.new }
+        ensures enough { n ≤ self.old.memory.room → IsOk result }
     {
         if n == 0 {
             return Ok(());
@@ -416,11 +416,12 @@ impl Kept {
     /// held as a snapshot ([`Kept::cut_first`]) it costs a copy of the whole table, and the error is want of memory
     /// for that.
     pub fn checkpoint(&mut self) -> Result<(), AllocError>
-        ensures ok { OnOk result (self.new ≡ cut_at self.old (total self.old) self.new.cut self.new.room) }
+        ensures ok { OnOk result (self.new ≡ cut_at self.old (total self.old) self.new.cut self.new.memory) }
         ensures recorded { OnOk result
             ((worker : ℕ) → worker < length self.old.cut → recorded self.new worker ≡ recorded self.old worker) }
         ensures workers { length self.new.cut ≡ length self.old.cut }
-        ensures room { self.old.room ≤ self.new.room }
+        ensures room { self.old.memory.room ≤ self.new.memory.room }
+        ensures moved { OnOk result (NoneWait self.new.memory.waits) }
         ensures err { OnErr result (self.new ≡ self.old) }
         ensures by_steps { OnErr result (self.old.by_steps ≡ false) }
     {
@@ -447,13 +448,13 @@ impl Kept {
         ensures reply { OnOk result (last_reply self.new ≡ Some (outcome self.old call).reply) }
         ensures short { TellsIfShort result (outcome self.old call).reply }
         ensures history { OnOk result (self.new.entries ≡ self.old.entries ++ entry_of self.old worker call ∷ []) }
-        ensures others { OnOk result (self.new ≡ counted self.old self.new.entries self.new.present self.new.room) }
-        ensures room { self.old.room ≤ self.new.room + 1 }
+        ensures others { OnOk result (self.new ≡ counted self.old self.new.entries self.new.present self.new.memory) }
+        ensures room { self.old.memory.room ≤ self.new.memory.room + 1 }
+        ensures moved { OnOk result (IsCaughtUp 2 self.old.memory.waits self.new.memory.waits) }
 
         ensures spent { (result ≡ Err CallFault.Spent) ↔ (next_stamp self.old ≡ u64.MAX) }
-        ensures err { OnErr result (self.new ≡ record self.old { room = self.new.room }) }
-        ensures err_room { OnErr result (self.old.room ≤ self.new.room) }
-        ensures no_memory { result ≡ Err CallFault.NoMemory → 0 < self.old.room → IsTrue (may_grow call) }
+        ensures err { OnErr result (MakesRoom self.old self.new) }
+        ensures no_memory { result ≡ Err CallFault.NoMemory → 0 < self.old.memory.room → IsTrue (may_grow call) }
     {
         let Some(stamp) = self.next_stamp() else {
             return Err(CallFault::Spent);
@@ -475,13 +476,13 @@ impl Kept {
         ensures step { OnOk result (self.new.present ≡ (outcome self.old query).state) }
         ensures reply { IfOk result (λ told. reply_of told ≡ (outcome self.old query).reply) }
         ensures history { OnOk result (self.new.entries ≡ self.old.entries ++ entry_of self.old worker query ∷ []) }
-        ensures others { OnOk result (self.new ≡ counted self.old self.new.entries self.new.present self.new.room) }
-        ensures room { self.old.room ≤ self.new.room + 1 }
+        ensures others { OnOk result (self.new ≡ counted self.old self.new.entries self.new.present self.new.memory) }
+        ensures room { self.old.memory.room ≤ self.new.memory.room + 1 }
+        ensures moved { OnOk result (IsCaughtUp 2 self.old.memory.waits self.new.memory.waits) }
 
         ensures spent { (result ≡ Err CallFault.Spent) ↔ (next_stamp self.old ≡ u64.MAX) }
-        ensures err { OnErr result (self.new ≡ record self.old { room = self.new.room }) }
-        ensures err_room { OnErr result (self.old.room ≤ self.new.room) }
-        ensures no_memory { result ≡ Err CallFault.NoMemory → self.old.room ≡ 0 }
+        ensures err { OnErr result (MakesRoom self.old self.new) }
+        ensures no_memory { result ≡ Err CallFault.NoMemory → self.old.memory.room ≡ 0 }
     {
         let Some(_) = self.next_stamp() else {
             return Err(CallFault::Spent);
@@ -510,14 +511,14 @@ impl Kept {
         ensures zeroes { IfOk result (λ told. HasZeroesBehind told numbers.new) }
         ensures history { OnOk result
             (self.new.entries ≡ self.old.entries ++ entry_of self.old worker (NsPid caller target) ∷ []) }
-        ensures others { OnOk result (self.new ≡ counted self.old self.new.entries self.new.present self.new.room) }
-        ensures room { self.old.room ≤ self.new.room + 1 }
+        ensures others { OnOk result (self.new ≡ counted self.old self.new.entries self.new.present self.new.memory) }
+        ensures room { self.old.memory.room ≤ self.new.memory.room + 1 }
+        ensures moved { OnOk result (IsCaughtUp 2 self.old.memory.waits self.new.memory.waits) }
 
         ensures spent { (result ≡ Err CallFault.Spent) ↔ (next_stamp self.old ≡ u64.MAX) }
-        ensures err { OnErr result (self.new ≡ record self.old { room = self.new.room }) }
+        ensures err { OnErr result (MakesRoom self.old self.new) }
         ensures err_written { OnErr result (numbers.new ≡ numbers.old) }
-        ensures err_room { OnErr result (self.old.room ≤ self.new.room) }
-        ensures no_memory { result ≡ Err CallFault.NoMemory → self.old.room ≡ 0 }
+        ensures no_memory { result ≡ Err CallFault.NoMemory → self.old.memory.room ≡ 0 }
     {
         let Some(_) = self.next_stamp() else {
             return Err(CallFault::Spent);
@@ -539,7 +540,9 @@ impl Kept {
     /// later: at a later call or a later cut.
     pub fn cut_first(&mut self) -> bool
         ensures cut { IsTrue result → IsWithoutFirst 1 self.old self.new }
-        ensures room { self.old.room ≤ self.new.room }
+        ensures room { self.old.memory.room ≤ self.new.memory.room }
+        ensures moved { IsTrue result
+            → IsCaughtUp 3 (one_more self.old.memory.waits) self.new.memory.waits }
         ensures none { result ≡ false → self.new ≡ self.old }
         ensures steps { IsTrue result ↔ (self.old.by_steps ≡ true) × (self.old.entries ≢ []) }
     {
@@ -570,12 +573,12 @@ impl Kept {
             (after_recorded self.old worker call) self.new) }
         ensures bound { OnOk result
             ((length self.new.entries ≤ keep) ⊎ (length self.new.entries < length self.old.entries)) }
+        ensures fewer { OnOk result (FewerWait self.old.memory.waits self.new.memory.waits) }
 
         ensures spent { (result ≡ Err CallFault.Spent) ↔ (next_stamp self.old ≡ u64.MAX) }
-        ensures err { OnErr result (self.new ≡ record self.old { room = self.new.room }) }
+        ensures err { OnErr result (MakesRoom self.old self.new) }
         ensures err_reply { OnErr result (reply.new ≡ reply.old) }
-        ensures err_room { OnErr result (self.old.room ≤ self.new.room) }
-        ensures no_memory { result ≡ Err CallFault.NoMemory → 0 < self.old.room → IsTrue (may_grow call) }
+        ensures no_memory { result ≡ Err CallFault.NoMemory → 0 < self.old.memory.room → IsTrue (may_grow call) }
     {
         self.make_call(worker, call)?;
         let Some(made) = self.last_reply() else {
@@ -591,7 +594,8 @@ impl Kept {
     /// nothing.
     pub fn give_opening(&mut self, opening: PidTable)
         requires { opening ≡ self.old.opening }
-        ensures { self.new ≡ record self.old { room = self.new.room; by_steps = true } }
+        ensures given { self.new ≡ record self.old { memory = self.new.memory; by_steps = true } }
+        ensures waits { self.new.memory.waits ≡ self.old.memory.waits }
     {
         self.history.give(opening);
     }
@@ -601,6 +605,8 @@ impl Kept {
     pub fn keep_at_most(&mut self, keep: u64)
         ensures cut { IsWithoutFirst (to_cut self.old keep) self.old self.new }
         ensures bound { (length self.new.entries ≤ keep) ⊎ (length self.new.entries + 2 ≤ length self.old.entries) }
+        ensures moved { (self.new.memory.waits ≡ self.old.memory.waits)
+            ⊎ FewerWait self.old.memory.waits self.new.memory.waits }
     {
         self.cut_to(keep);
         self.cut_to(keep);
@@ -610,6 +616,7 @@ impl Kept {
     fn cut_to(&mut self, keep: u64)
         ensures cut { IsWithoutFirst (to_cut_once self.old keep) self.old self.new }
         ensures bound { (length self.new.entries ≤ keep) ⊎ (length self.new.entries + 1 ≤ length self.old.entries) }
+        ensures moved { WaitsByCut self.old.memory.waits self.new.memory.waits }
     {
         if self.history.len() as u64 <= keep {
             return;
@@ -625,6 +632,7 @@ impl Kept {
         requires fixed { self.old.by_steps ≡ false }
         ensures cut { IsWithoutFirst (length self.old.entries) self.old self.new }
         ensures entries { self.new.entries ≡ [] }
+        ensures waits { self.new.memory.waits ≡ nobody_waits }
     {
         soundness_is_kept();
         bound_stays();

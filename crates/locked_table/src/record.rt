@@ -9,7 +9,9 @@ ghost use Rattle.std.specs.{Prelude.{IfSome, Some, None, Err, ◌≢◌, ◌⊎�
 ghost use Rattle.{
   pid_types.specs.{declared.plain.Control.{Control}, Membership.{IsIn}, Shown.{Shows}, Sound.{IsBelow}},
   pid_types.specs.{Step.{may_grow}, declared.entry.Entry.{Entry}},
+  kept_past.specs.Past.{IsCaughtUp},
   kept_table.specs.Calls.{begun, resumed, outcome, entry_of, after_recorded, counted, cut_at, IsWithoutFirst, to_cut},
+  kept_table.specs.Calls.{FewerWait, MakesRoom, NoneWait},
   kept_table.specs.Chronicle.{Chronicle, total, next_stamp, recorded, recorded_by_all, kept_entry, last_reply},
   kept_table.specs.{Promise.{IsSubtreeCount, KeepsPromise}, Whole.{one_of}},
   locked_table.specs.SeatState.{AreSeats, AreCounted, AreRecorded, AreNew, calls_of_seats},
@@ -62,7 +64,7 @@ impl<L: Ledger, const N: usize> Record<L, N> {
     ) -> Result<(Record<L, N>, Vec<Seat<L, N>>), AllocError>
         requires name { blank.name ≡ L.name }
         requires parts { (blank.parts ≡ L.parts) × (L.parts ≡ N) }
-        ensures record { IfOk result (λ r. r.0 ≡ begun config.now N r.0.room) }
+        ensures record { IfOk result (λ r. r.0 ≡ begun config.now N r.0.memory.room) }
         ensures seats { IfOk result (λ r. AreSeats N r.1.items × AreNew r.1.items) }
     {
         with_seats(alloc, blank, Kept::new(alloc, config, N)?)
@@ -87,7 +89,7 @@ impl<L: Ledger, const N: usize> Record<L, N> {
         requires workers { length counts.now ≡ N }
         requires below { IsBelow stamp table }
         requires fits { sum counts.now < stamp }
-        ensures record { IfOk result (λ r. r.0 ≡ resumed table stamp counts.now r.0.room) }
+        ensures record { IfOk result (λ r. r.0 ≡ resumed table stamp counts.now r.0.memory.room) }
         ensures seats { IfOk result (λ r. AreSeats N r.1.items × AreCounted N counts.now r.1.items) }
     {
         with_seats(alloc, blank, Kept::resume(alloc, table, stamp, counts)?)
@@ -222,10 +224,9 @@ impl<L: Ledger, const N: usize> Record<L, N> {
 
     /// Makes room for the entries of n more calls. Each recorded call uses up one of them.
     pub fn reserve_calls(&mut self, n: usize) -> Result<(), AllocError>
-        ensures ok { OnOk result (n ≤ self.new.room) }
-        ensures others { self.new ≡ record self.old { room = self.new.room } }
-        ensures room { self.old.room ≤ self.new.room }
-        ensures enough { n ≤ self.old.room → IsOk result }
+        ensures ok { OnOk result (n ≤ self.new.memory.room) }
+        ensures makes { MakesRoom self.old self.new }
+        ensures enough { n ≤ self.old.memory.room → IsOk result }
     {
         self.kept.reserve_calls(n)
     }
@@ -246,10 +247,11 @@ impl<L: Ledger, const N: usize> Record<L, N> {
     /// the room for entries stays. It costs each kept call once more, or in rare cases a copy of the whole table:
     /// [`Kept::checkpoint`].
     pub fn checkpoint(&mut self) -> Result<(), AllocError>
-        ensures ok { OnOk result (self.new ≡ cut_at self.old (total self.old) self.new.cut self.new.room) }
+        ensures ok { OnOk result (self.new ≡ cut_at self.old (total self.old) self.new.cut self.new.memory) }
         ensures recorded { OnOk result
             ((worker : ℕ) → worker < N → recorded self.new worker ≡ recorded self.old worker) }
-        ensures room { self.old.room ≤ self.new.room }
+        ensures room { self.old.memory.room ≤ self.new.memory.room }
+        ensures moved { OnOk result (NoneWait self.new.memory.waits) }
         ensures err { OnErr result (self.new ≡ self.old) }
         ensures by_steps { OnErr result (self.old.by_steps ≡ false) }
     {
@@ -268,15 +270,15 @@ impl<L: Ledger, const N: usize> Record<L, N> {
             ≡ self.old.entries ++ record { worker = seat.old.worker; call = call; reply = r.reply } ∷ []) }
         ensures receipt { IfOk result (λ r.
             r ≡ record { ordinal = total self.old; worker = seat.old.worker; call = call; reply = r.reply }) }
-        ensures others { OnOk result (self.new ≡ counted self.old self.new.entries self.new.present self.new.room) }
+        ensures others { OnOk result (self.new ≡ counted self.old self.new.entries self.new.present self.new.memory) }
         ensures seat { OnOk result (seat.new ≡ record seat.old { calls = seat.old.calls + 1 }) }
-        ensures room { self.old.room ≤ self.new.room + 1 }
+        ensures room { self.old.memory.room ≤ self.new.memory.room + 1 }
+        ensures moved { OnOk result (IsCaughtUp 2 self.old.memory.waits self.new.memory.waits) }
 
         ensures spent { (result ≡ Err CallFault.Spent) ↔ (next_stamp self.old ≡ u64.MAX) }
-        ensures err { OnErr result (self.new ≡ record self.old { room = self.new.room }) }
+        ensures err { OnErr result (MakesRoom self.old self.new) }
         ensures err_seat { OnErr result (seat.new ≡ seat.old) }
-        ensures err_room { OnErr result (self.old.room ≤ self.new.room) }
-        ensures no_memory { result ≡ Err CallFault.NoMemory → 0 < self.old.room → IsTrue (may_grow call) }
+        ensures no_memory { result ≡ Err CallFault.NoMemory → 0 < self.old.memory.room → IsTrue (may_grow call) }
     {
         let ordinal = self.kept.total();
         self.make_call(seat, call)?;
@@ -298,15 +300,15 @@ impl<L: Ledger, const N: usize> Record<L, N> {
         ensures reply { OnOk result (last_reply self.new ≡ Some (outcome self.old call).reply) }
         ensures history { OnOk result
             (self.new.entries ≡ self.old.entries ++ entry_of self.old seat.old.worker call ∷ []) }
-        ensures others { OnOk result (self.new ≡ counted self.old self.new.entries self.new.present self.new.room) }
+        ensures others { OnOk result (self.new ≡ counted self.old self.new.entries self.new.present self.new.memory) }
         ensures seat { OnOk result (seat.new ≡ record seat.old { calls = seat.old.calls + 1 }) }
-        ensures room { self.old.room ≤ self.new.room + 1 }
+        ensures room { self.old.memory.room ≤ self.new.memory.room + 1 }
+        ensures moved { OnOk result (IsCaughtUp 2 self.old.memory.waits self.new.memory.waits) }
 
         ensures spent { (result ≡ Err CallFault.Spent) ↔ (next_stamp self.old ≡ u64.MAX) }
-        ensures err { OnErr result (self.new ≡ record self.old { room = self.new.room }) }
+        ensures err { OnErr result (MakesRoom self.old self.new) }
         ensures err_seat { OnErr result (seat.new ≡ seat.old) }
-        ensures err_room { OnErr result (self.old.room ≤ self.new.room) }
-        ensures no_memory { result ≡ Err CallFault.NoMemory → 0 < self.old.room → IsTrue (may_grow call) }
+        ensures no_memory { result ≡ Err CallFault.NoMemory → 0 < self.old.memory.room → IsTrue (may_grow call) }
     {
         let _total = self.kept.total();
         self.kept.make_call(seat.worker, call)?;
@@ -330,14 +332,14 @@ impl<L: Ledger, const N: usize> Record<L, N> {
             (after_recorded self.old seat.old.worker call) self.new) }
         ensures bound { OnOk result
             ((length self.new.entries ≤ keep) ⊎ (length self.new.entries < length self.old.entries)) }
+        ensures fewer { OnOk result (FewerWait self.old.memory.waits self.new.memory.waits) }
         ensures seat { OnOk result (seat.new ≡ record seat.old { calls = seat.old.calls + 1 }) }
 
         ensures spent { (result ≡ Err CallFault.Spent) ↔ (next_stamp self.old ≡ u64.MAX) }
-        ensures err { OnErr result (self.new ≡ record self.old { room = self.new.room }) }
+        ensures err { OnErr result (MakesRoom self.old self.new) }
         ensures err_seat { OnErr result (seat.new ≡ seat.old) }
         ensures err_reply { OnErr result (reply.new ≡ reply.old) }
-        ensures err_room { OnErr result (self.old.room ≤ self.new.room) }
-        ensures no_memory { result ≡ Err CallFault.NoMemory → 0 < self.old.room → IsTrue (may_grow call) }
+        ensures no_memory { result ≡ Err CallFault.NoMemory → 0 < self.old.memory.room → IsTrue (may_grow call) }
     {
         let _total = self.kept.total();
         self.kept.make_call_keeping(seat.worker, call, keep, reply)?;
@@ -349,7 +351,8 @@ impl<L: Ledger, const N: usize> Record<L, N> {
     /// without a copy of the table: [`Kept::give_opening`].
     pub fn give_opening(&mut self, opening: PidTable)
         requires { opening ≡ self.old.opening }
-        ensures { self.new ≡ record self.old { room = self.new.room; by_steps = true } }
+        ensures given { self.new ≡ record self.old { memory = self.new.memory; by_steps = true } }
+        ensures waits { self.new.memory.waits ≡ self.old.memory.waits }
     {
         self.kept.give_opening(opening);
     }

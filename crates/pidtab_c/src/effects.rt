@@ -89,7 +89,7 @@ pub extern "C" fn pidtab_record_call_told(
     ensures spent { (result ≡ SPENT) ↔ IsSome (call_of call.now)
         × Has table.old.handle.held (λ c. (worker < length c.cut) × IsSpent (next_stamp c)) }
     ensures no_memory { result ≡ NO_MEMORY → (made : Call) × (call_of call.now ≡ Some made)
-        × Has table.old.handle.held (λ c. 0 < c.room → MayWant made) }
+        × Has table.old.handle.held (λ c. 0 < c.memory.room → MayWant made) }
     ensures no_room { result ≡ NO_ROOM → (made : Call) × (call_of call.now ≡ Some made)
         × Has table.old.handle.held (λ c. WantsRoom c.present (next_stamp c) made (length effects.old) count.new) }
 {

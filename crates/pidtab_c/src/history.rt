@@ -1,7 +1,8 @@
 //! The history of a record, for C: how many calls were recorded, the kept entries, and cutting them away.
 ghost use Rattle.std.specs.Prelude.{◌≡◌, ◌≢◌, ◌+◌, ◌≤◌, ◌↔◌, ◌⊎◌, [], ◌∷◌, None, false, IfSome, length};
 ghost use Rattle.{
-  kept_table.specs.{Calls.{to_cut, IsWithoutFirst}, Chronicle.{total, recorded, recorded_by_all, kept_entry}},
+  kept_table.specs.Calls.{to_cut, FewerWait, IsWithoutFirst},
+  kept_table.specs.Chronicle.{total, recorded, recorded_by_all, kept_entry},
   kept_table.specs.Promise.{KeepsPromise},
   foreign_calls.specs.{Entries.{IsEntry}, Held.{OnlyReads, ChangesIfDone}, Records.{Has, Cuts}, Rooms.{PutsText}},
   table_lines.specs.Listed.{list_of_state},
@@ -141,6 +142,8 @@ pub extern "C" fn pidtab_record_keep(table: &mut PidtabRecord, keep: u64) -> u32
         IsWithoutFirst (to_cut c keep) c d)) }
     ensures bound { result ≡ DONE → Has table.old.handle.held (λ c. Has table.new.handle.held (λ d.
         (length d.entries ≤ keep) ⊎ (length d.entries + 2 ≤ length c.entries))) }
+    ensures fewer { result ≡ DONE → Has table.old.handle.held (λ c. Has table.new.handle.held (λ d.
+        (d.memory.waits ≡ c.memory.waits) ⊎ FewerWait c.memory.waits d.memory.waits)) }
 {
     if !table.is_open {
         return CLOSED;

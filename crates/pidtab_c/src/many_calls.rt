@@ -47,7 +47,7 @@ pub extern "C" fn pidtab_record_calls(
     ensures spent { (result ≡ SPENT) ⊎ (result ≡ NO_MEMORY)
         → ((result ≡ SPENT) ↔ Has table.new.handle.held (λ d. next_stamp d ≡ u64.MAX)) }
     ensures no_memory { result ≡ NO_MEMORY
-        → Has table.old.handle.held (λ c. made.new < c.room → MayGrowAt calls.now made.new) }
+        → Has table.old.handle.held (λ c. made.new < c.memory.room → MayGrowAt calls.now made.new) }
 {
     *made = 0;
     if !table.is_open {

@@ -112,7 +112,7 @@ pub extern "C" fn pidtab_record_line(
         ↔ IsCall (parsed line.now) × (LONGEST_ANSWER ≤ length answer.old)
         × Has table.old.handle.held (λ c. (worker < length c.cut) × (next_stamp c ≡ u64.MAX)) }
     ensures no_memory { result ≡ NO_MEMORY → (made : Call) × (parsed line.now ≡ says.Call made)
-        × Has table.old.handle.held (λ c. 0 < c.room → IsTrue (may_grow made)) }
+        × Has table.old.handle.held (λ c. 0 < c.memory.room → IsTrue (may_grow made)) }
     ensures needs_open { NeedsOpen table.old.handle.held result
         (EMPTY_LINE ∷ BAD_LINE ∷ NO_ROOM ∷ OUT_OF_RANGE ∷ SPENT ∷ NO_MEMORY ∷ []) }
 {

@@ -1,9 +1,9 @@
 //! Saved entries on a record, for C: their calls are made again, and their replies compared.
-ghost use Rattle.std.specs.Prelude.{◌≡◌, ◌≢◌, ◌<◌, ◌↔◌, [], ◌∷◌, None, length, slice_get};
+ghost use Rattle.std.specs.Prelude.{◌≡◌, ◌≢◌, ◌<◌, ◌↔◌, ◌⊎◌, [], ◌∷◌, None, length, slice_get};
 ghost use Rattle.{
   kept_table.specs.Chronicle.{next_stamp},
-  foreign_calls.specs.{Held.{NeedsOpen}, Records.{Has, roomless}},
-  foreign_calls.specs.Replays.{ReplaysSaved, CannotMake, MayNeedMemory, StopsBefore, StopsAt},
+  foreign_calls.specs.{Held.{NeedsOpen}, Records.{Has, memoryless}},
+  foreign_calls.specs.Replays.{ReplaysSaved, CannotMake, MayNeedMemory, StopsBefore, StopsAt, WaitsBehind},
 };
 
 use foreign_calls::read::EntryNumbers;
@@ -28,17 +28,19 @@ pub extern "C" fn pidtab_record_replay(
     ensures needs_open { NeedsOpen table.old.handle.held result
         (DIFFERS ∷ OUT_OF_RANGE ∷ SPENT ∷ NO_MEMORY ∷ []) }
     ensures done { result ≡ DONE → (place.new ≡ length saved.now) × Has table.old.handle.held (λ c.
-        Has table.new.handle.held (λ d. ReplaysSaved (roomless c) saved.now (roomless d))) }
+        Has table.new.handle.held (λ d. ReplaysSaved (memoryless c) saved.now (memoryless d))) }
     ensures differs { result ≡ DIFFERS → Has table.old.handle.held (λ c.
         Has table.new.handle.held (λ d. StopsAt c saved.now place.new d)) }
     ensures not_made { result ≢ DONE → result ≢ DIFFERS → result ≢ CLOSED → Has table.old.handle.held (λ c.
         Has table.new.handle.held (λ d. StopsBefore c saved.now place.new d)) }
+    ensures waits { (result ≡ CLOSED) ⊎ Has table.old.handle.held (λ c.
+        Has table.new.handle.held (λ d. WaitsBehind place.new c d)) }
     ensures not_open { result ≡ CLOSED → (table.new.handle.held ≡ None) × (place.new ≡ place.old) }
     ensures out_of_range { result ≢ DONE → result ≢ DIFFERS → (result ≡ OUT_OF_RANGE)
         ↔ Has table.new.handle.held (λ d. Has (slice_get saved.now place.new) (λ n. CannotMake d n)) }
     ensures spent { result ≢ DONE → result ≢ DIFFERS → result ≢ OUT_OF_RANGE
         → (result ≡ SPENT) ↔ Has table.new.handle.held (λ d. next_stamp d ≡ u64.MAX) }
-    ensures no_memory { result ≡ NO_MEMORY → Has table.old.handle.held (λ c. place.new < c.room
+    ensures no_memory { result ≡ NO_MEMORY → Has table.old.handle.held (λ c. place.new < c.memory.room
         → Has (slice_get saved.now place.new) MayNeedMemory) }
 {
     if !table.is_open {

@@ -3,6 +3,7 @@ use Rattle.std.proofs.lemmas.List.{drop-drop, drop-set-lt}
 use Rattle.saved_form.specs.declared.numbers.ReplyNumbers.{ReplyNumbers}
 use Rattle.std.specs.Prelude.{List}
 use Rattle.foreign_numbers.specs.declared.status.TheConstants.{DONE}
+use Rattle.foreign_calls.proofs.Replaying.{waits_next}
 use Rattle.foreign_calls.proofs.Turning.{turns_next}
 use Rattle.foreign_calls.proofs.many_calls.calls_on.Goals as goal
 
@@ -15,6 +16,7 @@ loop-i-preserved c =
     let room : i < length before = omega (arith, c.loop-i-test.true, c.loop-i.auto.replies, c.if-replies-calls.false) in
     record {
       left = turns_next _ c.args.worker c.args.calls.now before _ _ i _ _ c.loop-i-test.true room c.loop-i.invariant.left (told.done done);
+      waits = waits_next i _ _ _ c.loop-i.invariant.waits (told.moved done);
       behind = drop-set-lt (i + 1) before i _ (omega arith) ∙ sym (drop-drop 1 i before)
           ∙ ap (λ (rs : List ReplyNumbers). drop 1 rs) c.loop-i.invariant.behind ∙ drop-drop 1 i c.args.replies.now;
       known = omega (arith, told.workers, c.loop-i.invariant.known);

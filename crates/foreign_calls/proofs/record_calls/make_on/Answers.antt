@@ -12,7 +12,7 @@ pub returns-clause-records : goal.returns-clause-records
 returns-clause-records c =
     let known = subst (λ n. c.args.worker < n) c.workers.ensures c.if-worker-workers.false in
     records_call c.args.held.now c.make_call.new.self c.args.worker c.args.made c.args.ordinal.now c.total-place.result known
-    (λ spent. let never = c.in-Ok.ensures.spent.1 spent in cc) c.total-place.ensures.value c.in-Ok.ensures.history c.in-Ok.ensures.step c.in-Ok.ensures.others
+    (λ spent. let never = c.in-Ok.ensures.spent.1 spent in cc) c.total-place.ensures.value c.in-Ok.ensures.history c.in-Ok.ensures.step c.in-Ok.ensures.others c.in-Ok.ensures.moved
 
 pub returns-clause-reply : goal.returns-clause-reply
 returns-clause-reply c = λ _. c.in-Ok.ensures.reply
