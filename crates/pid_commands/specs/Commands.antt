@@ -9,10 +9,13 @@ use Rattle.pid_types.specs.Step.{may_grow}
 use Rattle.pid_types.specs.declared.call.Call.{Call}
 use Rattle.pid_types.specs.declared.reply.Reply.{Reply}
 use Rattle.script_session.specs.Job.{MeetsFault, Yields}
-use Rattle.script_session.specs.Progress.{start_of}
+use Rattle.pid_script.specs.Script.{with_newline}
+use Rattle.pid_workers.specs.Audits.{TellsAudit}
+use Rattle.script_session.specs.Progress.{HasStopped, start_of}
 use Rattle.script_session.specs.Session.{ended_at, Finishes, Leaves}
 use Rattle.script_session.specs.declared.job.JobFault.{JobFault}
 use Rattle.script_session.specs.declared.tally.RunScriptFault.{RunScriptFault}
+use Rattle.script_session.specs.declared.tally.RunScriptFault.TheVariants as script
 use Rattle.script_session.specs.declared.tally.Tally.{Tally}
 use Rattle.worker_jobs.specs.declared.fault.RunFault.{RunFault}
 use Rattle.pid_commands.specs.declared.asked.Command.{Command}
@@ -26,41 +29,51 @@ use Rattle.pid_commands.specs.declared.status.Status.TheVariants.{Done, Failed, 
 use Rattle.pid_commands.specs.Faults.{of_script, of_job, of_run, fault_line, usage_line}
 use Rattle.pid_commands.specs.Output.{ListsScript, FailsToList, ShowsRun}
 
+-- what a command reads from and writes to, before and afterwards: the bytes that are still to be read, and whether a read has failed; the
+-- bytes that were written, and whether a write has failed, or has taken nothing
+pub record Streams : Type 0 where
+  pub from : Option (List ℕ)
+  pub to : Option (List ℕ)
+  pub unread : Bool
+  pub before : Option (List ℕ)
+  pub after : Option (List ℕ)
+  pub failed : Bool
+  pub full : Bool
+
+abbrev pub streams : Option (List ℕ) → Option (List ℕ) → Bool → Option (List ℕ) → Option (List ℕ) → Bool → Bool → Streams
+streams from to unread before after failed full =
+    record { from = from; to = to; unread = unread; before = before; after = after; failed = failed; full = full }
+
 -- the source is at its end, and what was written is the meaning of its script
-pub record RunsScript (settings : Settings) (from to before after : Option (List ℕ)) : Type 0 where
+pub record RunsScript (settings : Settings) (s : Streams) : Type 0 where
   pub present : State
   pub stamp : ℕ
   pub tally : Tally
   pub text : List ℕ
   pub calls : List (Call × Reply)
-  pub finished : Finishes may_grow (start_of settings) (ended_at present stamp tally text calls) from to before after
+  pub finished :
+      Finishes may_grow (start_of settings) (ended_at present stamp tally text calls) s.from s.to s.before s.after
 
--- the script stopped short of its end, after at most so many reads
-abbrev pub FailsToRun : ℕ → Settings → Option (List ℕ) → Option (List ℕ) → Option (List ℕ) → Option (List ℕ) → Bool → Fault → Type 0
-FailsToRun turns settings from to before after failed fault =
-    (cause : RunScriptFault) × (fault ≡ of_script cause) × Leaves may_grow turns (start_of settings) from to before after failed cause
+-- the script stopped short of its end, after at most so many reads; the writer is the reason only where it takes no more
+pub record FailsToRun (turns : ℕ) (settings : Settings) (s : Streams) (fault : Fault) : Type 0 where
+  pub cause : RunScriptFault
+  pub is : fault ≡ of_script cause
+  pub leaves : Leaves may_grow turns (start_of settings) s.from s.to s.before s.after s.unread cause
+  pub stopped : cause ≡ script.Write → HasStopped s.failed s.full
 
--- the same of a reader that is gone afterwards
-abbrev pub RunsInput : Settings → Option (List ℕ) → Option (List ℕ) → Option (List ℕ) → Type 0
-RunsInput settings from before after = (to : Option (List ℕ)) × RunsScript settings from to before after
+-- the list of the table that the script leaves was written, once
+abbrev pub WritesList : Settings → Streams → Type 0
+WritesList settings s = (list : List ℕ) × ListsScript settings s.from s.to list × Appends s.before s.after list
 
-abbrev pub FailsToRunInput : ℕ → Settings → Option (List ℕ) → Option (List ℕ) → Option (List ℕ) → Fault → Type 0
-FailsToRunInput turns settings from before after fault =
-    (to : Option (List ℕ)) × (failed : Bool) × FailsToRun turns settings from to before after failed fault
-
--- the input was read to its end, and this is the list of the table that its script leaves
-abbrev pub ListsInput : Settings → Option (List ℕ) → List ℕ → Type 0
-ListsInput settings from list = (to : Option (List ℕ)) × ListsScript settings from to list
-
--- that list was written, once
-abbrev pub WritesList : Settings → Option (List ℕ) → Option (List ℕ) → Option (List ℕ) → Type 0
-WritesList settings from before after = (list : List ℕ) × ListsInput settings from list × Appends before after list
+-- it could not be written, since the writer takes no more
+abbrev pub CannotWrite : Streams → Fault → Type 0
+CannotWrite s fault = (fault ≡ Write) × HasStopped s.failed s.full
 
 -- there was no list, and nothing was written; or it could not be written
-abbrev pub FailsToWriteList : ℕ → Settings → Option (List ℕ) → Option (List ℕ) → Option (List ℕ) → Fault → Type 0
-FailsToWriteList turns settings from before after fault =
-    ((to : Option (List ℕ)) × (failed : Bool) × FailsToList turns settings from to failed fault × (after ≡ before))
-    ⊎ ((fault ≡ Write) × (list : List ℕ) × ListsInput settings from list)
+abbrev pub FailsToWriteList : ℕ → Settings → Streams → Fault → Type 0
+FailsToWriteList turns settings s fault =
+    (FailsToList turns settings s.from s.to s.unread fault × (s.after ≡ s.before))
+    ⊎ (CannotWrite s fault × ((list : List ℕ) × ListsScript settings s.from s.to list))
 
 -- some file has these bytes, as far as they are known
 abbrev pub IsSomeFile : {F : Type 0} → (F → Option (List ℕ)) → Option (List ℕ) → Type 0
@@ -101,48 +114,47 @@ abbrev pub RunsFiles : (List ℕ → Option (List ℕ) → Type 0) → Settings 
 RunsFiles holds settings names text = (jobs : List (Vec Call Global)) × AreRead holds names jobs × ShowsRun settings jobs text
 
 -- that text was written, once
-abbrev pub WritesRun : (List ℕ → Option (List ℕ) → Type 0) → Settings → List (String Global) → Option (List ℕ) → Option (List ℕ) → Type 0
-WritesRun holds settings names before after = (text : List ℕ) × RunsFiles holds settings names text × Appends before after text
+abbrev pub WritesRun : (List ℕ → Option (List ℕ) → Type 0) → Settings → List (String Global) → Streams → Type 0
+WritesRun holds settings names s = (text : List ℕ) × RunsFiles holds settings names text × Appends s.before s.after text
+
+-- the jobs were read, and their workers met a fault: an audit only where what came of the jobs is at odds with the record
+abbrev pub FailsToServe : (List ℕ → Option (List ℕ) → Type 0) → Settings → List (String Global) → Fault → Type 0
+FailsToServe holds settings names fault =
+    (jobs : List (Vec Call Global)) × AreRead holds names jobs
+    × ((cause : RunFault) × (fault ≡ of_run cause) × TellsAudit settings jobs cause)
 
 -- there was no such text, and nothing was written; or it could not be written
-abbrev pub FailsToWriteRun : (List ℕ → Option (List ℕ) → Type 0) → Settings → List (String Global) → Option (List ℕ) → Option (List ℕ)
-    → Fault → Type 0
-FailsToWriteRun holds settings names before after fault =
-    ((FailsToRead holds names fault ⊎ ((cause : RunFault) × (fault ≡ of_run cause))) × (after ≡ before))
-    ⊎ ((fault ≡ Write) × (text : List ℕ) × RunsFiles holds settings names text)
+abbrev pub FailsToWriteRun : (List ℕ → Option (List ℕ) → Type 0) → Settings → List (String Global) → Streams → Fault → Type 0
+FailsToWriteRun holds settings names s fault =
+    ((FailsToRead holds names fault ⊎ FailsToServe holds settings names fault) × (s.after ≡ s.before))
+    ⊎ (CannotWrite s fault × ((text : List ℕ) × RunsFiles holds settings names text))
 
 -- the command did what it is for
-abbrev pub Does : (List ℕ → Option (List ℕ) → Type 0) → Command → Option (List ℕ) → Option (List ℕ) → Option (List ℕ) → Type 0
-Does holds (command.Run settings) from before after = RunsInput settings from before after
-Does holds (command.List settings) from before after = WritesList settings from before after
-Does holds (command.Work settings files) from before after = WritesRun holds settings files.names.items before after
+abbrev pub Does : (List ℕ → Option (List ℕ) → Type 0) → Command → Streams → Type 0
+Does holds (command.Run settings) s = RunsScript settings s
+Does holds (command.List settings) s = WritesList settings s
+Does holds (command.Work settings files) s = WritesRun holds settings files.names.items s
 
 -- the command stopped with the fault
-abbrev pub Stops : ℕ → (List ℕ → Option (List ℕ) → Type 0) → Command → Option (List ℕ) → Option (List ℕ) → Option (List ℕ) → Fault → Type 0
-Stops turns holds (command.Run settings) from before after fault = FailsToRunInput turns settings from before after fault
-Stops turns holds (command.List settings) from before after fault = FailsToWriteList turns settings from before after fault
-Stops turns holds (command.Work settings files) from before after fault =
-    FailsToWriteRun holds settings files.names.items before after fault
+abbrev pub Stops : ℕ → (List ℕ → Option (List ℕ) → Type 0) → Command → Streams → Fault → Type 0
+Stops turns holds (command.Run settings) s fault = FailsToRun turns settings s fault
+Stops turns holds (command.List settings) s fault = FailsToWriteList turns settings s fault
+Stops turns holds (command.Work settings files) s fault = FailsToWriteRun holds settings files.names.items s fault
 
--- it stopped, or it did what it is for and the writer could not be flushed
-abbrev pub Fails : ℕ → (List ℕ → Option (List ℕ) → Type 0) → Command → Option (List ℕ) → Option (List ℕ) → Option (List ℕ) → Fault → Type 0
-Fails turns holds asked from before after fault =
-    Stops turns holds asked from before after fault ⊎ ((fault ≡ Write) × Does holds asked from before after)
-
--- why a run of words failed: there was no memory to read them, and nothing was written; or the command that they ask for failed
-abbrev pub FailsWords : ℕ → (List ℕ → Option (List ℕ) → Type 0) → Result Command WordsFault → Option (List ℕ) → Option (List ℕ)
-    → Option (List ℕ) → Fault → Type 0
-FailsWords turns holds answer from before after fault =
-    ((answer ≡ Err words.NoMemory) × (fault ≡ NoMemory) × (after ≡ before))
-    ⊎ ((asked : Command) × (answer ≡ Ok asked) × Fails turns holds asked from before after fault)
+-- why a run of words failed: there was no memory to read them, and nothing was written; or the command that they ask for stopped
+abbrev pub FailsWords : ℕ → (List ℕ → Option (List ℕ) → Type 0) → Result Command WordsFault → Streams → Fault → Type 0
+FailsWords turns holds answer s fault =
+    ((answer ≡ Err words.NoMemory) × (fault ≡ NoMemory) × (s.after ≡ s.before))
+    ⊎ ((asked : Command) × (answer ≡ Ok asked) × Stops turns holds asked s fault)
 
 -- how words end that were read as this answer: the command is done, and nothing is said; or it failed, and the fault's line is said; or
 -- the words are no command, nothing is written, and the usage line is said
-abbrev pub Ends : ℕ → (List ℕ → Option (List ℕ) → Type 0) → Result Command WordsFault → Option (List ℕ) → Option (List ℕ)
-    → Option (List ℕ) → Type 0 → (List ℕ → Type 0) → Status → Type 0
-Ends turns holds answer from before after quiet says Done =
-    (asked : Command) × (answer ≡ Ok asked) × Does holds asked from before after × quiet
-Ends turns holds answer from before after quiet says Failed =
-    (fault : Fault) × FailsWords turns holds answer from before after fault × says (fault_line fault)
-Ends turns holds answer from before after quiet says Misused =
-    (answer ≡ Err words.Usage) × (after ≡ before) × says usage_line
+abbrev pub Ends : ℕ → (List ℕ → Option (List ℕ) → Type 0) → Result Command WordsFault → Streams → Type 0 → (List ℕ → Type 0)
+    → Status → Type 0
+Ends turns holds answer s quiet says Done = (asked : Command) × (answer ≡ Ok asked) × Does holds asked s × quiet
+Ends turns holds answer s quiet says Failed = (fault : Fault) × FailsWords turns holds answer s fault × says (fault_line fault)
+Ends turns holds answer s quiet says Misused = (answer ≡ Err words.Usage) × (s.after ≡ s.before) × says usage_line
+
+-- the line and its newline were written, or the writer takes no more
+abbrev pub IsSaid : Option (List ℕ) → Option (List ℕ) → Bool → Bool → List ℕ → Type 0
+IsSaid before after failed full line = Appends before after (with_newline line) ⊎ HasStopped failed full

@@ -1,5 +1,5 @@
 -- What `list` and `work` write.
-use Rattle.std.specs.Prelude.{ℕ, ◌≡◌, ◌+◌, ◌<◌, List, [], ◌∷◌, ◌++◌, ◌⊎◌, Bool, length, slice_index_or, codes, decimal, Option, None, Vec}
+use Rattle.std.specs.Prelude.{ℕ, ◌≡◌, ◌≢◌, ◌+◌, ◌<◌, List, [], ◌∷◌, ◌++◌, ◌⊎◌, Bool, length, slice_index_or, codes, decimal, Option, None, Vec}
 use Rattle.std.specs.declared.alloc.Global.{Global}
 use Rattle.std.specs.List.{flat_map}
 use Rattle.pid_types.specs.Settings.{Settings}
@@ -17,6 +17,7 @@ use Rattle.pid_script.specs.Script.{with_newline}
 use Rattle.script_session.specs.Progress.{start_of}
 use Rattle.script_session.specs.Session.{ended_at, Finishes, Leaves}
 use Rattle.script_session.specs.declared.tally.RunScriptFault.{RunScriptFault}
+use Rattle.script_session.specs.declared.tally.RunScriptFault.TheVariants as script
 use Rattle.pid_commands.specs.declared.fault.Fault.{Fault}
 use Rattle.pid_commands.specs.declared.fault.Fault.TheVariants.{NoMemory}
 use Rattle.pid_commands.specs.Faults.{of_script}
@@ -67,8 +68,9 @@ pub record ListsScript (settings : Settings) (from to : Option (List ℕ)) (list
   pub all : tally.starved ≡ 0
   pub listed : list ≡ list_of_state present
 
--- there was no memory for the list or a call, or the script stopped short of its end, after at most so many reads
+-- there was no memory for the list or a call, or the script stopped short of its end, after at most so many reads; nothing of it is written
 abbrev pub FailsToList : ℕ → Settings → Option (List ℕ) → Option (List ℕ) → Bool → Fault → Type 0
 FailsToList turns settings from to failed fault =
     (fault ≡ NoMemory)
-    ⊎ ((f : RunScriptFault) × (fault ≡ of_script f) × Leaves may_grow turns (start_of settings) from to None None failed f)
+    ⊎ ((f : RunScriptFault) × (fault ≡ of_script f) × (f ≢ script.Write)
+    × Leaves may_grow turns (start_of settings) from to None None failed f)

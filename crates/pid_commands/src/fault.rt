@@ -1,15 +1,15 @@
 //! What a command says of a fault.
-ghost use Rattle.std.specs.{Prelude.{◌≡◌, OnOk}, Io.KnownBytes.{Appends}};
-ghost use Rattle.pid_script.specs.Script.{with_newline};
+ghost use Rattle.std.specs.{Prelude.{◌≡◌, ◌++◌, decimal, IfErr, OnErr, OnOk}, Io.KnownBytes.{Appends}};
+ghost use Rattle.{pid_script.specs.Script.{with_newline}, script_session.specs.Progress.{HasStopped}};
 ghost use Rattle.pid_commands.specs.Faults.{fault_line, of_job};
 
+use itoa::Buffer;
+use pid_types::device::Sink;
 use pid_workers::RunFault;
 use script_session::job::JobFault;
+use script_session::outbox::write_all;
 use script_session::tally::RunScriptFault;
 use std::alloc::AllocError;
-use std::error::Error;
-use std::io::Write;
-use std::{fmt, io};
 
 /// Why a command stopped. Its text is the line that the program writes on standard error, without the
 /// newline.
@@ -34,29 +34,6 @@ pub enum Fault {
     /// The receipts of the worker and the history differ at the place, both counted from 0.
     Audit { worker: usize, place: usize },
 }
-
-impl fmt::Display for Fault {
-    ghost use Rattle.std.specs.Prelude.{Some};
-    ghost use Rattle.pid_commands.specs.Faults.{fault_line};
-
-    ghost output = { λ fault. Some (fault_line fault) };
-
-    fn fmt<W: fmt::Write>(&self, f: &mut fmt::Formatter<W>) -> fmt::Result {
-        match self {
-            Fault::Unreadable(file) => write!(f, "pidtab: cannot read {file}"),
-            Fault::TooLong(file) => write!(f, "pidtab: {file}: too long"),
-            Fault::BadLine(file, line) => write!(f, "pidtab: {file}: line {line}: bad line"),
-            Fault::Read => write!(f, "pidtab: read fault"),
-            Fault::Write => write!(f, "pidtab: write fault"),
-            Fault::TooManyTurns => write!(f, "pidtab: too many turns"),
-            Fault::NoMemory => write!(f, "pidtab: no memory"),
-            Fault::Start => write!(f, "pidtab: cannot start a thread"),
-            Fault::Audit { worker, place } => write!(f, "pidtab: audit {worker} {place}"),
-        }
-    }
-}
-
-impl Error for Fault {}
 
 impl Fault {
     /// The fault of the job file with the name.
@@ -114,11 +91,70 @@ impl From<RunFault> for Fault {
     }
 }
 
-/// Writes the line of the fault and its newline. It takes no memory, and the only error is that of the
-/// writer.
-pub fn write_fault_line<W: Write>(writer: &mut W, fault: &Fault) -> io::Result<()>
-    ensures { OnOk result (Appends (W.contents writer.old) (W.contents writer.new)
-        (with_newline (fault_line fault.now))) }
+/// Writes all of the bytes. The error is [`Fault::Write`].
+pub(crate) fn put<K: Sink>(sink: &mut K, bytes: &[u8]) -> Result<(), Fault>
+    ensures ok { OnOk result (Appends (K.contents sink.old) (K.contents sink.new) bytes.now) }
+    ensures fault { IfErr result (λ fault. fault ≡ Fault.Write) }
+    ensures stopped { OnErr result (HasStopped (K.has_failed sink.new) (K.is_full sink.new)) }
 {
-    writeln!(writer, "{fault}")
+    match write_all(sink, bytes) {
+        Ok(()) => Ok(()),
+        Err(_) => Err(Fault::Write),
+    }
+}
+
+/// Writes a number in decimal. The error is [`Fault::Write`].
+fn put_number<K: Sink>(sink: &mut K, number: u64) -> Result<(), Fault>
+    ensures ok { OnOk result (Appends (K.contents sink.old) (K.contents sink.new) (decimal number)) }
+    ensures stopped { OnErr result (HasStopped (K.has_failed sink.new) (K.is_full sink.new)) }
+{
+    let mut buffer = Buffer::new();
+    put(sink, buffer.format(number).as_bytes())
+}
+
+/// Writes what is before the file's name, the name, and what follows it. The error is [`Fault::Write`].
+fn put_named<K: Sink>(sink: &mut K, front: &[u8], file: &str, end: &[u8]) -> Result<(), Fault>
+    ensures ok { OnOk result (Appends (K.contents sink.old) (K.contents sink.new)
+        (front.now ++ (file.now ++ end.now))) }
+    ensures stopped { OnErr result (HasStopped (K.has_failed sink.new) (K.is_full sink.new)) }
+{
+    put(sink, front)?;
+    put(sink, file.as_bytes())?;
+    put(sink, end)
+}
+
+/// Writes what is before a number, the number, and what follows it. The error is [`Fault::Write`].
+fn put_counted<K: Sink>(sink: &mut K, front: &[u8], number: u64, end: &[u8]) -> Result<(), Fault>
+    ensures ok { OnOk result (Appends (K.contents sink.old) (K.contents sink.new)
+        (front.now ++ (decimal number ++ end.now))) }
+    ensures stopped { OnErr result (HasStopped (K.has_failed sink.new) (K.is_full sink.new)) }
+{
+    put(sink, front)?;
+    put_number(sink, number)?;
+    put(sink, end)
+}
+
+/// Writes the line of the fault and its newline. It takes no memory. The error is [`Fault::Write`].
+pub fn write_fault_line<K: Sink>(sink: &mut K, fault: &Fault) -> Result<(), Fault>
+    ensures ok { OnOk result (Appends (K.contents sink.old) (K.contents sink.new)
+        (with_newline (fault_line fault.now))) }
+    ensures stopped { OnErr result (HasStopped (K.has_failed sink.new) (K.is_full sink.new)) }
+{
+    match fault {
+        Fault::Unreadable(file) => put_named(sink, b"pidtab: cannot read ", file.as_str(), b"\n"),
+        Fault::TooLong(file) => put_named(sink, b"pidtab: ", file.as_str(), b": too long\n"),
+        Fault::BadLine(file, line) => {
+            put_named(sink, b"pidtab: ", file.as_str(), b": line ")?;
+            put_counted(sink, b"", *line, b": bad line\n")
+        }
+        Fault::Read => put(sink, b"pidtab: read fault\n"),
+        Fault::Write => put(sink, b"pidtab: write fault\n"),
+        Fault::TooManyTurns => put(sink, b"pidtab: too many turns\n"),
+        Fault::NoMemory => put(sink, b"pidtab: no memory\n"),
+        Fault::Start => put(sink, b"pidtab: cannot start a thread\n"),
+        Fault::Audit { worker, place } => {
+            put_counted(sink, b"pidtab: audit ", *worker as u64, b" ")?;
+            put_counted(sink, b"", *place as u64, b"\n")
+        }
+    }
 }

@@ -1,27 +1,25 @@
-//! The commands `run`, `list` and `work`, over a reader and writers of the caller's. [`run_answer`]
+//! The commands `run`, `list` and `work`, over a source and sinks of the caller's. [`run_answer`]
 //! is the one door; a fault of any command is one line on `errors` and the status 1.
-ghost use Rattle.std.specs.Prelude.{◌≡◌, ◌<◌, ◌≤◌, ⊤, Option, List, ℕ, None, false, length, OnOk, IfOk, IfErr, Result};
-ghost use Rattle.std.specs.{Prelude.{refl}, Io.KnownBytes.{Appends}};
+ghost use Rattle.std.specs.Prelude.{◌≡◌, ◌<◌, ◌≤◌, Bool, Option, List, ℕ, length, OnOk, IfOk, IfErr};
 ghost use Rattle.{
-  pid_script.specs.Script.{with_newline},
   pid_commands.specs.{declared.asked.Command.{Command}, declared.asked.WordsFault.{WordsFault}, Faults.{of_run}},
-  pid_commands.specs.{Output.{ListsScript, FailsToList, ShowsRun}, Commands.{RunsInput, FailsToRunInput, WritesList}},
-  pid_commands.specs.Commands.{FailsToWriteList, WritesRun, FailsToWriteRun, Does, Fails, Ends, IsSomeFile},
+  pid_commands.specs.Output.{ListsScript, FailsToList, ShowsRun},
+  pid_commands.specs.Commands.{streams, RunsScript, FailsToRun, WritesList, FailsToWriteList, WritesRun},
+  pid_commands.specs.Commands.{FailsToWriteRun, Does, Stops, Ends, IsSaid, IsSomeFile},
+  pid_workers.specs.Audits.{TellsAudit},
   worker_jobs.specs.declared.fault.RunFault.{RunFault},
 };
 
 use crate::asked::{Command, WordsFault};
-use crate::fault::{Fault, write_fault_line};
+use crate::fault::{Fault, put};
 use crate::jobs::{Opens, read_jobs};
 use crate::show::finished_text;
-use crate::status::{Status, write_usage_line};
+use crate::status::{Status, say_fault, say_usage};
 use pid_types::call::Call;
 use pid_types::config::Config;
-use pid_types::device::{Discard, FromReader, Source, ToWriter};
+use pid_types::device::{Discard, Sink, Source};
 use pid_workers::{Finished, JobFiles, MOST_READS, OpenGate, run, run_for_table, run_workers};
 use std::alloc::Global;
-use std::io;
-use std::io::{Read, Write};
 use std::marker::Brand;
 use std::rt::Files;
 use std::sync::Wait;
@@ -30,134 +28,129 @@ use std::thread::Threads;
 use std::time::Clock;
 use table_lines::list::list_table;
 
-/// Runs the command that the words after the program's name were read as: reads the
-/// script from the input, writes the output, flushes it, and writes the line of a fault or the usage
-/// line to `errors`.
+/// Runs the command that the words after the program's name were read as: reads the script from the source, writes the
+/// output to the sink, and the line of a fault or the usage line to `errors`.
 ///
-/// It may wait, for the workers of `work`. After a fault of `run` the output has the answers that
-/// were written before it; after one of `list` or `work` it has nothing, but where a write failed
-/// midway. The contract says of `errors` that a command that is done writes nothing there; where the
-/// line cannot be written nothing more is done.
-pub fn run_answer<R, I, O, E>(
+/// It may wait, for the workers of `work`. After a fault of `run` the sink has the answers that were written before it;
+/// after one of `list` or `work` it has nothing, but where a write failed midway. Whoever lends a sink that holds bytes
+/// back flushes it afterwards. Where the line cannot be written to `errors` nothing more is done.
+pub fn run_answer<R, S, K, E>(
     rt: &R,
     answer: Result<Command, WordsFault>,
-    input: I,
-    output: &mut O,
+    source: &mut S,
+    sink: &mut K,
     errors: &mut E,
 ) -> Status
 where
     R: Files + Threads + Wait + Clock + Sync + AllocGlobal,
-    I: Read + Drop,
-    O: Write,
-    E: Write,
-    ensures { Ends MOST_READS (λ _. IsSomeFile R.File.remaining) answer (I.remaining input) (O.contents output.old)
-        (O.contents output.new)
-        (E.contents errors.new ≡ E.contents errors.old) (λ _. ⊤) result }
+    S: Source,
+    K: Sink,
+    E: Sink,
+    ensures { Ends MOST_READS (λ _. IsSomeFile R.File.remaining) answer
+        (streams (S.remaining source.old) (S.remaining source.new) (S.has_failed source.new)
+        (K.contents sink.old) (K.contents sink.new) (K.has_failed sink.new) (K.is_full sink.new))
+        (errors.new ≡ errors.old)
+        (IsSaid (E.contents errors.old) (E.contents errors.new) (E.has_failed errors.new) (E.is_full errors.new))
+        result }
 {
-    let (status, _) = run_over(rt, rt, answer, input, output, errors);
-    status
+    run_over(rt, rt, answer, source, sink, errors)
 }
 
-/// Runs it over what opens the job files. It gives the status too, and whether the line that the
-/// status asks for could be written to `errors`.
-fn run_over<R, D, I, O, E>(
+/// Runs it over what opens the job files.
+fn run_over<R, D, S, K, E>(
     rt: &R,
     disk: &D,
     answer: Result<Command, WordsFault>,
-    input: I,
-    output: &mut O,
+    source: &mut S,
+    sink: &mut K,
     errors: &mut E,
-) -> (Status, io::Result<()>)
+) -> Status
 where
     R: Threads + Wait + Clock + Sync + AllocGlobal,
     D: Opens,
-    I: Read + Drop,
-    O: Write,
-    E: Write,
-    ensures { Ends MOST_READS (D.holds disk.now) answer (I.remaining input) (O.contents output.old)
-        (O.contents output.new)
-        (E.contents errors.new ≡ E.contents errors.old)
-        (λ line. OnOk result.1 (Appends (E.contents errors.old) (E.contents errors.new) (with_newline line))) result.0 }
+    S: Source,
+    K: Sink,
+    E: Sink,
+    ensures { Ends MOST_READS (D.holds disk.now) answer
+        (streams (S.remaining source.old) (S.remaining source.new) (S.has_failed source.new)
+        (K.contents sink.old) (K.contents sink.new) (K.has_failed sink.new) (K.is_full sink.new))
+        (errors.new ≡ errors.old)
+        (IsSaid (E.contents errors.old) (E.contents errors.new) (E.has_failed errors.new) (E.is_full errors.new))
+        result }
 {
     match answer {
-        Ok(command) => match run_command(rt, disk, command, input, output) {
-            Ok(()) => (Status::Done, Ok(())),
-            Err(fault) => (Status::Failed, write_fault_line(errors, &fault)),
+        Ok(command) => match run_command(rt, disk, command, source, sink) {
+            Ok(()) => Status::Done,
+            Err(fault) => say_fault(errors, &fault),
         },
-        Err(WordsFault::Usage) => (Status::Misused, write_usage_line(errors)),
-        Err(WordsFault::NoMemory) => {
-            (Status::Failed, write_fault_line(errors, &Fault::NoMemory))
-        }
+        Err(WordsFault::Usage) => say_usage(errors),
+        Err(WordsFault::NoMemory) => say_fault(errors, &Fault::NoMemory),
     }
 }
 
-/// Runs a command, and flushes the output.
-fn run_command<R, D, I, O>(
+/// Runs a command.
+fn run_command<R, D, S, K>(
     rt: &R,
     disk: &D,
     command: Command,
-    input: I,
-    output: &mut O,
+    source: &mut S,
+    sink: &mut K,
 ) -> Result<(), Fault>
 where
     R: Threads + Wait + Clock + Sync + AllocGlobal,
     D: Opens,
-    I: Read + Drop,
-    O: Write,
-    ensures ok { OnOk result (Does (D.holds disk.now) command (I.remaining input) (O.contents output.old)
-        (O.contents output.new)) }
-    ensures fault { IfErr result (Fails MOST_READS (D.holds disk.now) command (I.remaining input)
-        (O.contents output.old) (O.contents output.new)) }
+    S: Source,
+    K: Sink,
+    ensures ok { OnOk result (Does (D.holds disk.now) command
+        (streams (S.remaining source.old) (S.remaining source.new) (S.has_failed source.new)
+        (K.contents sink.old) (K.contents sink.new) (K.has_failed sink.new) (K.is_full sink.new))) }
+    ensures fault { IfErr result (Stops MOST_READS (D.holds disk.now) command
+        (streams (S.remaining source.old) (S.remaining source.new) (S.has_failed source.new)
+        (K.contents sink.old) (K.contents sink.new) (K.has_failed sink.new) (K.is_full sink.new))) }
 {
     match command {
-        Command::Run(config) => run_script(rt.alloc(), &config, input, output)?,
-        Command::List(config) => list_script(rt.alloc(), &config, input, output)?,
-        Command::Work { config, files } => work(rt, disk, &config, files, output)?,
-    }
-    match output.flush() {
-        Ok(()) => Ok(()),
-        Err(_) => Err(Fault::Write),
+        Command::Run(config) => run_script(rt.alloc(), &config, source, sink),
+        Command::List(config) => list_script(rt.alloc(), &config, source, sink),
+        Command::Work { config, files } => work(rt, disk, &config, files, sink),
     }
 }
 
 /// Writes the answers to a script.
-fn run_script<I: Read + Drop, O: Write>(
+fn run_script<S: Source, K: Sink>(
     alloc: Global,
     config: &Config,
-    input: I,
-    output: &mut O,
+    source: &mut S,
+    sink: &mut K,
 ) -> Result<(), Fault>
-    ensures ok { OnOk result (RunsInput config.now (I.remaining input) (O.contents output.old)
-        (O.contents output.new)) }
-    ensures fault { IfErr result (FailsToRunInput MOST_READS config.now (I.remaining input) (O.contents output.old)
-        (O.contents output.new)) }
+    ensures ok { OnOk result (RunsScript config.now
+        (streams (S.remaining source.old) (S.remaining source.new) (S.has_failed source.new)
+        (K.contents sink.old) (K.contents sink.new) (K.has_failed sink.new) (K.is_full sink.new))) }
+    ensures fault { IfErr result (FailsToRun MOST_READS config.now
+        (streams (S.remaining source.old) (S.remaining source.new) (S.has_failed source.new)
+        (K.contents sink.old) (K.contents sink.new) (K.has_failed sink.new) (K.is_full sink.new))) }
 {
-    let mut source = FromReader::new(input);
-    let mut sink = ToWriter::new(output);
-    match run(alloc, &mut source, &mut sink, config) {
+    match run(alloc, source, sink, config) {
         Ok(_) => Ok(()),
         Err(fault) => Err(Fault::from(fault)),
     }
 }
 
 /// Writes the list of the table that a script leaves.
-fn list_script<I: Read + Drop, O: Write>(
+fn list_script<S: Source, K: Sink>(
     alloc: Global,
     config: &Config,
-    input: I,
-    output: &mut O,
+    source: &mut S,
+    sink: &mut K,
 ) -> Result<(), Fault>
-    ensures ok { OnOk result (WritesList config.now (I.remaining input) (O.contents output.old)
-        (O.contents output.new)) }
-    ensures fault { IfErr result (FailsToWriteList MOST_READS config.now (I.remaining input) (O.contents output.old)
-        (O.contents output.new)) }
+    ensures ok { OnOk result (WritesList config.now
+        (streams (S.remaining source.old) (S.remaining source.new) (S.has_failed source.new)
+        (K.contents sink.old) (K.contents sink.new) (K.has_failed sink.new) (K.is_full sink.new))) }
+    ensures fault { IfErr result (FailsToWriteList MOST_READS config.now
+        (streams (S.remaining source.old) (S.remaining source.new) (S.has_failed source.new)
+        (K.contents sink.old) (K.contents sink.new) (K.has_failed sink.new) (K.is_full sink.new))) }
 {
-    let mut source = FromReader::new(input);
-    let list = list_of_script(alloc, &mut source, config)?;
-    match output.write_all(list.as_slice()) {
-        Ok(()) => Ok(()),
-        Err(_) => Err(Fault::Write),
-    }
+    let list = list_of_script(alloc, source, config)?;
+    put(sink, list.as_slice())
 }
 
 /// The list of the table that a script leaves. It is no list where a call of the script found no memory.
@@ -180,29 +173,28 @@ fn list_of_script<S: Source>(
 
 /// Reads the job files, runs a worker for each, and writes what they had. Its text is held whole, so
 /// nothing is written where a worker's thread, the audit or memory is at fault.
-fn work<R, D, O>(
+fn work<R, D, K>(
     rt: &R,
     disk: &D,
     config: &Config,
     files: JobFiles,
-    output: &mut O,
+    sink: &mut K,
 ) -> Result<(), Fault>
 where
     R: Threads + Wait + Clock + Sync + AllocGlobal,
     D: Opens,
-    O: Write,
-    ensures ok { OnOk result (WritesRun (D.holds disk.now) config.now files.names.items (O.contents output.old)
-        (O.contents output.new)) }
-    ensures fault { IfErr result (FailsToWriteRun (D.holds disk.now) config.now files.names.items
-        (O.contents output.old) (O.contents output.new)) }
+    K: Sink,
+    ensures ok { (from to : Option (List ℕ)) (unread : Bool) → OnOk result (WritesRun (D.holds disk.now) config.now
+        files.names.items (streams from to unread
+        (K.contents sink.old) (K.contents sink.new) (K.has_failed sink.new) (K.is_full sink.new))) }
+    ensures fault { (from to : Option (List ℕ)) (unread : Bool) → IfErr result (FailsToWriteRun (D.holds disk.now)
+        config.now files.names.items (streams from to unread
+        (K.contents sink.old) (K.contents sink.new) (K.has_failed sink.new) (K.is_full sink.new))) }
 {
     let jobs = read_jobs(rt.alloc(), disk, files)?;
     let blank = Blank::new(jobs.len() as u64);
     let text = run_jobs::<Brand, R>(rt, blank, config, jobs.as_slice())?;
-    match output.write_all(text.as_slice()) {
-        Ok(()) => Ok(()),
-        Err(_) => Err(Fault::Write),
-    }
+    put(sink, text.as_slice())
 }
 
 /// Runs a worker for each job, and gives the text of what they had. There are 2 to 16.
@@ -216,7 +208,8 @@ fn run_jobs<L: Ledger + Send + Sync, R: Threads + Wait + Clock + Sync + AllocGlo
     requires parts { (blank.parts ≡ L.parts) × (L.parts ≡ length jobs.now) }
     requires count { (2 ≤ length jobs.now) × (length jobs.now ≤ 16) }
     ensures ok { IfOk result (λ text. ShowsRun config.now jobs.now text.items) }
-    ensures fault { IfErr result (λ e. (cause : RunFault) × (e ≡ of_run cause)) }
+    ensures fault { IfErr result (λ e. (cause : RunFault) × (e ≡ of_run cause)
+        × TellsAudit config.now jobs.now cause) }
 {
     match jobs.len() {
         2 => run_all::<L, R, 2>(rt, blank, config, jobs),
@@ -249,7 +242,8 @@ fn run_all<L: Ledger + Send + Sync, R: Threads + Wait + Clock + Sync + AllocGlob
     requires parts { (blank.parts ≡ L.parts) × (L.parts ≡ N) × (0 < N) }
     requires jobs { length jobs.now ≡ N }
     ensures ok { IfOk result (λ text. ShowsRun config.now jobs.now text.items) }
-    ensures fault { IfErr result (λ e. (cause : RunFault) × (e ≡ of_run cause)) }
+    ensures fault { IfErr result (λ e. (cause : RunFault) × (e ≡ of_run cause)
+        × TellsAudit config.now jobs.now cause) }
 {
     let finished = run_workers::<L, OpenGate, R, N>(
         rt,

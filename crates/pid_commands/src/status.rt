@@ -1,11 +1,13 @@
 //! How a command ends: its exit status, and the line that it leaves on standard error.
-ghost use Rattle.std.specs.{Prelude.{◌≡◌, OnOk}, Io.KnownBytes.{Appends}};
-ghost use Rattle.pid_script.specs.Script.{with_newline};
-ghost use Rattle.pid_commands.specs.{Faults.{usage_line}, declared.status.Status.TheVariants.{Done, Failed, Misused}};
+ghost use Rattle.std.specs.Prelude.{◌≡◌};
+ghost use Rattle.pid_commands.specs.{
+  Commands.{IsSaid},
+  Faults.{fault_line, usage_line},
+  declared.status.Status.TheVariants.{Done, Failed, Misused},
+};
 
-use crate::fault::{Fault, write_fault_line};
-use std::io;
-use std::io::Write;
+use crate::fault::{Fault, put, write_fault_line};
+use pid_types::device::Sink;
 
 /// How a command ended.
 #[derive(Clone, Copy)]
@@ -33,25 +35,21 @@ impl Status {
     }
 }
 
-/// Writes the line that says how the program is called, and its newline. The only error is that of
-/// the writer.
-pub(crate) fn write_usage_line<W: Write>(writer: &mut W) -> io::Result<()>
-    ensures { OnOk result (Appends (W.contents writer.old) (W.contents writer.new) (with_newline usage_line)) }
-{
-    writer.write_all(b"pidtab: usage\n")
-}
-
 /// Writes how the program is called. Where that cannot be written nothing more is done.
-pub fn say_usage<E: Write>(errors: &mut E) -> Status
-    ensures { result ≡ Misused }
+pub fn say_usage<E: Sink>(errors: &mut E) -> Status
+    ensures status { result ≡ Misused }
+    ensures said { IsSaid (E.contents errors.old) (E.contents errors.new) (E.has_failed errors.new)
+        (E.is_full errors.new) usage_line }
 {
-    let _ = write_usage_line(errors);
+    let _ = put(errors, b"pidtab: usage\n");
     Status::Misused
 }
 
 /// Writes the line of the fault. Where that cannot be written nothing more is done.
-pub fn say_fault<E: Write>(errors: &mut E, fault: &Fault) -> Status
-    ensures { result ≡ Failed }
+pub fn say_fault<E: Sink>(errors: &mut E, fault: &Fault) -> Status
+    ensures status { result ≡ Failed }
+    ensures said { IsSaid (E.contents errors.old) (E.contents errors.new) (E.has_failed errors.new)
+        (E.is_full errors.new) (fault_line fault.now) }
 {
     let _ = write_fault_line(errors, fault);
     Status::Failed

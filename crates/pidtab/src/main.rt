@@ -3,7 +3,10 @@
 //! table that they share.
 #![tactic(auto)]
 
-use pid_commands::{Fault, Status, WordsFault, run_answer, say_fault, say_usage};
+use pid_commands::{
+    Command, Fault, PatientWriter, Status, WordsFault, run_answer, say_fault, say_usage,
+};
+use pid_types::device::{FromReader, ToWriter};
 use pid_words::read_words;
 use std::io::ErrorKind;
 use std::process::ExitCode;
@@ -11,17 +14,26 @@ use std::rt::Env;
 use std::{env, io};
 
 fn main(rt: HostRuntime) -> ExitCode {
-    let mut errors = rt.stderr();
-    let status = match given_words(&rt) {
-        Ok(words) => run_answer(
-            &rt,
-            read_words(rt.alloc(), words.as_slice()),
-            rt.reader(),
-            &mut io::writer(&rt),
-            &mut errors,
-        ),
-        Err(WordsFault::Usage) => say_usage(&mut errors),
-        Err(WordsFault::NoMemory) => say_fault(&mut errors, &Fault::NoMemory),
+    let mut stderr = rt.stderr();
+    let mut patient = PatientWriter::new(&mut stderr);
+    let mut errors = ToWriter::new(&mut patient);
+    let words = match given_words(&rt) {
+        Ok(words) => words,
+        Err(WordsFault::Usage) => return exit_code(say_usage(&mut errors)),
+        Err(WordsFault::NoMemory) => return exit_code(say_fault(&mut errors, &Fault::NoMemory)),
+    };
+    let answer = read_words(rt.alloc(), words.as_slice());
+    let mut source = FromReader::new(rt.reader());
+    // What prints holds no byte back, so nothing is to be flushed.
+    let mut stdout = io::writer(&rt);
+    // To `run` an interrupted write is a fault, as an interrupted read is.
+    let status = if matches!(answer, Ok(Command::Run(_))) {
+        let mut sink = ToWriter::new(&mut stdout);
+        run_answer(&rt, answer, &mut source, &mut sink, &mut errors)
+    } else {
+        let mut patient = PatientWriter::new(&mut stdout);
+        let mut sink = ToWriter::new(&mut patient);
+        run_answer(&rt, answer, &mut source, &mut sink, &mut errors)
     };
     exit_code(status)
 }

@@ -1,12 +1,13 @@
 //! What the commands say of faults that no run meets. `make hostile` and `stored/commands` have the others.
 
 use pid_commands::{Fault, write_fault_line};
+use pid_types::device::ToWriter;
 use std::process::Abort;
 
 /// Asserts what the line of the fault is.
 fn expect_line(rt: &(impl AllocGlobal + Abort), fault: &Fault, line: &str) {
     let mut text = Vec::new(rt.alloc());
-    write_fault_line(&mut text, fault).expect(rt, "not written");
+    write_fault_line(&mut ToWriter::new(&mut text), fault).expect(rt, "not written");
     assert!(rt; text.as_slice() == line.as_bytes());
 }
 

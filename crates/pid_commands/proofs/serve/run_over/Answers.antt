@@ -3,9 +3,6 @@ use Rattle.pid_commands.specs.declared.fault.Fault.TheVariants.{NoMemory}
 use Rattle.pid_commands.proofs.serve.run_over.Goals as goal
 
 -- there was no memory to read the words
-pub returns : goal.returns
-returns g c = (NoMemory, inl (search rules, refl, refl), c.write_fault_line-in-Err-NoMemory.ensures)
-
--- a command that is done
-pub returns-in-Ok : goal.returns-in-Ok
-returns-in-Ok g c = search rules
+pub returns-in-Err-NoMemory : goal.returns-in-Err-NoMemory
+returns-in-Err-NoMemory g c =
+    rw c.say_fault-in-Err-NoMemory.ensures.status (NoMemory, inl (search rules, refl, refl), c.say_fault-in-Err-NoMemory.ensures.said)
