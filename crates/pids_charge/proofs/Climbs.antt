@@ -73,3 +73,8 @@ none_deeper t w (Some a) b less = go (is_under t a b) refl
     go : (v : Bool) → is_under t a b ≡ v → weight t a b ≡ 0
     go true e = absurd (let low = reaches_low t.up t.level (up_levels t w) (t.level a) a b refl e in omega (arith, low, less))
     go false e = ap one_if e
+
+-- a step leads one level up
+pub one_less_deep : (t : TreeOfNodes) → HasLevels t → ((j : ℕ) → t.up j ≡ None → t.level j ≡ 0) → (at : Option ℕ) (a : ℕ) (next : Option ℕ) → at ≡ Some a → next ≡ t.up a → depth t next + 1 ≡ depth t at
+one_less_deep t w top at a None is above = omega (arith, ap (depth t) is, top a (sym above))
+one_less_deep t w top at a (Some p) is above = omega (arith, ap (depth t) is, (w a p (sym above)).1)

@@ -1,7 +1,7 @@
 //! The walks from a node to the root, which keep the totals of subtrees. They read counters alone, except the levels
 //! that say which of two nodes is deeper. The nodes are named for the contracts, which speak of their tree.
 
-ghost use Rattle.std.specs.Prelude.{◌≡◌, ℕ, ◌+◌, ◌<◌, ◌≤◌, ◌^◌, true, Some};
+ghost use Rattle.std.specs.Prelude.{◌≡◌, ℕ, ◌+◌, ◌<◌, ◌≤◌, ◌^◌, true, None, Some};
 ghost use Rattle.slab.specs.Slab.{ContainsKey};
 ghost use Rattle.pids_charge.specs.Nodes.{depth, one_at, tree_of, is_under, weight, HasLevels};
 ghost use Rattle.pids_charge.specs.Kept.{total_at, AreLinked};
@@ -99,6 +99,7 @@ pub(crate) fn shift(
 )
     requires levels { HasLevels (tree_of nodes.now) }
     requires deep { (k : ℕ) → (tree_of nodes.now).level k ≤ 64 }
+    requires top { (k : ℕ) → (tree_of nodes.now).up k ≡ None → (tree_of nodes.now).level k ≡ 0 }
     requires from { ContainsKey nodes.now from }
     requires to { ContainsKey nodes.now to }
     requires linked { AreLinked nodes.now counters.old.items }
@@ -111,14 +112,17 @@ pub(crate) fn shift(
 {
     let mut less = Some(from);
     let mut more = Some(to);
+    let mut less_depth = depth_at(nodes, less);
+    let mut more_depth = depth_at(nodes, more);
     while less != more {
-        let is_below = depth_at(nodes, less) < depth_at(nodes, more);
-        if is_below {
+        if less_depth < more_depth {
             let Some(key) = more else { unreachable!() };
             more = count_on(nodes, counters, key);
+            more_depth -= 1;
         } else {
             let Some(key) = less else { unreachable!() };
             less = count_off(nodes, counters, key);
+            less_depth -= 1;
         }
     }
 }

@@ -11,7 +11,7 @@ count_on-more-requires-clause-few c =
     let t = tree_of c.args.nodes.now in
     let own = climbs.one-own t c.requires.levels c.loop-less.more b c.in-Some.is in
     let under = climbs.weight_true t c.args.to b (omega (arith, own, c.loop-less.invariant.more_part b)) in
-    let deeper : depth t c.loop-less.less < suc (t.level b) = omega (arith, c.if-is_below.true, c.depth_at.ensures, c.depth_at-in-loop-less.ensures, ap (depth t) c.in-Some.is) in
+    let deeper : depth t c.loop-less.less < suc (t.level b) = omega (arith, c.if-less_depth-more_depth.true, c.loop-less.invariant.less_deep, c.loop-less.invariant.more_deep, ap (depth t) c.in-Some.is) in
     let apart = climbs.none_deeper t c.requires.levels c.loop-less.less b deeper in
     omega (arith, own, apart, c.loop-less.invariant.totals b, climbs.weight_one t c.args.to b under, c.requires.few b under)
 
@@ -23,8 +23,8 @@ count_off-less-requires-clause-some c =
     let under = climbs.weight_true t c.args.from a (omega (arith, own, c.loop-less.invariant.less_part a)) in
     omega (arith, own, c.loop-less.invariant.totals a, c.loop-less.invariant.more_part a, climbs.weight_one t c.args.from a under, c.requires.some a under)
 
-pub loop-less-preserved-then-is_below : goal.loop-less-preserved-then-is_below
-loop-less-preserved-then-is_below c =
+pub loop-less-preserved-then-less_depth-more_depth : goal.loop-less-preserved-then-less_depth-more_depth
+loop-less-preserved-then-less_depth-more_depth c =
     let b = c.in-Some.key in
     let step = climbs.left-step (tree_of c.args.nodes.now) c.requires.levels c.loop-less.more b c.count_on-more.result c.in-Some.is c.count_on-more.ensures.up in
     record {
@@ -34,6 +34,8 @@ loop-less-preserved-then-is_below c =
       less_part = c.loop-less.invariant.less_part;
       more_part = λ k. omega (arith, step k, c.loop-less.invariant.more_part k);
       linked = c.count_on-more.ensures.linked;
+      less_deep = c.loop-less.invariant.less_deep;
+      more_deep = omega (arith, c.loop-less.invariant.more_deep, climbs.one_less_deep (tree_of c.args.nodes.now) c.requires.levels c.requires.top c.loop-less.more b c.count_on-more.result c.in-Some.is c.count_on-more.ensures.up);
     }
 
 pub loop-less-preserved : goal.loop-less-preserved
@@ -47,4 +49,6 @@ loop-less-preserved c =
       less_part = λ k. omega (arith, step k, c.loop-less.invariant.less_part k);
       more_part = c.loop-less.invariant.more_part;
       linked = c.count_off-less.ensures.linked;
+      less_deep = omega (arith, c.loop-less.invariant.less_deep, climbs.one_less_deep (tree_of c.args.nodes.now) c.requires.levels c.requires.top c.loop-less.less a c.count_off-less.result c.in-Some-less.is c.count_off-less.ensures.up);
+      more_deep = c.loop-less.invariant.more_deep;
     }

@@ -11,6 +11,8 @@ invariant-loop-less l = record {
   less_part : (k : ℕ) → left (tree_of l.nodes) l.less k ≤ weight (tree_of l.nodes) l.from k;
   more_part : (k : ℕ) → left (tree_of l.nodes) l.more k ≤ weight (tree_of l.nodes) l.to k;
   linked : AreLinked l.nodes l.counters.items;
+  less_deep : l.less_depth ≡ depth (tree_of l.nodes) l.less;
+  more_deep : l.more_depth ≡ depth (tree_of l.nodes) l.more;
 }
 
 abbrev pub decreases-loop-less : goal.decreases-loop-less
