@@ -61,6 +61,9 @@ enum {
 #define OPENED "`cgroup.procs`, `cgroup.threads` and `tasks` are refused for writing"
 #define REWOUND \
 	"a file of `/proc` that the box has written, at its beginning: it is written anew, by a filter of its own"
+#define MADE "a folder, with `--cgroups`"
+#define WRITTEN "a file of the table's, which is open for writing: by a filter of its own"
+#define CARRIED_THERE "to such a file"
 #define PRIORITY "all operations with priorities: the kernel compares the word with its own numbers"
 #define NONE(name, x86_64, aarch64) { #name, { x86_64, aarch64 }, PLAIN, .note = NULL }
 
@@ -255,6 +258,21 @@ const struct call calls[] = {
 		.note = "of `/proc` and of `/proc/N/task`" },
 	{ "getdents", { 78, -1 }, REFUSED, .note = "the old form of `getdents64`" },
 
+	/* The control groups of the table, which --cgroups shows. */
+	{ "mkdir", { 83, -1 }, KERNEL, .in = { VALUE(0, CONTROL) }, .enter = enter_mkdir, .leave = leave_mkdir, .note = MADE },
+	{ "mkdirat", { 258, 34 }, KERNEL, .in = { VALUE(1, CONTROL) }, .enter = enter_mkdir_at, .leave = leave_mkdir_at, .note = MADE },
+	{ "rmdir", { 84, -1 }, TABLE, .in = { VALUE(0, CONTROL) }, .enter = enter_rmdir, .note = MADE },
+	{ "unlinkat", { 263, 35 }, TABLE, .test = WHEN_HAS(2, AT_REMOVEDIR, AT_REMOVEDIR), .in = { VALUE(1, CONTROL) }, .enter = enter_rmdir_at,
+		.note = MADE },
+	{ "write", { 1, 64 }, TABLE, .test = UNSEEN, .in = { VALUE(0, CONTROL) }, .enter = enter_write, .note = WRITTEN },
+	{ "pwrite64", { 18, 68 }, TABLE, .test = UNSEEN, .in = { VALUE(0, CONTROL) }, .enter = enter_write, .note = WRITTEN },
+	{ "writev", { 20, 66 }, TABLE, .test = UNSEEN, .in = { VALUE(0, CONTROL) }, .enter = enter_write, .note = WRITTEN },
+	{ "pwritev", { 296, 70 }, TABLE, .test = UNSEEN, .in = { VALUE(0, CONTROL) }, .enter = enter_write, .note = WRITTEN },
+	{ "pwritev2", { 328, 287 }, TABLE, .test = UNSEEN, .in = { VALUE(0, CONTROL) }, .enter = enter_write, .note = WRITTEN },
+	{ "sendfile", { 40, 71 }, REFUSED, .test = UNSEEN, .enter = enter_carry, .note = CARRIED_THERE },
+	{ "splice", { 275, 76 }, REFUSED, .test = UNSEEN, .enter = enter_carry, .note = CARRIED_THERE },
+	{ "copy_file_range", { 326, 285 }, REFUSED, .test = UNSEEN, .enter = enter_carry, .note = CARRIED_THERE },
+
 	/* What has identifiers that are not translated. */
 	{ "ptrace", { 101, 117 }, REFUSED, .note = "the box is the tracer" },
 	{ "perf_event_open", { 298, 241 }, REFUSED, .note = "samples have the kernel's numbers" },
@@ -268,20 +286,19 @@ const struct call calls[] = {
 	{ "acct", { 163, 89 }, REFUSED, .note = "its records have processes" },
 
 	/* Plain: no identifier, or one of a descriptor alone. */
-	NONE(write, 1, 64), NONE(close, 3, 57), NONE(fstat, 5, 80), NONE(poll, 7, -1),
+	NONE(close, 3, 57), NONE(fstat, 5, 80), NONE(poll, 7, -1),
 	NONE(mprotect, 10, 226), NONE(munmap, 11, 215), NONE(brk, 12, 214),
-	NONE(rt_sigprocmask, 14, 135), NONE(rt_sigreturn, 15, 139), NONE(pwrite64, 18, 68),
-	NONE(writev, 20, 66), NONE(pipe, 22, -1), NONE(select, 23, -1), NONE(sched_yield, 24, 124), NONE(mremap, 25, 216),
+	NONE(rt_sigprocmask, 14, 135), NONE(rt_sigreturn, 15, 139), NONE(pipe, 22, -1), NONE(select, 23, -1), NONE(sched_yield, 24, 124), NONE(mremap, 25, 216),
 	NONE(msync, 26, 227), NONE(mincore, 27, 232), NONE(madvise, 28, 233), NONE(shmget, 29, 194),
 	NONE(dup, 32, 23), NONE(dup2, 33, -1), NONE(pause, 34, -1), NONE(nanosleep, 35, 101), NONE(getitimer, 36, 102),
-	NONE(alarm, 37, -1), NONE(setitimer, 38, 103), NONE(sendfile, 40, 71), NONE(socket, 41, 198),
+	NONE(alarm, 37, -1), NONE(setitimer, 38, 103), NONE(socket, 41, 198),
 	NONE(connect, 42, 203), NONE(accept, 43, 202), NONE(sendto, 44, 206), NONE(recvfrom, 45, 207),
 	NONE(shutdown, 48, 210), NONE(bind, 49, 200), NONE(listen, 50, 201), NONE(getsockname, 51, 204),
 	NONE(getpeername, 52, 205), NONE(socketpair, 53, 199), NONE(execve, 59, 221),
 	NONE(exit, 60, 93), NONE(uname, 63, 160), NONE(semget, 64, 190), NONE(semop, 65, 193), NONE(shmdt, 67, 197),
 	NONE(msgget, 68, 186), NONE(msgsnd, 69, 189), NONE(msgrcv, 70, 188), NONE(flock, 73, 32), NONE(fsync, 74, 82),
 	NONE(fdatasync, 75, 83), NONE(truncate, 76, 45), NONE(ftruncate, 77, 46), NONE(getcwd, 79, 17),
-	NONE(fchdir, 81, 50), NONE(rename, 82, -1), NONE(mkdir, 83, -1), NONE(rmdir, 84, -1),
+	NONE(fchdir, 81, 50), NONE(rename, 82, -1), 
 	NONE(link, 86, -1), NONE(unlink, 87, -1), NONE(symlink, 88, -1), NONE(chmod, 90, -1), NONE(fchmod, 91, 52),
 	NONE(chown, 92, -1), NONE(fchown, 93, 55), NONE(lchown, 94, -1), NONE(umask, 95, 166), NONE(gettimeofday, 96, 169),
 	NONE(getrlimit, 97, 163), NONE(getrusage, 98, 165), NONE(sysinfo, 99, 179), NONE(times, 100, 153),
@@ -317,18 +334,18 @@ const struct call calls[] = {
 	NONE(mq_timedreceive, 243, 183), NONE(mq_notify, 244, 184), NONE(mq_getsetattr, 245, 185),
 	NONE(kexec_load, 246, 104), NONE(add_key, 248, 217), NONE(request_key, 249, 218), NONE(keyctl, 250, 219),
 	NONE(inotify_init, 253, -1), NONE(inotify_add_watch, 254, 27), NONE(inotify_rm_watch, 255, 28),
-	NONE(mkdirat, 258, 34), NONE(mknodat, 259, 33), NONE(fchownat, 260, 54), NONE(futimesat, 261, -1),
-	NONE(unlinkat, 263, 35), NONE(renameat, 264, 38), NONE(linkat, 265, 37), NONE(symlinkat, 266, 36),
-	NONE(fchmodat, 268, 53), NONE(pselect6, 270, 72), NONE(ppoll, 271, 73), NONE(splice, 275, 76), NONE(tee, 276, 77),
+	NONE(mknodat, 259, 33), NONE(fchownat, 260, 54), NONE(futimesat, 261, -1),
+	NONE(renameat, 264, 38), NONE(linkat, 265, 37), NONE(symlinkat, 266, 36),
+	NONE(fchmodat, 268, 53), NONE(pselect6, 270, 72), NONE(ppoll, 271, 73), NONE(tee, 276, 77),
 	NONE(sync_file_range, 277, 84), NONE(vmsplice, 278, 75), NONE(utimensat, 280, 88), NONE(epoll_pwait, 281, 22),
 	NONE(timerfd_create, 283, 85), NONE(eventfd, 284, -1), NONE(fallocate, 285, 47), NONE(timerfd_settime, 286, 86),
 	NONE(timerfd_gettime, 287, 87), NONE(accept4, 288, 242), NONE(eventfd2, 290, 19), NONE(epoll_create1, 291, 20),
 	NONE(dup3, 292, 24), NONE(pipe2, 293, 59), NONE(inotify_init1, 294, 26),
-	NONE(pwritev, 296, 70), NONE(fanotify_mark, 301, 263), NONE(name_to_handle_at, 303, 264),
+	NONE(fanotify_mark, 301, 263), NONE(name_to_handle_at, 303, 264),
 	NONE(open_by_handle_at, 304, 265), NONE(syncfs, 306, 267), NONE(getcpu, 309, 168), NONE(finit_module, 313, 273),
 	NONE(renameat2, 316, 276), NONE(getrandom, 318, 278), NONE(memfd_create, 319, 279),
 	NONE(kexec_file_load, 320, 294), NONE(execveat, 322, 281), NONE(membarrier, 324, 283), NONE(mlock2, 325, 284),
-	NONE(copy_file_range, 326, 285), NONE(pwritev2, 328, 287), NONE(pkey_mprotect, 329, 288),
+	NONE(pkey_mprotect, 329, 288),
 	NONE(pkey_alloc, 330, 289), NONE(pkey_free, 331, 290), NONE(io_pgetevents, 333, 292), NONE(rseq, 334, 293),
 	NONE(pidfd_send_signal, 424, 424), NONE(open_tree, 428, 428), NONE(move_mount, 429, 429), NONE(fsopen, 430, 430),
 	NONE(fsconfig, 431, 431), NONE(fsmount, 432, 432), NONE(fspick, 433, 433), NONE(close_range, 436, 436),
@@ -403,7 +420,7 @@ static const char *kind_word(enum kind kind)
 	static const char *const words[] = {
 		[NO_KIND] = "", [PROCESS] = "process", [TASK] = "process or thread", [GROUP] = "group or session",
 		[PROCESS_OR_GROUP] = "process, or -group", [CLOCK] = "clock of a process or thread", [PATH] = "path below /proc",
-		[DIRECTORY] = "names in /proc"
+		[DIRECTORY] = "names in /proc", [CONTROL] = "control group"
 	};
 
 	return words[kind];

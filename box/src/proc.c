@@ -121,11 +121,12 @@ bool place_write(const struct place *place, char *path)
 /* The file whose numbers are translated, as it is named below a process or a thread; or none. */
 const char *place_file(const struct place *place)
 {
-	static const char *const files[] = { "/stat", "/status", "/children" };
+	static const char *const files[] = { "/stat", "/status", "/children", "/cgroup" };
+	int count = (int)(sizeof files / sizeof files[0]) - !shows_controls;
 
 	if (!place->process || place->where != BELOW)
 		return NULL;
-	for (size_t i = 0; i < sizeof files / sizeof files[0]; i++)
+	for (int i = 0; i < count; i++)
 		if (!strcmp(place->rest, files[i]))
 			return files[i];
 	return strncmp(place->rest, "/fdinfo/", 8) ? NULL : "/fdinfo";
@@ -137,7 +138,7 @@ const char *place_file(const struct place *place)
  * entries that have numbers. */
 static bool may_be_in_proc(const char *head, size_t size)
 {
-	static const char *const entries[] = { "/proc", "self", "thread", "task", "stat", "childr", "fdinfo" };
+	static const char *const entries[] = { "/proc", "self", "thread", "task", "stat", "childr", "fdinfo", "cgroup" };
 
 	for (size_t i = 0; i < sizeof entries / sizeof entries[0]; i++)
 		if (!strncmp(head, entries[i], size < strlen(entries[i]) ? size : strlen(entries[i])))

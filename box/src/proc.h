@@ -25,6 +25,7 @@ void place_step(struct place *place, const struct thread *caller, const char *wo
 bool place_find(struct place *place, const struct thread *thread, const char *path, int folder);
 bool place_write(const struct place *place, char *path);
 const char *place_file(const struct place *place);
+void copied_from(const char *link, char path[LONGEST_PATH]);
 enum onward take_path(struct thread *thread, struct registers *registers, int index, const char *path);
 
 #endif
