@@ -116,7 +116,7 @@ const struct call calls[] = {
 	{ "tgkill", { 234, 131 }, KERNEL, .in = { VALUE(0, PROCESS), VALUE(1, TASK) } },
 	{ "rt_sigqueueinfo", { 129, 138 }, KERNEL, .in = { VALUE(0, TASK) } },
 	{ "rt_tgsigqueueinfo", { 297, 240 }, KERNEL, .in = { VALUE(0, PROCESS), VALUE(1, TASK) } },
-	{ "rt_sigaction", { 13, 134 }, KERNEL, .test = WHEN_IS(0, SIGCHLD), .enter = enter_sigaction,
+	{ "rt_sigaction", { 13, 134 }, KERNEL, .test = WHEN_IS(0, SIGCHLD), .also = { GIVEN, 1, 0, 0 }, .enter = enter_sigaction,
 		.note = "of `SIGCHLD`, which may say that children leave no zombies" },
 	{ "rt_sigtimedwait", { 128, 137 }, KERNEL, .out = { MEMORY(1, AT_SENDER, PROCESS) }, .leave = leave_sigtimedwait },
 	{ "signalfd", { 282, -1 }, KERNEL, .enter = enter_signalfd, .leave = leave_signalfd, .note = "what is read of it has the sender" },
@@ -389,6 +389,8 @@ static bool holds(const struct test *test, const struct registers *registers)
 
 	if (test->how == ALWAYS || test->how == NEVER)
 		return true;
+	if (test->how == GIVEN)
+		return registers_argument(registers, test->argument) != 0;
 	is_so = ((uint32_t)registers_argument(registers, test->argument) & test->mask) == test->value;
 	return is_so == (test->how == WHEN);
 }

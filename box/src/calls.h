@@ -14,7 +14,7 @@ enum decides {
 
 /* Which of its uses a row is about: by the low half of an argument, which is all that the filter looks at. */
 struct test {
-	enum { ALWAYS, WHEN, UNLESS, NEVER } how;
+	enum { ALWAYS, WHEN, UNLESS, NEVER, GIVEN /* both halves: the argument is not 0 */ } how;
 	int argument;
 	uint32_t mask, value;
 };

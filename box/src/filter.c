@@ -19,6 +19,7 @@
 enum { MOST_CODE = 4096, LONGEST_JUMP = 255 };
 
 #define FIELD(name) (struct sock_filter)BPF_STMT(BPF_LD | BPF_W | BPF_ABS, offsetof(struct seccomp_data, name))
+#define HIGH(argument) (uint32_t)(offsetof(struct seccomp_data, args[argument]) + sizeof(uint32_t))
 #define GIVE(what) (struct sock_filter)BPF_STMT(BPF_RET | BPF_K, (what))
 #define STEP(code, value, yes, no) (struct sock_filter)BPF_JUMP((code) | BPF_K, (value), (yes), (no))
 
@@ -77,6 +78,13 @@ static void put_test(struct program *program, const struct test *test, int other
 
 	if (test->how == ALWAYS)
 		return;
+	if (test->how == GIVEN) {
+		put(program, STEP(BPF_JMP | BPF_JEQ, 0, over, 0));
+		put(program, (struct sock_filter)BPF_STMT(BPF_LD | BPF_W | BPF_ABS, HIGH(test->argument)));
+		put(program, STEP(BPF_JMP | BPF_JEQ, 0, 0, 2));
+		put(program, FIELD(args[test->argument]));
+		return;
+	}
 	put(program, STEP(BPF_JMP | BPF_JEQ, test->value, test->how == WHEN ? 0 : over, test->how == WHEN ? over : 0));
 	if (test->mask != UINT32_MAX)
 		put(program, (struct sock_filter)BPF_STMT(BPF_ALU | BPF_AND | BPF_K, test->mask));

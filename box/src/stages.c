@@ -111,11 +111,6 @@ static void check(void)
 		assert(thread->is_killed || thread->stage == NEW || !stranger_is_process(thread));
 }
 
-bool stages_lost(void)
-{
-	return some_lost;
-}
-
 /* As at the start. */
 void stages_reset(void)
 {
@@ -128,6 +123,12 @@ static void check(void)
 {
 }
 #endif
+
+/* Whether the kernel may have made a child that the table has not. */
+bool stages_lost(void)
+{
+	return some_lost;
+}
 
 /* ---- strangers ---- */
 

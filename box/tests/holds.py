@@ -43,17 +43,17 @@ def often(tell, name, words, times, **how):
         tell.differences(name, box)
 
 
-# How often a call stops at most. A fork is counted with the end of its child and the wait for it.
+# How often a call stops at most. A fork is counted with the wait for its child, whose own stops are not.
 STOPS = (("query", 1), ("open", 1), ("receive", 1), ("receive-passed", 2), ("descriptor", 0), ("descriptor-proc", 1),
-    ("fork", 5))
+    ("fork", 5), ("fork-any", 4), ("poll", 1), ("action", 0))
 OFTEN = 200
 
 
 def stops(tell):
-    """How many stops each call takes, on average."""
+    """How many stops each call takes, on average, in a process that is no init."""
     program = rig.compiled("stops")
     for way, most in STOPS:
-        none, many = (in_box([program, way, str(count)], f"stops-{way}", options=()).stops for count in (0, OFTEN))
+        none, many = (in_box(["sh", "-c", f"{program} {way} {count}; :"], f"stops-{way}", options=()).stops for count in (0, OFTEN))
         if (many - none) / OFTEN > most + 0.2:
             tell.fault(f"stops of {way}", f"{(many - none) / OFTEN}, in place of {most}")
     tell.say("stops", "at most " + ", ".join(f"{way} {most}" for way, most in STOPS))
