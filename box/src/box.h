@@ -20,7 +20,8 @@ enum {
 	BOX_INIT = 2,
 	OWN_FAILURE = 125,          /* the exit status, as of env(1) and timeout(1) */
 	MOST_ERRORS = 4096,         /* results above minus this are an errno each */
-	FIRST_RESTART = 512         /* results from -512 downwards mean that the kernel makes the call again */
+	FIRST_RESTART = 512,        /* results from -512 downwards mean that the kernel makes the call again */
+	MOMENTS = 5000              /* of some 60 us: how long another thread is waited for */
 };
 
 struct call;
@@ -338,6 +339,9 @@ void ending_not_caught(const struct process *process, int signal);
 extern uint64_t events;
 
 void trace(int request, pid_t tid, long data);
+void handle(pid_t tid, int status);
+bool hold(pid_t tid, int *status);
+void wait_moment(void);
 void set_options(struct thread *thread);
 void begin(struct thread *thread);
 void thread_ended(struct thread *thread, int status);

@@ -197,8 +197,10 @@ enum deed happen(struct thread *thread, enum event event)
 	some_lost |= (step.deeds & LOSE) != 0;
 	if (step.deeds & BEGIN)
 		begin(thread);
-	if (step.deeds & RUN)
+	if (step.deeds & RUN) {
+		robust_end(thread);
 		trace(PTRACE_CONT, thread->tid, 0);
+	}
 	must_judge |= (step.deeds & LOSE) || (was_asking && asking == 0);
 	if (step.deeds & JUDGE)
 		judge(thread);

@@ -261,7 +261,23 @@ def locks(tell):
     for way, memory in LOCKS:
         often(tell, f"locks-{way}-{memory}", ["sh", "-c", f"{program} {way} {memory}; exit $?"], 5,
             box=box) # an init's end is seen anyway
-    tell.say("locks", f"{len(LOCKS)} ways")
+    mistaken(tell, program)
+    tell.say("locks", f"{len(LOCKS)} ways, and one beside an owner whose number he has")
+
+
+MISTAKEN_FAULT = ("robust.c", "\tif (!ending->last)\n\t\thold_mistaken(ending);\n", "")
+
+
+def mistaken(tell, program):
+    """In a namespace where the kernel's numbers are those of the box, and one more, nobody takes the lock of the one before for his own."""
+    right, faulty = "0 of 100 took it for their own\n", faults.build("nobody is held", *MISTAKEN_FAULT)
+    for _ in range(5):
+        found = in_kernel([str(BOX), program, "mistaken", "mapping"], 2 * SECONDS).output
+        if found != right:
+            tell.fault("locks mistaken", found)
+    if all(in_kernel([str(faulty), program, "mistaken", "mapping"], 2 * SECONDS).output == right for _ in range(5)):
+        tell.fault("locks mistaken", "a planted fault is not found")
+    shutil.rmtree(rig.OUT / "fault")
 
 
 # What a program does with SIGTERM, how often it is sent, the status, and how many seconds the end takes at most.

@@ -16,12 +16,13 @@ NEEDED = {"10-tini": "tini", "11-dumb-init": "dumb-init", "19-s6": "s6-svscan", 
 
 
 def compare(tell, name, words, seconds=60):
-    """The program in both: the same output and status, and no difference."""
-    kernel, box = in_kernel(words, seconds), in_box(words, name, seconds)
-    if (kernel.output, kernel.status) != (box.output, box.status):
-        (OUT / f"{name}.kernel.txt").write_text(f"{kernel.output}status {kernel.status}\n", encoding="utf-8")
-        (OUT / f"{name}.box.txt").write_text(f"{box.output}status {box.status}\n", encoding="utf-8")
-        tell.fault(name, f"other output: see {OUT}/{name}.kernel.txt and .box.txt")
+    """The program in both: the same output and status, and no difference. Unchecked too: then the box answers more without the kernel."""
+    kernel, box, unchecked = in_kernel(words, seconds), in_box(words, name, seconds), in_box(words, f"{name}-unchecked", seconds, options=())
+    for run in (box, unchecked):
+        if (kernel.output, kernel.status) != (run.output, run.status):
+            (OUT / f"{name}.kernel.txt").write_text(f"{kernel.output}status {kernel.status}\n", encoding="utf-8")
+            (OUT / f"{name}.box.txt").write_text(f"{run.output}status {run.status}\n", encoding="utf-8")
+            tell.fault(name, f"other output: see {OUT}/{name}.kernel.txt and .box.txt")
     tell.differences(name, box)
     return box
 
