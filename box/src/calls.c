@@ -57,14 +57,14 @@ enum {
 #define MEMORY(argument, offset, kind) { kind, IN_MEMORY, argument, offset }
 #define RESULT(kind) .out = { { kind, IN_RESULT, 0, 0 } }
 #define QUERY(of) .enter = enter_query, .leave = leave_query, .operation = of
-#define STATE "`IPC_STAT`, and `MSG_STAT`, `SHM_STAT` with or without `_ANY`"
-#define OPENED "`cgroup.procs`, `cgroup.threads` and `tasks` are refused for writing"
+#define STATE "`IPC_STAT`, `MSG_STAT`, `SHM_STAT`, also with `_ANY`"
+#define OPENED "not `cgroup.procs`, `cgroup.threads`, `tasks` for writing"
 #define REWOUND \
-	"a file of `/proc` that the box has written, at its beginning: it is written anew, by a filter of its own"
-#define MADE "a folder, with `--cgroups`"
-#define WRITTEN "a file of the table's, which is open for writing: by a filter of its own"
-#define CARRIED_THERE "to such a file"
-#define PRIORITY "all operations with priorities: the kernel compares the word with its own numbers"
+	"a copy of the box's, at its beginning: by a filter of its own"
+#define MADE "with `--cgroups`"
+#define WRITTEN "a file of such a group, by a filter of its own"
+#define CARRIED_THERE "the same"
+#define PRIORITY "with priorities: the kernel compares the word with its own numbers"
 #define NONE(name, x86_64, aarch64) { #name, { x86_64, aarch64 }, PLAIN, .note = NULL }
 
 const struct call calls[] = {
@@ -86,9 +86,9 @@ const struct call calls[] = {
 	{ "clone", { 56, 220 }, REFUSED, .test = WHEN_HAS(0, CLONE_THREAD | CLONE_PARENT, CLONE_PARENT),
 		.note = "`CLONE_PARENT`: the table has no such fork" },
 	{ "clone", { 56, 220 }, TABLE, .test = WHEN_HAS(0, CLONE_THREAD, 0), RESULT(PROCESS), .enter = enter_fork, .leave = leave_fork,
-		.note = "a process; a new thread does not stop here, and the box numbers it" },
+		.note = "a process; a new thread does not stop here" },
 	{ "clone3", { 435, 435 }, TABLE, RESULT(TASK), .enter = enter_clone3, .leave = leave_clone3,
-		.note = "it is made `clone`; what that lacks is refused, as `CLONE_INTO_CGROUP` and `set_tid`" },
+		.note = "it is made `clone`; what that lacks, as `CLONE_INTO_CGROUP` and `set_tid`, is refused" },
 	{ "unshare", { 272, 97 }, TABLE, .test = UNLESS_HAS(0, CLONE_NEWPID, 0), .enter = enter_unshare, .leave = leave_unshare,
 		.note = "`CLONE_NEWPID`" },
 	{ "setns", { 308, 268 }, REFUSED, .test = WHEN_IS(1, 0), .note = "of any type: it may be a PID namespace" },
@@ -172,7 +172,7 @@ const struct call calls[] = {
 	{ "get_robust_list", { 274, 100 }, KERNEL, .in = { VALUE(0, TASK) } },
 	{ "mmap", { 9, 222 }, KERNEL, .test = UNLESS_HAS(3, MAP_SHARED, 0), .also = UNLESS_HAS(2, PROT_WRITE, 0),
 		.enter = enter_share,
-		.note = "shared, for writing: from then on the robust locks that it holds at its end are seen" },
+		.note = "shared, for writing: from then on its robust locks are seen" },
 	{ "shmat", { 30, 196 }, KERNEL, .test = WHEN_HAS(2, SHM_RDONLY, 0), .enter = enter_share, .note = "the same" },
 	{ "futex", { 202, 98 }, REFUSED, .test = WHEN_HAS(1, FUTEX_CMD_MASK, FUTEX_LOCK_PI),
 		.note = PRIORITY },
