@@ -1,11 +1,10 @@
 /* cgroups.c - the files of the kernel's control groups that have numbers: what is read of them is translated, and they are not opened for writing,
  * since a write of the box's number would move somebody else. controls.c has those of the table. */
 #define _GNU_SOURCE
-#include "calls.h"
+#include "proc.h"
 
 #include <errno.h>
 #include <fcntl.h>
-#include <limits.h>
 #include <linux/magic.h>
 #include <linux/openat2.h>
 #include <string.h>
@@ -13,8 +12,6 @@
 #include <sys/syscall.h>
 #include <sys/vfs.h>
 #include <unistd.h>
-
-enum { LONGEST_NAME = PATH_MAX };
 
 static const struct {
 	const char *name;
@@ -89,13 +86,10 @@ int open_target(const struct thread *thread, const char *path, int folder)
 /* Which numbers the file that the link of a descriptor leads to has: by what it is really called, and by its file system. */
 static enum kind kind_of_link(const char *link, bool *is_second)
 {
-	char name[LONGEST_NAME];
+	char name[LONGEST_PATH];
 	struct statfs about;
-	ssize_t size = readlink(link, name, sizeof name - 1);
-	enum kind kind;
+	enum kind kind = read_link(link, name) ? kind_of(name) : NO_KIND;
 
-	name[size > 0 ? size : 0] = 0;
-	kind = kind_of(name);
 	if (!kind || statfs(link, &about))
 		return NO_KIND;
 	*is_second = about.f_type == CGROUP2_SUPER_MAGIC;
@@ -157,16 +151,14 @@ char *group_text(const struct thread *thread, const char *path, size_t *size)
 int group_open(const struct thread *thread, const char *path, int folder, bool is_written)
 {
 	int file = open_target(thread, path, folder);
-	char link[64], name[LONGEST_NAME];
-	ssize_t length;
+	char link[64], name[LONGEST_PATH];
 	size_t size;
 	char *text;
 
 	if (file < 0)
 		return -1;
 	snprintf(link, sizeof link, "/proc/self/fd/%d", file);
-	length = readlink(link, name, sizeof name - 1);
-	name[length > 0 ? length : 0] = 0;
+	read_link(link, name);
 	text = group_text(thread, link, &size);
 	close(file);
 	return copy_make(0, name, text, size, is_written);

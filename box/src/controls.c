@@ -81,15 +81,6 @@ static struct control *control_numbered(uint64_t id)
 	return control;
 }
 
-/* What a link of /proc leads to. */
-static bool read_link(const char *link, char name[LONGEST_PATH])
-{
-	ssize_t size = readlink(link, name, LONGEST_PATH - 1);
-
-	name[size > 0 ? size : 0] = 0;
-	return size > 0;
-}
-
 /* Cuts a path at its last component, which it returns. */
 static char *cut_last(char *path)
 {

@@ -161,19 +161,25 @@ bool read_path(pid_t tid, uint64_t at, char *path)
 	return false;
 }
 
+/* What a link of /proc leads to. */
+bool read_link(const char *link, char path[LONGEST_PATH])
+{
+	ssize_t size = readlink(link, path, LONGEST_PATH - 1);
+
+	path[size > 0 ? size : 0] = 0;
+	return size > 0;
+}
+
 /* The directory that a descriptor of the thread is of, or its own. */
 bool read_folder(const struct thread *thread, int file, char *folder)
 {
 	char link[64];
-	ssize_t size;
 
 	if (file == AT_FDCWD)
 		snprintf(link, sizeof link, "/proc/%d/cwd", thread->tid);
 	else
 		snprintf(link, sizeof link, "/proc/%d/fd/%d", thread->tid, file);
-	size = readlink(link, folder, LONGEST_PATH - 1);
-	folder[size > 0 ? size : 0] = 0;
-	return size > 0;
+	return read_link(link, folder);
 }
 
 /* Where a folder is, by the kernel's name of it, which is from the root. */

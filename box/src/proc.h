@@ -19,6 +19,7 @@ struct place {
 
 bool is_number(const char *word);
 bool read_path(pid_t tid, uint64_t at, char *path);
+bool read_link(const char *link, char path[LONGEST_PATH]);
 bool read_folder(const struct thread *thread, int file, char *folder);
 void place_begin(struct place *place, const char *folder);
 void place_step(struct place *place, const struct thread *caller, const char *word);

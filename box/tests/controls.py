@@ -11,8 +11,8 @@ import rig
 
 PYTHON = "/usr/bin/python3"
 SCRIPT = str(rig.TESTS / "inside/controls.py")
-# Where the kernel has the controller: version 2 has one file system for all, version 1 one for each.
-PLACES = ("/sys/fs/cgroup", "/sys/fs/cgroup/pids")
+# The kernel's controller, of version 1: in version 2 a group whose children have it may have no processes of its own, a rule that the table lacks.
+PLACE = "/sys/fs/cgroup/pids"
 # What the kernel's documents say of each line: cgroup-v2.rst, and for what is refused kernel/cgroup/cgroup.c and pids.c.
 EXPECTED = (rig.TESTS / "inside/controls.txt").read_text(encoding="utf-8")
 LIMITED = """
@@ -37,16 +37,6 @@ UNLIKE = 6 # lines of what the page says that is not as in the kernel
 LIMITED_EXPECTED = "cgroup.procs pids.current pids.max 3\n1 max 1\nOperation not permitted\nResource temporarily unavailable 3 3\n"
 
 
-def kernel_place():
-    """A folder of the kernel's with the controller, if this user may make groups there."""
-    for place in PLACES if rig.IS_ROOT else ():
-        controllers = f"{place}/cgroup.controllers"
-        has_pids = "pids" in open(controllers, encoding="ascii").read().split() if os.path.exists(controllers) else place.endswith("pids")
-        if has_pids and os.path.exists(f"{place}/cgroup.procs"):
-            return place
-    return None
-
-
 def remove(group):
     """The kernel lets a group go once it knows that its tasks have ended."""
     for _ in range(50):
@@ -57,12 +47,9 @@ def remove(group):
         time.sleep(0.1)
 
 
-def natively(place, *words):
-    group = tempfile.mkdtemp(prefix="pidtab-box-", dir=place)
+def natively(*words):
+    group = tempfile.mkdtemp(prefix="pidtab-box-", dir=PLACE)
     os.chmod(group, 0o755)
-    if place == PLACES[0]:
-        with open(f"{group}/cgroup.subtree_control", "w", encoding="ascii") as file:
-            file.write("+pids")
     try:
         return rig.in_kernel([PYTHON, SCRIPT, group, *words], as_root=True).output
     finally:
@@ -123,13 +110,13 @@ def planted(tell, expected):
 
 def controls(tell):
     """In the kernel, where it has the controller and root asks; and in the box, as nobody and, where root asks, as root."""
-    place, expected = kernel_place(), {(): EXPECTED}
-    if not place:
-        tell.skip("controls in the kernel", f"not root, or no controller at {' or '.join(PLACES)}")
-    elif (natively_said := natively(place)) != EXPECTED:
-        tell.fault("controls", f"the kernel:\n{natively_said}")
-    if place:
-        expected["others",] = natively(place, "others")
+    expected = {(): EXPECTED}
+    if not rig.IS_ROOT or not os.path.exists(f"{PLACE}/cgroup.procs"):
+        tell.skip("controls in the kernel", f"not root, or no controller at {PLACE}")
+    else:
+        natively_said, expected["others",] = natively(), natively("others")
+        if natively_said != EXPECTED:
+            tell.fault("controls", f"the kernel:\n{natively_said}")
     for words, said in expected.items():
         run, left = in_box("-".join(("controls", *words)), *words, as_root=bool(words))
         if run.output != said or run.status or left:
