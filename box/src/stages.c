@@ -27,7 +27,8 @@ static const struct step steps[STAGES][EVENTS] = {
 	[FALLEN] = { [STOPS] = { FALLEN, SERVE }, [TOLD] = { FALLEN, NO_DEED }, [FAILS] = { FALLEN, NO_DEED }, [DELAYED] = { FALLEN, NO_DEED },
 	             [RETURNS] = { FALLEN, NO_DEED }, [EXECUTES] = { FALLEN, NO_DEED }, [FALLS] = { FALLEN, NO_DEED }, [LEAVES] = { FALLEN, RUN },
 	             [ENDS] = { OVER, END } },
-	[LEAVING] = { [EXECUTES] = { RUNNING, NO_DEED }, [HOLDS] = { HELD, NO_DEED }, [LET_GO] = { LEAVING, RUN }, [FALLS] = { LEAVING, NO_DEED },
+	/* A main one stops once more where another thread has executed, which has its number now. */
+	[LEAVING] = { [STOPS] = { LEAVING, SERVE }, [EXECUTES] = { RUNNING, NO_DEED }, [HOLDS] = { HELD, NO_DEED }, [LET_GO] = { LEAVING, RUN }, [FALLS] = { LEAVING, NO_DEED },
 	              [ENDS] = { OVER, END } },
 	[HELD] = { [LET_GO] = { LEAVING, RUN }, [FALLS] = { HELD, NO_DEED }, [ENDS] = { OVER, END } },
 };
