@@ -3,6 +3,7 @@ import contextlib
 import os
 import re
 import shutil
+import subprocess
 import tempfile
 import time
 
@@ -78,6 +79,35 @@ def limited(tell):
         tell.fault("controls limited", run.output)
 
 
+NO_ROOM = """
+import errno, os, sys
+around = sys.argv[1]
+for _ in range(2):
+    try:
+        print(os.mkdir(f"{around}/a"))
+    except OSError as fault:
+        print(errno.errorcode[fault.errno], os.listdir(around), flush=True)
+    os.path.exists(f"{around}/room") and os.unlink(f"{around}/room")
+"""
+# The file system: itself, cgroup.procs and this; so a new folder has room for one file of three, and then for all.
+NO_ROOM_EXPECTED = "ENOSPC ['room', 'cgroup.procs']\nNone\n"
+
+
+def no_room(tell):
+    """A folder whose files find no room is no group, and the table's goes again."""
+    folder = rig.folder()
+    subprocess.run(["mount", "-t", "tmpfs", "-o", "nr_inodes=6,mode=777", "tmpfs", folder], check=True)
+    try:
+        words = ["sh", "-c", 'true > "$2/room" && exec "$0" -c "$1" "$2"', PYTHON, NO_ROOM, folder]
+        run = rig.in_box(words, "controls-no-room", options=("--cgroups", folder))
+    finally:
+        subprocess.run(["umount", folder], check=True)
+        os.rmdir(folder)
+    made = re.findall("^(mk|rm) ", (rig.OUT / "controls-no-room.log").read_text(encoding="ascii"), re.MULTILINE)
+    if run.output != NO_ROOM_EXPECTED or made != ["mk", "rm", "mk"]:
+        tell.fault("controls no room", f"{run.output} {made}")
+
+
 # A fault of the box: a file of box/src, what is taken from it, what is put in its place; and the words of the script that meets it.
 PLANTED = (
     ("a limit is not told", "controls.c", "told = table_control(PIDTAB_LIMIT, 0, control->id, is_limited ? (uint32_t)limit : 0, is_limited);", "told = 0;", ()),
@@ -123,6 +153,8 @@ def controls(tell):
             tell.fault("controls", f"{words} status {run.status}, left {left}:\n{run.output}")
         tell.differences("controls", run)
     limited(tell)
+    if rig.IS_ROOT:
+        no_room(tell)
     unlike, left = in_box("controls-unlike", "unlike")
     if re.findall(r" (\w+)$", unlike.output, re.MULTILINE) != ["True"] * UNLIKE or left:
         tell.fault("controls unlike", f"{unlike.output}, left {left}")
