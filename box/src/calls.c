@@ -63,7 +63,7 @@ enum {
 	"a copy of the box's, at its beginning: by a filter of its own"
 #define MADE "with `--cgroups`"
 #define WRITTEN "a file of such a group, by a filter of its own"
-#define CARRIED_THERE "the same"
+#define CARRIED_THERE "to such a file"
 #define PRIORITY "with priorities: the kernel compares the word with its own numbers"
 #define NONE(name, x86_64, aarch64) { #name, { x86_64, aarch64 }, PLAIN, .note = NULL }
 
