@@ -20,7 +20,8 @@ enum {
 	BOX_INIT = 2,
 	OWN_FAILURE = 125,          /* the exit status, as of env(1) and timeout(1) */
 	MOST_ERRORS = 4096,         /* results above minus this are an errno each */
-	FIRST_RESTART = 512         /* results from -512 downwards mean that the kernel makes the call again */
+	FIRST_RESTART = 512,        /* results from -512 downwards mean that the kernel makes the call again */
+	MOMENTS = 5000              /* of some 60 us: how long another thread is waited for */
 };
 
 struct call;
@@ -110,6 +111,7 @@ struct process {
 	bool had_threads, shares_memory; /* since its exec: others may know of a lock that it holds at its end (robust.c) */
 	bool is_hidden;          /* its memory cannot be read, which the report says once */
 	bool sees_proc;          /* a filter stops more calls by descriptors, since it has some of /proc (filter.c) */
+	bool writes_groups;      /* one stops its writes, since it has opened a file of a control group of the table for writing */
 	int read_filters;        /* how many filters stop its reads of signalfds (filter.c) */
 	int filtered[MOST_READ_FILTERS]; /* the number that each is about */
 	bool ends_unheard;       /* its end sends its parent another signal than SIGCHLD, or none */
@@ -136,7 +138,7 @@ struct process *process_new(struct name *name);
 void process_free(struct process *process);
 
 /* What an identifier names, by which it is translated. */
-enum kind { NO_KIND, PROCESS, TASK, GROUP, PROCESS_OR_GROUP, CLOCK, PATH, DIRECTORY };
+enum kind { NO_KIND, PROCESS, TASK, GROUP, PROCESS_OR_GROUP, CLOCK, PATH, DIRECTORY, CONTROL };
 
 int64_t to_real(const struct process *caller, enum kind kind, int64_t number);
 int64_t to_number(const struct process *caller, enum kind kind, int64_t real);
@@ -194,7 +196,8 @@ struct thread {
 	uint64_t room;                /* memory of ours that it has for its call; 0 for none */
 	int content;                  /* a file that is given in place of the kernel's; -1 for none */
 	uint64_t open_flags;          /* those of its open */
-	bool wants_copy, wants_filter; /* behind its open: a file of its own, and a filter */
+	bool wants_copy;              /* behind its open: a file of its own */
+	bool wants_filter, wants_write_filter; /* and a filter of descriptors of /proc, and one of writes */
 	int real_file, made_file;     /* descriptors of the thread, while it makes one */
 	struct data *data;            /* the sums of what it reads and writes; none if nobody asks for them */
 };
@@ -228,8 +231,10 @@ int64_t table_control(uint32_t operation, uint32_t caller, uint64_t id, uint32_t
 const struct pidtab_effect *table_exit(uint32_t caller, uint32_t status, uint64_t *count);
 struct pidtab_task table_stat(uint32_t caller, uint32_t number);
 uint64_t table_around(uint64_t space);
+bool table_would_remove(uint64_t control);
 uint32_t table_first(uint32_t caller, uint32_t whom, uint32_t number);
 const uint32_t *table_list(uint32_t caller, uint32_t whom, uint32_t number, uint64_t *count);
+const uint32_t *table_members(uint64_t control, uint64_t *count);
 
 /* ---- report.c ---- */
 
@@ -248,7 +253,7 @@ void report_stop(void);
 void filter_install(void);
 bool reads_stop(const struct process *process, int file);
 bool filter_for_reads(struct thread *thread);
-bool filter_for_proc(struct thread *thread);
+bool filter_wanted(struct thread *thread);
 bool filter_added(struct thread *thread, int64_t result);
 
 /* ---- room.c ---- */
@@ -334,6 +339,9 @@ void ending_not_caught(const struct process *process, int signal);
 extern uint64_t events;
 
 void trace(int request, pid_t tid, long data);
+void handle(pid_t tid, int status);
+bool hold(pid_t tid, int *status);
+void wait_moment(void);
 void set_options(struct thread *thread);
 void begin(struct thread *thread);
 void thread_ended(struct thread *thread, int status);
@@ -357,6 +365,7 @@ struct state {
 };
 
 bool read_state(pid_t real, struct state *state);
+bool read_status(pid_t process, pid_t thread, const char *format, void *value);
 
 /* ---- proc.c: paths and listings of /proc; opens.c: opens; content.c: what files have; copies.c: files in place
  * of the kernel's ---- */
@@ -365,7 +374,7 @@ extern bool shows_proc;
 
 char *content_of(const struct thread *thread, const char *path, const char *file, pid_t real, size_t *size);
 char *content_of_group(const struct thread *thread, const char *path, enum kind kind, bool has_unseen, size_t *size);
-int copy_make(uint32_t root, const char *path, char *text, size_t size);
+int copy_make(uint32_t root, const char *path, char *text, size_t size, bool is_written);
 bool copy_begin(struct thread *thread);
 bool copy_goes_on(struct thread *thread, int64_t result);
 void copy_done(struct thread *thread);
@@ -373,9 +382,24 @@ bool is_copy_of_none(const struct thread *thread, int file);
 
 /* ---- cgroups.c ---- */
 
-enum kind group_file(const struct thread *thread, const char *path, int folder, bool is_written);
+enum group_file { NOT_OF_GROUP, OF_KERNEL, OF_TABLE };
+
+enum group_file group_file(const struct thread *thread, const char *path, int folder, bool is_written);
 int open_folder(const struct thread *thread, const char *path, int folder);
+int open_target(const struct thread *thread, const char *path, int folder);
 char *group_text(const struct thread *thread, const char *path, size_t *size);
-int group_open(const struct thread *thread, const char *path, int folder);
+int group_open(const struct thread *thread, const char *path, int folder, bool is_written);
+
+/* ---- controls.c: the table's control groups, as files ---- */
+
+extern bool shows_controls;
+
+void controls_start(const char *path, uint64_t id, int64_t limit);
+void controls_stop(void);
+bool control_may_have(const char *path);
+bool control_may_be_below(const struct thread *thread, const char *path, int folder);
+bool control_has(const char *link);
+char *control_text(const struct thread *thread, const char *link, size_t *size);
+void control_write_path(FILE *to, const struct process *process);
 
 #endif

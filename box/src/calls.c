@@ -57,11 +57,14 @@ enum {
 #define MEMORY(argument, offset, kind) { kind, IN_MEMORY, argument, offset }
 #define RESULT(kind) .out = { { kind, IN_RESULT, 0, 0 } }
 #define QUERY(of) .enter = enter_query, .leave = leave_query, .operation = of
-#define STATE "`IPC_STAT`, and `MSG_STAT`, `SHM_STAT` with or without `_ANY`"
-#define OPENED "`cgroup.procs`, `cgroup.threads` and `tasks` are refused for writing"
+#define STATE "`IPC_STAT`, `MSG_STAT`, `SHM_STAT`, also with `_ANY`"
+#define OPENED "not `cgroup.procs`, `cgroup.threads`, `tasks` for writing"
 #define REWOUND \
-	"a file of `/proc` that the box has written, at its beginning: it is written anew, by a filter of its own"
-#define PRIORITY "all operations with priorities: the kernel compares the word with its own numbers"
+	"a copy of the box's, at its beginning: by a filter of its own"
+#define MADE "with `--cgroups`"
+#define WRITTEN "a file of such a group, by a filter of its own"
+#define CARRIED_THERE "to such a file"
+#define PRIORITY "with priorities: the kernel compares the word with its own numbers"
 #define NONE(name, x86_64, aarch64) { #name, { x86_64, aarch64 }, PLAIN, .note = NULL }
 
 const struct call calls[] = {
@@ -83,9 +86,9 @@ const struct call calls[] = {
 	{ "clone", { 56, 220 }, REFUSED, .test = WHEN_HAS(0, CLONE_THREAD | CLONE_PARENT, CLONE_PARENT),
 		.note = "`CLONE_PARENT`: the table has no such fork" },
 	{ "clone", { 56, 220 }, TABLE, .test = WHEN_HAS(0, CLONE_THREAD, 0), RESULT(PROCESS), .enter = enter_fork, .leave = leave_fork,
-		.note = "a process; a new thread does not stop here, and the box numbers it" },
+		.note = "a process; a new thread does not stop here" },
 	{ "clone3", { 435, 435 }, TABLE, RESULT(TASK), .enter = enter_clone3, .leave = leave_clone3,
-		.note = "it is made `clone`; what that lacks is refused, as `CLONE_INTO_CGROUP` and `set_tid`" },
+		.note = "it is made `clone`; what that lacks, as `CLONE_INTO_CGROUP` and `set_tid`, is refused" },
 	{ "unshare", { 272, 97 }, TABLE, .test = UNLESS_HAS(0, CLONE_NEWPID, 0), .enter = enter_unshare, .leave = leave_unshare,
 		.note = "`CLONE_NEWPID`" },
 	{ "setns", { 308, 268 }, REFUSED, .test = WHEN_IS(1, 0), .note = "of any type: it may be a PID namespace" },
@@ -113,7 +116,7 @@ const struct call calls[] = {
 	{ "tgkill", { 234, 131 }, KERNEL, .in = { VALUE(0, PROCESS), VALUE(1, TASK) } },
 	{ "rt_sigqueueinfo", { 129, 138 }, KERNEL, .in = { VALUE(0, TASK) } },
 	{ "rt_tgsigqueueinfo", { 297, 240 }, KERNEL, .in = { VALUE(0, PROCESS), VALUE(1, TASK) } },
-	{ "rt_sigaction", { 13, 134 }, KERNEL, .test = WHEN_IS(0, SIGCHLD), .enter = enter_sigaction,
+	{ "rt_sigaction", { 13, 134 }, KERNEL, .test = WHEN_IS(0, SIGCHLD), .also = { GIVEN, 1, 0, 0 }, .enter = enter_sigaction,
 		.note = "of `SIGCHLD`, which may say that children leave no zombies" },
 	{ "rt_sigtimedwait", { 128, 137 }, KERNEL, .out = { MEMORY(1, AT_SENDER, PROCESS) }, .leave = leave_sigtimedwait },
 	{ "signalfd", { 282, -1 }, KERNEL, .enter = enter_signalfd, .leave = leave_signalfd, .note = "what is read of it has the sender" },
@@ -169,7 +172,7 @@ const struct call calls[] = {
 	{ "get_robust_list", { 274, 100 }, KERNEL, .in = { VALUE(0, TASK) } },
 	{ "mmap", { 9, 222 }, KERNEL, .test = UNLESS_HAS(3, MAP_SHARED, 0), .also = UNLESS_HAS(2, PROT_WRITE, 0),
 		.enter = enter_share,
-		.note = "shared, for writing: from then on the robust locks that it holds at its end are seen" },
+		.note = "shared, for writing: from then on its robust locks are seen" },
 	{ "shmat", { 30, 196 }, KERNEL, .test = WHEN_HAS(2, SHM_RDONLY, 0), .enter = enter_share, .note = "the same" },
 	{ "futex", { 202, 98 }, REFUSED, .test = WHEN_HAS(1, FUTEX_CMD_MASK, FUTEX_LOCK_PI),
 		.note = PRIORITY },
@@ -255,6 +258,21 @@ const struct call calls[] = {
 		.note = "of `/proc` and of `/proc/N/task`" },
 	{ "getdents", { 78, -1 }, REFUSED, .note = "the old form of `getdents64`" },
 
+	/* The control groups of the table, which --cgroups shows. */
+	{ "mkdir", { 83, -1 }, KERNEL, .in = { VALUE(0, CONTROL) }, .enter = enter_mkdir, .leave = leave_mkdir, .note = MADE },
+	{ "mkdirat", { 258, 34 }, KERNEL, .in = { VALUE(1, CONTROL) }, .enter = enter_mkdir_at, .leave = leave_mkdir_at, .note = MADE },
+	{ "rmdir", { 84, -1 }, TABLE, .in = { VALUE(0, CONTROL) }, .enter = enter_rmdir, .note = MADE },
+	{ "unlinkat", { 263, 35 }, TABLE, .test = WHEN_HAS(2, AT_REMOVEDIR, AT_REMOVEDIR), .in = { VALUE(1, CONTROL) }, .enter = enter_rmdir_at,
+		.note = MADE },
+	{ "write", { 1, 64 }, TABLE, .test = UNSEEN, .in = { VALUE(0, CONTROL) }, .enter = enter_write, .note = WRITTEN },
+	{ "pwrite64", { 18, 68 }, TABLE, .test = UNSEEN, .in = { VALUE(0, CONTROL) }, .enter = enter_write, .note = WRITTEN },
+	{ "writev", { 20, 66 }, TABLE, .test = UNSEEN, .in = { VALUE(0, CONTROL) }, .enter = enter_write, .note = WRITTEN },
+	{ "pwritev", { 296, 70 }, TABLE, .test = UNSEEN, .in = { VALUE(0, CONTROL) }, .enter = enter_write, .note = WRITTEN },
+	{ "pwritev2", { 328, 287 }, TABLE, .test = UNSEEN, .in = { VALUE(0, CONTROL) }, .enter = enter_write, .note = WRITTEN },
+	{ "sendfile", { 40, 71 }, REFUSED, .test = UNSEEN, .enter = enter_carry, .note = CARRIED_THERE },
+	{ "splice", { 275, 76 }, REFUSED, .test = UNSEEN, .enter = enter_carry, .note = CARRIED_THERE },
+	{ "copy_file_range", { 326, 285 }, REFUSED, .test = UNSEEN, .enter = enter_carry, .note = CARRIED_THERE },
+
 	/* What has identifiers that are not translated. */
 	{ "ptrace", { 101, 117 }, REFUSED, .note = "the box is the tracer" },
 	{ "perf_event_open", { 298, 241 }, REFUSED, .note = "samples have the kernel's numbers" },
@@ -268,20 +286,19 @@ const struct call calls[] = {
 	{ "acct", { 163, 89 }, REFUSED, .note = "its records have processes" },
 
 	/* Plain: no identifier, or one of a descriptor alone. */
-	NONE(write, 1, 64), NONE(close, 3, 57), NONE(fstat, 5, 80), NONE(poll, 7, -1),
+	NONE(close, 3, 57), NONE(fstat, 5, 80), NONE(poll, 7, -1),
 	NONE(mprotect, 10, 226), NONE(munmap, 11, 215), NONE(brk, 12, 214),
-	NONE(rt_sigprocmask, 14, 135), NONE(rt_sigreturn, 15, 139), NONE(pwrite64, 18, 68),
-	NONE(writev, 20, 66), NONE(pipe, 22, -1), NONE(select, 23, -1), NONE(sched_yield, 24, 124), NONE(mremap, 25, 216),
+	NONE(rt_sigprocmask, 14, 135), NONE(rt_sigreturn, 15, 139), NONE(pipe, 22, -1), NONE(select, 23, -1), NONE(sched_yield, 24, 124), NONE(mremap, 25, 216),
 	NONE(msync, 26, 227), NONE(mincore, 27, 232), NONE(madvise, 28, 233), NONE(shmget, 29, 194),
 	NONE(dup, 32, 23), NONE(dup2, 33, -1), NONE(pause, 34, -1), NONE(nanosleep, 35, 101), NONE(getitimer, 36, 102),
-	NONE(alarm, 37, -1), NONE(setitimer, 38, 103), NONE(sendfile, 40, 71), NONE(socket, 41, 198),
+	NONE(alarm, 37, -1), NONE(setitimer, 38, 103), NONE(socket, 41, 198),
 	NONE(connect, 42, 203), NONE(accept, 43, 202), NONE(sendto, 44, 206), NONE(recvfrom, 45, 207),
 	NONE(shutdown, 48, 210), NONE(bind, 49, 200), NONE(listen, 50, 201), NONE(getsockname, 51, 204),
 	NONE(getpeername, 52, 205), NONE(socketpair, 53, 199), NONE(execve, 59, 221),
 	NONE(exit, 60, 93), NONE(uname, 63, 160), NONE(semget, 64, 190), NONE(semop, 65, 193), NONE(shmdt, 67, 197),
 	NONE(msgget, 68, 186), NONE(msgsnd, 69, 189), NONE(msgrcv, 70, 188), NONE(flock, 73, 32), NONE(fsync, 74, 82),
 	NONE(fdatasync, 75, 83), NONE(truncate, 76, 45), NONE(ftruncate, 77, 46), NONE(getcwd, 79, 17),
-	NONE(fchdir, 81, 50), NONE(rename, 82, -1), NONE(mkdir, 83, -1), NONE(rmdir, 84, -1),
+	NONE(fchdir, 81, 50), NONE(rename, 82, -1), 
 	NONE(link, 86, -1), NONE(unlink, 87, -1), NONE(symlink, 88, -1), NONE(chmod, 90, -1), NONE(fchmod, 91, 52),
 	NONE(chown, 92, -1), NONE(fchown, 93, 55), NONE(lchown, 94, -1), NONE(umask, 95, 166), NONE(gettimeofday, 96, 169),
 	NONE(getrlimit, 97, 163), NONE(getrusage, 98, 165), NONE(sysinfo, 99, 179), NONE(times, 100, 153),
@@ -317,18 +334,18 @@ const struct call calls[] = {
 	NONE(mq_timedreceive, 243, 183), NONE(mq_notify, 244, 184), NONE(mq_getsetattr, 245, 185),
 	NONE(kexec_load, 246, 104), NONE(add_key, 248, 217), NONE(request_key, 249, 218), NONE(keyctl, 250, 219),
 	NONE(inotify_init, 253, -1), NONE(inotify_add_watch, 254, 27), NONE(inotify_rm_watch, 255, 28),
-	NONE(mkdirat, 258, 34), NONE(mknodat, 259, 33), NONE(fchownat, 260, 54), NONE(futimesat, 261, -1),
-	NONE(unlinkat, 263, 35), NONE(renameat, 264, 38), NONE(linkat, 265, 37), NONE(symlinkat, 266, 36),
-	NONE(fchmodat, 268, 53), NONE(pselect6, 270, 72), NONE(ppoll, 271, 73), NONE(splice, 275, 76), NONE(tee, 276, 77),
+	NONE(mknodat, 259, 33), NONE(fchownat, 260, 54), NONE(futimesat, 261, -1),
+	NONE(renameat, 264, 38), NONE(linkat, 265, 37), NONE(symlinkat, 266, 36),
+	NONE(fchmodat, 268, 53), NONE(pselect6, 270, 72), NONE(ppoll, 271, 73), NONE(tee, 276, 77),
 	NONE(sync_file_range, 277, 84), NONE(vmsplice, 278, 75), NONE(utimensat, 280, 88), NONE(epoll_pwait, 281, 22),
 	NONE(timerfd_create, 283, 85), NONE(eventfd, 284, -1), NONE(fallocate, 285, 47), NONE(timerfd_settime, 286, 86),
 	NONE(timerfd_gettime, 287, 87), NONE(accept4, 288, 242), NONE(eventfd2, 290, 19), NONE(epoll_create1, 291, 20),
 	NONE(dup3, 292, 24), NONE(pipe2, 293, 59), NONE(inotify_init1, 294, 26),
-	NONE(pwritev, 296, 70), NONE(fanotify_mark, 301, 263), NONE(name_to_handle_at, 303, 264),
+	NONE(fanotify_mark, 301, 263), NONE(name_to_handle_at, 303, 264),
 	NONE(open_by_handle_at, 304, 265), NONE(syncfs, 306, 267), NONE(getcpu, 309, 168), NONE(finit_module, 313, 273),
 	NONE(renameat2, 316, 276), NONE(getrandom, 318, 278), NONE(memfd_create, 319, 279),
 	NONE(kexec_file_load, 320, 294), NONE(execveat, 322, 281), NONE(membarrier, 324, 283), NONE(mlock2, 325, 284),
-	NONE(copy_file_range, 326, 285), NONE(pwritev2, 328, 287), NONE(pkey_mprotect, 329, 288),
+	NONE(pkey_mprotect, 329, 288),
 	NONE(pkey_alloc, 330, 289), NONE(pkey_free, 331, 290), NONE(io_pgetevents, 333, 292), NONE(rseq, 334, 293),
 	NONE(pidfd_send_signal, 424, 424), NONE(open_tree, 428, 428), NONE(move_mount, 429, 429), NONE(fsopen, 430, 430),
 	NONE(fsconfig, 431, 431), NONE(fsmount, 432, 432), NONE(fspick, 433, 433), NONE(close_range, 436, 436),
@@ -372,6 +389,8 @@ static bool holds(const struct test *test, const struct registers *registers)
 
 	if (test->how == ALWAYS || test->how == NEVER)
 		return true;
+	if (test->how == GIVEN)
+		return registers_argument(registers, test->argument) != 0;
 	is_so = ((uint32_t)registers_argument(registers, test->argument) & test->mask) == test->value;
 	return is_so == (test->how == WHEN);
 }
@@ -403,7 +422,7 @@ static const char *kind_word(enum kind kind)
 	static const char *const words[] = {
 		[NO_KIND] = "", [PROCESS] = "process", [TASK] = "process or thread", [GROUP] = "group or session",
 		[PROCESS_OR_GROUP] = "process, or -group", [CLOCK] = "clock of a process or thread", [PATH] = "path below /proc",
-		[DIRECTORY] = "names in /proc"
+		[DIRECTORY] = "names in /proc", [CONTROL] = "control group"
 	};
 
 	return words[kind];

@@ -14,7 +14,7 @@ enum decides {
 
 /* Which of its uses a row is about: by the low half of an argument, which is all that the filter looks at. */
 struct test {
-	enum { ALWAYS, WHEN, UNLESS, NEVER } how;
+	enum { ALWAYS, WHEN, UNLESS, NEVER, GIVEN /* both halves: the argument is not 0 */ } how;
 	int argument;
 	uint32_t mask, value;
 };
@@ -100,6 +100,14 @@ enum onward enter_rewind(struct thread *, struct registers *);   /* copies.c */
 enum onward enter_readlink(struct thread *, struct registers *);
 enum onward enter_readlink_at(struct thread *, struct registers *);
 enum onward enter_listing(struct thread *, struct registers *);
+enum onward enter_mkdir(struct thread *, struct registers *);    /* controls.c */
+enum onward enter_mkdir_at(struct thread *, struct registers *);
+enum onward enter_rmdir(struct thread *, struct registers *);
+enum onward enter_rmdir_at(struct thread *, struct registers *);
+enum onward enter_write(struct thread *, struct registers *);
+enum onward enter_carry(struct thread *, struct registers *);
+int64_t leave_mkdir(struct thread *, int64_t);
+int64_t leave_mkdir_at(struct thread *, int64_t);
 int64_t leave_path(struct thread *, int64_t);
 int64_t leave_listing(struct thread *, int64_t);
 

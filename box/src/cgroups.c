@@ -1,11 +1,10 @@
-/* cgroups.c - the files of control groups that have numbers: what is read of them is translated, and they are not opened for writing, since a
- * write of the box's number would move somebody else. */
+/* cgroups.c - the files of the kernel's control groups that have numbers: what is read of them is translated, and they are not opened for writing,
+ * since a write of the box's number would move somebody else. controls.c has those of the table. */
 #define _GNU_SOURCE
-#include "calls.h"
+#include "proc.h"
 
 #include <errno.h>
 #include <fcntl.h>
-#include <limits.h>
 #include <linux/magic.h>
 #include <linux/openat2.h>
 #include <string.h>
@@ -13,8 +12,6 @@
 #include <sys/syscall.h>
 #include <sys/vfs.h>
 #include <unistd.h>
-
-enum { LONGEST_NAME = PATH_MAX };
 
 static const struct {
 	const char *name;
@@ -29,6 +26,11 @@ static enum kind kind_of(const char *path)
 		if (!strcmp(last, files[i].name))
 			return files[i].kind;
 	return NO_KIND;
+}
+
+static bool may_be(const char *path)
+{
+	return kind_of(path) || control_may_have(path);
 }
 
 /* The folder that the path begins at: the program's root, its own, or that of a descriptor. None of these ways leaves the kernel's memory. */
@@ -64,8 +66,8 @@ static bool is_link(int at, const char *path)
 }
 
 /* What the path leads to. A file system whose server is a program in the box would wait for this one: so if the kernel has to ask, only a path
- * that is called so, or is a link, is walked. */
-static int open_target(const struct thread *thread, const char *path, int folder)
+ * that is called so, or is a link, or leads to the folder of --cgroups, is walked. */
+int open_target(const struct thread *thread, const char *path, int folder)
 {
 	int at, file;
 
@@ -75,7 +77,7 @@ static int open_target(const struct thread *thread, const char *path, int folder
 	if (at < 0)
 		return -1;
 	file = open_path(at, path, 0, RESOLVE_CACHED);
-	if (file < 0 && errno == EAGAIN && (kind_of(path) || is_link(at, path)))
+	if (file < 0 && errno == EAGAIN && (may_be(path) || is_link(at, path) || control_may_be_below(thread, path, folder)))
 		file = open_path(at, path, 0, 0);
 	close(at);
 	return file;
@@ -84,39 +86,44 @@ static int open_target(const struct thread *thread, const char *path, int folder
 /* Which numbers the file that the link of a descriptor leads to has: by what it is really called, and by its file system. */
 static enum kind kind_of_link(const char *link, bool *is_second)
 {
-	char name[LONGEST_NAME];
+	char name[LONGEST_PATH];
 	struct statfs about;
-	ssize_t size = readlink(link, name, sizeof name - 1);
-	enum kind kind;
+	enum kind kind = read_link(link, name) ? kind_of(name) : NO_KIND;
 
-	name[size > 0 ? size : 0] = 0;
-	kind = kind_of(name);
 	if (!kind || statfs(link, &about))
 		return NO_KIND;
 	*is_second = about.f_type == CGROUP2_SUPER_MAGIC;
 	return *is_second || about.f_type == CGROUP_SUPER_MAGIC ? kind : NO_KIND;
 }
 
-/* Which numbers the file of a control group has that an open names; none if it is another file. One that is only read is looked at if it is
- * called so. A path in /proc has the kernel's numbers, and may be the link of a descriptor. */
-enum kind group_file(const struct thread *thread, const char *path, int folder, bool is_written)
+static enum group_file file_of_link(const char *link)
 {
 	bool is_second;
-	enum kind kind;
+
+	if (control_has(link))
+		return OF_TABLE;
+	return kind_of_link(link, &is_second) ? OF_KERNEL : NOT_OF_GROUP;
+}
+
+/* Whose control group the file is of that an open names. One that is only read is looked at if it is called so. A path in /proc has the kernel's
+ * numbers, and may be the link of a descriptor. */
+enum group_file group_file(const struct thread *thread, const char *path, int folder, bool is_written)
+{
+	enum group_file found;
 	char link[64];
 	int file;
 
 	if (!strncmp(path, "/proc/", 6))
-		return kind_of_link(path, &is_second);
-	if (!is_written && !kind_of(path))
-		return NO_KIND;
+		return file_of_link(path);
+	if (!is_written && !may_be(path))
+		return NOT_OF_GROUP;
 	file = open_target(thread, path, folder);
 	if (file < 0)
-		return NO_KIND;
+		return NOT_OF_GROUP;
 	snprintf(link, sizeof link, "/proc/self/fd/%d", file);
-	kind = kind_of_link(link, &is_second);
+	found = file_of_link(link);
 	close(file);
-	return kind;
+	return found;
 }
 
 /* The file with the caller's numbers, in memory that the caller gives back. Version 2 has a 0 for who cannot be
@@ -132,27 +139,27 @@ char *group_text(const struct thread *thread, const char *path, size_t *size)
 		return NULL;
 	snprintf(link, sizeof link, "/proc/self/fd/%d", file);
 	kind = kind_of_link(link, &is_second);
-	if (kind)
+	if (control_has(link))
+		text = control_text(thread, link, size);
+	else if (kind)
 		text = content_of_group(thread, link, kind, is_second, size);
 	close(file);
 	return text;
 }
 
-/* A copy with the caller's numbers; -1 if there is none. */
-int group_open(const struct thread *thread, const char *path, int folder)
+/* A copy with the caller's numbers, which may be open for writing too; -1 if there is none. */
+int group_open(const struct thread *thread, const char *path, int folder, bool is_written)
 {
 	int file = open_target(thread, path, folder);
-	char link[64], name[LONGEST_NAME];
-	ssize_t length;
+	char link[64], name[LONGEST_PATH];
 	size_t size;
 	char *text;
 
 	if (file < 0)
 		return -1;
 	snprintf(link, sizeof link, "/proc/self/fd/%d", file);
-	length = readlink(link, name, sizeof name - 1);
-	name[length > 0 ? length : 0] = 0;
+	read_link(link, name);
 	text = group_text(thread, link, &size);
 	close(file);
-	return copy_make(0, name, text, size);
+	return copy_make(0, name, text, size, is_written);
 }

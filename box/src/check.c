@@ -142,6 +142,22 @@ bool read_state(pid_t real, struct state *state)
 	return end && sscanf(end + 1, " %*c %d %d %d", &state->parent, &state->group, &state->session) == 3;
 }
 
+/* A value of the status of a thread, by its line; false where it has none. */
+bool read_status(pid_t process, pid_t thread, const char *format, void *value)
+{
+	char name[64], line[256];
+	bool is_read = false;
+	FILE *file;
+
+	snprintf(name, sizeof name, "/proc/%d/task/%d/status", process, thread);
+	file = fopen(name, "re");
+	while (file && !is_read && fgets(line, sizeof line, file))
+		is_read = sscanf(line, format, value) == 1;
+	if (file)
+		fclose(file);
+	return is_read;
+}
+
 static uint32_t root_of(pid_t real)
 {
 	const struct name *name = name_of_real(real);

@@ -115,12 +115,25 @@ static void write_children(FILE *to, const struct process *caller, FILE *from)
 	}
 }
 
+/* The control group of the table. */
+static void write_group(FILE *to, pid_t real)
+{
+	const struct thread *thread = thread_of_real(real);
+	const struct name *name = name_of_real(real);
+	const struct process *process = thread ? thread->process : name ? name->process : NULL;
+
+	if (process)
+		control_write_path(to, process);
+}
+
 static void write_content(FILE *to, const struct process *caller, FILE *from, const char *file, pid_t real)
 {
 	if (!strcmp(file, "/stat"))
 		write_stat(to, caller, from);
 	else if (!strcmp(file, "/children"))
 		write_children(to, caller, from);
+	else if (!strcmp(file, "/cgroup"))
+		write_group(to, real);
 	else
 		write_status(to, caller, from, real);
 }

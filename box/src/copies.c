@@ -29,18 +29,19 @@ static bool write_whole(int file, const char *text, size_t size)
 }
 
 /* A descriptor of this program with the text, whose memory is given back; -1 if there is none. Without a path it
- * stays as it is. */
-int copy_make(uint32_t root, const char *path, char *text, size_t size)
+ * stays as it is, and one that is written needs a path. */
+int copy_make(uint32_t root, const char *path, char *text, size_t size, bool is_written)
 {
 	char name[LONGEST_NAME + 1];
+	bool is_named = path && (size_t)snprintf(name, sizeof name, NAME " %u %s", root, path) < sizeof name;
 	int made;
 
 	if (!text)
 		return -1;
-	if (!path || (size_t)snprintf(name, sizeof name, NAME " %u %s", root, path) >= sizeof name)
+	if (!is_named)
 		strcpy(name, NAME);
-	made = memfd_create(name, MFD_CLOEXEC);
-	if (made >= 0 && (!write_whole(made, text, size) || fchmod(made, ALL_READ))) {
+	made = is_named || !is_written ? memfd_create(name, MFD_CLOEXEC) : -1;
+	if (made >= 0 && (!write_whole(made, text, size) || fchmod(made, is_written ? OWN : ALL_READ))) {
 		close(made);
 		made = -1;
 	}
@@ -69,6 +70,15 @@ static bool is_copy(const struct thread *thread, int file, char link[64], struct
 {
 	snprintf(link, 64, "/proc/%d/fd/%d", thread->tid, file);
 	return read_copy(link, copy);
+}
+
+/* The path of what the file that the link leads to is a copy of; any other one stays. */
+void copied_from(const char *link, char path[LONGEST_PATH])
+{
+	struct copy copy;
+
+	if (read_copy(link, &copy))
+		strcpy(path, copy.path);
 }
 
 /* As it is now; none if the process is gone. */
@@ -191,7 +201,8 @@ static void fill(const struct thread *thread)
 	if (!fstat(thread->content, &about))
 		sendfile(file, thread->content, &from, (size_t)about.st_size);
 	close(file);
-	chmod(link, ALL_READ);
+	if ((thread->open_flags & O_ACCMODE) == O_RDONLY)
+		chmod(link, ALL_READ);
 }
 
 static bool make_own(struct thread *thread)
@@ -242,7 +253,7 @@ bool copy_goes_on(struct thread *thread, int64_t result)
 	if (goes_on)
 		return true;
 	copy_done(thread);
-	if (thread->wants_filter && registers_result(&thread->behind) >= 0 && filter_for_proc(thread))
+	if (registers_result(&thread->behind) >= 0 && filter_wanted(thread))
 		return true;
 	room_give_back(thread);
 	return false;
@@ -254,7 +265,8 @@ int64_t leave_path(struct thread *thread, int64_t result)
 	bool is_given = thread->content >= 0;
 
 	thread->wants_copy = is_given && (result == -EACCES || result == -EPERM || result == -ENOENT);
-	thread->wants_filter = thread->wants_filter && (result >= 0 || thread->wants_copy);
+	if (result < 0 && !thread->wants_copy)
+		thread->wants_filter = thread->wants_write_filter = false;
 	if (!thread->wants_copy)
 		copy_done(thread);
 	return result;

@@ -19,6 +19,7 @@
 enum { MOST_CODE = 4096, LONGEST_JUMP = 255 };
 
 #define FIELD(name) (struct sock_filter)BPF_STMT(BPF_LD | BPF_W | BPF_ABS, offsetof(struct seccomp_data, name))
+#define HIGH(argument) (uint32_t)(offsetof(struct seccomp_data, args[argument]) + sizeof(uint32_t))
 #define GIVE(what) (struct sock_filter)BPF_STMT(BPF_RET | BPF_K, (what))
 #define STEP(code, value, yes, no) (struct sock_filter)BPF_JUMP((code) | BPF_K, (value), (yes), (no))
 
@@ -52,9 +53,12 @@ static void put_branch(struct program *program, uint16_t code, uint32_t value, i
 	put(program, STEP(BPF_JMP | code, value, 0, 1));
 }
 
-static bool is_about_proc(const struct call *call)
+/* Calls that are about what nobody is shown do not stop. */
+static bool is_shown(const struct call *call)
 {
-	return call->in[0].kind == PATH || call->in[0].kind == DIRECTORY;
+	enum kind kind = call->in[0].kind;
+
+	return kind == PATH || kind == DIRECTORY ? shows_proc : kind != CONTROL || shows_controls;
 }
 
 static uint32_t verdict(const struct call *call)
@@ -63,7 +67,7 @@ static uint32_t verdict(const struct call *call)
 	case PLAIN:
 		return SECCOMP_RET_ALLOW;
 	default:
-		return call && is_about_proc(call) && !shows_proc ? SECCOMP_RET_ALLOW : SECCOMP_RET_TRACE;
+		return call && !is_shown(call) ? SECCOMP_RET_ALLOW : SECCOMP_RET_TRACE;
 	}
 }
 
@@ -74,6 +78,13 @@ static void put_test(struct program *program, const struct test *test, int other
 
 	if (test->how == ALWAYS)
 		return;
+	if (test->how == GIVEN) {
+		put(program, STEP(BPF_JMP | BPF_JEQ, 0, over, 0));
+		put(program, (struct sock_filter)BPF_STMT(BPF_LD | BPF_W | BPF_ABS, HIGH(test->argument)));
+		put(program, STEP(BPF_JMP | BPF_JEQ, 0, 0, 2));
+		put(program, FIELD(args[test->argument]));
+		return;
+	}
 	put(program, STEP(BPF_JMP | BPF_JEQ, test->value, test->how == WHEN ? 0 : over, test->how == WHEN ? over : 0));
 	if (test->mask != UINT32_MAX)
 		put(program, (struct sock_filter)BPF_STMT(BPF_ALU | BPF_AND | BPF_K, test->mask));
@@ -175,20 +186,11 @@ bool reads_stop(const struct process *process, int file)
 }
 
 /* How many filters a thread has, by what the kernel says of it; -1 if it does not say it. */
-static int filters_of(pid_t process, long thread)
+static int filters_of(pid_t process, pid_t thread)
 {
-	char name[64], line[256];
-	int count = -1;
-	FILE *file;
+	int count;
 
-	snprintf(name, sizeof name, "/proc/%d/task/%ld/status", process, thread);
-	file = fopen(name, "re");
-	while (file && fgets(line, sizeof line, file))
-		if (sscanf(line, "Seccomp_filters: %d", &count) == 1)
-			break;
-	if (file)
-		fclose(file);
-	return count;
+	return read_status(process, thread, "Seccomp_filters: %d", &count) ? count : -1;
 }
 
 /* Whether all threads have as many filters: then the program has given none of them one of its own, which all would get. */
@@ -204,7 +206,7 @@ static bool are_alike(const struct process *process)
 	tasks = opendir(name);
 	while (is_so && tasks && (entry = readdir(tasks)))
 		if (entry->d_name[0] != '.') {
-			int count = filters_of(process->real, strtol(entry->d_name, NULL, 10));
+			int count = filters_of(process->real, (pid_t)strtol(entry->d_name, NULL, 10));
 
 			first = first < 0 ? count : first;
 			is_so = count == first;
@@ -264,7 +266,7 @@ bool filter_for_reads(struct thread *thread)
 /* The same once the thread has descriptors of /proc. For calls that read a file from its beginning, or go back
  * there: its copy is written anew. And for those that ask for a descriptor or for a path from its folder: they are
  * fstat(3) in nearly all programs. */
-bool filter_for_proc(struct thread *thread)
+static bool filter_for_proc(struct thread *thread)
 {
 	static const struct sock_filter code[] = {
 		FIELD(nr),
@@ -290,11 +292,42 @@ bool filter_for_proc(struct thread *thread)
 	return thread->process->sees_proc;
 }
 
+/* The same once the thread has a file of a control group of the table that is open for writing: the shell moves its descriptor to another number, so
+ * for all numbers. */
+static bool filter_for_writes(struct thread *thread)
+{
+	static const struct sock_filter code[] = {
+		FIELD(nr),
+		STEP(BPF_JMP | BPF_JEQ, SYS_write, 7, 0),
+		STEP(BPF_JMP | BPF_JEQ, SYS_writev, 6, 0),
+		STEP(BPF_JMP | BPF_JEQ, SYS_pwrite64, 5, 0),
+		STEP(BPF_JMP | BPF_JEQ, SYS_pwritev, 4, 0),
+		STEP(BPF_JMP | BPF_JEQ, SYS_pwritev2, 3, 0),
+		STEP(BPF_JMP | BPF_JEQ, SYS_sendfile, 2, 0),
+		STEP(BPF_JMP | BPF_JEQ, SYS_splice, 1, 0),
+		STEP(BPF_JMP | BPF_JEQ, SYS_copy_file_range, 0, 1),
+		GIVE(SECCOMP_RET_TRACE),
+		GIVE(SECCOMP_RET_ALLOW)
+	};
+
+	thread->wants_write_filter = false;
+	thread->process->writes_groups = add_filter(thread, code, sizeof code);
+	return thread->process->writes_groups;
+}
+
+/* Has the thread add the next filter that its open wants. */
+bool filter_wanted(struct thread *thread)
+{
+	return (thread->wants_filter && filter_for_proc(thread)) || (thread->wants_write_filter && filter_for_writes(thread));
+}
+
 /* The filter was added, or was not. If the threads have different ones after all, the caller alone gets it. Returns whether that follows. */
 bool filter_added(struct thread *thread, int64_t result)
 {
 	if (thread->injected == ADD_FILTER_TO_ALL && result != 0)
 		return inject_filter(thread, ADD_FILTER);
+	if (filter_wanted(thread))
+		return true;
 	room_give_back(thread);
 	return false;
 }

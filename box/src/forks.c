@@ -209,6 +209,7 @@ static void inherit_state(struct process *parent, struct process *child, uint64_
 	child->ends_unheard = (flags & CSIGNAL) != SIGCHLD;
 	child->read_filters = parent->read_filters;
 	child->sees_proc = parent->sees_proc;
+	child->writes_groups = parent->writes_groups;
 	memcpy(child->filtered, parent->filtered, sizeof child->filtered);
 	memory_leave(child->memory);
 	child->memory = flags & CLONE_VM ? memory_share(parent->memory) : memory_copy(parent->memory);

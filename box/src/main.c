@@ -15,7 +15,7 @@
 enum { CANNOT_RUN = 126, NOT_FOUND = 127 };
 
 struct settings {
-	const char *log, *answers, *report, *data;
+	const char *log, *answers, *report, *data, *cgroups;
 	int64_t pids_max; /* -1 for no limit */
 	uint32_t pid_max;
 	bool prints_calls;
@@ -23,7 +23,8 @@ struct settings {
 
 static const char usage[] =
 	"usage: pidtab-box [--log FILE] [--answers FILE] [--check] [--report FILE] [--data FILE]\n"
-	"                  [--pids-max N] [--pid-max N] [--proc box|kernel] PROGRAM [WORD ..]\n"
+	"                  [--cgroups DIR] [--pids-max N] [--pid-max N] [--proc box|kernel]\n"
+	"                  PROGRAM [WORD ..]\n"
 	"       pidtab-box --calls | --help\n";
 
 static _Noreturn void misused(const char *what, const char *word)
@@ -59,8 +60,8 @@ static struct settings read_words(int count, char **words)
 	static const struct option known[] = {
 		{ "log", required_argument, 0, 'l' }, { "answers", required_argument, 0, 'a' }, { "check", no_argument, 0, 'c' },
 		{ "report", required_argument, 0, 'r' }, { "pids-max", required_argument, 0, 'p' }, { "pid-max", required_argument, 0, 'm' },
-		{ "proc", required_argument, 0, 'P' }, { "calls", no_argument, 0, 't' }, { "data", required_argument, 0,
-			'd' }, { "help", no_argument, 0, 'h' }, { 0, 0, 0, 0 }
+		{ "proc", required_argument, 0, 'P' }, { "calls", no_argument, 0, 't' }, { "data", required_argument, 0, 'd' },
+		{ "cgroups", required_argument, 0, 'g' }, { "help", no_argument, 0, 'h' }, { 0, 0, 0, 0 }
 	};
 	struct settings settings = { .pids_max = -1, .pid_max = 32768 };
 	int letter;
@@ -70,6 +71,7 @@ static struct settings read_words(int count, char **words)
 		case 'l': settings.log = optarg; break;
 		case 'a': settings.answers = optarg; break;
 		case 'c': checking = true; break;
+		case 'g': settings.cgroups = optarg; break;
 		case 'd': settings.data = optarg; break;
 		case 'r': settings.report = optarg; break;
 		case 'p': settings.pids_max = number_in(optarg, 0, MOST_REAL, "--pids-max takes 0 to 4194304"); break;
@@ -82,6 +84,8 @@ static struct settings read_words(int count, char **words)
 	}
 	if (optind >= count && !settings.prints_calls)
 		misused(NULL, NULL);
+	if (settings.cgroups && !shows_proc)
+		misused("--cgroups wants --proc box", settings.cgroups);
 	return settings;
 }
 
@@ -121,25 +125,32 @@ static void be_supervisor(void)
 		die("the start");
 }
 
-/* The table's fork of the program, perhaps in a control group with a limit. */
-static struct process *make_init(pid_t real, int64_t pids_max)
+/* The control group of the program: the table's root, or one with a limit. */
+static uint64_t make_group(int64_t pids_max)
 {
-	uint32_t group = 0;
+	uint64_t group;
+
+	if (pids_max < 0)
+		return 0;
+	group = (uint64_t)table_control(PIDTAB_MK, 0, 0, 0, 0);
+	table_control(PIDTAB_LIMIT, 0, group, (uint32_t)pids_max, 1);
+	return group;
+}
+
+/* The table's fork of the program. */
+static struct process *make_init(pid_t real, uint64_t group)
+{
 	struct process *init;
 
-	if (pids_max >= 0) {
-		group = (uint32_t)table_control(PIDTAB_MK, 0, 0, 0, 0);
-		table_control(PIDTAB_LIMIT, 0, group, (uint32_t)pids_max, 1);
-	}
 	table_do(PIDTAB_FORK, SUPERVISOR, 0, 1);
 	init = process_new(name_make(real, (uint32_t)reply.second));
-	if (pids_max >= 0)
+	if (group)
 		table_control(PIDTAB_MOVE, BOX_INIT, group, 0, 0);
 	init->is_init = true;
 	return init;
 }
 
-static pid_t start(char **words, int64_t pids_max)
+static pid_t start(char **words, uint64_t group)
 {
 	struct sigaction former;
 	pid_t init_real;
@@ -158,7 +169,7 @@ static pid_t start(char **words, int64_t pids_max)
 		sigaction(SIGCHLD, &former, NULL);
 		be_program(ready[0], words);
 	}
-	init = make_init(init_real, pids_max);
+	init = make_init(init_real, group);
 	init->ignores_children = former.sa_handler == SIG_IGN;
 	trace_first(init_real, init);
 	ending_of(init_real);
@@ -172,6 +183,7 @@ static pid_t start(char **words, int64_t pids_max)
 int main(int count, char **words)
 {
 	struct settings settings = read_words(count, words);
+	uint64_t group;
 	int status;
 
 	if (settings.prints_calls) {
@@ -185,10 +197,14 @@ int main(int count, char **words)
 		die(settings.data);
 	messages_start();
 	table_start(settings.pid_max, settings.log, settings.answers);
-	status = supervise(start(words + optind, settings.pids_max));
+	group = make_group(settings.pids_max);
+	if (settings.cgroups)
+		controls_start(settings.cgroups, group, settings.pids_max);
+	status = supervise(start(words + optind, group));
 	if (checking)
 		compare("tasks left", 0, table_do(PIDTAB_NEXT, SUPERVISOR, SUPERVISOR + 1, PIDTAB_TASKS));
 	report_stop();
+	controls_stop();
 	if (!data_close())
 		die("the sums");
 	table_stop();

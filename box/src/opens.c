@@ -106,18 +106,20 @@ static enum onward take_copy(struct thread *thread, struct registers *registers,
 	return take_path(thread, registers, asked->index, path);
 }
 
-/* A file of a control group that has numbers; the path is by the kernel's. */
+/* A file of a control group; the path is by the kernel's numbers. To be written alone it is opened itself. */
 static enum onward open_group(struct thread *thread, struct registers *registers, const struct asked *asked,
 	const char *path)
 {
-	int failure = asked->size ? tried(thread, asked, asked->path) : 0;
+	int failure = asked->size ? tried(thread, asked, asked->path) : 0, mode = asked->flags & O_ACCMODE;
 
 	if (failure)
 		return answer_with(thread, -failure);
 	if (!room_take(thread))
 		return room_map(thread);
-	thread->content = group_open(thread, path, asked->folder);
-	thread->wants_filter = !thread->process->sees_proc;
+	thread->wants_filter = mode != O_WRONLY && !thread->process->sees_proc;
+	thread->wants_write_filter = mode != O_RDONLY && !thread->process->writes_groups;
+	if (mode != O_WRONLY)
+		thread->content = group_open(thread, path, asked->folder, mode != O_RDONLY);
 	return thread->content >= 0 ? take_copy(thread, registers, asked) : watch(thread, registers);
 }
 
@@ -127,7 +129,7 @@ static int open_copy(const struct thread *thread, const struct place *place, con
 	size_t size;
 	char *text = content_of(thread, path, file, place->task ? place->task : place->process, &size);
 
-	return copy_make(of ? of->root : 0, of ? path : NULL, text, size);
+	return copy_make(of ? of->root : 0, of ? path : NULL, text, size, false);
 }
 
 static bool is_read_alone(const struct asked *asked)
@@ -163,7 +165,7 @@ static enum onward open_enter(struct thread *thread, struct registers *registers
 	bool is_written = (asked->flags & O_ACCMODE) != O_RDONLY && !(asked->flags & O_PATH);
 	char path[LONGEST_PATH], whole[LONGEST_PATH];
 	const char *named = asked->path;
-	enum kind kind = NO_KIND;
+	enum group_file group = NOT_OF_GROUP;
 	struct place place;
 	int failure = 0;
 
@@ -177,9 +179,9 @@ static enum onward open_enter(struct thread *thread, struct registers *registers
 	if (place.where >= IN_PROC && place_write(&place, whole))
 		named = whole; /* it may be the link of a descriptor, as /proc/self/fd/5 */
 	if (!(asked->flags & O_PATH))
-		kind = group_file(thread, named, asked->folder, is_written);
-	if (kind)
-		return is_written ? refuse(thread) : open_group(thread, registers, asked, named);
+		group = group_file(thread, named, asked->folder, is_written);
+	if (group)
+		return is_written && group == OF_KERNEL ? refuse(thread) : open_group(thread, registers, asked, named);
 	return place.where >= IN_PROC ? open_place(thread, registers, asked, &place, path) : GO;
 }
 

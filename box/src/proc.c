@@ -121,11 +121,12 @@ bool place_write(const struct place *place, char *path)
 /* The file whose numbers are translated, as it is named below a process or a thread; or none. */
 const char *place_file(const struct place *place)
 {
-	static const char *const files[] = { "/stat", "/status", "/children" };
+	static const char *const files[] = { "/stat", "/status", "/children", "/cgroup" };
+	int count = (int)(sizeof files / sizeof files[0]) - !shows_controls;
 
 	if (!place->process || place->where != BELOW)
 		return NULL;
-	for (size_t i = 0; i < sizeof files / sizeof files[0]; i++)
+	for (int i = 0; i < count; i++)
 		if (!strcmp(place->rest, files[i]))
 			return files[i];
 	return strncmp(place->rest, "/fdinfo/", 8) ? NULL : "/fdinfo";
@@ -137,7 +138,7 @@ const char *place_file(const struct place *place)
  * entries that have numbers. */
 static bool may_be_in_proc(const char *head, size_t size)
 {
-	static const char *const entries[] = { "/proc", "self", "thread", "task", "stat", "childr", "fdinfo" };
+	static const char *const entries[] = { "/proc", "self", "thread", "task", "stat", "childr", "fdinfo", "cgroup" };
 
 	for (size_t i = 0; i < sizeof entries / sizeof entries[0]; i++)
 		if (!strncmp(head, entries[i], size < strlen(entries[i]) ? size : strlen(entries[i])))
@@ -160,19 +161,25 @@ bool read_path(pid_t tid, uint64_t at, char *path)
 	return false;
 }
 
+/* What a link of /proc leads to. */
+bool read_link(const char *link, char path[LONGEST_PATH])
+{
+	ssize_t size = readlink(link, path, LONGEST_PATH - 1);
+
+	path[size > 0 ? size : 0] = 0;
+	return size > 0;
+}
+
 /* The directory that a descriptor of the thread is of, or its own. */
 bool read_folder(const struct thread *thread, int file, char *folder)
 {
 	char link[64];
-	ssize_t size;
 
 	if (file == AT_FDCWD)
 		snprintf(link, sizeof link, "/proc/%d/cwd", thread->tid);
 	else
 		snprintf(link, sizeof link, "/proc/%d/fd/%d", thread->tid, file);
-	size = readlink(link, folder, LONGEST_PATH - 1);
-	folder[size > 0 ? size : 0] = 0;
-	return size > 0;
+	return read_link(link, folder);
 }
 
 /* Where a folder is, by the kernel's name of it, which is from the root. */

@@ -4,7 +4,9 @@
 #include "calls.h"
 
 #include <linux/futex.h>
+#include <sched.h>
 #include <stddef.h>
+#include <sys/ptrace.h>
 #include <sys/syscall.h>
 #include <unistd.h>
 
@@ -27,20 +29,94 @@ enum onward enter_share(struct thread *thread, struct registers *registers)
 	return GO;
 }
 
-/* A word with the number that the program sees gets the kernel's, who marks it then. */
-static void give_real(const struct thread *thread, uint64_t at)
+/* ---- a lock's word has the kernel's number of its owner, until the kernel has marked it. Who has that number in the box would take the lock for his
+ * own: he is held meanwhile ---- */
+
+enum { MOST_HELD = 8 };
+
+struct held {
+	pid_t tid;
+	int status;
+};
+
+/* A thread at its end. */
+struct ending {
+	const struct thread *thread;
+	uint64_t last; /* the word that the kernel marks last; 0 for none */
+	int count;
+	struct held held[MOST_HELD];
+};
+
+/* One that is stopped, or sleeps until its child has executed, takes no lock. */
+static bool may_run(const struct thread *thread)
 {
+	bool is_in_vfork = (thread->stage == ASKING || thread->stage == MADE) && thread->flags & CLONE_VFORK;
+
+	return !is_in_vfork && !thread->process->exec_waits && thread->stage != HELD;
+}
+
+/* Threads beside a main one have numbers above all of the kernel. */
+static void hold_mistaken(struct ending *ending)
+{
+	uint32_t real = (uint32_t)ending->thread->tid;
+
+	for (const struct process *process = processes; process && ending->count < MOST_HELD; process = process->next) {
+		const struct thread *main_one = process->ended ? NULL : thread_of_real(process->real);
+		struct held *held = &ending->held[ending->count];
+
+		if (!main_one || main_one == ending->thread || main_one->seen != real)
+			continue;
+		if (!may_run(main_one) || !hold(main_one->tid, &held->status))
+			continue;
+		held->tid = main_one->tid;
+		ending->count++;
+	}
+}
+
+static void wait_for_mark(const struct ending *ending)
+{
+	pid_t tid = ending->thread->tid;
+	uint32_t word;
+
+	for (int i = 0; i < MOMENTS; i++) {
+		if (!read_memory(tid, ending->last, &word, sizeof word) || (word & FUTEX_TID_MASK) != (uint32_t)tid)
+			return;
+		wait_moment();
+	}
+}
+
+/* The thread goes on to its end here, where somebody is held, and else by its caller. */
+static void let_go_held(const struct ending *ending)
+{
+	if (!ending->count)
+		return;
+	trace(PTRACE_CONT, ending->thread->tid, 0);
+	wait_for_mark(ending);
+	for (int i = 0; i < ending->count; i++)
+		handle(ending->held[i].tid, ending->held[i].status);
+}
+
+/* ---- the list ---- */
+
+/* A word with the number that the program sees gets the kernel's, who marks it then. */
+static void give_real(struct ending *ending, uint64_t at)
+{
+	const struct thread *thread = ending->thread;
 	uint32_t word, real = (uint32_t)thread->tid;
 
-	if (at % sizeof word == 0 && read_memory(thread->tid, at, &word, sizeof word) &&
-		(word & FUTEX_TID_MASK) == thread->seen)
-		write_memory(thread->tid, at, &real, NUMBER_BYTES);
+	if (at % sizeof word || !read_memory(thread->tid, at, &word, sizeof word) || (word & FUTEX_TID_MASK) != thread->seen)
+		return;
+	if (!ending->last)
+		hold_mistaken(ending);
+	ending->last = at;
+	write_memory(thread->tid, at, &real, NUMBER_BYTES);
 }
 
 /* The lock that it was about to take or to leave. Another's, whose number is by chance this thread's to the
  * kernel, is none of its. */
-static void give_pending(const struct thread *thread, const struct robust_list_head *head, uint64_t head_at)
+static void give_pending(struct ending *ending, const struct robust_list_head *head, uint64_t head_at)
 {
+	const struct thread *thread = ending->thread;
 	uint64_t pending = (uint64_t)head->list_op_pending, at = pending + (uint64_t)head->futex_offset;
 	const uint64_t none = 0;
 	uint32_t word;
@@ -51,13 +127,14 @@ static void give_pending(const struct thread *thread, const struct robust_list_h
 		(word & FUTEX_TID_MASK) == (uint32_t)thread->tid)
 		write_memory(thread->tid, head_at + offsetof(struct robust_list_head, list_op_pending), &none, sizeof none);
 	else
-		give_real(thread, at);
+		give_real(ending, at);
 }
 
-/* The thread is at its end, and has its memory yet. The last bit of an entry says that the kernel is to look for
+/* The thread is about to go on to its end, and has its memory yet. The last bit of an entry says that the kernel is to look for
  * another kind of lock. */
 void robust_end(const struct thread *thread)
 {
+	struct ending ending = { .thread = thread };
 	struct robust_list_head head;
 	uint64_t at, entry, next;
 	size_t size;
@@ -70,8 +147,9 @@ void robust_end(const struct thread *thread)
 		if (!read_memory(thread->tid, entry & ~(uint64_t)1, &next, sizeof next))
 			break;
 		if (!(entry & 1) && entry != (uint64_t)head.list_op_pending)
-			give_real(thread, entry + (uint64_t)head.futex_offset);
+			give_real(&ending, entry + (uint64_t)head.futex_offset);
 		entry = next;
 	}
-	give_pending(thread, &head, at);
+	give_pending(&ending, &head, at);
+	let_go_held(&ending);
 }

@@ -163,17 +163,9 @@ static bool is_from_a_process(int signal, int code)
 /* Whether the process has a handler for the signal. */
 static bool is_caught(pid_t real, int signal)
 {
-	char name[32], line[256];
 	unsigned long long caught = 0;
-	FILE *file;
 
-	snprintf(name, sizeof name, "/proc/%d/status", real);
-	file = fopen(name, "re");
-	while (file && fgets(line, sizeof line, file))
-		if (sscanf(line, "SigCgt: %llx", &caught) == 1)
-			break;
-	if (file)
-		fclose(file);
+	read_status(real, real, "SigCgt: %llx", &caught);
 	return caught >> (signal - 1) & 1;
 }
 

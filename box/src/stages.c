@@ -27,7 +27,8 @@ static const struct step steps[STAGES][EVENTS] = {
 	[FALLEN] = { [STOPS] = { FALLEN, SERVE }, [TOLD] = { FALLEN, NO_DEED }, [FAILS] = { FALLEN, NO_DEED }, [DELAYED] = { FALLEN, NO_DEED },
 	             [RETURNS] = { FALLEN, NO_DEED }, [EXECUTES] = { FALLEN, NO_DEED }, [FALLS] = { FALLEN, NO_DEED }, [LEAVES] = { FALLEN, RUN },
 	             [ENDS] = { OVER, END } },
-	[LEAVING] = { [EXECUTES] = { RUNNING, NO_DEED }, [HOLDS] = { HELD, NO_DEED }, [LET_GO] = { LEAVING, RUN }, [FALLS] = { LEAVING, NO_DEED },
+	/* A main one stops once more where another thread has executed, which has its number now. */
+	[LEAVING] = { [STOPS] = { LEAVING, SERVE }, [EXECUTES] = { RUNNING, NO_DEED }, [HOLDS] = { HELD, NO_DEED }, [LET_GO] = { LEAVING, RUN }, [FALLS] = { LEAVING, NO_DEED },
 	              [ENDS] = { OVER, END } },
 	[HELD] = { [LET_GO] = { LEAVING, RUN }, [FALLS] = { HELD, NO_DEED }, [ENDS] = { OVER, END } },
 };
@@ -111,11 +112,6 @@ static void check(void)
 		assert(thread->is_killed || thread->stage == NEW || !stranger_is_process(thread));
 }
 
-bool stages_lost(void)
-{
-	return some_lost;
-}
-
 /* As at the start. */
 void stages_reset(void)
 {
@@ -128,6 +124,12 @@ static void check(void)
 {
 }
 #endif
+
+/* Whether the kernel may have made a child that the table has not. */
+bool stages_lost(void)
+{
+	return some_lost;
+}
 
 /* ---- strangers ---- */
 
@@ -196,8 +198,10 @@ enum deed happen(struct thread *thread, enum event event)
 	some_lost |= (step.deeds & LOSE) != 0;
 	if (step.deeds & BEGIN)
 		begin(thread);
-	if (step.deeds & RUN)
+	if (step.deeds & RUN) {
+		robust_end(thread);
 		trace(PTRACE_CONT, thread->tid, 0);
+	}
 	must_judge |= (step.deeds & LOSE) || (was_asking && asking == 0);
 	if (step.deeds & JUDGE)
 		judge(thread);

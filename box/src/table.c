@@ -138,6 +138,16 @@ uint64_t table_around(uint64_t id)
 	return space.parent;
 }
 
+/* Whether the control group would go. */
+bool table_would_remove(uint64_t id)
+{
+	const struct pidtab_call call = { .operation = PIDTAB_RM, .id = id };
+	struct pidtab_reply told;
+
+	must(pidtab_would(&table, &call, &told));
+	return told.kind != PIDTAB_REFUSED;
+}
+
 /* The least number of a page, 0 where it has none. */
 uint32_t table_first(uint32_t caller, uint32_t whom, uint32_t number)
 {
@@ -148,16 +158,31 @@ uint32_t table_first(uint32_t caller, uint32_t whom, uint32_t number)
 	return least;
 }
 
-/* All numbers of a page, in rising order. The list stands until the next one. */
+/* A list of numbers, which stands until the next one. */
+static uint32_t *numbers;
+static uint64_t room;
+
+/* All numbers of a page, in rising order. */
 const uint32_t *table_list(uint32_t caller, uint32_t whom, uint32_t number, uint64_t *count)
 {
-	static uint32_t *numbers;
-	static uint64_t room;
 	struct pidtab_reply counted = { .first = LEAST_ROOM };
 
 	do {
 		numbers = with_room(numbers, &room, counted.first, sizeof *numbers);
 		must(pidtab_page(&table, caller, whom, number, 0, numbers, room, &counted));
+	} while (counted.first > room);
+	*count = counted.first;
+	return numbers;
+}
+
+/* The root numbers of all that live in the control group itself, in rising order. */
+const uint32_t *table_members(uint64_t control, uint64_t *count)
+{
+	struct pidtab_reply counted = { .first = LEAST_ROOM };
+
+	do {
+		numbers = with_room(numbers, &room, counted.first, sizeof *numbers);
+		must(pidtab_control_tasks(&table, SUPERVISOR, control, 0, numbers, room, &counted));
 	} while (counted.first > room);
 	*count = counted.first;
 	return numbers;

@@ -170,8 +170,8 @@ static void leaving(struct thread *thread)
 	struct process *process = thread->process;
 	unsigned long status = 0;
 
-	robust_end(thread);
 	if (process && !process->is_init) {
+		robust_end(thread);
 		trace(PTRACE_CONT, thread->tid, 0); /* its end is reported next */
 		return;
 	}
@@ -339,7 +339,13 @@ static void has_stopped(struct thread *thread, int status)
 	}
 }
 
-static void handle(pid_t tid, int status)
+void wait_moment(void)
+{
+	nanosleep(&(struct timespec){ 0, 10000 }, NULL);
+}
+
+/* What a thread has reported. */
+void handle(pid_t tid, int status)
 {
 	struct thread *thread = thread_of_real(tid);
 
@@ -354,6 +360,20 @@ static void handle(pid_t tid, int status)
 			thread_ended(thread, status);
 	}
 	stages_settle();
+}
+
+/* Stops a thread, and has its status, which is for `handle`. One that has stopped before, or sleeps in vfork(2), does not within this time. */
+bool hold(pid_t tid, int *status)
+{
+	bool has_stopped = false;
+
+	trace(PTRACE_INTERRUPT, tid, 0);
+	for (int i = 0; i < MOMENTS && !has_stopped; i++) {
+		has_stopped = waitpid(tid, status, __WALL | WNOHANG) == tid;
+		if (!has_stopped)
+			wait_moment();
+	}
+	return has_stopped;
 }
 
 /* The end of the process is fetched now, out of turn. */

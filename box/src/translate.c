@@ -170,7 +170,7 @@ static bool is_followed(struct thread *thread, const struct registers *registers
 		return true;
 	if (thread->behind_reads >= 0 && filter_for_reads(thread))
 		return true;
-	return thread->wants_filter && filter_for_proc(thread);
+	return filter_wanted(thread);
 }
 
 /* The exit of a call. The program finds its arguments as it passed them. */

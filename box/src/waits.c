@@ -43,27 +43,85 @@ static bool is_wait4_end(const struct thread *thread, pid_t real)
 	return kill(real, 0) && errno == ESRCH;
 }
 
-/* Whether a SIGCHLD is sure to stop the caller right behind its wait: its only thread waits for the end of a child that lives, and
- * neither ignores nor blocks the signal. Another signal that interrupts it stops it too. */
-static bool is_ended_by_signal(const struct thread *thread)
+/* Its end will be told by a signal. */
+static bool is_live(const struct process *child)
+{
+	return child && !child->ended && !child->dead && !child->gone && !child->ends_unheard;
+}
+
+/* The kernel gives orphans to such a process. */
+static bool takes_orphans(const struct process *process)
+{
+	return process->is_init || table_stat(process->root, 0).subreaper;
+}
+
+/* Whether some end is not fetched yet: its orphans, who may have ended, have another parent in the kernel than in the table. */
+static bool has_unfetched_end(void)
+{
+	siginfo_t info = { .si_pid = 0 };
+
+	return waitid(P_ALL, 0, &info, WEXITED | WNOHANG | WNOWAIT | __WALL) || info.si_pid;
+}
+
+/* Whether the process has children, all of which live. The kernel shows no end to a parent before it is fetched here. */
+static bool has_live_children_alone(const struct process *process)
+{
+	uint64_t count;
+	const uint32_t *children = table_list(SUPERVISOR, PIDTAB_CHILDREN, process->root, &count);
+
+	for (uint64_t i = 0; i < count; i++)
+		if (!is_live(process_of_root(children[i])))
+			return false;
+	return count > 0;
+}
+
+/* Whether all whom the wait is for live, as far as it is for one child, or for any. */
+static bool is_for_live(const struct thread *thread)
 {
 	const struct process *caller = thread->process;
 	int32_t pid = (int32_t)call_argument(thread, 0);
 	const struct process *child = pid > 0 ? process_seen(caller, (uint32_t)pid) : NULL;
+
+	return pid == -1 ? has_live_children_alone(caller) : is_live(child) && parent_of(child) == caller;
+}
+
+/* Whether the kernel has a child of the process that the table has not, and that a wait for any might find. */
+static bool may_have_others(const struct thread *thread)
+{
+	return call_argument(thread, 0) == -1 && (takes_orphans(thread->process) || stages_lost());
+}
+
+/* Whether a SIGCHLD is sure to stop the caller right behind its wait: its only thread waits for the end of children that live, and
+ * neither ignores nor blocks the signal. Another signal that interrupts it stops it too. */
+static bool is_ended_by_signal(const struct thread *thread)
+{
+	const struct process *caller = thread->process;
 	uint64_t blocked;
 
-	if (!child || child->ended || child->dead || child->gone || child->ends_unheard || parent_of(child) != caller)
-		return false;
 	if (call_argument(thread, 2) != 0 || threads_of(caller) != 1 || caller->shares_handlers || caller->ignores_children || caller->wants_no_zombies)
+		return false;
+	if (!is_for_live(thread) || may_have_others(thread))
 		return false;
 	return !ptrace(PTRACE_GETSIGMASK, thread->tid, sizeof blocked, &blocked) && !(blocked >> (SIGCHLD - 1) & 1);
 }
 
-/* The exit of such a wait is not seen: what is to do behind it is done where the signal stops it, which saves a stop. */
+/* Whether the wait finds nobody, and does not wait. */
+static bool is_in_vain(const struct thread *thread)
+{
+	if (call_argument(thread, 2) != WNOHANG || !is_for_live(thread))
+		return false;
+	return call_argument(thread, 0) != -1 || !takes_orphans(thread->process) || !has_unfetched_end();
+}
+
+/* The exit of such a wait is not seen: what is to do behind it is done where the signal stops it, which saves a stop. One that finds
+ * nobody is answered. */
 enum onward enter_wait4(struct thread *thread, struct registers *registers)
 {
-	enum onward onward = translate(thread, registers);
+	enum onward onward;
 
+	if (!checking && is_in_vain(thread))
+		return answer_with(thread, 0);
+	onward = translate(thread, registers);
 	thread->has_no_exit = is_ended_by_signal(thread);
 	return thread->has_no_exit ? GO : onward;
 }

@@ -9,6 +9,7 @@ import tempfile
 import threading
 import time
 
+import faults
 import parts
 import rig
 from rig import BOX, in_box, in_kernel
@@ -43,17 +44,17 @@ def often(tell, name, words, times, **how):
         tell.differences(name, box)
 
 
-# How often a call stops at most. A fork is counted with the end of its child and the wait for it.
+# How often a call stops at most. A fork is counted with the wait for its child, whose own stops are not.
 STOPS = (("query", 1), ("open", 1), ("receive", 1), ("receive-passed", 2), ("descriptor", 0), ("descriptor-proc", 1),
-    ("fork", 5))
+    ("fork", 5), ("fork-any", 4), ("poll", 1), ("action", 0))
 OFTEN = 200
 
 
 def stops(tell):
-    """How many stops each call takes, on average."""
+    """How many stops each call takes, on average, in a process that is no init."""
     program = rig.compiled("stops")
     for way, most in STOPS:
-        none, many = (in_box([program, way, str(count)], f"stops-{way}", options=()).stops for count in (0, OFTEN))
+        none, many = (in_box(["sh", "-c", f"{program} {way} {count}; :"], f"stops-{way}", options=()).stops for count in (0, OFTEN))
         if (many - none) / OFTEN > most + 0.2:
             tell.fault(f"stops of {way}", f"{(many - none) / OFTEN}, in place of {most}")
     tell.say("stops", "at most " + ", ".join(f"{way} {most}" for way, most in STOPS))
@@ -123,7 +124,7 @@ def passing_socket():
 def unseen(tell):
     """Each number that the page says passes unseen does so, and is right in the kernel's namespace."""
     count = 0
-    for as_root, most in ((False, 25), (True, 2))[:1 + rig.IS_ROOT]:
+    for as_root, most in ((False, 25), (True, 3))[:1 + rig.IS_ROOT]:
         with passing_socket() as path:
             words = ["env", f"SOCKET={path}", f"OUTSIDE={os.readlink('/proc/self/ns/pid')}", PYTHON,
                 str(rig.TESTS / "inside/unseen.py")]
@@ -137,7 +138,42 @@ def unseen(tell):
         if len(lines) != most or box.status:
             tell.fault("unseen", box.output)
         count += len(lines)
+    order_of_waits(tell)
     tell.say("unseen", f"{count} lines")
+
+
+# An orphan with a lower number than a child that is forked before it comes: both have ended when they are waited for.
+ORDER = """
+import ctypes, os
+ctypes.CDLL(None).prctl(36, 1, 0, 0, 0)
+told, parent_ends, orphan_ends = os.pipe(), os.pipe(), os.pipe()
+parent = os.fork()
+if parent == 0:
+    orphan = os.fork()
+    if orphan == 0:
+        os.read(orphan_ends[0], 1)
+        os._exit(3)
+    os.write(told[1], str(orphan).encode())
+    os.read(parent_ends[0], 1)
+    os._exit(2)
+orphan = int(os.read(told[0], 10))
+child = os.fork()
+if child == 0:
+    os._exit(4)
+os.write(parent_ends[1], b"x")
+os.waitpid(parent, 0)
+os.write(orphan_ends[1], b"x")
+for ended in (child, orphan):
+    os.waitid(os.P_PID, ended, os.WEXITED | os.WNOWAIT)
+print(*(os.wait()[1] >> 8 for _ in range(2)))
+"""
+
+
+def order_of_waits(tell):
+    """The program has the kernel's order, the orphan last; the table's is by numbers, and the check says so."""
+    kernel, box = (run([PYTHON, "-c", ORDER], **how) for run, how in ((in_kernel, {}), (in_box, {"name": "unseen-order"})))
+    if (kernel.output, box.output, box.kinds()) != ("4 3\n", "4 3\n", {"order of waits": 1}):
+        tell.fault("unseen order of waits", f"kernel {kernel.output}, box {box.output}, {box.kinds()}")
 
 
 def orders(tell):
@@ -177,6 +213,32 @@ def bombs(tell):
     tell.say("bombs", f"{len(BOMBS)} limits")
 
 
+# Numbers of the kernel's namespace that the box runs in: each above 300 comes again after a hundred forks.
+FEW_NUMBERS, FORKS = 400, 350
+REUSED = "lives True\nended ESRCH\n"
+REUSED_FAULT = ("copies.c", " || name->root != copy->root", "")
+
+
+def in_few_numbers(words):
+    few = f'echo {FEW_NUMBERS} > /proc/sys/kernel/pid_max && exec "$@"'
+    return in_kernel(["sh", "-c", few, "sh", *words, PYTHON, str(rig.TESTS / "inside/reused.py"), str(FORKS)], as_root=True).output
+
+
+def reused(tell):
+    """What is read of a process that has ended is not another one's, who has its number in the kernel."""
+    if not rig.IS_ROOT:
+        return tell.skip("reused", "only root may set how many numbers a namespace has")
+    faulty = faults.build("a number that is used again", *REUSED_FAULT)
+    for who, words in (("kernel", []), ("box", [BOX, "--check"])):
+        found = in_few_numbers([str(it) for it in words])
+        if found != REUSED:
+            tell.fault("reused", f"{who}: {found}")
+    if in_few_numbers([str(faulty)]) == REUSED:
+        tell.fault("reused", "a planted fault is not found")
+    shutil.rmtree(rig.OUT / "fault")
+    return tell.say("reused", f"{FORKS} forks with {FEW_NUMBERS} numbers")
+
+
 BYTES = ("again", "executed", "read", "senders", "stacks", "threads", "taken", "filters")
 
 
@@ -199,7 +261,23 @@ def locks(tell):
     for way, memory in LOCKS:
         often(tell, f"locks-{way}-{memory}", ["sh", "-c", f"{program} {way} {memory}; exit $?"], 5,
             box=box) # an init's end is seen anyway
-    tell.say("locks", f"{len(LOCKS)} ways")
+    mistaken(tell, program)
+    tell.say("locks", f"{len(LOCKS)} ways, and one beside an owner whose number he has")
+
+
+MISTAKEN_FAULT = ("robust.c", "\tif (!ending->last)\n\t\thold_mistaken(ending);\n", "")
+
+
+def mistaken(tell, program):
+    """In a namespace where the kernel's numbers are those of the box, and one more, nobody takes the lock of the one before for his own."""
+    right, faulty = "0 of 100 took it for their own\n", faults.build("nobody is held", *MISTAKEN_FAULT)
+    for _ in range(5):
+        found = in_kernel([str(BOX), program, "mistaken", "mapping"], 2 * SECONDS).output
+        if found != right:
+            tell.fault("locks mistaken", found)
+    if all(in_kernel([str(faulty), program, "mistaken", "mapping"], 2 * SECONDS).output == right for _ in range(5)):
+        tell.fault("locks mistaken", "a planted fault is not found")
+    shutil.rmtree(rig.OUT / "fault")
 
 
 # What a program does with SIGTERM, how often it is sent, the status, and how many seconds the end takes at most.

@@ -17,7 +17,7 @@
 #include <time.h>
 #include <unistd.h>
 
-enum { FAILED = 1, MISUSED = 2, MANY = 20, SECONDS = 10, MOMENT = 50000 /* us */ };
+enum { FAILED = 1, MISUSED = 2, MANY = 20, SECONDS = 10, ENDS = 100, MOMENT = 50000 /* us */ };
 
 /* What is shared: locks, and how many are held. */
 static struct shared {
@@ -223,6 +223,46 @@ static struct entry {
 	uint32_t *word;
 } entry;
 
+static _Noreturn void end_as_owner(void)
+{
+	while (shared->held != 1)
+		;
+	pthread_mutex_lock(&shared->locks[0]);
+	shared->held = 2;
+	_exit(0);
+}
+
+static _Noreturn void take_from_owner(void)
+{
+	int error;
+
+	shared->held = 1;
+	while (shared->held != 2)
+		;
+	do
+		error = pthread_mutex_trylock(&shared->locks[0]);
+	while (error == EBUSY);
+	_exit(error == EDEADLK);
+}
+
+/* Each owner ends beside one who was begun next, whose number may be the owner's to the kernel. */
+static int mistaken(void)
+{
+	int count = 0, status;
+
+	for (int i = 0; i < ENDS; i++) {
+		make_locks(PTHREAD_MUTEX_ERRORCHECK);
+		if (fork() == 0)
+			end_as_owner();
+		if (fork() == 0)
+			take_from_owner();
+		while (wait(&status) > 0)
+			count += status != 0;
+	}
+	printf("%d of %d took it for their own\n", count, ENDS);
+	return 0;
+}
+
 static struct robust_list_head own;
 
 static _Noreturn void *end_with_list(void *arg)
@@ -309,7 +349,7 @@ int main(int count, char **given)
 		const char *name;
 		int (*act)(void);
 	} ways[] = { { "thread", thread }, { "processes", processes }, { "grandchild", grandchild }, { "sleepers",
-		sleepers }, { "words", words }, { "lists", lists } };
+		sleepers }, { "words", words }, { "lists", lists }, { "mistaken", mistaken } };
 
 	setvbuf(stdout, NULL, _IOLBF, 0);
 	for (size_t i = 0; count == 3 && i < sizeof ways / sizeof ways[0]; i++)
@@ -317,6 +357,6 @@ int main(int count, char **given)
 			shared = share(given[2]);
 			return ways[i].act();
 		}
-	fputs("usage: locks thread|processes|grandchild|sleepers|words|lists mapping|system-v|private\n", stderr);
+	fputs("usage: locks thread|processes|grandchild|sleepers|words|lists|mistaken mapping|system-v|private\n", stderr);
 	return MISUSED;
 }

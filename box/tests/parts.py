@@ -16,12 +16,13 @@ NEEDED = {"10-tini": "tini", "11-dumb-init": "dumb-init", "19-s6": "s6-svscan", 
 
 
 def compare(tell, name, words, seconds=60):
-    """The program in both: the same output and status, and no difference."""
-    kernel, box = in_kernel(words, seconds), in_box(words, name, seconds)
-    if (kernel.output, kernel.status) != (box.output, box.status):
-        (OUT / f"{name}.kernel.txt").write_text(f"{kernel.output}status {kernel.status}\n", encoding="utf-8")
-        (OUT / f"{name}.box.txt").write_text(f"{box.output}status {box.status}\n", encoding="utf-8")
-        tell.fault(name, f"other output: see {OUT}/{name}.kernel.txt and .box.txt")
+    """The program in both: the same output and status, and no difference. Unchecked too: then the box answers more without the kernel."""
+    kernel, box, unchecked = in_kernel(words, seconds), in_box(words, name, seconds), in_box(words, f"{name}-unchecked", seconds, options=())
+    for run in (box, unchecked):
+        if (kernel.output, kernel.status) != (run.output, run.status):
+            (OUT / f"{name}.kernel.txt").write_text(f"{kernel.output}status {kernel.status}\n", encoding="utf-8")
+            (OUT / f"{name}.box.txt").write_text(f"{run.output}status {run.status}\n", encoding="utf-8")
+            tell.fault(name, f"other output: see {OUT}/{name}.kernel.txt and .box.txt")
     tell.differences(name, box)
     return box
 
@@ -127,6 +128,9 @@ def misuse(tell):
         ([], 125, "usage:"), (["--pids-max", "x", "true"], 125, "--pids-max takes 0 to 4194304: x"),
         (["--pid-max", "300", "true"], 125, "--pid-max takes 301 to 4194304: 300"), (["--proc", "none", "true"], 125, "--proc takes box or kernel: none"),
         (["--log", "/no/file", "true"], 125, "pidtab-box: /no/file: No such file or directory"), (["--log", "/dev/full", "true"], 125, "the log"),
+        (["--cgroups", "/no/folder", "true"], 125, "pidtab-box: /no/folder: No such file or directory"),
+        (["--cgroups", "/usr", "true"], 125, "pidtab-box: /usr: Directory not empty"),
+        (["--proc", "kernel", "--cgroups", "/usr", "true"], 125, "pidtab-box: --cgroups wants --proc box: /usr"),
         (["--data", "/no/file", "true"], 125, "pidtab-box: /no/file: No such file or directory"),
         (["--data", "/dev/full", "true"], 125, "the sums"),
         (["/no/program"], 127, "pidtab-box: /no/program: No such file or directory"), (["/dev/null"], 126, "Permission denied"),

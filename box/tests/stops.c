@@ -1,6 +1,7 @@
 /* stops.c - makes one call so many times: the test counts the stops that it takes. */
 #define _GNU_SOURCE
 #include <fcntl.h>
+#include <signal.h>
 #include <stdio.h>
 #include <stdlib.h>
 #include <string.h>
@@ -10,7 +11,7 @@
 #include <sys/wait.h>
 #include <unistd.h>
 
-enum { MISUSED = 2 };
+enum { MISUSED = 2, LATE = 2000 /* us */ };
 
 static int pair[2];
 
@@ -73,6 +74,32 @@ static void wait_for_child(void)
 	waitpid(child, NULL, 0);
 }
 
+/* The child ends while its parent waits. */
+static void wait_for_any(void)
+{
+	if (fork() == 0)
+		_exit(usleep(LATE));
+	wait(NULL);
+}
+
+static void begin_child(void)
+{
+	if (fork() == 0)
+		_exit(pause());
+}
+
+static void poll_children(void)
+{
+	waitpid(-1, NULL, WNOHANG);
+}
+
+static void ask_action(void)
+{
+	struct sigaction action;
+
+	sigaction(SIGCHLD, NULL, &action);
+}
+
 int main(int count, char **words)
 {
 	static const struct {
@@ -82,7 +109,8 @@ int main(int count, char **words)
 	} ways[] = { { "receive", begin_pair, receive }, { "receive-passed", begin_passing, receive }, { "descriptor",
 		nothing, ask_descriptor },
 		     { "descriptor-proc", open_proc, ask_descriptor }, { "open", nothing, open_file }, { "query", nothing,
-		     	ask }, { "fork", nothing, wait_for_child } };
+		     	ask }, { "fork", nothing, wait_for_child }, { "fork-any", nothing, wait_for_any }, { "poll", begin_child, poll_children },
+		     { "action", nothing, ask_action } };
 
 	for (size_t i = 0; count == 3 && i < sizeof ways / sizeof ways[0]; i++)
 		if (!strcmp(words[1], ways[i].name)) {
@@ -91,6 +119,6 @@ int main(int count, char **words)
 				ways[i].act();
 			return 0;
 		}
-	fputs("usage: stops receive|receive-passed|descriptor|descriptor-proc|open|query|fork COUNT\n", stderr);
+	fputs("usage: stops receive|receive-passed|descriptor|descriptor-proc|open|query|fork|fork-any|poll|action COUNT\n", stderr);
 	return MISUSED;
 }

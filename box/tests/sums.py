@@ -6,6 +6,7 @@ one did who was killed: that may end anywhere.
 import concurrent.futures
 import os
 import shutil
+import tempfile
 
 import faults
 import rig
@@ -14,7 +15,7 @@ PYTHON = "/usr/bin/python3"
 SECONDS = 120
 NATIVE_RUNS = 3
 # With a folder for each program, the same in each run, since programs write where they are.
-HOME = "/tmp/pidtab-box-sums"
+HOME = os.path.join(tempfile.gettempdir(), "pidtab-box-sums")
 AT_ONCE = 3
 
 
