@@ -130,7 +130,7 @@ class Members(Cluster):
 
     def test_all_are_replaced_one_by_one(self) -> None:
         etcds = self.start()
-        with mock.patch("pidtab.etcd.MEMBERS_SECONDS", 1.0):
+        with mock.patch("pidtab.hosts.etcd.MEMBERS_SECONDS", 1.0):
             table, still = (self.open(etcds.members, timeout=2) for _ in range(2))
             roots = [table.fork(1).root]
             for place in (0, 1, 2):

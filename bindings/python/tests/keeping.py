@@ -9,13 +9,13 @@ from collections.abc import Callable, Sequence
 from pathlib import Path
 
 from pidtab import Calls, EtcdLog, Following, Progress, Replicated
-from pidtab.archive import Archive
-from pidtab.etcd import JSON, Etcd, decode
-from pidtab.etcd_cells import read_keys
-from pidtab.etcd_guard import make_chance
-from pidtab.keeper import Keeper, Wishes
-from pidtab.log_form import Asked, write_calls
-from pidtab.snapshots import PIECES, read_served
+from pidtab.hosts.archive import Archive
+from pidtab.hosts.etcd import JSON, Etcd, decode
+from pidtab.hosts.etcd_cells import read_keys
+from pidtab.hosts.etcd_transactions import make_chance
+from pidtab.hosts.keeper import Keeper, Wishes
+from pidtab.hosts.log_entries import Asked, write_calls
+from pidtab.hosts.snapshots import PIECES, read_served
 from tests.memory_etcd import MemoryEtcd, keys_put, log_in
 from tests.stand_in import StandIn
 

@@ -9,7 +9,7 @@ from typing import Any, NamedTuple
 from unittest import mock
 
 from pidtab import Cluster, EtcdLog
-from pidtab.etcd import JSON, Etcd, Member, TooOld, decode, encode
+from pidtab.hosts.etcd import JSON, Etcd, Member, TooOld, decode, encode
 
 # How much a watcher may be behind before it is cut off, in bytes.
 ROOM = 8 * 1024 * 1024
@@ -274,5 +274,5 @@ def log_in(store: MemoryEtcd, name: str = "web", kind: type[EtcdLog] = EtcdLog) 
 
 def cluster_in(store: MemoryEtcd, name: str = "many", patience: float = 20.0) -> Cluster:
     """A Cluster in it, whose calls are those of its `_etcd`."""
-    with mock.patch("pidtab.cluster.open_etcd", lambda *words: Client(store)):
+    with mock.patch("pidtab.hosts.cluster.open_etcd", lambda *words: Client(store)):
         return Cluster(["memory:1"], name, patience=patience)

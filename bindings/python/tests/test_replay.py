@@ -11,8 +11,8 @@ from collections.abc import Sequence
 from pathlib import Path
 
 from pidtab import LibraryFault, MemoryLog, Process, Replicated, Table, find_library, find_program
+from pidtab.hosts.log_entries import MOST_SESSIONS
 from pidtab.library import load_library
-from pidtab.log_form import MOST_SESSIONS
 from tests.ways import need_library, need_program
 
 SCRIPT = Path(__file__).resolve().parents[1] / "bin" / "pidtab-replay"

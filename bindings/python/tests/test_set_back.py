@@ -5,11 +5,11 @@ import unittest
 from collections.abc import Sequence
 
 from pidtab import LogFault, NotKnown, Replicated
-from pidtab.etcd import JSON, decode, encode
-from pidtab.etcd_guard import HEAD
-from pidtab.keeper import Keeper
-from pidtab.log_form import FORM, MODEL, Settings, write_settings
-from pidtab.snapshots import read_served
+from pidtab.hosts.etcd import JSON, decode, encode
+from pidtab.hosts.etcd_transactions import HEAD
+from pidtab.hosts.keeper import Keeper
+from pidtab.hosts.log_entries import FORM, MODEL, Settings, write_settings
+from pidtab.hosts.snapshots import read_served
 from tests.keeping import Keeping, StillLog, cuts
 from tests.memory_etcd import cluster_in, log_in
 from tests.stand_in import StandIn

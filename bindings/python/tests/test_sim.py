@@ -6,8 +6,8 @@ import unittest
 from pathlib import Path
 
 from pidtab import Table
-from pidtab.oci import BadConfig, Description, read_config
 from pidtab.sim import DOCKER, KUBERNETES, NoContainer, Restart, Simulation, World
+from pidtab.sim.oci import BadConfig, Description, read_config
 from tests.ways import need_library
 
 # As `runc spec` writes it, with fewer of its lists' items.

@@ -9,7 +9,7 @@ import threading
 import unittest
 
 from pidtab import BadList, Control, Listing, Space, Task, draw_list, read_list
-from pidtab.service import LIST, POSITION
+from pidtab.commands.service import LIST, POSITION
 from tests.pages import REPOSITORY, blocks, read_page, section, stored_scripts
 
 # So many tasks are drawn in so many seconds, with room for a slow machine.

@@ -8,7 +8,7 @@ import unittest
 from pathlib import Path
 
 from pidtab import BadHistory, Shared, Table
-from pidtab.whatif import Bound, Log, Logged, World, play
+from pidtab.commands.whatif import Bound, Log, Logged, World, play
 from tests.pages import REPOSITORY, StoredScript, stored_scripts
 from tests.ways import need_library, need_shared
 
