@@ -9,7 +9,7 @@ from collections.abc import Callable, Iterator, Sequence
 from itertools import groupby, islice
 from operator import index
 
-from pidtab.answers import ANSWERS, Stat
+from pidtab.answers import ANSWERS, Reaped, Stat
 from pidtab.batch import read_call
 from pidtab.bounds import DEFAULT_PID_MAX, Unnamed, check_pid_max, check_range, check_timeout
 from pidtab.faults import LibraryFault, NotKept, OtherSettings, SaverEnded, SeatsTaken, TableClosed, Unsaved, WaitingEnded
@@ -121,6 +121,20 @@ class Seat(NumberCalls):
         """Gives the seat up: it makes no more calls. The table stays open, and the seat is not handed out again."""
         # The second has a call look at the first.
         self._closed = self._left = True
+
+    async def reap(self, caller: int, pid: int | None = None, *, own: bool = False, group: int | None = None) -> Reaped:
+        """waitpid(2) as `wait`, without WNOHANG, for a loop of asyncio: waits until a child has ended, and takes it away. no-caller, no-child.
+
+        No call is made before there is one. Meanwhile each call on the table costs one query for each that waits.
+        """
+        while True:
+            seen = self.shared.counts().recorded
+            if self.would.wait(caller, pid, own=own, group=group) is not None:
+                reaped = self.wait(caller, pid, own=own, group=group)
+                # Another may have taken it away.
+                if reaped is not None:
+                    return reaped
+            await self.shared.changed(seen)
 
     def _settings(self) -> str:
         return f"worker={self.worker} pid_max={self.pid_max}"
@@ -592,13 +606,32 @@ class Shared(Labelled, Owner):
         """
         ordinal = check_range("ordinal", ordinal, 0, GREATEST_NUMBER)
         seconds = None if timeout is None else check_timeout("timeout", timeout)
-        status, recorded = self._waited(ordinal, seconds)
+        recorded = self._check_waited(ordinal, *self._waited(ordinal, seconds))
+        if recorded <= ordinal:
+            raise TimeoutError(f"call {ordinal} was not recorded in {seconds:g} seconds")
+        return recorded
+
+    async def changed(self, ordinal: int) -> int:
+        """As `wait_changed`, for a loop of asyncio: `recorded = await shared.changed(n)`. However many wait so, one thread waits in the library for all.
+
+        `asyncio.wait_for` bounds the time. What is raised at an end is what `wait_changed` raises.
+        """
+        # Here, as asyncio takes longer to load than all of this.
+        from pidtab.loops import Loops
+
+        ordinal = check_range("ordinal", ordinal, 0, GREATEST_NUMBER)
+        hold = self._with_waits()
+        # One step, as loops of several threads may come here at once.
+        loops: Loops = vars(self).setdefault("_loops", Loops())
+        wait = hold.functions.pidtab_shared_wait
+        return self._check_waited(ordinal, *await loops.wait(ordinal, lambda place, until, recorded: int(wait(hold.at, place, until, recorded))))
+
+    def _check_waited(self, ordinal: int, status: int, recorded: int) -> int:
+        """How many calls are recorded, if a wait was not ended."""
         if status == CLOSED:
             self._check_open()
             raise WaitingEnded(f"the waits were ended, and call {ordinal} is not recorded")
         check(status, f"wait for call {ordinal}")
-        if recorded <= ordinal:
-            raise TimeoutError(f"call {ordinal} was not recorded in {seconds:g} seconds")
         return recorded
 
     def end_waiting(self) -> None:
