@@ -12,7 +12,7 @@ from types import FrameType
 from typing import Any
 from unittest import mock
 
-from pidtab import Counts, Reaped, Refusal, Seat, Shared, TableClosed, WaitingEnded
+from pidtab import Counts, Reaped, Refusal, Shared, TableClosed, WaitingEnded
 from tests.alarms import alarms
 from tests.ways import need_shared
 

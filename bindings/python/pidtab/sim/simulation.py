@@ -12,7 +12,7 @@ from typing import Any, NamedTuple
 from pidtab.calls import Calls
 from pidtab.faults import Refusal
 from pidtab.listing import Listing
-from pidtab.sim.oci import BadConfig, Description, read_config
+from pidtab.sim.oci import Description
 
 # The runtime is the init of the root namespace, which starts all containers and waits for them.
 RUNTIME = 1
