@@ -47,7 +47,7 @@ impl Task {
 #[non_exhaustive]
 pub struct Space {
     // Written by tools/interface: fields of a namespace.
-    /// Its id: 0 for the root, or the number of the call that made it.
+    /// Its id, 0 for the root.
     pub id: u64,
     /// The id of the namespace around it, none for the root.
     pub parent: Option<u64>,
@@ -63,7 +63,7 @@ pub struct Space {
 #[non_exhaustive]
 pub struct Control {
     // Written by tools/interface: fields of a control group.
-    /// Its id: 0 for the root, or the number of the call that made it.
+    /// Its id, 0 for the root.
     pub id: u64,
     /// The id of the control group above it, none for the root.
     pub parent: Option<u64>,
