@@ -127,7 +127,7 @@ export function sayInside(box) {
   return parts.filter((part) => part !== null).join(", ");
 }
 
-/** Items from one on, as many as are drawn in one go, and behind them a button if there are more. */
+/** Items from one on, as many as are drawn in one go, and after them a button if there are more. */
 function drawnFrom(items, from, draw) {
   const end = from + MOST_ITEMS;
   const drawn = items.slice(from, end).map(draw);

@@ -20,7 +20,7 @@ const LEAST_ROWS = 8;
 // A script of more lines is played once nobody has typed for so many milliseconds.
 const SHORT_SCRIPT = 500;
 const PAUSE = 150;
-// Of a longer script only the rows in sight are drawn, with so many before and behind them.
+// Of a longer script only the rows in sight are drawn, with so many before and after them.
 const MOST_ROWS = 2000;
 const ROWS_BEYOND = 200;
 // A file of more bytes is not opened.
@@ -101,7 +101,7 @@ function rowHeight() {
   return fields.gutter.children[0]?.offsetHeight || 1;
 }
 
-/** The first line whose row has to be drawn, counted from 0, and the one behind the last. */
+/** The first line whose row has to be drawn, counted from 0, and the one after the last. */
 function rowsInSight() {
   const count = shown.lines.length;
   if (count <= MOST_ROWS) return [0, count];
@@ -130,7 +130,7 @@ function playScript(bound) {
   const lines = linesOf(fields.script.value);
   shown.lines = lines.slice(0, MOST_LINES);
   shown.answers = player.play(bound, shown.lines);
-  // One more, as the text may go on behind its last newline.
+  // One more, as the text may go on after its last newline.
   fields.script.rows = Math.max(lines.length + 1, LEAST_ROWS);
   drawRows();
   fields.place.max = String(shown.lines.length);

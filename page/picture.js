@@ -106,7 +106,7 @@ function paintPart(element, x, y) {
   return (hasDot(element) ? paintDot(element, x, y) : "") + (pill ? tag("rect", edge) : "") + texts.join("");
 }
 
-/** The parts of a row behind its numbers. */
+/** The parts of a row after its numbers. */
 function drawnFacts(row) {
   return row.below("facts")[0].below().flatMap((it) => (it.is("state") ? it.below() : [it]));
 }

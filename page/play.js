@@ -12,7 +12,7 @@ export const MOST_KEPT = 2 ** 28;
 /** Where states are further apart, one more is kept so many lines before the place, so that the next steps back play no more than these. */
 export const NEAR = 50;
 
-/** The lines of a script: each ends at a newline, and what stands behind the last newline is a line too. */
+/** The lines of a script: each ends at a newline, and what stands after the last newline is a line too. */
 export function linesOf(text) {
   const lines = text.split("\n");
   if (lines.at(-1) === "") lines.pop();

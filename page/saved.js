@@ -86,7 +86,7 @@ export function isSaved(bytes) {
   return HEAD_BYTES.every((byte, place) => bytes[place] === byte);
 }
 
-/** The blocks of a file one behind another, each with its checksum compared. What is torn at the end is left out. */
+/** The blocks of a file one after another, each with its checksum compared. What is torn at the end is left out. */
 class SavedBlocks {
   constructor(bytes) {
     this.bytes = bytes;

@@ -131,7 +131,7 @@ test("a key at the end of a long script plays few lines", () => {
     player.play(400, [...lines.slice(0, -1), key]);
     assert.ok(table.asked.length <= NEAR + 2, String(table.asked.length));
   }
-  // From a change on, the states behind it are those of other lines.
+  // From a change on, the states after it are those of other lines.
   player.play(400, ["y", ...lines]);
   assert.equal(player.listsAround(23001).after, `list of 400 y ${lines.join(" ")}`);
 });

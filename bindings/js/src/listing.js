@@ -1,6 +1,6 @@
 // The list of a table, as `pidtab list` writes it (docs/SCRIPT.md, "The list").
 
-// The fields of each line in their order, each with its type. The first stands behind the word of its line, and others behind their names.
+// The fields of each line in their order, each with its type. The first stands after the word of its line, and others after their names.
 // Written by tools/interface: fields.
 const LINE_FIELDS = {
   task: { numbers: "numbers", space: "id", parent: "number", group: "number", session: "number", control: "id", live: "state", status: "status", executed: "mark", children: "apart", subreaper: "mark" },
@@ -9,7 +9,7 @@ const LINE_FIELDS = {
 };
 // The end of fields.
 
-// How a field of each type is written, behind its word.
+// How a field of each type is written, after its word.
 const WRITTEN = {
   numbers: (word, name) => `${word} (?<${name}>\\d+(?:,\\d+)*)`,
   number: (word, name) => `${word} (?<${name}>\\d+)`,

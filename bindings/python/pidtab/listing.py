@@ -7,7 +7,7 @@ from dataclasses import dataclass, field, replace
 from functools import cached_property
 from typing import Any
 
-# The fields of each line in their order, each with its type. The first stands behind the word of its line, and others behind their names.
+# The fields of each line in their order, each with its type. The first stands after the word of its line, and others after their names.
 # Written by tools/interface: fields.
 FIELDS: dict[str, dict[str, str]] = {
     "task": {
@@ -38,7 +38,7 @@ FIELDS: dict[str, dict[str, str]] = {
 }
 # The end of fields.
 
-# How a field of each type is written behind its word.
+# How a field of each type is written after its word.
 WRITTEN = {
     "numbers": r"{word} (?P<{name}>\d+(?:,\d+)*)",
     "number": r"{word} (?P<{name}>\d+)",

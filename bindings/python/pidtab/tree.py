@@ -86,7 +86,7 @@ def control_node(control: Control) -> Node:
 
 
 def turn(node: Node) -> Node:
-    """A control group of a list: there the count stands behind the limit."""
+    """A control group of a list: there the count stands after the limit."""
     limit, _, count = node[4].split(" ")
     return *node[:4], f"count {count} limit {limit}"
 
@@ -203,7 +203,7 @@ def count_spaces(trees: Trees) -> list[Node]:
 
 
 def label_tasks(nodes: Sequence[Node], labels: Mapping[str, str]) -> Sequence[Node]:
-    """Tasks with their labels behind their numbers."""
+    """Tasks with their labels after their numbers."""
     if not labels:
         return nodes
     return [(it[0], f"{it[1]} ({labels[it[0]]})", *it[2:]) if it[0] in labels else it for it in nodes]

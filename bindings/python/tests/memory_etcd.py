@@ -243,11 +243,11 @@ def keys_put(path: str, body: JSON) -> list[bytes]:
 
 
 def nothing(path: str, body: JSON) -> None:
-    """Does nothing before a call, or behind it."""
+    """Does nothing before a call, or after it."""
 
 
 class Client(Etcd):
-    """The calls of one host on it. What is called `before` a call, or `behind` it, may do something or raise."""
+    """The calls of one host on it. What is called `before` a call, or `after` it, may do something or raise."""
 
     def __init__(self, store: MemoryEtcd) -> None:
         super().__init__([Member("memory", 1)], None, None, IDLE)

@@ -59,7 +59,7 @@ def names_of(path: str, body: JSON) -> list[bytes]:
 
 
 class Clusters(unittest.TestCase):
-    """Opens Clusters and plain hosts, which are closed behind the test."""
+    """Opens Clusters and plain hosts, which are closed after the test."""
 
     def setUp(self) -> None:
         self.store = MemoryEtcd()
@@ -224,7 +224,7 @@ class Joins(Clusters):
 
     @contextlib.contextmanager
     def hold_reads(self, cluster: Cluster, held: threading.Event, is_behind: bool) -> Iterator[threading.Event]:
-        """Holds up who reads keys, before it is said up to which revision, or behind that."""
+        """Holds up who reads keys, before it is said up to which revision, or after that."""
         goes, client = threading.Event(), self.client(cluster)
 
         def hold(path: str, body: JSON) -> None:
@@ -248,7 +248,7 @@ class Joins(Clusters):
             opening.start()
             self.assertTrue(held.wait(LONG))
             self.assertEqual([plain.fork(1).root for _ in range(5)], list(range(before[-1] + 1, before[-1] + 6)))
-            # The others are not held up, and the watch has told of all behind this.
+            # The others are not held up, and the watch has told of all after this.
             self.assertEqual(other.fork(1).root, 2)
             goes.set()
             opening.join(LONG)
@@ -274,7 +274,7 @@ class Joins(Clusters):
                 self.assertTrue(held.wait(LONG))
                 for _ in range(5):
                     plain.fork(1)
-                # Behind this the watch has told of all.
+                # After this the watch has told of all.
                 other.fork(1)
                 goes.set()
                 self.check_goes(table)

@@ -246,7 +246,7 @@ class Ends(Tables):
     def test_a_busy_table_leaves_other_tasks_their_turns(self) -> None:
         async def main() -> None:
             child = self.seat.fork(1).child
-            # As if a call were recorded behind each look.
+            # As if a call were recorded after each look.
             with mock.patch.object(self.shared, "counts", return_value=Counts(0, 0)):
                 waits = asyncio.ensure_future(self.seat.reap(1, child))
                 for _ in range(MANY):

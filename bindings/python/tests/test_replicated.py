@@ -80,7 +80,7 @@ class SwitchedLog(MemoryLog):
 
 
 class Hosts(unittest.TestCase):
-    """Opens replicas, which are closed behind the test."""
+    """Opens replicas, which are closed after the test."""
 
     def setUp(self) -> None:
         self.log = SwitchedLog()
@@ -200,7 +200,7 @@ class HeldLog(MemoryLog):
 
 
 class Reads(Hosts):
-    """Reads that are not behind the log."""
+    """Reads that are not after the log."""
 
     def setUp(self) -> None:
         self.log = self.held = HeldLog()  # type: ignore[assignment]

@@ -14,7 +14,7 @@ from tests.keeping import Keeping, StillLog, cuts
 from tests.memory_etcd import cluster_in, log_in
 from tests.stand_in import StandIn
 
-# A revision that was set back is behind that which a host has read, or ahead of it by so many writes of others.
+# A revision that was set back is after that which a host has read, or ahead of it by so many writes of others.
 OTHERS = (0, 500)
 
 NOTICED = "etcd was set back to an earlier state, or the entry was deleted; nothing was put"

@@ -252,7 +252,7 @@ class OfATable(Hosts):
     def test_a_number_of_another_task(self) -> None:
         table = Replicated(MemoryLog(), pid_max=301)
         self.addCleanup(table.close)
-        # Behind the greatest number come those from 300 on.
+        # After the greatest number come those from 300 on.
         while table.fork(1).root != 300:
             pass
         table.label(300, "web")

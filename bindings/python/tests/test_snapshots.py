@@ -1,4 +1,4 @@
-"""Snapshots of a table on many hosts, case by case: the log is cut behind them, and nothing that was answered is lost or made twice."""
+"""Snapshots of a table on many hosts, case by case: the log is cut after them, and nothing that was answered is lost or made twice."""
 
 import random
 import unittest
@@ -121,7 +121,7 @@ class Walks(Keeping):
     """A log that is cut while somebody reads it."""
 
     def walk(self, is_compacted: bool) -> tuple[list[int], list[int]]:
-        """The positions that a walk gives behind its first page, behind which the log is cut; and those that there were before."""
+        """The positions that a walk gives after its first page, after which the log is cut; and those that there were before."""
         table, keeper, log = self.open(), self.keep(), self.make_log()
         self.fill(table)
         before = self.positions()
@@ -146,7 +146,7 @@ class Walks(Keeping):
             self.walk(is_compacted=True)
 
     def test_its_history_is_no_more(self) -> None:
-        # An entry with an early number comes behind the place of the walk, and one with a late one before it.
+        # An entry with an early number comes after the place of the walk, and one with a late one before it.
         table, log = self.open(), self.make_log()
         self.fill(table)
         before = sorted(self.positions())
@@ -174,7 +174,7 @@ class Crashes(Keeping):
     many = 10
 
     def crash(self, keeper: Keeper, calls: int, is_behind: bool) -> bool:
-        """Has a keeper crash at one of the calls on etcd that a snapshot takes, before it or behind it; False where there are not so many."""
+        """Has a keeper crash at one of the calls on etcd that a snapshot takes, before it or after it; False where there are not so many."""
         left = [calls]
 
         def count(path: str, body: JSON) -> None:
@@ -289,7 +289,7 @@ class Two(Keeping):
         last = read_served(self.make_log().cells()).all[-1]
         two.close()
         self.save_twice(table, one)
-        # What was checked last serves, however many come behind it.
+        # What was checked last serves, however many come after it.
         self.assertEqual(read_served(self.make_log().cells()).all[0], last)
         late = self.open()
         self.assertEqual(first_kept(late), last.position)
@@ -420,7 +420,7 @@ class Losses(Keeping):
 
 
 class Still(Keeping):
-    """A host that stood still while the log was cut behind it."""
+    """A host that stood still while the log was cut after it."""
 
     def stop(self, sends: bool) -> "tuple[Replicated, Replicated, object]":
         """Such a host, another one, and what it sent."""
@@ -726,7 +726,7 @@ class Seeded(unittest.TestCase):
 
 def check_restored(case: unittest.TestCase, log: MemoryLog, table: Callable[..., Calls]) -> None:
     """At some positions of a log, a snapshot makes the same host again, which goes on as the other one does."""
-    # A repeat of an entry may come late, and behind these.
+    # A repeat of an entry may come late, and after these.
     entries = list(log.entries)
     whole = machine_of(log, table, entries[-1][0])
     for to in range(2, whole.position, 7):

@@ -30,7 +30,7 @@ with suppress(ImportError):
 PACKAGE = Path(__file__).resolve().parents[1]
 PROGRAM = PACKAGE / "bin" / "pidtab-compare"
 
-# The toy at the other end of a pipe; behind its class stands what it is made with.
+# The toy at the other end of a pipe; after its class stands what it is made with.
 TOY_COMMAND = """\
 import errno, sys
 from tests.toy import Toy

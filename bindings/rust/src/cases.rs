@@ -407,7 +407,7 @@ fn say(reply: &Reply) -> String {
     }
 }
 
-/// What became of a task, behind a comma.
+/// What became of a task, after a comma.
 /// The numbers of a page.
 fn say_page(told: Result<Vec<u32>, Error>) -> String {
     match told.as_deref() {

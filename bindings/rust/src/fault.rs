@@ -333,7 +333,7 @@ impl From<Error> for io::Error {
     }
 }
 
-/// Why a replay stopped: the entries before the place were made again, and none behind it.
+/// Why a replay stopped: the entries before the place were made again, and none after it.
 ///
 /// As an [`Error`] it is the error alone, so that `?` takes it there.
 #[derive(Clone, Copy, Debug, PartialEq, Eq, Hash)]

@@ -27,7 +27,7 @@ class Blocks:
     """Takes bytes, and gives the whole entries that they end."""
 
     def __init__(self, functions: ctypes.CDLL, ordinal: int = 0, sum: int | None = None) -> None:
-        """Reads from a head on; or where there is a running checksum, from the entry behind it on."""
+        """Reads from a head on; or where there is a running checksum, from the entry after it on."""
         self.head: PidtabSavedHead | None = None
         self.ordinal = ordinal
         self._functions = functions
@@ -81,7 +81,7 @@ def bad_history(calls: int, why: str) -> BadHistory:
 
 
 class Followed(NamedTuple):
-    """A table as it stood, its first stamp, and the calls behind it, a list for each look: some may be empty."""
+    """A table as it stood, its first stamp, and the calls after it, a list for each look: some may be empty."""
 
     table: Table
     first_stamp: int
@@ -89,7 +89,7 @@ class Followed(NamedTuple):
 
 
 def follow_file(path: FilePath, library: str | os.PathLike[str] | None = None) -> Followed:
-    """The calls of the file of a saved history, from the first on, and then those that are written behind."""
+    """The calls of the file of a saved history, from the first on, and then those that are written after."""
     found = find_library(library)
     blocks = Blocks(load_shared(found))
     with open(path, "rb") as file:

@@ -1,4 +1,4 @@
-"""`pidtab-keep`: follows the log of a table on many hosts, writes its snapshots, and cuts the log behind them."""
+"""`pidtab-keep`: follows the log of a table on many hosts, writes its snapshots, and cuts the log after them."""
 
 import argparse
 import signal

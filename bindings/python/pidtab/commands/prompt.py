@@ -13,7 +13,7 @@ COMMANDS = {
 }
 
 def words_behind(before: list[str]) -> list[str]:
-    """What the forms have behind these words, a sign for a number."""
+    """What the forms have after these words, a sign for a number."""
     place = len(before)
     found = []
     for form in FORMS:
@@ -30,7 +30,7 @@ def names_of(session: Session) -> list[str]:
 
 
 def complete(session: Session, line: str, word: str) -> list[str]:
-    """The words that begin so and may stand behind a line."""
+    """The words that begin so and may stand after a line."""
     before = line.split()
     if before[1:2] == [EQUALS]:
         before = before[2:]

@@ -55,7 +55,7 @@ class BadLog(ValueError):
 
 
 def read_log(text: bytes) -> list[tuple[int, bytes]]:
-    """The entries of a log with their positions, in their order: all keys but those behind `NAME:~`."""
+    """The entries of a log with their positions, in their order: all keys but those after `NAME:~`."""
     try:
         kvs = json.loads(text).get("kvs", [])
         keys = [base64.b64decode(it["key"]).partition(b":")[2] for it in kvs]
@@ -189,7 +189,7 @@ class Comparison:
 
     @property
     def early(self) -> int:
-        """How many calls are behind one in the log that was asked only after they were answered."""
+        """How many calls are after one in the log that was asked only after they were answered."""
         latest = count = 0
         for where in self._made:
             asked, answered = self._times.get(where, (0, 0))
@@ -268,7 +268,7 @@ def play(given: argparse.Namespace) -> int:
     """Plays the log, and says what was found."""
     with open_script(given.log) as log:
         entries = read_log(log.read())
-    # Behind the log: what is cut meanwhile was in the archive before.
+    # After the log: what is cut meanwhile was in the archive before.
     entries = join([*entries, *(it for folder in given.archive for it in read_archive(folder))])
     replay = Replay(entries)
     with open_table(given, replay.pid_max) as table:

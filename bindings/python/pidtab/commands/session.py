@@ -83,7 +83,7 @@ def read_words(text: str) -> list[Word]:
 
 
 def kind_at(words: list[str], place: int) -> str:
-    """The letter of the number that stands behind these words at a place; none where no form has a number there."""
+    """The letter of the number that stands after these words at a place; none where no form has a number there."""
     for form in FORMS:
         parts = form.split(" ")
         if len(parts) > place and parts[place] in KINDS and fits_before(parts[:place], words):
@@ -192,7 +192,7 @@ class Session:
         return answer
 
     def _take_name(self, words: list[Word]) -> tuple[str | None, list[Word]]:
-        """The name that is given, and the words behind it."""
+        """The name that is given, and the words after it."""
         if len(words) < 2 or words[1].text != EQUALS:
             return None, words
         if not NAME.fullmatch(words[0].text):
@@ -216,7 +216,7 @@ class Session:
         return text
 
     def _number(self, word: Word, before: list[str]) -> str:
-        """The number that a name stands for behind these words."""
+        """The number that a name stands for after these words."""
         name = word.text.removeprefix(SIGN).removesuffix(ROOT)
         value = self.names.get(name)
         if value is None:

@@ -39,7 +39,7 @@ class View:
 
 
 def below(controls: Iterable[Control]) -> list[tuple[int, Control]]:
-    """Control groups with their depths, each behind the one that it is below."""
+    """Control groups with their depths, each after the one that it is below."""
     children: dict[int | None, list[Control]] = {}
     for control in controls:
         children.setdefault(control.parent, []).append(control)

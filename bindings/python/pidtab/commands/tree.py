@@ -102,7 +102,7 @@ def drawn(text: str, labels: Mapping[str, str], given: argparse.Namespace) -> li
 
 
 def written(given: argparse.Namespace) -> Iterator[list[str]]:
-    """The lines that are asked for, of one list behind the other."""
+    """The lines that are asked for, of one list after the other."""
     if given.diff:
         changes = read_file(given.diff[1]) - read_file(given.diff[0])
         yield [f"{changes.to_json()}\n" if given.json else str(changes)]

@@ -23,7 +23,7 @@ KILLED = 137
 
 @dataclass(frozen=True)
 class Restart:
-    """When a container whose init has ended is started again: behind `first` seconds, each time `factor` times as many, at most `most`.
+    """When a container whose init has ended is started again: after `first` seconds, each time `factor` times as many, at most `most`.
 
     Who has run for `reset` seconds begins with `first` anew.
     """
@@ -34,7 +34,7 @@ class Restart:
     reset: float
 
     def pause(self, before: float, ran: float) -> float:
-        """The pause behind one of `before` seconds, 0 for none, and a run of so many."""
+        """The pause after one of `before` seconds, 0 for none, and a run of so many."""
         return self.first if before == 0 or ran >= self.reset else min(self.most, before * self.factor)
 
 

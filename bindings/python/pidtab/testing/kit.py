@@ -356,7 +356,7 @@ def compare(
     """Compares your table with one of pidtab by so many cases of up to so many calls, and tells what it has seen. `wishes` are those of `machine`.
 
     A difference that was not declared is a `Different`, which Hypothesis has shrunk; `save` names a file for its script. `begin_at` is a seed, so that the
-    same cases come again. A table of yours that raises anything but an OSError differs by that, with its fault as the cause.
+    same cases come again. A table of yours that raises anything except an OSError differs by that, with its fault as the cause.
     """
     compared = machine(yours, **wishes)
     if begin_at is not None:

@@ -19,7 +19,7 @@ PATIENCE = 10.0
 
 ROOM = 65536
 
-# What a command answers, perhaps with a reason behind it, where it has made no such call.
+# What a command answers, perhaps with a reason after it, where it has made no such call.
 NOT_ASKED = "n/a"
 
 # The commands whose first number is the id of a control group, and the place of the id among the arguments where it is not the first.
