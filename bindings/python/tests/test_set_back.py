@@ -50,12 +50,17 @@ class SetBack(Keeping):
         self.assertEqual([table.fork(1).root for _ in range(3)], [7, 8, 9])
         return table
 
+    def begin_set_back(self, others: int) -> tuple[Replicated, Replicated]:
+        """A writer and a reader of a log that was set back, after which others have written so often."""
+        self.begin()
+        revision, writer, reader = self.make_history()
+        self.store.set_back(revision, others)
+        return writer, reader
+
     def test_a_call(self) -> None:
         for others in OTHERS:
             with self.subTest(others):
-                self.begin()
-                revision, writer, reader = self.make_history()
-                self.store.set_back(revision, others)
+                writer, reader = self.begin_set_back(others)
                 before = self.state()
                 self.check_noticed(writer)
                 self.check_noticed(reader)
@@ -65,9 +70,7 @@ class SetBack(Keeping):
     def test_a_read(self) -> None:
         for others in OTHERS:
             with self.subTest(others):
-                self.begin()
-                revision, writer, reader = self.make_history()
-                self.store.set_back(revision, others)
+                writer, reader = self.begin_set_back(others)
                 for table in (reader, writer):
                     with self.assertRaisesRegex(LogFault, NOTICED):
                         table.catch_up()
