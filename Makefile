@@ -126,6 +126,7 @@ MANDIR ?= $(PREFIX)/share/man
 PYTHONDIR ?= $(PREFIX)/share/pidtab/python
 INSTALL ?= install
 PROGRAMS = pidtabctl pidtab-tree pidtab-check pidtab-play pidtab-replay pidtab-keep pidtab-compare pidtab-top
+MODULES = $(patsubst bindings/python/%,%,$(wildcard bindings/python/pidtab/*.py bindings/python/pidtab/*/*.py) bindings/python/pidtab/py.typed)
 COMPLETIONS = bash-completion/completions/pidtabctl zsh/site-functions/_pidtabctl fish/vendor_completions.d/pidtabctl.fish
 # The functions that a manual page names at its head, each of which has a manual page by its name.
 NAMED = sed -n 's/^\.Nm \(pidtab_[a-z_]*\).*/\1/p'
@@ -149,11 +150,11 @@ built:
 
 # The program, the programs beside it with their package, and the manual pages; and the library, where `make lib` has built it. It builds nothing.
 install: built $(if $(BUILT_LIBRARY),install-library) ## installs what is built below PREFIX (/usr/local)
-	$(INSTALL) -d '$(BINARIES)' '$(DESTDIR)$(PYTHONDIR)/pidtab' '$(SHARED_FILES)' '$(DESTDIR)$(MANDIR)/man1' '$(DESTDIR)$(MANDIR)/man5'
+	$(INSTALL) -d '$(BINARIES)' '$(SHARED_FILES)' '$(DESTDIR)$(MANDIR)/man1' '$(DESTDIR)$(MANDIR)/man5'
 	$(INSTALL) -m 755 '$(PIDTAB)' '$(BINARIES)/pidtab'
 	$(INSTALL) -m 755 $(PROGRAMS:%=bindings/python/bin/%) '$(BINARIES)'
 	sed -i 's|^FOLDERS = (\(.*\))$$|FOLDERS = (\1, Path("$(PYTHONDIR)"))|' $(PROGRAMS:%='$(BINARIES)/%')
-	$(INSTALL) -m 644 bindings/python/pidtab/*.py bindings/python/pidtab/py.typed '$(DESTDIR)$(PYTHONDIR)/pidtab'
+	for it in $(MODULES); do $(INSTALL) -D -m 644 bindings/python/$$it '$(DESTDIR)$(PYTHONDIR)'/$$it || exit 1; done
 	$(INSTALL) -m 644 LICENSE '$(SHARED_FILES)'
 	for it in $(COMPLETIONS); do $(INSTALL) -D -m 644 /dev/null '$(DESTDIR)$(PREFIX)'/share/$$it && python3 -B bindings/python/bin/pidtabctl completion $${it%%[-/]*} > '$(DESTDIR)$(PREFIX)'/share/$$it || exit 1; done
 	$(INSTALL) -m 644 $(filter-out man/pidtab-box.1,$(wildcard man/*.1)) '$(DESTDIR)$(MANDIR)/man1'

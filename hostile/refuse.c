@@ -2,11 +2,11 @@
  *
  * A growth is a call of malloc, calloc or realloc. Growths are counted, and may be refused, while the program is armed.
  * With REFUSE_MARKS set each write to standard output that begins with "? " arms it, and the next write there ends that;
- * else it is armed from its start on. Behind a write that begins with "! " each growth is refused, until the next write.
+ * else it is armed from its start on. After a write that begins with "! " each growth is refused, until the next write.
  *
  *   REFUSE_AT=N       refuses the N-th growth ..
- *   REFUSE_COUNT=K    .. and those behind it, K in all (1 where it is not set), but none behind the next write
- *   REFUSE_IN_TURN=1  refuses one growth behind each mark: those of one step in turn, where each try finds what the
+ *   REFUSE_COUNT=K    .. and those after it, K in all (1 where it is not set), but none after the next write
+ *   REFUSE_IN_TURN=1  refuses one growth after each mark: those of one step in turn, where each try finds what the
  *                     refused ones have kept
  *   REFUSE_THREADS=1  starts no thread
  *   REFUSE_REPORT=F   keeps two numbers of 8 bytes in the file F: the growths, and those that were refused

@@ -14,7 +14,7 @@ CRATE = TOP / "crates" / "demo_no_memory"
 STEPS = (CRATE / "stdin").read_bytes()
 UNDISTURBED = (CRATE / "stdout").read_text()
 
-# How each run begins that refuses the N-th growth: alone, with the next one, and with all behind it.
+# How each run begins that refuses the N-th growth: alone, with the next one, and with all after it.
 COUNTS = (1, 2, ALL)
 
 # What is to be refused at some growth or other, by the first word of its step; `getpid` grows the history alone. A checkpoint is refused at

@@ -6,7 +6,7 @@ from typing import NamedTuple
 from names import camel
 from tables import words_of
 
-# The fields of `struct pidtab_call` behind the operation, in their order.
+# The fields of `struct pidtab_call` after the operation, in their order.
 FIELDS = ("caller", "id", "number", "choice", "pid", "pgid")
 
 

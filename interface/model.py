@@ -2,7 +2,7 @@
 
 from arguments import arguments_of
 
-# The calls that came last. They stand behind the others where those are in the order of their lines.
+# The calls that came last. They stand after the others where those are in the order of their lines.
 LATER = ("join", "subreaper")
 
 

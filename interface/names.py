@@ -46,7 +46,7 @@ def strings(words):
 
 
 def wrapped(text, indent, width, first=None):
-    """The lines of a list of words, which is broken behind commas alone. The first line may have another indent."""
+    """The lines of a list of words, which is broken after commas alone. The first line may have another indent."""
     held, begin = text.replace(", ", ",\0").replace(" ", "\1").replace("\0", " "), indent if first is None else first
     lines = textwrap.wrap(held, width, initial_indent=begin, subsequent_indent=indent, break_long_words=False, break_on_hyphens=False)
     return [line.replace("\1", " ") for line in lines]

@@ -9,7 +9,7 @@ class PlaceFault(Exception):
 
 
 class Place(NamedTuple):
-    """The rows stand behind the one line that begins so, or behind the next one that opens them, up to one that ends them.
+    """The rows stand after the one line that begins so, or after the next one that opens them, up to one that ends them.
 
     Spaces in front do not count, but what ends them has as many as what opens them.
     """
@@ -19,7 +19,7 @@ class Place(NamedTuple):
     ends: str
 
     def find(self, path, lines):
-        """The lines before and behind the rows, by their places."""
+        """The lines before and after the rows, by their places."""
         heads = [place for place, line in enumerate(lines) if re.match(self.begins, line.strip())]
         if len(heads) != 1:
             raise PlaceFault(f"{path}: a line `{self.begins}` is there {len(heads)} times, not once")

@@ -30,7 +30,7 @@ static size_t put_lines(char *text, int lines)
 	return size;
 }
 
-/* The entry with a number in session 2. The digest is that of the settings, behind which it was written. */
+/* The entry with a number in session 2. The digest is that of the settings, after which it was written. */
 static size_t put_entry(char *entry, int number, int lines, const char *text, size_t size)
 {
 	int head = sprintf(entry, "calls 2 %d %d 1 a23d48e1e3a92dc8", number, lines);

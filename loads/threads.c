@@ -1,7 +1,7 @@
 /* Threads at one table of the library for C, by the clock: threads N KEEP.
  *
  * Sixteen threads make N calls each: in turn a fork, a getpid, an exit and a wait. First at a shared table that keeps as many
- * entries as pidtab_shared_open is told (0: all), then at a plain table without a history behind a pthread_mutex. It prints the calls
+ * entries as pidtab_shared_open is told (0: all), then at a plain table without a history after a pthread_mutex. It prints the calls
  * a second of both, each the median of five runs in turn. The calls are the same, so the difference is the history's.
  *
  *   cc -O2 -Iout loads/threads.c out/libpidtab.a -pthread -o out/threads

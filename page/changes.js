@@ -2,9 +2,10 @@
 
 /** Of each row of the later list whether it is "new", "changed" or "" (as it was), by its kind and id. */
 function marksOf(before, after) {
-  const old = new Map(before.map((row) => [row.id, row.line]));
-  const markOf = (row) => (!old.has(row.id) ? "new" : old.get(row.id) === row.line ? "" : "changed");
-  return new Map(after.map((row) => [row.id, markOf(row)]));
+  const [old, marks] = [new Map(), new Map()];
+  for (const row of before) old.set(row.id, row.line);
+  for (const { id, line } of after) marks.set(id, !old.has(id) ? "new" : old.get(id) === line ? "" : "changed");
+  return marks;
 }
 
 /** The rows of the earlier list that the later one has no more. */

@@ -18,9 +18,23 @@ const MOST_INDENT = 16;
 // By which hues of neighbours lie far apart.
 const GOLDEN_ANGLE = 137.508;
 
+// What makes an element: the browser, unless a picture is made.
+let createElement = (name) => document.createElement(name);
+
+/** Does some work whose elements a function of its own makes. */
+export function withElements(create, work) {
+  const before = createElement;
+  createElement = create;
+  try {
+    return work();
+  } finally {
+    createElement = before;
+  }
+}
+
 /** An element with attributes and children; a child may be a text, or null for none. */
 export function make(name, attributes, ...children) {
-  const element = document.createElement(name);
+  const element = createElement(name);
   for (const [key, value] of Object.entries(attributes)) element.setAttribute(key, value);
   element.append(...children.flat().filter((child) => child !== null));
   return element;
@@ -113,7 +127,7 @@ export function sayInside(box) {
   return parts.filter((part) => part !== null).join(", ");
 }
 
-/** Items from one on, as many as are drawn in one go, and behind them a button if there are more. */
+/** Items from one on, as many as are drawn in one go, and after them a button if there are more. */
 function drawnFrom(items, from, draw) {
   const end = from + MOST_ITEMS;
   const drawn = items.slice(from, end).map(draw);
@@ -178,8 +192,8 @@ export class Spaces {
 }
 
 /** The namespaces of a list, with the marks of what is new or has changed. */
-export function drawSpaces(listing, changes) {
-  return new Spaces(listing, changes).draw();
+export function drawSpaces(listing, changes, filter = null, opened = new Map()) {
+  return new Spaces(listing, changes, filter, opened).draw();
 }
 
 /** A bar of how much of the limit is used, or its room where there is none. Its words stand beside it. */

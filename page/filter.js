@@ -1,6 +1,6 @@
 // Which tasks are shown: a filter in words, and the boxes with what it lets through.
 
-/** Words behind which a number stands, each with the field of a task that it is compared with. */
+/** Words after which a number stands, each with the field of a task that it is compared with. */
 const FIELDS = new Map([
   ["namespace", "space"],
   ["parent", "parent"],

@@ -21,7 +21,7 @@ export function withLabels(listing, labels) {
   return labels.size === 0 ? listing : { ...listing, tasks: listing.tasks.map(labelled) };
 }
 
-/** The text of a list, with the labels behind the lines of their tasks. */
+/** The text of a list, with the labels after the lines of their tasks. */
 export function labelText(list, { tasks }) {
   const labels = new Map(tasks.filter((task) => task.label).map((task) => [task.line, task.label]));
   return labels.size === 0 ? list : list.replace(/^task .*$/gm, (line) => (labels.has(line) ? `${line} (${labels.get(line)})` : line));

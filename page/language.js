@@ -88,7 +88,7 @@ function judgeBytes(line) {
   const found = judgeWords(words);
   if (!found) return null;
   const { place, wanted } = found;
-  // The byte behind the words before it and their spaces; behind the last word it is the line's end.
+  // The byte after the words before it and their spaces; after the last word it is the line's end.
   const before = words.slice(0, place).reduce((sum, word) => sum + word.length + 1, 0);
   const tab = Math.max(words[place]?.indexOf("\t") ?? -1, 0);
   return { column: before + (place < words.length ? 1 : 0) + tab, expected: sayExpected(words, place, wanted) };

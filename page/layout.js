@@ -11,7 +11,7 @@ function groupBy(values, keyOf) {
   return groups;
 }
 
-/** The nodes in the order of a tree, each with its depth: every node behind its parent, before that one's next child. */
+/** The nodes in the order of a tree, each with its depth: every node after its parent, before that one's next child. */
 function inTreeOrder(roots, childrenOf) {
   const waiting = roots.map((node) => ({ node, depth: 0 })).reverse();
   const order = [];

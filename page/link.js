@@ -1,8 +1,8 @@
-// A script in the address of the page, behind `#script=`, in the way in which a URL writes any text.
+// A script in the address of the page, after `#script=`, in the way in which a URL writes any text.
 
 const BEGINNING = "#script=";
 
-/** What stands behind the sign of the address: the hash of the page with the script. */
+/** What stands after the sign of the address: the hash of the page with the script. */
 export function hashOf(script) {
   return BEGINNING + encodeURIComponent(script.toWellFormed?.() ?? script);
 }

@@ -1,6 +1,6 @@
 // The list of a table as the page draws it: the rows of bindings/js, each with its kind, its line, and its ids as words, which name elements of the page.
 
-import { readListing } from "../bindings/js/src/listing.js";
+import { readRow, readRows } from "../bindings/js/src/listing.js";
 
 /** The id as a word, but null where there is none. */
 function word(id) {
@@ -21,17 +21,25 @@ function pageControl(control, line) {
   return { kind: "control", line, ...control, id: word(control.id), parent: word(control.parent) };
 }
 
-/** What the text of a list says; an Error names the first line that is none of a list. */
+const PAGE_ROWS = { task: pageTask, space: pageSpace, control: pageControl };
+
+/** The row of a line; null where it is none of a list. */
+function pageRow(kind, line) {
+  const row = readRow(kind, line);
+  return row && PAGE_ROWS[kind](row, line);
+}
+
+// The rows of the last two lists by their lines: a step leaves most lines as they were, and to read one takes longer than all else.
+let [known, earlier] = [new Map(), new Map()];
+
+/** What the text of a list says; an Error names the first line that is none of a list. Rows are shared by lists, and stay as they are. */
 export function readList(text) {
-  const { tasks, spaces, controls } = readListing(text);
-  const lines = text.split("\n");
-  const withLines = (rows, kind, rowOf) => {
-    const those = lines.filter((line) => line.startsWith(`${kind} `));
-    return rows.map((row, place) => rowOf(row, those[place]));
-  };
-  return {
-    tasks: withLines(tasks, "task", pageTask),
-    spaces: withLines(spaces, "space", pageSpace),
-    controls: withLines(controls, "control", pageControl),
-  };
+  const rows = new Map();
+  const listing = readRows(text, (kind, line) => {
+    const row = known.get(line) ?? earlier.get(line) ?? pageRow(kind, line);
+    rows.set(line, row);
+    return row;
+  });
+  [known, earlier] = [rows, known];
+  return listing;
 }

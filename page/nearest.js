@@ -16,7 +16,7 @@ function longestRun(one, other) {
   return best;
 }
 
-/** How many characters match: those of the longest run, and of what stands before and behind it. */
+/** How many characters match: those of the longest run, and of what stands before and after it. */
 function matching(one, other) {
   const { from, at, size } = longestRun(one, other);
   if (size === 0) return 0;

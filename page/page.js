@@ -7,7 +7,10 @@ import { labelText, readLabels, withLabels } from "./labels.js";
 import { whyBad } from "./language.js";
 import { hashOf, scriptOf } from "./link.js";
 import { readList } from "./list.js";
+import { keepScript, keptScript } from "./own.js";
+import { pictureOf } from "./picture.js";
 import { kindOf, lineAt, linesOf, MOST_LINES, Player } from "./play.js";
+import { isSaved, readSaved } from "./saved.js";
 import { PlayedTable } from "./table.js";
 import { kindOfText, listOfText } from "./text.js";
 import { GREATEST_PID_MAX, LEAST_PID_MAX } from "../bindings/js/src/header.js";
@@ -17,14 +20,14 @@ const LEAST_ROWS = 8;
 // A script of more lines is played once nobody has typed for so many milliseconds.
 const SHORT_SCRIPT = 500;
 const PAUSE = 150;
-// Of a longer script only the rows in sight are drawn, with so many before and behind them.
+// Of a longer script only the rows in sight are drawn, with so many before and after them.
 const MOST_ROWS = 2000;
 const ROWS_BEYOND = 200;
 // A file of more bytes is not opened.
 const MOST_BYTES = 2 ** 26;
 
 const find = (id) => document.getElementById(id);
-const IDS = "example about pid-max editor gutter script answers back place on now spaces controls list fault link file filter found labels named";
+const IDS = "example about pid-max editor gutter script answers back place on now spaces controls list fault link file filter found labels named style save-list save-picture";
 const fields = Object.fromEntries(IDS.split(" ").map((id) => [id, find(id)]));
 const examples = JSON.parse(find("examples").textContent);
 // What is shown: the lines with their answers, which of them has the first row that is drawn, and the table after one, counted from 1, where 0
@@ -98,7 +101,7 @@ function rowHeight() {
   return fields.gutter.children[0]?.offsetHeight || 1;
 }
 
-/** The first line whose row has to be drawn, counted from 0, and the one behind the last. */
+/** The first line whose row has to be drawn, counted from 0, and the one after the last. */
 function rowsInSight() {
   const count = shown.lines.length;
   if (count <= MOST_ROWS) return [0, count];
@@ -127,7 +130,7 @@ function playScript(bound) {
   const lines = linesOf(fields.script.value);
   shown.lines = lines.slice(0, MOST_LINES);
   shown.answers = player.play(bound, shown.lines);
-  // One more, as the text may go on behind its last newline.
+  // One more, as the text may go on after its last newline.
   fields.script.rows = Math.max(lines.length + 1, LEAST_ROWS);
   drawRows();
   fields.place.max = String(shown.lines.length);
@@ -233,17 +236,35 @@ function showFile(name, list) {
   shown.isFile = true;
 }
 
+/** Shows what a file of text has. */
+async function showText(name, text) {
+  const kind = kindOfText(text);
+  if (kind !== "script") return showFile(name, kind === "text" ? await listOfText(text) : text);
+  takeScript(text, `The script of the file ${name}.`);
+  remember();
+}
+
+/** Shows the calls of a saved history as a script, and says which of them is answered otherwise here, if one is. */
+function showSaved(name, saved) {
+  const { lines, workers, torn, firstStamp } = saved;
+  if (firstStamp !== 1n) throw new Error(`its first stamp is ${firstStamp}, and the page plays histories from 1 on`);
+  const left = torn > 0 ? `, and ${torn} bytes at its end are torn` : "";
+  const about = `The saved history ${name}: calls ${lines.length}, workers ${workers}${left}.`;
+  takeScript(lines.map((line) => `${line}\n`).join(""), about, String(saved.pidMax));
+  const place = shown.answers.findIndex((answer, at) => answer !== saved.answers[at]);
+  if (place >= 0) sayFault(`Line ${place + 1}: ${lines[place]} was answered ${saved.answers[place]}, and is ${shown.answers[place]} here.`);
+}
+
 /** Opens the file that was chosen. A script becomes one's own, and of another the table is shown. */
 async function openFile() {
   const [file] = fields.file.files;
   if (!file) return;
   try {
     if (file.size > MOST_BYTES) throw new Error(`it has more than ${MOST_BYTES / 2 ** 20} MiB`);
-    const text = await file.text();
-    const kind = kindOfText(text);
+    const bytes = new Uint8Array(await file.arrayBuffer());
     sayFault("");
-    if (kind === "script") takeScript(text, `The script of the file ${file.name}.`);
-    else showFile(file.name, kind === "text" ? await listOfText(text) : text);
+    if (isSaved(bytes)) showSaved(file.name, readSaved(bytes));
+    else await showText(file.name, new TextDecoder().decode(bytes));
   } catch (fault) {
     sayFault(`The file ${file.name} is not shown: ${fault.message}.`);
   }
@@ -286,14 +307,21 @@ function keepOwn() {
   Object.assign(own, { script: fields.script.value, pidMax: fields["pid-max"].value });
 }
 
-/** Who edits has a script of their own. A long one is played at a pause. */
+/** Has the browser keep one's own script, and says so where it does not. */
+function remember() {
+  if (!keepScript(own)) fields.about.textContent = "This browser keeps no script: it will be gone with the page.";
+}
+
+/** Who edits has a script of their own, which is no more that of the address. A long one is played at a pause. */
 function edit() {
   keepOwn();
+  if (location.hash !== "") history.replaceState(null, "", "#");
   clearTimeout(waiting);
   waiting = undefined;
   const play = () => {
     waiting = undefined;
     playAt(caretLine());
+    remember();
   };
   if (linesOf(own.script).length <= SHORT_SCRIPT) play();
   else waiting = setTimeout(play, PAUSE);
@@ -301,8 +329,10 @@ function edit() {
 
 /** Plays the script with another bound. */
 function bind() {
-  if (fields.example.value === "") own.pidMax = fields["pid-max"].value;
   playAt(shown.place);
+  if (fields.example.value !== "") return;
+  own.pidMax = fields["pid-max"].value;
+  remember();
 }
 
 /** Puts the script into the address. */
@@ -312,9 +342,9 @@ function makeLink() {
 }
 
 /** Has a script be one's own, and shows it. */
-function takeScript(script, about) {
+function takeScript(script, about, pidMax = "32768") {
   fields.script.value = script;
-  fields["pid-max"].value = "32768";
+  fields["pid-max"].value = pidMax;
   keepOwn();
   showScript(own.script, own.pidMax, about);
 }
@@ -331,6 +361,25 @@ function openLink() {
     sayFault(fault.message);
     return true;
   }
+}
+
+/** Has the browser save a text as a file. */
+function saveFile(name, type, text) {
+  const url = URL.createObjectURL(new Blob([text], { type }));
+  make("a", { href: url, download: name }).click();
+  // The browser has begun to read it by then.
+  setTimeout(() => URL.revokeObjectURL(url), PAUSE);
+}
+
+function saveList() {
+  saveFile("table.list", "text/plain", shown.text);
+}
+
+/** Saves what is drawn, with its filter, its labels and what is folded, as SVG. */
+function savePicture() {
+  const { listing, changes, opened } = shown;
+  const picture = pictureOf(listing, changes, fields.now.textContent, fields.style.textContent, { filter: filterOf(), opened });
+  saveFile("table.svg", "image/svg+xml", picture);
 }
 
 /** The table after the line of the cursor, where that has moved. */
@@ -387,6 +436,8 @@ function listen() {
   fields.gutter.addEventListener("click", pressed);
   fields.editor.addEventListener("scroll", scrollRows);
   fields.file.addEventListener("change", openFile);
+  fields["save-list"].addEventListener("click", saveList);
+  fields["save-picture"].addEventListener("click", savePicture);
   fields.filter.addEventListener("input", drawNamespaces);
   fields.labels.addEventListener("input", drawListing);
   fields.spaces.addEventListener("toggle", (event) => shown.spaces.toggle(event.target), true);
@@ -405,7 +456,9 @@ async function begin() {
     return sayFault(`This browser does not run the table (${fault.message}). It needs WebAssembly.`);
   }
   listen();
-  fields.example.value = examples[0].name;
+  const kept = keptScript();
+  Object.assign(own, kept);
+  fields.example.value = kept ? "" : examples[0].name;
   chooseExample();
   openLink();
   document.body.dataset.ready = "yes";

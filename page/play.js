@@ -3,13 +3,16 @@
 /** The most lines that the page plays. */
 export const MOST_LINES = 30000;
 
-/** After so many lines the state of the table is kept, so that a step need not play all lines before it. */
+/** After so many lines the state of the table is kept, so that a step need not play all lines before it: at first, and twice as many whenever it is too much. */
 export const KEPT_EVERY = 100;
 
-/** Kept states have no more bytes than this together. */
-const MOST_KEPT = 2 ** 28;
+/** Kept states have no more bytes than this together, not counting the first one and that near the place. */
+export const MOST_KEPT = 2 ** 28;
 
-/** The lines of a script: each ends at a newline, and what stands behind the last newline is a line too. */
+/** Where states are further apart, one more is kept so many lines before the place, so that the next steps back play no more than these. */
+export const NEAR = 50;
+
+/** The lines of a script: each ends at a newline, and what stands after the last newline is a line too. */
 export function linesOf(text) {
   const lines = text.split("\n");
   if (lines.at(-1) === "") lines.pop();
@@ -38,6 +41,9 @@ export class Player {
     this.answers = [];
     this.pidMax = pidMax;
     this.states = new Map();
+    this.every = KEPT_EVERY;
+    // The place and the state near the place that was gone to last, if there is one.
+    this.near = null;
     // Of which line the table is; -1 where there is none.
     this.place = -1;
   }
@@ -55,7 +61,9 @@ export class Player {
   play(pidMax, lines) {
     if (pidMax !== this.pidMax) this.begin(pidMax);
     const same = commonLines(this.lines, lines);
-    for (const place of this.states.keys()) if (place > same) this.states.delete(place);
+    this.dropStates((place) => place > same);
+    if (this.near?.place > same) this.near = null;
+    if (this.states.size === 1) this.every = KEPT_EVERY;
     this.lines = lines;
     this.answers.length = same;
     if (this.place > same) this.place = -1;
@@ -73,12 +81,22 @@ export class Player {
 
   /** Has the table be that after the line, from the nearest state before it. */
   goTo(place) {
-    const kept = Math.max(...[...this.states.keys()].filter((it) => it <= place));
-    if (this.place < kept || this.place > place) {
-      this.table.restore(this.states.get(kept));
-      this.place = kept;
+    const from = this.nearest(place);
+    if (this.place < from.place || this.place > place) {
+      this.table.restore(from.state);
+      this.place = from.place;
     }
-    while (this.place < place) this.step();
+    while (this.place < place) {
+      if (this.place === place - NEAR && this.every > KEPT_EVERY) this.near = { place: this.place, state: this.table.save() };
+      this.step();
+    }
+  }
+
+  /** The last place up to one of which there is a state, with the state. */
+  nearest(place) {
+    const kept = Math.max(...[...this.states.keys()].filter((it) => it <= place));
+    if (this.near && this.near.place <= place && this.near.place > kept) return this.near;
+    return { place: kept, state: this.states.get(kept) };
   }
 
   /** Plays the next line. */
@@ -88,13 +106,28 @@ export class Player {
     this.place = -1;
     this.answers[at] = this.table.answerTo(this.lines[at]);
     this.place = at + 1;
-    if (this.place % KEPT_EVERY === 0 && !this.states.has(this.place)) this.keep();
+    if (this.place % this.every === 0 && !this.states.has(this.place)) this.keep();
   }
 
+  /** Keeps the state. Where there are too many bytes, every second state goes, also of those to come. */
   keep() {
     const state = this.table.save();
-    if ((this.states.size + 1) * state.byteLength > MOST_KEPT) return;
-    this.states.set(this.place, state);
+    while (this.keptBytes() + state.byteLength > MOST_KEPT && this.states.size > 1) {
+      this.every *= 2;
+      this.dropStates((place) => place % this.every !== 0);
+    }
+    if (this.place === 0 || (this.place % this.every === 0 && this.keptBytes() + state.byteLength <= MOST_KEPT)) this.states.set(this.place, state);
+  }
+
+  /** How many bytes the kept states have, without the first. */
+  keptBytes() {
+    let bytes = 0;
+    for (const [place, state] of this.states) if (place > 0) bytes += state.byteLength;
+    return bytes;
+  }
+
+  dropStates(goes) {
+    for (const place of this.states.keys()) if (goes(place)) this.states.delete(place);
   }
 }
 

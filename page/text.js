@@ -26,7 +26,7 @@ function listedTask(line) {
   return { control, line: `task ${numbers} ${facts}${executed}${into}${subreaper}` };
 }
 
-/** How many tasks each control group has, with those of the groups below it. A group stands behind the one above it. */
+/** How many tasks each control group has, with those of the groups below it. A group stands after the one above it. */
 function countsOf(tasks, controls) {
   const counts = new Map(controls.map(({ id }) => [id, 0]));
   for (const { control } of tasks) counts.set(control, counts.get(control) + 1);

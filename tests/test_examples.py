@@ -87,7 +87,7 @@ class Recovery(unittest.TestCase):
                     self.assertEqual(process.transcript.splitlines(), lines)
 
     def answer_before_a_crash(self, lines: list[str]) -> tuple[str, ...]:
-        """What a session answers that is killed behind these lines."""
+        """What a session answers that is killed after these lines."""
         process = Process()
         answers = process.answers(lines)
         process._child.kill()

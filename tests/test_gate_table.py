@@ -13,7 +13,7 @@ from types import ModuleType
 
 from tests.pages import REPOSITORY
 
-# It takes two processor seconds in the folder of a crate, and one in a folder as of an edit, and is looked at once more behind each.
+# It takes two processor seconds in the folder of a crate, and one in a folder as of an edit, and is looked at once more after each.
 TOOLCHAIN = f"""\
 #!{sys.executable}
 import os, subprocess, sys
@@ -103,7 +103,7 @@ class Commands(unittest.TestCase):
                 self.assertEqual((gate.crate_of(words, folder), gate.kind_of(words, folder)), (crate, kind))
 
     def test_the_line_of_a_process(self) -> None:
-        # proc_pid_stat(5): fields 4, 22, and 14 with 15, behind a name that has spaces and parentheses.
+        # proc_pid_stat(5): fields 4, 22, and 14 with 15, after a name that has spaces and parentheses.
         line = "7 (a b) c) S 3 1 1 0 -1 0 0 0 0 0 200 100 9 9 20 0 1 0 4242 0"
         self.assertEqual(load_gate().parse_stat(line), (3, 4242, 300 / os.sysconf("SC_CLK_TCK")))
 

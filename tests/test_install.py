@@ -100,7 +100,7 @@ class Programs(Installs):
         self.assertEqual(self.stage("install", f"PIDTAB={find_program()}", "BUILT_LIBRARY=", *words).stderr, "")
         placed = sorted(str(path.relative_to(self.folder)) for path in self.all_files())
         self.assertIn("usr/man/man1/pidtab-play.1", placed)
-        self.assertIn("usr/lib/python/pidtab/play.py", placed)
+        self.assertIn("usr/lib/python/pidtab/commands/play.py", placed)
         shared = [f"opt/pid tab/{it}" for it in PROGRAM if it.startswith("share/") and not it.startswith("share/man/")]
         self.assertEqual([it for it in placed if "opt/pid tab/share" in it], shared)
         self.assertEqual(self.stage("uninstall", *words).returncode, 0)
@@ -110,7 +110,7 @@ class Programs(Installs):
         package = self.folder / "python"
         words = ["BUILT_LIBRARY=", f"PREFIX={self.prefix}", f"PYTHONDIR={package}", f"PIDTAB={find_program()}"]
         self.assertEqual(run_make("install", *words).stderr, "")
-        self.assertTrue((package / "pidtab" / "tree.py").is_file())
+        self.assertTrue((package / "pidtab" / "commands" / "tree.py").is_file())
         self.assertIn("usage: pidtab-tree", run([self.prefix / "bin" / "pidtab-tree", "--help"], self.folder, PYTHONPATH=""))
 
 

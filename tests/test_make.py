@@ -87,7 +87,7 @@ class Checkouts(unittest.TestCase):
         )  # fmt: skip
 
     def assert_fault(self, done: "subprocess.CompletedProcess[str]", words: str) -> None:
-        """Says one sentence, behind which make tells where it stopped."""
+        """Says one sentence, after which make tells where it stopped."""
         self.assertEqual((done.returncode, done.stdout), (2, ""))
         sentence, *rest = done.stderr.splitlines()
         self.assertIn(words, sentence)

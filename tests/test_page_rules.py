@@ -17,7 +17,7 @@ PAGES = {
 
 LONG = "word " * 31
 
-# A page, what is written behind it, and the fault, with its line.
+# A page, what is written after it, and the fault, with its line.
 FAULTS = [
     ("README.md", "\n[x](docs/THIRD.md)\n", "README.md:7: no file docs/THIRD.md"),
     ("README.md", "\nSee [two\nlines](docs/THIRD.md).\n", "README.md:7: no file docs/THIRD.md"),
@@ -42,6 +42,12 @@ FAULTS = [
     ("docs/MODEL.md", f"# Model\n\n{LONG}\n", "docs/MODEL.md:3: a sentence of 31 words, above 30: " + LONG[:60]),
     ("docs/MODEL.md", f"# Model\n\n- An item,\n  {LONG}\n", f"docs/MODEL.md:3: a sentence of 33 words, above 30: An item, {LONG[:51]}"),
     ("docs/MODEL.md", "# Model\n\nIt stands here.\n", "docs/MODEL.md:3: not a plain word: stands"),
+    ("docs/SECOND.md", "\nIt is behind\nthe end.\n", "docs/SECOND.md:14: a word that has a better one: behind, after"),
+    ("docs/SECOND.md", "\nThis is\nall but one.\n", "docs/SECOND.md:15: a word that has a better one: all but, except"),
+    ("tools/two.py", "import sys\n# first\n# Behind it.\n", "tools/two.py:3: a word that has a better one: Behind, after"),
+    ("tools/two", '#!/usr/bin/env python3\ndef two():\n    """Two.\n\n    Nothing\n    but that."""\n', "tools/two:5: a word that has a better one: Nothing but, except"),
+    ("page/two.js", 'const a = "// x";\n/* All\n * behind\n * it. */\n', "page/two.js:3: a word that has a better one: behind, after"),
+    ("bindings/two.rs", "//! One.\nfn two() {} // but for\n", "bindings/two.rs:2: a word that has a better one: but for, except"),
     ("docs/SECOND.md", "\nMeasured on 2026-11-24.\n", "docs/SECOND.md:14: a date: 2026-11-24"),
     ("README.md", "\n" * 126, "README.md:131: 131 lines, above 130"),
     ("README.md", "\n    " + "x" * 7000 + "\n", f"README.md:7: {len(PAGES['README.md']) + 7006} bytes, above 7000"),
@@ -55,6 +61,13 @@ GOOD = [
     ("README.md", f"\n| a | b |\n|---|---|\n| {LONG[:75]} | {LONG[:75]} |\n"),
     ("docs/SECOND.md", f"\n{LONG} tells\n"),
     ("docs/MODEL.md", f"# Model\n\n<!-- {LONG} -->\n\n| a | b |\n|---|---|\n| c | {LONG} tells |\n\nShort.\n"),
+    ("docs/SECOND.md", "\nA table behind a lock, and behind\nits lock, lags behind. `behind`, and\n\n    behind\n"),
+    ("docs/PROVED.md", "# Proved\n\nWhat is behind it.\n"),
+    ("tools/two.py", 'print("behind", """all but""")\nbehind = 1\n'),
+    ("crates/two.rs", "// behind\n"),
+    ("bindings/go/cluster/two.go", "// behind\n"),
+    ("page/two.js", 'const behind = "// behind";\n// A thing behind a\n// lock.\n'),
+    ("tools/two.txt", "# behind\n"),
     ("docs/SECOND.md", "\n    touch -d 2026-11-24 file\n"),
     ("README.md", "\nSince 2026-11-24.\n"),
     ("docs/SECOND.md", "\n    make run\n\nThe commands `make -C low all` and `make PREFIX=/opt run`\nmake much.\n"),
@@ -78,7 +91,7 @@ class Rules(unittest.TestCase):
         with tempfile.TemporaryDirectory() as folder:
             for page, text in (PAGES | {name: PAGES.get(name, "") + more}).items():
                 file = Path(folder) / page
-                file.parent.mkdir(exist_ok=True)
+                file.parent.mkdir(exist_ok=True, parents=True)
                 file.write_text(text)
             return check("--check", folder)
 

@@ -36,15 +36,15 @@ INTERFACES = {
 MODELS = {
     "docs/STABLE.md": r"^- The \*model\* is (\d+)\.",
     "docs/CLUSTER.md": r"and the model, which is (\d+) \|$",
-    "bindings/python/pidtab/log_form.py": r"^MODEL = (\d+)$",
-    "bindings/python/pidtab/replay.py": r'^FORM, MODEL = "\d+", "(\d+)"$',
+    "bindings/python/pidtab/hosts/log_entries.py": r"^MODEL = (\d+)$",
+    "bindings/python/pidtab/commands/replay.py": r'^FORM, MODEL = "\d+", "(\d+)"$',
 }
 
 # Where that of the form of a log is.
 FORMS = {
     "docs/CLUSTER.md": r"the settings: the form, which is (\d+),",
-    "bindings/python/pidtab/log_form.py": r"^FORM = (\d+)$",
-    "bindings/python/pidtab/replay.py": r'^FORM, MODEL = "(\d+)", "\d+"$',
+    "bindings/python/pidtab/hosts/log_entries.py": r"^FORM = (\d+)$",
+    "bindings/python/pidtab/commands/replay.py": r'^FORM, MODEL = "(\d+)", "\d+"$',
 }
 
 # Where the least Python of the package is written, and where that of the gate.

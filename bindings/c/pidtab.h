@@ -115,7 +115,7 @@ uint32_t pidtab_open(struct pidtab *table, uint32_t pid_max);
 uint32_t pidtab_close(struct pidtab *table);
 
 /* Makes the call on a line of the script language (docs/SCRIPT.md), which has no newline. The answer has size bytes, no newline
- * and no zero byte behind it; its room is at least PIDTAB_LONGEST_ANSWER. DONE, CLOSED, EMPTY_LINE, BAD_LINE, NO_ROOM, SPENT, and
+ * and no zero byte after it; its room is at least PIDTAB_LONGEST_ANSWER. DONE, CLOSED, EMPTY_LINE, BAD_LINE, NO_ROOM, SPENT, and
  * NO_MEMORY for fork and mk alone. */
 uint32_t pidtab_line(struct pidtab *table, const void *line, size_t length, void *answer, size_t room, size_t *size);
 
@@ -164,7 +164,7 @@ struct pidtab_fault {
 };
 
 /* Opens a table as a text of pidtab_dump says: each later call has the answer that it would have had there. Any bytes may be given. DONE;
- * BUSY where it is open already; then BAD_TEXT and the fault, which no text of a table has; NO_MEMORY. The fault is zeroes but for BAD_TEXT. */
+ * BUSY where it is open already; then BAD_TEXT and the fault, which no text of a table has; NO_MEMORY. The fault is zeroes except for BAD_TEXT. */
 uint32_t pidtab_load(struct pidtab *table, const void *text, size_t length, struct pidtab_fault *fault);
 
 /* Written by tools/interface: operations. */
@@ -323,7 +323,7 @@ uint32_t pidtab_ask(const struct pidtab *table, const struct pidtab_call *call, 
 
 /* A task as the caller's namespace sees it. The numbers of processes but root are those there, 0 where there is none. */
 struct pidtab_task {
-	uint32_t error;     /* 0; or ESRCH, and then all but error and refusal is 0 */
+	uint32_t error;     /* 0; or ESRCH, and then all except error and refusal is 0 */
 	uint32_t refusal;   /* 0, PIDTAB_NO_CALLER or PIDTAB_NO_TASK */
 	uint32_t count;     /* of levels */
 	uint32_t parent;
@@ -347,7 +347,7 @@ uint32_t pidtab_stat(const struct pidtab *table, uint32_t caller, uint32_t numbe
  * is that of the task, the group or the session in the caller's namespace, or 0 for the caller, its own group or its own session; one that is
  * nobody's has none. Zombies are among them, and who is not visible in that namespace is left out.
  *
- * numbers has their numbers there from `from` on, in rising order, as many as there is room for; what is behind stays. reply is of the kind
+ * numbers has their numbers there from `from` on, in rising order, as many as there is room for; what is after stays. reply is of the kind
  * PIDTAB_COUNTED, with how many there are in all from there on, or a refusal, PIDTAB_NO_CALLER. So the next page begins at the last number + 1, and
  * a room of 0 only counts.
  *
@@ -372,7 +372,7 @@ uint32_t pidtab_space(const struct pidtab *table, uint64_t id, struct pidtab_spa
  * control groups directly in the one with the id, as tree says, an enum pidtab_tree. 0 is the root of both. A namespace that has fallen is among them
  * as long as pidtab_space reads it.
  *
- * ids has them in rising order, as many as there is room for; what is behind stays. count is how many there are in all from there on, so the next page
+ * ids has them in rising order, as many as there is room for; what is after stays. count is how many there are in all from there on, so the next page
  * begins at the last id + 1, and a room of 0 only counts.
  *
  * It is no call, as pidtab_ask makes none, but it takes memory for a list while it works. DONE; CLOSED; OUT_OF_RANGE for another tree, and where it
@@ -380,7 +380,7 @@ uint32_t pidtab_space(const struct pidtab *table, uint64_t id, struct pidtab_spa
 uint32_t pidtab_inside(const struct pidtab *table, uint32_t tree, uint64_t id, uint64_t from, uint64_t *ids, size_t room, uint64_t *count);
 
 /* Tells the live tasks that are directly in the control group with the id `control`, where 0 is the root: cgroup.procs of cgroup-v2.rst, in which no
- * zombie appears. numbers has their numbers in the caller's namespace from `from` on, in rising order, as many as there is room for; what is behind
+ * zombie appears. numbers has their numbers in the caller's namespace from `from` on, in rising order, as many as there is room for; what is after
  * stays. Who is not visible there is left out, and so is who is in a control group below this one.
  *
  * reply is of the kind PIDTAB_COUNTED, with how many there are in all from there on, or a refusal: PIDTAB_NO_CALLER, or else PIDTAB_NO_CONTROL. So the
@@ -399,7 +399,7 @@ uint32_t pidtab_would(const struct pidtab *table, const struct pidtab_call *call
  * reply, a refusal too, which reply then is; NO_MEMORY. */
 uint32_t pidtab_fork_at(struct pidtab *table, uint32_t caller, uint32_t new_space, uint32_t child, uint32_t root, struct pidtab_reply *reply);
 
-/* What a call did to a task, or what is there no more behind it. */
+/* What a call did to a task, or what is there no more after it. */
 struct pidtab_effect {
 	uint32_t what;   /* an enum pidtab_what */
 	uint32_t number; /* the root number of the task, the process group or the session; 0 of a namespace */
@@ -411,16 +411,16 @@ struct pidtab_effect {
  * namespace's init tells whom the kernel would kill, and each other exit who takes its children. Of a call that does nothing of this count is 0.
  *
  * effects has first the tasks by root numbers in rising order, then the process groups, then the sessions, and then the namespaces by rising ids. Of one
- * task it has ended, adopted and gone in this order, and of one namespace fell and gone. What is behind them stays, and count is how many there are.
+ * task it has ended, adopted and gone in this order, and of one namespace fell and gone. What is after them stays, and count is how many there are.
  *
  * No effect is lost: the call is made only where there is room for all that it may have. It may touch the caller of an exit and its children, or all
  * in the namespace whose init the caller is; the child that a wait reaps; the target of a setpgid; and the caller of a setsid. The room is two for each
  * of them, one for each process group and each session that they are in, and two for each namespace but the root that the numbers of a task, of its group
  * or of its session are in. Four for each task of the table and two for each namespace always do. Where room is less it is NO_ROOM, and count is the
- * room that the call takes; a room of 0 so asks for it. Behind another call it may take more.
+ * room that the call takes; a room of 0 so asks for it. After another call it may take more.
  *
  * DONE, CLOSED, OUT_OF_RANGE, SPENT, NO_ROOM, and NO_MEMORY for FORK, MK, EXIT, WAIT, SETPGID and SETSID alone: the list takes memory, and has it before
- * the call is made. Of each status but DONE, reply and effects are as they were, and count is so too but for NO_ROOM. */
+ * the call is made. Of each status but DONE, reply and effects are as they were, and count is so too except for NO_ROOM. */
 uint32_t pidtab_call_told(struct pidtab *table, const struct pidtab_call *call, struct pidtab_reply *reply, struct pidtab_effect *effects, size_t room, uint64_t *count);
 
 /* Writes the call as a line of the script language, without a newline and a zero byte: pidtab_line makes the same call of it. It needs
@@ -643,7 +643,7 @@ uint32_t pidtab_record_close(struct pidtab_record *record);
 /* Makes a call of the worker, and records it. DONE, CLOSED, OUT_OF_RANGE, SPENT, and NO_MEMORY for any call. */
 uint32_t pidtab_record_call(struct pidtab_record *record, uint32_t worker, const struct pidtab_call *call, struct pidtab_reply *reply, uint64_t *ordinal);
 
-/* The same, and then at most `keep` entries are kept: behind the call the first ones are cut, two at most. DONE, CLOSED, OUT_OF_RANGE,
+/* The same, and then at most `keep` entries are kept: after the call the first ones are cut, two at most. DONE, CLOSED, OUT_OF_RANGE,
  * SPENT, NO_MEMORY. */
 uint32_t pidtab_record_call_keeping(struct pidtab_record *record, uint32_t worker, const struct pidtab_call *call, uint64_t keep, struct pidtab_reply *reply, uint64_t *ordinal);
 
@@ -710,7 +710,7 @@ uint32_t pidtab_record_read(const struct pidtab_record *record, uint64_t from, s
  * or NO_MEMORY, or has another reply, which is DIFFERS and was made; place is then its place among them. DONE, CLOSED. */
 uint32_t pidtab_record_replay(struct pidtab_record *record, const struct pidtab_entry *saved, size_t count, size_t *place);
 
-/* Cuts first entries, two at most, where more than `keep` are kept. Behind each call it bounds the history. DONE, CLOSED. */
+/* Cuts first entries, two at most, where more than `keep` are kept. After each call it bounds the history. DONE, CLOSED. */
 uint32_t pidtab_record_keep(struct pidtab_record *record, uint64_t keep);
 
 /* Cuts the history: the present state is the opening, and ordinals go on. It makes each kept call once more. DONE, CLOSED, NO_MEMORY. */

@@ -2,7 +2,7 @@
  *
  * docs/CLUSTER.md has the log. Each host has a replica with a table beside it, and gives both the entries of the log in their order. So all
  * hosts have one table, and have given the same answers. A host puts entries into the log, reads them, and hands them on; which log that
- * is, is its own affair. What each function does is proved (crates/replica, crates/pidtab_c/src/replicas.rt), but for the marks around it,
+ * is, is its own affair. What each function does is proved (crates/replica, crates/pidtab_c/src/replicas.rt), except for the marks around it,
  * which guard_replica.c has.
  *
  * The rules of pidtab.h hold here too. The table of a replica changes by pidtab_replica_apply alone: a call that is made on it otherwise is
@@ -90,7 +90,7 @@ struct pidtab_log {
 	uint64_t model;
 	uint64_t position; /* of the last entry that was applied; 0 before the first */
 	uint64_t calls;    /* how many lines were made, up to 2^64 - 1 */
-	uint32_t begun;    /* 0; or 1 behind the settings */
+	uint32_t begun;    /* 0; or 1 after the settings */
 	uint32_t lost;     /* 0; or 1 where each entry is PIDTAB_NOT_RECOVERABLE */
 };
 
@@ -115,26 +115,26 @@ uint32_t pidtab_replica_close(struct pidtab_replica *replica);
  * anew, and give them the log from its beginning, or from a snapshot. Of each status but DONE, applied is as it was. */
 uint32_t pidtab_replica_apply(struct pidtab_replica *replica, struct pidtab *table, uint64_t position, const void *entry, size_t length, struct pidtab_applied *applied);
 
-/* Writes the answers to the calls of the entry that was applied last, each with a newline behind it; none where its calls were not made. DONE, CLOSED,
+/* Writes the answers to the calls of the entry that was applied last, each with a newline after it; none where its calls were not made. DONE, CLOSED,
  * and NO_ROOM where they are longer than the room; then too size is their length. */
 uint32_t pidtab_replica_answers(const struct pidtab_replica *replica, void *bytes, size_t room, size_t *size);
 
 /* Tells what the replica knows of its log. DONE, CLOSED. */
 uint32_t pidtab_replica_log(const struct pidtab_replica *replica, struct pidtab_log *log);
 
-/* Tells the digest behind the entry at the position. Those of the last 4,096 entries are kept. DONE; CLOSED; NOT_KEPT, and then digest is as it was. */
+/* Tells the digest after the entry at the position. Those of the last 4,096 entries are kept. DONE; CLOSED; NOT_KEPT, and then digest is as it was. */
 uint32_t pidtab_replica_digest(const struct pidtab_replica *replica, uint64_t position, struct pidtab_digest *digest);
 
 /* Tells the number of the last entry of a session that was made; 0 where none was. DONE; CLOSED; NO_SESSION, and then sequence is as it was. */
 uint32_t pidtab_replica_last(const struct pidtab_replica *replica, uint64_t session, uint64_t *sequence);
 
-/* Writes the head of a snapshot: the settings, the position, the digest, the number of calls, and the sessions. The whole snapshot is this and behind it
+/* Writes the head of a snapshot: the settings, the position, the digest, the number of calls, and the sessions. The whole snapshot is this and after it
  * what pidtab_dump writes of the table. DONE; CLOSED; OTHER_SETTINGS where the log has not begun; NO_MEMORY; NO_ROOM where it is longer than the room,
  * and then too size is its length. */
 uint32_t pidtab_replica_write(const struct pidtab_replica *replica, void *bytes, size_t room, size_t *size);
 
 /* Gives the replica what the head of a snapshot says, in the place of all that it knows. used is the length of the head: pidtab_load makes the table of
- * the bytes behind it. DONE; CLOSED; BAD_TEXT where the bytes begin with no such head; OTHER_SETTINGS; NO_MEMORY. Of each status but DONE, used is as it
+ * the bytes after it. DONE; CLOSED; BAD_TEXT where the bytes begin with no such head; OTHER_SETTINGS; NO_MEMORY. Of each status but DONE, used is as it
  * was. */
 uint32_t pidtab_replica_read(struct pidtab_replica *replica, const void *text, size_t length, size_t *used);
 

@@ -73,11 +73,11 @@ struct pidtab_saved_head {
 	uint64_t first_stamp;
 };
 
-/* Bytes in memory. `sum` is the running checksum: the head's functions begin it, and each entry's goes on with it. No function but the
+/* Bytes in memory. `sum` is the running checksum: the head's functions begin it, and each entry's goes on with it. No function except the
  * last changes anything unless it is PIDTAB_DONE, but `size`. What is written is read back. An operation, a kind, an error or a refusal
  * that this library does not know is a number all the same, and whoever makes the call refuses it. */
 
-/* The CRC-64/XZ of bytes behind those whose CRC is `sum`, which is 0 for none. */
+/* The CRC-64/XZ of bytes after those whose CRC is `sum`, which is 0 for none. */
 uint64_t pidtab_saved_sum(uint64_t sum, const void *bytes, size_t length);
 
 /* Writes the head, of size PIDTAB_SAVED_BLOCK. DONE, NO_ROOM, and OUT_OF_RANGE for settings that no record is opened with. */
@@ -96,12 +96,12 @@ uint32_t pidtab_saved_take_head(const void *bytes, size_t length, struct pidtab_
  * said of the call and the reply: they may be those of no record. */
 uint32_t pidtab_saved_take(const void *bytes, size_t length, struct pidtab_entry *entry, size_t *size, uint64_t *sum);
 
-/* Reads on behind the head or the last whole entry, in bytes that come in pieces; `is_end` says that none follow. Pieces may be cut
+/* Reads on after the head or the last whole entry, in bytes that come in pieces; `is_end` says that none follow. Pieces may be cut
  * anywhere, and one of PIDTAB_SAVED_LONGEST bytes always leads on. `left_out` is 0 at first, and is given back as it is: so many bytes
- * behind the last whole entry are passed.
+ * after the last whole entry are passed.
  *
  * DONE with a size that is not 0: an entry, of so many bytes. DONE with 0: the end, where `left_out` says how many bytes a torn end has. TORN:
- * more bytes decide. Then size says how many of these are passed: all of them, or none, and then they come again with more behind them.
+ * more bytes decide. Then size says how many of these are passed: all of them, or none, and then they come again with more after them.
  * WRONG_BYTE. */
 uint32_t pidtab_saved_next(const void *bytes, size_t length, bool is_end, struct pidtab_entry *entry, size_t *size, uint64_t *sum, uint64_t *left_out);
 
@@ -110,9 +110,9 @@ struct pidtab_saved {
 	struct pidtab_saved_head head; /* the settings in the file */
 	uint64_t next;                 /* so many calls are in the file, each whole, also where a write failed; the next one has this ordinal */
 	uint64_t bytes;                /* so many bytes they have, with the head */
-	uint64_t left_out;             /* so many bytes of a torn end a load has found behind them */
+	uint64_t left_out;             /* so many bytes of a torn end a load has found after them */
 	uint64_t sum;
-	size_t part;                   /* so many bytes of the next one a write that failed has left behind them */
+	size_t part;                   /* so many bytes of the next one a write that failed has left after them */
 	bool is_torn;                  /* the torn end is in the file yet */
 	int file;
 	int error;                     /* the errno of what was PIDTAB_DEVICE, or else 0 */
@@ -128,7 +128,7 @@ uint32_t pidtab_saved_begin(struct pidtab_saved *saved, int file, const struct p
  *
  * DONE, CLOSED, BUSY. NOT_KEPT where the next call to be saved was cut away, or the record has fewer calls than the file: so a history
  * that was cut before it was saved from its first call on is refused. TORN where a load has left out a torn end that is not trimmed
- * yet. DEVICE: the next append goes on behind the last byte that was written, so nothing is lost or doubled.
+ * yet. DEVICE: the next append goes on after the last byte that was written, so nothing is lost or doubled.
  *
  * What is saved may be cut: pidtab_record_checkpoint_at with `next` gives its memory back, and the file goes on. */
 uint32_t pidtab_saved_append(struct pidtab_saved *saved, struct pidtab_record *record);
@@ -139,7 +139,7 @@ uint32_t pidtab_saved_append_shared(struct pidtab_saved *saved, struct pidtab_sh
  * it cuts the history whenever that has so many entries: all others wait while the last calls are written and the kept ones made once more.
  *
  * DONE where it has ended, and then all calls that were recorded before the end are saved. Any other status is that of the append, or
- * DEVICE of the fdatasync; all that wait have it too. It may be called again. Behind an fdatasync that failed, nobody knows what the disk
+ * DEVICE of the fdatasync; all that wait have it too. It may be called again. After an fdatasync that failed, nobody knows what the disk
  * has: load the file. */
 uint32_t pidtab_saved_serve(struct pidtab_saved *saved, struct pidtab_shared *shared, uint64_t keep, bool to_disk);
 
@@ -176,13 +176,13 @@ void pidtab_saved_end(struct pidtab_shared *shared);
 uint32_t pidtab_saved_load(struct pidtab_saved *saved, int file, struct pidtab_record *record, uint64_t keep);
 uint32_t pidtab_saved_load_shared(struct pidtab_saved *saved, int file, struct pidtab_shared *shared, uint64_t keep);
 
-/* Cuts the torn end off the file, behind a load, or what was written of a head. Then an append goes on, or a begin. DONE, also where
+/* Cuts the torn end off the file, after a load, or what was written of a head. Then an append goes on, or a begin. DONE, also where
  * there is none; DEVICE. */
 uint32_t pidtab_saved_trim(struct pidtab_saved *saved);
 
 /* Loads the file, and trims it: an append goes on. A file that is empty, or ends within its head, is begun, and the record is opened
  * with the settings `fresh`; those of another file are its own, and `head` has them. The descriptor reads and writes. Statuses are
- * those of a load but for TORN; where none is DONE, nothing is to be closed. */
+ * those of a load except for TORN; where none is DONE, nothing is to be closed. */
 uint32_t pidtab_saved_resume(struct pidtab_saved *saved, int file, const struct pidtab_saved_head *fresh, struct pidtab_record *record, uint64_t keep);
 uint32_t pidtab_saved_resume_shared(struct pidtab_saved *saved, int file, const struct pidtab_saved_head *fresh, struct pidtab_shared *shared, uint64_t keep);
 

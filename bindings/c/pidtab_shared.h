@@ -46,7 +46,7 @@ struct pidtab_shared {
 	bool is_over;            /* nobody waits for a call any more, but a saver */
 };
 
-/* Opens a record, as pidtab_record_open does. Where keep is not 0, at most so many entries are kept: a call behind which there are more
+/* Opens a record, as pidtab_record_open does. Where keep is not 0, at most so many entries are kept: a call after which there are more
  * cuts the first, as pidtab_record_keep does. DONE, OUT_OF_RANGE, NO_MEMORY: any other than DONE says that nothing is to be closed. */
 uint32_t pidtab_shared_open(struct pidtab_shared *shared, uint32_t pid_max, uint64_t first_stamp, uint32_t workers, uint64_t keep);
 
@@ -69,7 +69,7 @@ void pidtab_shared_unlock(struct pidtab_shared *shared);
  * call_told wait for the saver, and may answer its status. */
 uint32_t pidtab_shared_call(struct pidtab_shared *shared, uint32_t worker, const struct pidtab_call *call, struct pidtab_reply *reply, uint64_t *ordinal);
 /* pidtab_record_calls under one lock, so no call of another thread comes between. A bound has it wait until there is room for all of the calls, or
- * all that was recorded is saved. Entries are cut behind the last call. */
+ * all that was recorded is saved. Entries are cut after the last call. */
 uint32_t pidtab_shared_calls(struct pidtab_shared *shared, uint32_t worker, const struct pidtab_call *calls, size_t count, struct pidtab_reply *replies, size_t room, size_t *made, uint64_t *ordinal);
 uint32_t pidtab_shared_line(struct pidtab_shared *shared, uint32_t worker, const void *line, size_t length, void *answer, size_t room, size_t *size, uint64_t *ordinal);
 uint32_t pidtab_shared_ask(struct pidtab_shared *shared, const struct pidtab_call *call, struct pidtab_reply *reply);
@@ -110,7 +110,7 @@ uint32_t pidtab_shared_follow(struct pidtab_shared *shared, struct pidtab *repli
 uint32_t pidtab_shared_wait(struct pidtab_shared *shared, uint64_t ordinal, const struct timespec *until, uint64_t *recorded);
 
 /* Ends these waits, for good: what waits, or comes to wait, for a call that is not recorded is CLOSED. A wait for one that is recorded is DONE,
- * so who follows the calls has them all first. All else goes on, a saver too. Behind it and the end of the threads that wait, the record may
+ * so who follows the calls has them all first. All else goes on, a saver too. After it and the end of the threads that wait, the record may
  * be closed. */
 void pidtab_shared_end(struct pidtab_shared *shared);
 

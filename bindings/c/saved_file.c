@@ -15,7 +15,7 @@
 #define A_TURN 512
 #define A_WRITE 64
 
-/* What a load that failed leaves, so that no append writes behind a wrong byte. */
+/* What a load that failed leaves, so that no append writes after a wrong byte. */
 #define NO_FILE (-1)
 
 static uint32_t failed(struct pidtab_saved *saved, int error)
@@ -131,7 +131,7 @@ static uint32_t lay_out(const struct pidtab_entry *entries, size_t count, uint64
 	return PIDTAB_DONE;
 }
 
-/* Saves the next entries, at most A_WRITE. Behind a write that failed, what is whole counts, and the rest is `part`: so the next write
+/* Saves the next entries, at most A_WRITE. After a write that failed, what is whole counts, and the rest is `part`: so the next write
  * is of the same entry, and perhaps more, and the same bytes come first. */
 static uint32_t write_entries(struct pidtab_saved *saved, const struct pidtab_entry *entries, size_t count)
 {
@@ -283,7 +283,7 @@ uint32_t pidtab_saved_serve(struct pidtab_saved *saved, struct pidtab_shared *sh
 	bool has_ended = false, is_last;
 	uint32_t status;
 
-	/* One turn more behind the end, for what was recorded before it. */
+	/* One turn more after the end, for what was recorded before it. */
 	do {
 		is_last = has_ended;
 		status = serve_once(saved, shared, keep, to_disk);
@@ -325,7 +325,7 @@ void pidtab_saved_end(struct pidtab_shared *shared)
 struct input {
 	size_t from, to;
 	bool has_ended;
-	uint64_t left_out; /* so many bytes behind the last whole entry are passed */
+	uint64_t left_out; /* so many bytes after the last whole entry are passed */
 	unsigned char bytes[AT_ONCE * PIDTAB_SAVED_LONGEST];
 };
 
@@ -346,7 +346,7 @@ static uint32_t fill(struct pidtab_saved *saved, struct input *input)
 	return PIDTAB_DONE;
 }
 
-/* What is behind the last whole entry is left out. */
+/* What is after the last whole entry is left out. */
 static uint32_t leave_out(struct pidtab_saved *saved, uint64_t count, uint32_t status)
 {
 	saved->left_out = count;
@@ -374,7 +374,7 @@ struct batch {
 	struct pidtab_entry entries[AT_ONCE];
 	size_t sizes[AT_ONCE];
 	size_t count;
-	bool is_last; /* nothing is behind them but what is left out */
+	bool is_last; /* nothing is after them but what is left out */
 };
 
 /* Takes entries until there are enough, or more bytes decide, or none follow, or one is wrong. */
@@ -396,7 +396,7 @@ static uint32_t take_some(struct pidtab_saved *saved, struct input *input, struc
 	return status == PIDTAB_TORN ? PIDTAB_DONE : status;
 }
 
-/* A cut that finds no memory is tried again behind the next entries. */
+/* A cut that finds no memory is tried again after the next entries. */
 static void cut_behind(struct pidtab_record *record, uint64_t keep)
 {
 	uint64_t first_kept, recorded;
@@ -419,7 +419,7 @@ static uint32_t replay(struct pidtab_saved *saved, struct pidtab_record *record,
 	return status;
 }
 
-/* Replays the entries behind the head to the end of the file. Those before a wrong byte are replayed first. */
+/* Replays the entries after the head to the end of the file. Those before a wrong byte are replayed first. */
 static uint32_t replay_on(struct pidtab_saved *saved, struct input *input, struct pidtab_record *record, uint64_t keep)
 {
 	struct batch batch = { .is_last = false };
@@ -507,7 +507,7 @@ uint32_t pidtab_saved_trim(struct pidtab_saved *saved)
 	return PIDTAB_DONE;
 }
 
-/* Begins the file, which has nothing but the torn front of a head. */
+/* Begins the file, which has nothing except the torn front of a head. */
 static uint32_t begin_anew(struct pidtab_saved *saved, const struct pidtab_saved_head *fresh)
 {
 	uint64_t left_out = saved->left_out;

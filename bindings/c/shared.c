@@ -255,7 +255,7 @@ uint32_t pidtab_shared_wait(struct pidtab_shared *shared, uint64_t ordinal, cons
 	if (until != NULL && (until->tv_nsec < 0 || until->tv_nsec >= NANOSECONDS))
 		return PIDTAB_OUT_OF_RANGE;
 	lock_before_calls(shared);
-	/* One look more behind the deadline. */
+	/* One look more after the deadline. */
 	while ((status = pidtab_record_counts(&shared->record, &first_kept, recorded)) == PIDTAB_DONE && *recorded <= ordinal
 	       && !shared->is_over && !is_late)
 		is_late = sleep_until(shared, until);
@@ -301,7 +301,7 @@ static inline uint32_t begin_calls(struct pidtab_shared *shared, size_t count)
 	return status;
 }
 
-/* Behind so many calls more entries are cut than they made, two in a step, so that a bound which was lowered is reached. */
+/* After so many calls more entries are cut than they made, two in a step, so that a bound which was lowered is reached. */
 static inline uint32_t end_calls(struct pidtab_shared *shared, size_t made, uint32_t status)
 {
 	if (made != 0) {

@@ -15,7 +15,7 @@ static inline void check(bool holds, const char *what, const char *file, int lin
 	exit(1);
 }
 
-/* The answer to a line, with a zero byte behind it. */
+/* The answer to a line, with a zero byte after it. */
 static inline uint32_t ask(struct pidtab *table, const char *line, char answer[PIDTAB_LONGEST_ANSWER + 1])
 {
 	size_t size = 0;
@@ -39,7 +39,7 @@ static inline uint32_t random_below(uint32_t most)
 	return (uint32_t)(state >> 33) % most;
 }
 
-/* Behind the levels is room that no function writes. */
+/* After the levels is room that no function writes. */
 static inline bool is_same_reply(const struct pidtab_reply *a, const struct pidtab_reply *b)
 {
 	return memcmp(a, b, offsetof(struct pidtab_reply, levels) + sizeof a->levels) == 0;

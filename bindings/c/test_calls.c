@@ -236,7 +236,7 @@ static void turns_are_whole(void)
 	free(told);
 }
 
-/* The last so many entries are kept behind each turn, a shorter or a longer one, and behind single calls. */
+/* The last so many entries are kept after each turn, a shorter or a longer one, and after single calls. */
 static void a_bound_is_kept(void)
 {
 	struct pidtab_call call = { .operation = PIDTAB_FORK, .caller = 1 };

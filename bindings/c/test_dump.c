@@ -28,7 +28,7 @@ static void each_status(void)
 	CHECK(pidtab_open(&table, 32768) == PIDTAB_DONE);
 	CHECK(pidtab_dump(&table, room, 3, &size) == PIDTAB_NO_ROOM && size > 7 && strcmp(room, "kept") == 0);
 
-	/* What is behind the text stays. */
+	/* What is after the text stays. */
 	size_t length = size;
 	memset(room, 'x', sizeof room);
 	CHECK(pidtab_dump(&table, room, length - 1, &size) == PIDTAB_NO_ROOM && size == length && room[0] == 'x');
@@ -144,7 +144,7 @@ static void cut_at_each_byte(void)
 
 	CHECK(loads_or_refuses(text.bytes, text.size));
 	for (size_t i = 0; i < text.size; i++) {
-		/* Of just so many bytes, so that a read behind them is seen. */
+		/* Of just so many bytes, so that a read after them is seen. */
 		char *part = malloc(i ? i : 1);
 		memcpy(part, text.bytes, i);
 		CHECK(!loads_or_refuses(part, i));

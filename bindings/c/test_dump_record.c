@@ -65,7 +65,7 @@ static void statuses_of_a_dump(void)
 	free(wanted.bytes);
 }
 
-/* The load of a text with the stamp 7 behind so many calls. */
+/* The load of a text with the stamp 7 after so many calls. */
 static uint32_t loaded_behind(struct pidtab_record *record, const uint64_t *counts, size_t workers)
 {
 	struct text text = first_text("7");
@@ -195,7 +195,7 @@ static void a_record_goes_on(uint64_t seed, uint64_t first_stamp)
 	CHECK(pidtab_record_close(&record) == PIDTAB_DONE && pidtab_record_close(&loaded) == PIDTAB_DONE && pidtab_record_close(&third) == PIDTAB_DONE);
 }
 
-/* A record goes on up to the last stamp, and is saved behind it too. */
+/* A record goes on up to the last stamp, and is saved after it too. */
 static void the_last_stamp(void)
 {
 	static const uint64_t none[1];
@@ -265,7 +265,7 @@ static void *makes_groups(void *at)
 	return at;
 }
 
-/* Opens the shared record from the text, behind 20 calls of each worker, and has its threads go on. */
+/* Opens the shared record from the text, after 20 calls of each worker, and has its threads go on. */
 static void share(struct text text, uint64_t keep)
 {
 	static const uint64_t counts[THREADS] = { 20, 20, 20, 20 };

@@ -239,7 +239,7 @@ static void a_session_goes_with_its_last_member(void)
 	close_table();
 }
 
-/* Groups and sessions are by rising numbers, behind the tasks. 2, 3 and 5 lead sessions, 4 is in that of 2 and leads a group, and 6 is in both of 5. */
+/* Groups and sessions are by rising numbers, after the tasks. 2, 3 and 5 lead sessions, 4 is in that of 2 and leads a group, and 6 is in both of 5. */
 static void groups_and_sessions_go_with_a_namespace(void)
 {
 	OPEN({ 1, 1, 2 });

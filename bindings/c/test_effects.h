@@ -1,4 +1,4 @@
-/* What a call has told of what it did, for tests that compare it. A test takes this in behind test_text.h. */
+/* What a call has told of what it did, for tests that compare it. A test takes this in after test_text.h. */
 #define MOST 700
 
 /* A room for effects, and what is told beside them. */

@@ -1,4 +1,4 @@
-/* Tests of calls that tell what they did, beside the text of the table before and behind each call. */
+/* Tests of calls that tell what they did, beside the text of the table before and after each call. */
 #include "test.h"
 #include "test_tasks.h"
 #include "test_effects.h"
@@ -37,7 +37,7 @@ struct state {
 
 static struct state before, behind;
 
-/* `3,1@2` behind the word; `-` is none. */
+/* `3,1@2` after the word; `-` is none. */
 static struct name name_behind(const char *line, const char *word)
 {
 	const char *at = strstr(line, word) + strlen(word);
@@ -224,7 +224,7 @@ static void touch(const struct pidtab_call *call, bool touched[PID_MAX])
 	touched[task.root] |= task.root != 0;
 }
 
-/* Adds two for each namespace from the one of a name to the root that is not counted yet, but for the root. */
+/* Adds two for each namespace from the one of a name to the root that is not counted yet, except for the root. */
 static size_t add_path(bool counted[MOST], const struct name *name)
 {
 	size_t room = 0;

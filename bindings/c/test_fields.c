@@ -45,7 +45,7 @@ static void protect(int how)
 	CHECK(mprotect(held, sizeof *held, how) == 0);
 }
 
-/* Process 1 does not end, since nothing could be called behind it. */
+/* Process 1 does not end, since nothing could be called after it. */
 static struct pidtab_call random_call(void)
 {
 	struct pidtab_call call = { .operation = random_below(PIDTAB_SUBREAPER + 1), .caller = random_below(12), .id = random_below(6), .number = random_below(12),

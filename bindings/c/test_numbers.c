@@ -124,7 +124,7 @@ static void by_hand(void)
 	all_answer(PIDTAB_CLOSED);
 }
 
-/* A query takes a stamp, and behind the last one there is none. */
+/* A query takes a stamp, and after the last one there is none. */
 static void the_last_stamp(void)
 {
 	struct text last = first_text("18446744073709551614");

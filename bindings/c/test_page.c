@@ -133,7 +133,7 @@ static void of_namespaces(void)
 	NOBODY(1, PIDTAB_NAMESPACE_MEMBERS, 9);
 }
 
-/* Behind its last child a parent has none. A session stays whose leader was reaped, and so does its number, which no task has any more. */
+/* After its last child a parent has none. A session stays whose leader was reaped, and so does its number, which no task has any more. */
 static void behind_ends(void)
 {
 	CHECK(pidtab_wait(&table, 2, PIDTAB_ANY, 0, NULL) == 7);

@@ -1,4 +1,4 @@
-/* What a page of numbers has told, for tests that compare it. A test takes this in behind test_text.h. */
+/* What a page of numbers has told, for tests that compare it. A test takes this in after test_text.h. */
 #define MOST 400
 
 static struct pidtab_reply blank(void)
@@ -58,7 +58,7 @@ static void page_has(read_page *read, const void *asked, uint32_t from, size_t r
 	has_told(&it, room, wanted, count);
 }
 
-/* These are told, from each number on, with each room, and one page behind another. */
+/* These are told, from each number on, with each room, and one page after another. */
 static void pages_have(read_page *read, const void *asked, const uint32_t *wanted, size_t count)
 {
 	for (size_t behind = 0; behind <= count; behind++)

@@ -237,7 +237,7 @@ static void rest(long milliseconds)
 	nanosleep(&(struct timespec){ 0, milliseconds * 1000000 }, NULL);
 }
 
-/* While a list is under way a query is answered, and a call waits; then a query waits behind that call, and sees what it has done. */
+/* While a list is under way a query is answered, and a call waits; then a query waits after that call, and sees what it has done. */
 static void a_change_waits(void)
 {
 	static struct text text;

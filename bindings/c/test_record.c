@@ -17,7 +17,7 @@ static void counts_are(struct pidtab_record *record, uint64_t first_kept, uint64
 	CHECK(pidtab_record_counts(record, &first, &all) == PIDTAB_DONE && first == first_kept && all == recorded);
 }
 
-/* The list, or that of the opening, with a zero byte behind it. */
+/* The list, or that of the opening, with a zero byte after it. */
 static const char *listed(struct pidtab_record *record, bool opening)
 {
 	static char texts[2][1 << 16];
@@ -84,7 +84,7 @@ static void out_of_range(void)
 	CHECK(pidtab_record_close(&record) == PIDTAB_DONE && record.at == NULL && !record.is_open && !record.in_use);
 }
 
-/* What each function tells is in interface/cases. What is behind an answer, or behind the entries that are read, stays. */
+/* What each function tells is in interface/cases. What is after an answer, or after the entries that are read, stays. */
 static void what_stays(void)
 {
 	struct pidtab_record record = PIDTAB_RECORD_INIT;
@@ -266,7 +266,7 @@ static uint64_t query(struct pidtab_record *record, const struct pidtab_call *ca
 	return place;
 }
 
-/* The call behind a list of numbers tells none of them, and fetches what the next list may need. */
+/* The call after a list of numbers tells none of them, and fetches what the next list may need. */
 static uint64_t ask_numbers(struct pidtab_record *record, uint32_t level)
 {
 	const struct pidtab_call nspid = { .operation = PIDTAB_NSPID, .caller = 1, .number = level + 1 };
@@ -281,7 +281,7 @@ static uint64_t ask_numbers(struct pidtab_record *record, uint32_t level)
 	return place;
 }
 
-/* Lists of 1 to 33 numbers, the longer ones of which are not in their entries: as they are told, as they are read, and behind cuts. */
+/* Lists of 1 to 33 numbers, the longer ones of which are not in their entries: as they are told, as they are read, and after cuts. */
 static void lists_of_each_length(void)
 {
 	struct pidtab_record record = PIDTAB_RECORD_INIT;

@@ -53,7 +53,7 @@ static bool is_told(struct pidtab_applied it, uint32_t outcome, uint64_t session
 	return it.outcome == outcome && it.session == session && it.sequence == sequence && it.size == size;
 }
 
-/* Whether the digest behind the entry begins with these digits. */
+/* Whether the digest after the entry begins with these digits. */
 static bool has_digest(const struct host *host, uint64_t position, const char *digits)
 {
 	struct pidtab_digest digest;
@@ -66,7 +66,7 @@ static bool has_digest(const struct host *host, uint64_t position, const char *d
 	return strncmp(text, digits, strlen(digits)) == 0;
 }
 
-/* Whether these are the answers to the last entry. What is behind them in the room stays. */
+/* Whether these are the answers to the last entry. What is after them in the room stays. */
 static bool has_answers(const struct host *host, const char *wanted)
 {
 	char room[128];
@@ -180,11 +180,11 @@ static void first_form_goes_on(void)
 	close_host(&host);
 }
 
-/* The head of a snapshot behind these entries, as docs/CLUSTER.md and man/pidtab-keep.1 have it: the session that was used the longest ago is first. */
+/* The head of a snapshot after these entries, as docs/CLUSTER.md and man/pidtab-keep.1 have it: the session that was used the longest ago is first. */
 #define AT_HEAD "a23d48e1e3a92dc8e0234cfb7da8e71fc70e05f025259e61ac3f8f74816448bc"
 #define HEAD "pidtab-snapshot 2 pid_max 4194304 model 1 position 9 digest 15c2fe3e85470d4756d9d4de58a4a1712c47556d65f8e516cc095f5db632dfdc calls 2 sessions 2\n5 0\n4 1\n"
 
-/* Text in a room of its own, so that a read behind it is found. */
+/* Text in a room of its own, so that a read after it is found. */
 static uint32_t reads(struct host *host, const char *text, size_t *used)
 {
 	size_t length = strlen(text);

@@ -51,7 +51,7 @@ static uint64_t sum_by_bits(uint64_t sum, const unsigned char *bytes, size_t len
 	return ~sum;
 }
 
-/* Writes a block's checksum by that, behind those whose checksum is given. */
+/* Writes a block's checksum by that, after those whose checksum is given. */
 static uint64_t seal_block(unsigned char *block, uint64_t before)
 {
 	uint64_t sum = sum_by_bits(before, block, 40);
@@ -113,7 +113,7 @@ static void the_example_is_read(void)
 	}
 }
 
-/* The entries behind the example's head, with what may be behind them, read in pieces of one length. */
+/* The entries after the example's head, with what may be after them, read in pieces of one length. */
 struct piecewise {
 	unsigned char bytes[sizeof example + 100];
 	size_t length;
@@ -147,7 +147,7 @@ static uint32_t read_in_pieces(const struct piecewise *of, size_t piece, size_t 
 	return status;
 }
 
-/* However it is cut into pieces, the end is of this status, behind so many entries, and so many bytes are left out. */
+/* However it is cut into pieces, the end is of this status, after so many entries, and so many bytes are left out. */
 static void ends_as(const struct piecewise *of, uint32_t status, size_t count, uint64_t left_out)
 {
 	for (size_t piece = 1; piece <= of->length; piece += piece < 60 ? 1 : 37) {
@@ -158,7 +158,7 @@ static void ends_as(const struct piecewise *of, uint32_t status, size_t count, u
 	}
 }
 
-/* A file that ends within its last entry; one that has its length, and zeroes in place of its bytes; and one with another byte behind them. */
+/* A file that ends within its last entry; one that has its length, and zeroes in place of its bytes; and one with another byte after them. */
 static void ends_in_pieces(void)
 {
 	struct piecewise whole = { .length = sizeof example }, of;

@@ -256,7 +256,7 @@ static uint32_t resume_status(int file, const struct pidtab_saved_head *fresh)
 	return status;
 }
 
-/* What no file is resumed of: it stays as it is, but for a torn front of a head. */
+/* What no file is resumed of: it stays as it is, except for a torn front of a head. */
 static void not_resumed(void)
 {
 	const struct pidtab_saved_head no_workers = { .pid_max = 32768, .first_stamp = 1 };
@@ -360,7 +360,7 @@ static void zeroes_at_the_end(void)
 			CHECK(pidtab_saved_trim(&saved) == PIDTAB_DONE && pidtab_saved_append(&saved, &whole) == PIDTAB_DONE);
 			CHECK(has(file, bytes, places[calls]) && pidtab_record_close(&again) == PIDTAB_DONE && close(file) == 0);
 		}
-		/* A byte behind them is none that was cut off. */
+		/* A byte after them is none that was cut off. */
 		others[sizeof others - 1] = 1;
 		CHECK(status_of(others, sizeof others, &saved) == PIDTAB_WRONG_BYTE && saved.bytes == places[count]);
 	}
@@ -530,7 +530,7 @@ static void other_replies(void)
 	}
 }
 
-/* Behind a load that failed nothing is appended, also where there is nothing to append. */
+/* After a load that failed nothing is appended, also where there is nothing to append. */
 static void not_gone_on_with(void)
 {
 	static unsigned char forged[MOST_BYTES];

@@ -63,7 +63,7 @@ static void *serves(void *keep)
 	return NULL;
 }
 
-/* The threads do it at once, and behind them the saver ends. */
+/* The threads do it at once, and after them the saver ends. */
 static void beside_the_saver(void *(*does)(void *), uint64_t keep)
 {
 	pthread_t threads[THREADS], saver;
@@ -320,7 +320,7 @@ static void *counts(void *found)
 	return NULL;
 }
 
-/* All busy threads wait for the lock, and behind them one that counts: how many calls come before it. */
+/* All busy threads wait for the lock, and after them one that counts: how many calls come before it. */
 static uint64_t calls_before_the_count(void)
 {
 	struct pidtab_record *record = pidtab_shared_lock(&shared);

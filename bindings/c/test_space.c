@@ -23,7 +23,7 @@ static struct pidtab_space blank(void)
 	return space;
 }
 
-/* Behind the last field is room that has no meaning. */
+/* After the last field is room that has no meaning. */
 static bool is_same(const struct pidtab_space *a, const struct pidtab_space *b)
 {
 	return memcmp(a, b, offsetof(struct pidtab_space, fallen) + sizeof a->fallen) == 0;
@@ -81,7 +81,7 @@ static void page_has(uint32_t tree, uint64_t id, uint64_t from, size_t room, con
 	CHECK(memcmp(it.ids, wanted, told * sizeof *wanted) == 0 && is_rest_untold(&it, told));
 }
 
-/* These are directly inside, from each id on, with each room, and one page behind another. */
+/* These are directly inside, from each id on, with each room, and one page after another. */
 static void are_inside(uint32_t tree, uint64_t id, const uint64_t *wanted, size_t count)
 {
 	for (size_t behind = 0; behind <= count; behind++)

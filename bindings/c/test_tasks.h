@@ -1,4 +1,4 @@
-/* A table of calls that look random, and its tasks, for tests that compare what is read of it. A test takes this in behind test.h. */
+/* A table of calls that look random, and its tasks, for tests that compare what is read of it. A test takes this in after test.h. */
 #include "test_text.h"
 
 #define HELD_TASKS 40

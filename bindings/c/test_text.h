@@ -1,4 +1,4 @@
-/* A table, and its text in two rooms, for tests that compare what a call has left. A test takes this in behind test.h. */
+/* A table, and its text in two rooms, for tests that compare what a call has left. A test takes this in after test.h. */
 static struct pidtab table = PIDTAB_INIT;
 
 static char texts[2][1 << 20];

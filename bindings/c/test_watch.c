@@ -89,7 +89,7 @@ static void let_sleep(void)
 	nanosleep(&(struct timespec){ .tv_nsec = 20000000 }, NULL);
 }
 
-/* What is recorded already is not waited for, also behind a cut. */
+/* What is recorded already is not waited for, also after a cut. */
 static void is_there_already(void)
 {
 	begin();

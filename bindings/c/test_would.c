@@ -247,7 +247,7 @@ static void *forks_as_told(void *unused)
 	return NULL;
 }
 
-/* All forks have numbers of their own, and no call but those was recorded. */
+/* All forks have numbers of their own, and no call except those was recorded. */
 static void threads_fork_as_told(void)
 {
 	pthread_t threads[WORKERS];

@@ -153,7 +153,7 @@ func (it *caseWorld) callOn(line string) Call {
 	return entry.Call
 }
 
-// callTold is the answer to the line, and behind it what the call does, which are the same of each table.
+// callTold is the answer to the line, and after it what the call does, which are the same of each table.
 func (it *caseWorld) callTold(line string) string {
 	seat, call := it.seats[it.at], it.callOn(line)
 	reply, effects, err := seat.Told(call)

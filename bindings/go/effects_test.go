@@ -180,7 +180,7 @@ func TestALabelGoesByAForkThatTells(t *testing.T) {
 	}
 }
 
-// Goroutines fork children of a task that ends: each child that was made has another parent behind it.
+// Goroutines fork children of a task that ends: each child that was made has another parent after it.
 func TestNoEffectIsLostBesideForks(t *testing.T) {
 	const workers, enough = 3, 100
 	shared := openShared(t, Settings{PidMax: 5000, Workers: workers + 1})

@@ -36,7 +36,7 @@ func (task Task) Root() uint32 { return task.Numbers[0] }
 
 // Space is a namespace of a list.
 type Space struct {
-	ID     uint64  `json:"id"`     // its id: 0 for the root, or the number of the call that made it
+	ID     uint64  `json:"id"`     // its id, 0 for the root
 	Parent *uint64 `json:"parent"` // the id of the namespace around it, nil for the root
 	Cursor uint32  `json:"cursor"` // where the search for its next number begins
 	Fallen bool    `json:"fallen"` // its init has ended
@@ -48,7 +48,7 @@ type Space struct {
 
 // Control is a control group of a list.
 type Control struct {
-	ID     uint64  `json:"id"`     // its id: 0 for the root, or the number of the call that made it
+	ID     uint64  `json:"id"`     // its id, 0 for the root
 	Parent *uint64 `json:"parent"` // the id of the control group above it, nil for the root
 	Limit  *uint32 `json:"limit"`  // how many tasks it may have, nil for no limit
 	Count  uint64  `json:"count"`  // how many tasks it and those below it have

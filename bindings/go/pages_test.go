@@ -73,7 +73,7 @@ func TestTheStoredScripts(t *testing.T) {
 	}
 }
 
-// between is what stands behind the one word, up to the other.
+// between is what stands after the one word, up to the other.
 func between(t *testing.T, text, word, end string) string {
 	t.Helper()
 	_, behind, found := strings.Cut(text, word)

@@ -30,7 +30,7 @@ var (
 	ErrUnsaved     = errors.New("pidtab: too many calls are not saved, and the saver has failed or ended")
 )
 
-// ReplayError is why a replay stopped: the entries before the place were made again, and none behind it. ErrDiffers says that the call of the
+// ReplayError is why a replay stopped: the entries before the place were made again, and none after it. ErrDiffers says that the call of the
 // one at the place was made, and has another reply. Any other says that it was not made: ErrOutOfRange where there is no such worker or call;
 // ErrNoMemory, ErrSpent.
 type ReplayError struct {
@@ -53,7 +53,7 @@ type Word string
 
 // Written by tools/interface: refusals.
 
-// The words, in the order of their numbers. Behind NoNumber stands the id of a namespace, behind PidsLimit that of a control group.
+// The words, in the order of their numbers. After NoNumber is the id of a namespace, after PidsLimit that of a control group.
 const (
 	NoCaller     Word = "no-caller"     // no live task has the caller's root number
 	NoTask       Word = "no-task"       // no task is there, or none that the call may be made on
@@ -82,7 +82,7 @@ var words = [...]Word{
 	RootInit, NoControl, ControlBusy, RootControl, BadLimit, ControlDepth,
 }
 
-// hasID is whether an id stands behind the word.
+// hasID is whether an id is after the word.
 func (word Word) hasID() bool {
 	return word == NoNumber || word == PidsLimit
 }
@@ -135,13 +135,13 @@ var wordErrors = map[Word]error{
 
 // The end of refusals.
 
-// Refusal is an error of a call that the table refuses, which changes nothing but that the call is counted. errors.Is finds the error of its
+// Refusal is an error of a call that the table refuses, which changes nothing except that the call is counted. errors.Is finds the error of its
 // word in it, as ErrNoTask, and its errno, as syscall.ESRCH.
 type Refusal struct {
 	Errno syscall.Errno // the error that the kernel would give
-	Why   string        // the word, and behind it the id if there is one, as the script language has them
+	Why   string        // the word, and after it the id if there is one, as the script language has them
 	Word  Word          // the word alone, as NoCaller
-	ID    uint64        // behind NoNumber and PidsLimit: the id of what refuses; else 0
+	ID    uint64        // after NoNumber and PidsLimit: the id of what refuses; else 0
 	Call  string        // what was asked, as `fork 99` or `stat 1 99`; empty where a Reply tells the refusal
 }
 

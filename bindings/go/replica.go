@@ -148,7 +148,7 @@ func (replica *Replica) Log() (LogState, error) {
 	}, nil
 }
 
-// Digest is the digest behind the entry at the position. Those of the last 4,096 entries are kept: ErrNotKept for each other position.
+// Digest is the digest after the entry at the position. Those of the last 4,096 entries are kept: ErrNotKept for each other position.
 func (replica *Replica) Digest(position uint64) (LogDigest, error) {
 	held, found := replica.held(), new(C.struct_pidtab_digest)
 	held.lock.RLock()
@@ -173,7 +173,7 @@ func (replica *Replica) Last(session uint64) (uint64, error) {
 }
 
 // Write is the head of a snapshot: the settings, the position, the digest, the number of calls, and the sessions. A snapshot is this with what
-// Dump writes of the table behind it. ErrOtherSettings where the log has not begun; ErrNoMemory.
+// Dump writes of the table after it. ErrOtherSettings where the log has not begun; ErrNoMemory.
 func (replica *Replica) Write() (string, error) {
 	return replica.text(func(held *heldReplica, room unsafe.Pointer, most C.size_t, size *C.size_t) C.uint32_t {
 		return C.pidtab_replica_write(&held.raw, room, most, size)
@@ -181,7 +181,7 @@ func (replica *Replica) Write() (string, error) {
 }
 
 // Read gives the replica what the head of a snapshot says, in the place of all that it knows, and answers the length of that head: the table is
-// FromDump of the text behind it. ErrBadText where the text begins with no such head; ErrOtherSettings; ErrNoMemory.
+// FromDump of the text after it. ErrBadText where the text begins with no such head; ErrOtherSettings; ErrNoMemory.
 func (replica *Replica) Read(snapshot string) (int, error) {
 	held, bytes, used := replica.held(), withByte(snapshot), new(C.size_t)
 	held.lock.Lock()

@@ -58,7 +58,7 @@ func (it logWorld) refuses(position uint64, entry string, wanted error) {
 	}
 }
 
-// digest is that behind a position, in hexadecimal.
+// digest is that after a position, in hexadecimal.
 func (it logWorld) digest(position uint64) string {
 	it.Helper()
 	digest, err := it.replica.Digest(position)
@@ -139,7 +139,7 @@ func TestWhatIsNotApplied(t *testing.T) {
 	}
 }
 
-// A snapshot is what a replica has written with its table's text behind it, and makes both again.
+// A snapshot is what a replica has written with its table's text after it, and makes both again.
 func TestASnapshotOfAReplica(t *testing.T) {
 	it := openReplica(t, 32768)
 	it.apply(2, logSettings)

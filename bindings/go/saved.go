@@ -54,7 +54,7 @@ type Saved struct {
 	bytes   uint64
 	leftOut uint64
 	sum     C.uint64_t
-	part    int // so many bytes of the next call a write that failed has left behind the last whole one
+	part    int // so many bytes of the next call a write that failed has left after the last whole one
 	isTorn  bool
 }
 
@@ -72,14 +72,14 @@ func (saved *Saved) Bytes() uint64 {
 	return saved.bytes
 }
 
-// LeftOut is how many bytes of a torn end a load has left out behind them.
+// LeftOut is how many bytes of a torn end a load has left out after them.
 func (saved *Saved) LeftOut() uint64 {
 	saved.lock.Lock()
 	defer saved.lock.Unlock()
 	return saved.leftOut
 }
 
-// Trim cuts off the file what is behind the last whole call: a torn end that a load has left out, or what a write that failed has left. Then the
+// Trim cuts off the file what is after the last whole call: a torn end that a load has left out, or what a write that failed has left. Then the
 // file's offset is its end, and a save goes on there. ResumeShared does so.
 func (saved *Saved) Trim(file *os.File) error {
 	saved.lock.Lock()
@@ -98,10 +98,10 @@ func (saved *Saved) Trim(file *os.File) error {
 // saved is always the history up to one moment. Other goroutines make calls meanwhile: the lock of the table is held while up to 512 entries are
 // copied, and for no write. Goroutines that save to one Saved take turns. At its end it wakes those in WaitSaved.
 //
-// What an *os.File was given survives the process, and behind its Sync the machine. A call that is saved may be cut, by CheckpointAt with
+// What an *os.File was given survives the process, and after its Sync the machine. A call that is saved may be cut, by CheckpointAt with
 // Saved.Calls.
 //
-// Each error is a SavedError. Behind that of the writer, the next Save to the same writer goes on with the byte that is missing, so nothing is lost
+// Each error is a SavedError. After that of the writer, the next Save to the same writer goes on with the byte that is missing, so nothing is lost
 // or doubled. ErrNotKept where the next call to be saved was cut away, and of a table of SharedFromDump; ErrOtherTable; ErrTorn where a load has left out a torn end that is not
 // trimmed; ErrClosed, ErrBusy; ErrNil.
 func (shared *Shared) Save(to io.Writer, saved *Saved) error {
@@ -135,11 +135,11 @@ func LoadShared(from io.Reader, keep uint64) (*Shared, *Saved, error) {
 
 // ResumeShared is LoadShared from the beginning of a file, which then goes on: a torn end is cut off, and the file's offset is its end.
 //
-// A file that is empty, or ends within its head, is begun, and the table has these settings. Those of another file are its own. Behind this,
+// A file that is empty, or ends within its head, is begun, and the table has these settings. Those of another file are its own. After this,
 // Settings.Keep is never used: no call is cut unasked that is not saved.
 //
-// The file is opened to be read and to be written, as by os.O_RDWR|os.O_CREATE. One process at a time has it. The errors are those of LoadShared but
-// for ErrTorn, ErrOutOfRange for settings outside their ranges, and those of the file. ErrNil.
+// The file is opened to be read and to be written, as by os.O_RDWR|os.O_CREATE. One process at a time has it. The errors are those of LoadShared except
+// ErrTorn, ErrOutOfRange for settings outside their ranges, and those of the file. ErrNil.
 func ResumeShared(file *os.File, settings Settings) (*Shared, *Saved, error) {
 	saved := new(Saved)
 	if file == nil {
@@ -238,7 +238,7 @@ func (saved *Saved) writeUpTo(recorded uint64, to io.Writer, read func(uint64, [
 	return nil
 }
 
-// writeEntries writes the next entries, at most aWrite. Behind a write that failed, what is whole counts, and the rest is the part: so the next write
+// writeEntries writes the next entries, at most aWrite. After a write that failed, what is whole counts, and the rest is the part: so the next write
 // is of the same entry, and perhaps more, and the same bytes come first.
 func (saved *Saved) writeEntries(to io.Writer, entries []C.struct_pidtab_entry) error {
 	var room [aWrite * C.PIDTAB_SAVED_LONGEST]byte
@@ -291,12 +291,12 @@ func (saved *Saved) countWhole(size int, sum C.uint64_t) {
 	saved.sum = sum
 }
 
-// leaveOut leaves out what is behind the last whole call.
+// leaveOut leaves out what is after the last whole call.
 func (saved *Saved) leaveOut(count uint64) {
 	saved.leftOut, saved.isTorn = count, count != 0
 }
 
-// loadInto opens a table by the head, and makes the calls behind it.
+// loadInto opens a table by the head, and makes the calls after it.
 func loadInto(saved *Saved, from io.Reader, keep uint64) (*Shared, error) {
 	in := &input{from: from, room: make([]byte, 1<<13)}
 	settings, err := in.takeHead(saved)
@@ -363,7 +363,7 @@ type input struct {
 	room       []byte
 	start, end int
 	hasEnded   bool
-	leftOut    C.uint64_t // so many bytes behind the last whole entry are passed
+	leftOut    C.uint64_t // so many bytes after the last whole entry are passed
 }
 
 // fill reads on where there may be less in hand than the longest entry.

@@ -359,7 +359,7 @@ func TestEntriesThatNoTableHas(t *testing.T) {
 	wantFault(t, changed(t, 72, 3), ErrDiffers, 0, 48)
 	wantFault(t, changed(t, 124, 2), ErrDiffers, 1, 96)
 	wantFault(t, changed(t, 149, 5), ErrDiffers, 2, 144)
-	// No operation, no worker; and more levels than any task has, which would be behind the end.
+	// No operation, no worker; and more levels than any task has, which would be after the end.
 	wantFault(t, changed(t, 96, 19), ErrOutOfRange, 1, 96)
 	wantFault(t, changed(t, 98, 2), ErrOutOfRange, 1, 96)
 	wantFault(t, changed(t, 102, 34), ErrWrongByte, 1, 96)
@@ -406,7 +406,7 @@ func TestEntriesThatAreCutAsTheyLoad(t *testing.T) {
 
 var errDevice = errors.New("the device failed")
 
-// A device moves a byte at a time, and behind so many bytes it fails.
+// A device moves a byte at a time, and after so many bytes it fails.
 type device struct {
 	of   *bytes.Buffer
 	left int
@@ -428,7 +428,7 @@ func (it *device) Read(to []byte) (int, error) {
 	return it.of.Read(to[:1])
 }
 
-// Behind a write that failed at each byte, the next save goes on with the same byte.
+// After a write that failed at each byte, the next save goes on with the same byte.
 func TestAWriterThatFailsAfterEachByte(t *testing.T) {
 	shared, wanted := whole(t)
 	places := placesOf(wanted)

@@ -47,7 +47,7 @@ func (it *turnLock) RLock() {
 	it.lock.RLock()
 }
 
-// RUnlock unlocks behind a query.
+// RUnlock unlocks after a query.
 func (it *turnLock) RUnlock() {
 	it.lock.RUnlock()
 }
@@ -62,11 +62,11 @@ type saving struct {
 }
 
 // Serve is the saver of a table that goroutines work on, in a goroutine of its own. It does what Save does, sleeps until a call is recorded, and
-// begins again, until EndSaving. Each turn ends with sync, as an *os.File's Sync, if it is not nil: so one sync serves all that wait, and only behind
+// begins again, until EndSaving. Each turn ends with sync, as an *os.File's Sync, if it is not nil: so one sync serves all that wait, and only after
 // it a turn's calls count as saved. Where keep is not 0, it cuts the history whenever that has so many entries: all others wait while the last entries
 // are written and the kept ones made once more.
 //
-// The errors are those of Save, and that of sync in a SavedError. WaitSaved answers them too. Serve may be called again; but behind a Sync of a file
+// The errors are those of Save, and that of sync in a SavedError. WaitSaved answers them too. Serve may be called again; but after a Sync of a file
 // that failed, nobody knows what the disk has: load it.
 func (shared *Shared) Serve(to io.Writer, saved *Saved, keep uint64, sync func() error) error {
 	return shared.ServeContext(context.Background(), to, saved, keep, sync)
@@ -80,7 +80,7 @@ func (shared *Shared) ServeContext(ctx context.Context, to io.Writer, saved *Sav
 	}
 	held := shared.held()
 	defer held.watch(ctx)()
-	// One turn more behind the end, for what was recorded before it.
+	// One turn more after the end, for what was recorded before it.
 	for isLast, hasEnded := false, false; !isLast; {
 		isLast = hasEnded
 		err := shared.serveOnce(to, saved, keep, sync)
@@ -94,7 +94,7 @@ func (shared *Shared) ServeContext(ctx context.Context, to io.Writer, saved *Sav
 	return held.leave(ctx, saved)
 }
 
-// leave ends a saver: what waits is told of a context that is done, but not behind EndSaving.
+// leave ends a saver: what waits is told of a context that is done, but not after EndSaving.
 func (held *heldRecord) leave(ctx context.Context, saved *Saved) error {
 	saved.lock.Lock()
 	defer saved.lock.Unlock()
@@ -111,11 +111,11 @@ func (held *heldRecord) isEnded() bool {
 	return held.saving.hasEnded
 }
 
-// WaitSaved waits until the call with the ordinal is saved: behind the Save, the load or the turn of Serve that has it. Each of these wakes all that
+// WaitSaved waits until the call with the ordinal is saved: after the Save, the load or the turn of Serve that has it. Each of these wakes all that
 // wait. It costs a lock, and a sleep where the call is not saved yet.
 //
-// An error is that of the saver's last turn, at once until a turn does better: whether the call is saved is not known. ErrEnded behind EndSaving, and
-// ErrClosed behind Close. Before the first turn it waits.
+// An error is that of the saver's last turn, at once until a turn does better: whether the call is saved is not known. ErrEnded after EndSaving, and
+// ErrClosed after Close. Before the first turn it waits.
 func (shared *Shared) WaitSaved(ordinal uint64) error {
 	return shared.WaitSavedContext(context.Background(), ordinal)
 }
@@ -198,7 +198,7 @@ func (shared *Shared) serveOnce(to io.Writer, saved *Saved, keep uint64, sync fu
 	return shared.held().tell(saved, err)
 }
 
-// cutSaved cuts the history where it is long enough, behind its last entries. Where there is no memory for that, it grows on.
+// cutSaved cuts the history where it is long enough, after its last entries. Where there is no memory for that, it grows on.
 func (held *heldRecord) cutSaved(to io.Writer, saved *Saved, keep uint64) error {
 	held.lock.Lock()
 	defer held.lock.Unlock()

@@ -51,7 +51,7 @@ func ask(t *testing.T, seat *Seat) uint64 {
 	return ordinal
 }
 
-// besideTheSaver has goroutines do it at once, and the saver end behind them: how many calls are saved.
+// besideTheSaver has goroutines do it at once, and the saver end after them: how many calls are saved.
 func besideTheSaver(t *testing.T, shared *Shared, to *disk, keep uint64, does func(*Seat)) uint64 {
 	t.Helper()
 	saved, ended, busy := new(Saved), make(chan error, 1), new(sync.WaitGroup)
@@ -72,7 +72,7 @@ func besideTheSaver(t *testing.T, shared *Shared, to *disk, keep uint64, does fu
 	return saved.Calls()
 }
 
-// Each call is behind a sync when it is answered. No goroutine has more than one that is not, so a cut leaves as many as there are goroutines.
+// Each call is after a sync when it is answered. No goroutine has more than one that is not, so a cut leaves as many as there are goroutines.
 func TestEachAnswerIsOnTheDisk(t *testing.T) {
 	const keep = 256
 	shared, to := openShared(t, Settings{PidMax: 32768, Workers: savers}), new(disk)

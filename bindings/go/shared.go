@@ -28,7 +28,7 @@ type Settings struct {
 // The kept history replays, reply for reply, as one thread's, from its opening to the present state, and the calls of all workers add up to
 // Counts.Recorded. That is proved of the library. The lock is trusted: it is a sync.RWMutex, so that a goroutine that waits holds no thread.
 //
-// The history has 64 bytes a call until it is cut. With Settings.Keep, a call behind which there are more entries cuts the first, and makes its
+// The history has 64 bytes a call until it is cut. With Settings.Keep, a call after which there are more entries cuts the first, and makes its
 // call once more on a second table. Where that finds no memory, later calls make up for it.
 type Shared struct {
 	own *heldRecord
@@ -77,7 +77,7 @@ func (shared *Shared) Close() {
 	shared.held().close()
 }
 
-// Settings are those that the table was opened with; behind a load, Keep is 0.
+// Settings are those that the table was opened with; after a load, Keep is 0.
 func (shared *Shared) Settings() Settings {
 	return shared.held().settings
 }
@@ -201,7 +201,7 @@ func (shared *Shared) Entries(from uint64, most int) ([]Entry, error) {
 	return entries, nil
 }
 
-// Follow has a table that began as this one did make the calls from the ordinal on that are recorded by now, and answers the ordinal behind them.
+// Follow has a table that began as this one did make the calls from the ordinal on that are recorded by now, and answers the ordinal after them.
 // So Dump of it is the text of the state there, and no goroutine waits for it. The replica is opened with the same PIDMax, and next is 0, where
 // the first stamp is 1; or it is made of a text of Dump, and next is what was recorded then. Nobody else makes a call on it.
 //
@@ -477,7 +477,7 @@ func (seat *Seat) Ordinal() (uint64, bool) {
 }
 
 // Calls makes the calls in their order, and none of another worker comes between them. It answers the replies of those that were made, refusals too:
-// those of all, and behind ErrNoMemory or ErrSpent those of the calls before that one. ErrOutOfRange where one of them is none: then none is made.
+// those of all, and after ErrNoMemory or ErrSpent those of the calls before that one. ErrOutOfRange where one of them is none: then none is made.
 //
 // With a bound of BoundUnsaved it waits until there is room for all of them, or all that was recorded is saved.
 func (seat *Seat) Calls(calls []Call) ([]Reply, error) {

@@ -197,7 +197,7 @@ func TestWhatAReplyRefuses(t *testing.T) {
 	want(t, "done", only(Reply{Kind: ReplyOK}.Err()), nil, nil)
 }
 
-// With Keep the history is never longer, nor behind a replay.
+// With Keep the history is never longer, nor after a replay.
 func TestCutsOfItsOwn(t *testing.T) {
 	shared := openShared(t, Settings{PidMax: 32768, Workers: 1, Keep: 10})
 	seat := seatOf(t, shared)
@@ -470,7 +470,7 @@ func TestWhatTheCollectorCloses(t *testing.T) {
 	want(t, "getpid", of(seat.Getpid(1)), uint32(1), nil)
 }
 
-// While a query is under way another one is answered, and a call waits. Then a query waits behind the call, and sees what it has done.
+// While a query is under way another one is answered, and a call waits. Then a query waits after the call, and sees what it has done.
 func TestQueriesAtOnce(t *testing.T) {
 	shared := openShared(t, Settings{PidMax: 32768, Workers: 1})
 	seat, all, held := seatOf(t, shared), Call{Operation: OpCount}, shared.held()

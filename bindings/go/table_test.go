@@ -50,7 +50,7 @@ func play(t *testing.T, table interface{ Line(string) (string, error) }, lines .
 	}
 }
 
-// refused is the refusal with the words of an answer: one, and perhaps an id behind it.
+// refused is the refusal with the words of an answer: one, and perhaps an id after it.
 func refused(errno syscall.Errno, why string) Refusal {
 	word, id, _ := strings.Cut(why, " ")
 	number, _ := strconv.ParseUint(id, 10, 64)

@@ -111,7 +111,7 @@ export interface Task {
 /** A namespace; the root has no parent. */
 export interface Space {
   // Written by tools/interface: fields of space.
-  /** Its id: 0 for the root, or the number of the call that made it. */
+  /** Its id, 0 for the root. */
   id: bigint;
   /** The id of the namespace around it, null for the root. */
   parent: bigint | null;
@@ -125,7 +125,7 @@ export interface Space {
 /** A control group with the count of its subtree; a limit of null is `max`. */
 export interface Control {
   // Written by tools/interface: fields of control.
-  /** Its id: 0 for the root, or the number of the call that made it. */
+  /** Its id, 0 for the root. */
   id: bigint;
   /** The id of the control group above it, null for the root. */
   parent: bigint | null;

@@ -43,7 +43,7 @@ class Source:
             self.say(line, f"{what} is {', '.join(facts)}, and in interface/ {', '.join(wanted)}")
 
     def body(self, begin, end="\n}"):
-        """The text behind a line up to its end, and where it begins."""
+        """The text after a line up to its end, and where it begins."""
         start = self.text.find(begin)
         if start < 0:
             self.say(1, f"there is no `{begin.strip()}`")

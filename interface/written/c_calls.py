@@ -6,7 +6,7 @@ from names import TYPED, capitals, strings
 HEADER = "bindings/c/pidtab.h"
 TEST = "bindings/c/test_cases.c"
 
-# What an argument of a kind is in C. A which has its number behind it, and a most whether there is one before it.
+# What an argument of a kind is in C. A which has its number after it, and a most whether there is one before it.
 KINDS = {
     "number": ["uint32_t {}"], "byte": ["uint32_t {}"], "new": ["uint32_t {}"], "on": ["uint32_t {}"], "id": ["uint64_t {}"], "signed": ["int32_t {}"],
     "which": ["enum pidtab_which {}", "uint32_t number"], "use": ["enum pidtab_use {}"], "most": ["uint32_t limited", "uint32_t {}"],

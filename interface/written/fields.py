@@ -14,7 +14,7 @@ JAVASCRIPT = "bindings/js/src/listing.js"
 TYPED = "bindings/js/pidtab.d.ts"
 KERNEL = "linux/harness/kernel_list.py"
 
-# What the pages say behind a field of a type.
+# What the pages say after a field of a type.
 BEHIND = {
     "numbers": ", with commas between", "mark": "; else it is left out", "apart": "; left out for {none}", "root": ", `-` for {none}", "first": ", `-` for {none}",
     "limit": ", `max` for {none}",

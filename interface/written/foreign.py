@@ -50,7 +50,7 @@ def functions(tables):
 
 
 def structs(tables):
-    """The structs, and each with nothing but zeroes."""
+    """The structs, and each with nothing except zeroes."""
     lines = []
     for name in STRUCTS:
         fields, camel = tables["headers"].structs[f"pidtab_{name}"], camel_struct(f"pidtab_{name}".replace("pidtab", "struct pidtab"))

@@ -15,7 +15,7 @@ def refusals(tables):
     having = " || ".join(f"word == {camel(it.word)}" for it in rows if it.id != "-")
     return [
         "",
-        "// The words, in the order of their numbers. Behind NoNumber stands the id of a namespace, behind PidsLimit that of a control group.",
+        "// The words, in the order of their numbers. After NoNumber is the id of a namespace, after PidsLimit that of a control group.",
         *constants([(camel(it.word), f'Word = "{it.word}"', f"// {with_id(it.sentence)}") for it in rows]),
         "",
         "// The words of the refusals, by their numbers from 1 on.",
@@ -23,7 +23,7 @@ def refusals(tables):
         *wrapped(", ".join(['""', *[camel(it.word) for it in rows]]) + ",", "\t", 140),
         "}",
         "",
-        "// hasID is whether an id stands behind the word.",
+        "// hasID is whether an id is after the word.",
         "func (word Word) hasID() bool {",
         f"\treturn {having}",
         "}",

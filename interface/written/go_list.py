@@ -8,7 +8,7 @@ KINDS = {"task": "a task", "space": "a namespace", "control": "a control group"}
 
 TYPES = {"numbers": "[]uint32", "number": "uint32", "id": "uint64", "count": "uint64", "root": "*uint64", "limit": "*uint32", "mark": "bool", "apart": "*uint64"}
 
-# How a field is written behind its word, and what reads the group with that number.
+# How a field is written after its word, and what reads the group with that number.
 FORMS = {"numbers": r"(\d+(?:,\d+)*)", "root": r"(-|\d+)", "limit": r"(max|\d+)"}
 READS = {
     "numbers": "read.numbers(found[{}])", "number": "uint32(read.number(found[{}], 32))", "id": "read.number(found[{}], 64)", "count": "read.number(found[{}], 64)",
@@ -32,7 +32,7 @@ def said(row):
 
 
 def struct(tables, line):
-    """A struct. But for a task, its fields have their names in JSON."""
+    """A struct. Except a task, its fields have their names in JSON."""
     rows = []
     for it in fields_of(tables, "list", line):
         if it.type == "state":

@@ -18,7 +18,7 @@ def refusals(tables):
         "/** The words of the refusals, by their numbers from 1 on. */",
         *listed("REFUSALS", [it.word for it in rows]),
         "",
-        "/** Behind these words stands the id of the namespace, or of the control group, that refuses. */",
+        "/** After these words is the id of the namespace, or of the control group, that refuses. */",
         f"export const WITH_ID = [{strings([it.word for it in rows if it.id != '-'])}];",
         "",
         "/** The errnos of Linux that a refusal may have. */",

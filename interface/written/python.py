@@ -19,7 +19,7 @@ def refusals(tables):
         "# The words of the refusals, by their numbers from 1 on.",
         *listed("WORDS", [it.word for it in rows]),
         "",
-        "# Behind these words stands the id of the namespace, or the control group, that refuses.",
+        "# After these words is the id of the namespace, or the control group, that refuses.",
         f"WORDS_WITH_ID = ({strings([it.word for it in rows if it.id != '-'])})",
     ]
 

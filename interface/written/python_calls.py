@@ -30,7 +30,7 @@ def taken(argument):
 
 
 def put(row):
-    """The fields of the call behind its operation, up to the last one that it takes."""
+    """The fields of the call after its operation, up to the last one that it takes."""
     values = {}
     for it in arguments_of(row):
         name = name_of(it)

@@ -86,7 +86,7 @@ def first_of(tables):
 
 
 def of_faults(form, part=("form", "table"), without=(), memory=()):
-    """A row for each fault of a text, behind that of want of memory."""
+    """A row for each fault of a text, after that of want of memory."""
     return lambda tables: [*memory, *[form.format(name=camel(it.name), number=it.number) for it in tables["faults"] if it.of in part and it.name not in without]]
 
 

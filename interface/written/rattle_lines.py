@@ -26,7 +26,7 @@ WAYS = {
 # What reads the word of an argument.
 READERS = {"number": "process_of", "byte": "status_read", "id": "control_of", "signed": "signed_of", "which": "which_read", "use": "kind_read", "most": "limit_read", "on": "switch_read"}
 
-# What writes a call whose arguments are of these kinds, behind its command or by itself.
+# What writes a call whose arguments are of these kinds, after its command or by itself.
 BEHIND = {"number": "push_one", "number number": "push_two", "number byte": "push_two", "id": "push_control"}
 ITSELF = {"number new": "push_fork", "number which": "push_wait", "number signed signed": "push_set_pgid", "number use number": "push_next", "id most": "push_limit",
           "number id": "push_move", "number on": "push_subreaper"}  # fmt: skip
@@ -86,7 +86,7 @@ def uses(tables):
 
 
 def commands(tables):
-    """What reads the words behind each command."""
+    """What reads the words after each command."""
     lines = []
     for row in in_lines(tables):
         kinds = kinds_of(row)
@@ -106,7 +106,7 @@ def writes(tables):
 
 
 def reads(row):
-    """What reads the words behind a command."""
+    """What reads the words after a command."""
     kinds = " ".join(kinds_of(row))
     if kinds in PLAIN:
         return f"read_{snake(row.model)}(words)"

@@ -79,7 +79,7 @@ def tell_wait(tables):
 
 
 def broken_imports(tables):
-    """The imports of all calls, broken behind so many columns."""
+    """The imports of all calls, broken after so many columns."""
     return [imported("pid_types.specs.declared.call.Call", [line.strip().strip(",")]) for line in wrapped(", ".join(it.model for it in tables["calls"]), "", 61)]
 
 

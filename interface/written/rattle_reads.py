@@ -8,7 +8,7 @@ from written.rattle_numbers import arm, operation
 READS = "crates/foreign_numbers/src/numbers.rt"
 READS_MODEL = "crates/foreign_numbers/specs/Numbers.antt"
 
-# What reads an argument of a kind: behind read_ in code, and before _of in the model. And the fields that say it.
+# What reads an argument of a kind: after read_ in code, and before _of in the model. And the fields that say it.
 FROM = {
     "new": ("switch", "n.choice"), "on": ("switch", "n.choice"), "byte": ("status", "n.number"), "which": ("which", "n.choice n.number"), "use": ("kind", "n.choice"),
     "most": ("limit", "n.choice n.number"),
@@ -43,7 +43,7 @@ def read_choice(name, of_kind):
 
 
 def part_of(tables, first):
-    """The calls of a function that reads them, and the function that reads those behind."""
+    """The calls of a function that reads them, and the function that reads those after."""
     begins = [it[1] for it in READERS] + [len(tables["calls"])]
     place = begins.index(first)
     return tables["calls"][first : begins[place + 1]], READERS[place + 1][0] if place + 1 < len(READERS) else ""

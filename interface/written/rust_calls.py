@@ -71,8 +71,8 @@ def methods(tables):
         text = said(row, "`{}`", lambda _: page)
         taken = ", ".join(f"{it.name}: {TYPES[it.kind]}" for it in arguments_of(row))
         lines += ["", *comment(text), "    ///", "    /// # Errors", f"    /// `Refused` as {refused(row, '`{}`')}{'; `NoMemory`' if row.memory == 'yes' else ''}."]
-        lines += [f"    fn {method(row)}(&mut self, {taken}) -> Result<{answer}, Error> {{", f"        match self.call({pattern(row)})? {{"]
-        lines += [*[f"            {arm}," for arm in arms], "            other => other.refused(),", "        }", "    }"]
+        lines += [f"    fn {method(row)}(&mut self, {taken}) -> Result<{answer}, Error> {{", f"        let call = {pattern(row)};", "        match self.call(call)? {"]
+        lines += [*[f"            {arm}," for arm in arms], "            other => other.refused(Some(call)),", "        }", "    }"]
     return lines[1:]
 
 

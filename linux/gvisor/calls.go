@@ -16,7 +16,7 @@ type call struct {
 	say    sayer
 }
 
-// form makes the system call of a line whose numbers behind the caller's are these.
+// form makes the system call of a line whose numbers after the caller's are these.
 type form func(numbers []uint64) (order, sayer)
 
 // forms has the system call of each command and its word.
@@ -61,7 +61,7 @@ func readCall(line string) *call {
 	return it
 }
 
-// plain is a call whose arguments are these words, and behind them the numbers of the line.
+// plain is a call whose arguments are these words, and after them the numbers of the line.
 func plain(say sayer, number uintptr, words ...uint64) form {
 	return func(numbers []uint64) (order, sayer) {
 		it := order{number: number}

@@ -28,7 +28,7 @@ type stage struct {
 type order struct {
 	number    uintptr
 	arguments [5]uint64
-	// What lies at `scratch` before the call, and is read there behind it.
+	// What lies at `scratch` before the call, and is read there after it.
 	memory []byte
 	// What it answers, below 0 an errno; 0 where the task ends by it.
 	result int64
@@ -61,7 +61,7 @@ func (s *stage) give(task *kernel.Task, it *order) {
 func (s *stage) allRest(tasks []*kernel.Task) bool {
 	var live []*kernel.Task
 	for _, task := range tasks {
-		// This takes the lock under which a task is interrupted, so not behind the one below.
+		// This takes the lock under which a task is interrupted, so not after the one below.
 		if task.ExitState() < kernel.TaskExitZombie {
 			live = append(live, task)
 		}

@@ -66,7 +66,7 @@ MOVED_BY = {
 
 
 def moved_spaces(world: World, caller: int, table: str) -> list[int]:
-    """The namespaces whose cursors a refused fork of a caller moves: all that the child would have been in, but for want of a
+    """The namespaces whose cursors a refused fork of a caller moves: all that the child would have been in, except for want of a
     number only those inside of the one that has none, which draw first."""
     spaces = list(world.outwards(world.tasks[caller].children_space))
     words = table.split(" ")
@@ -137,7 +137,7 @@ class Comparison:
         return self.note_difference(Difference(len(self.report.lines), self.report.lines[-1], kernel, table, known))
 
     def note_difference(self, difference: Difference) -> bool:
-        """Keeps a difference, and tells whether the two states are the same behind it."""
+        """Keeps a difference, and tells whether the two states are the same after it."""
         self.report.differences.append(difference)
         return difference.known is not None and not difference.known.parts
 

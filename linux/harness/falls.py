@@ -1,6 +1,6 @@
 """Whether a namespace's fall would end in the kernel, told before its init exits.
 
-An init that exits kills all others in its namespace, reaps those whose parent is in there, and then sleeps until no number but
+An init that exits kills all others in its namespace, reaps those whose parent is in there, and then sleeps until no number except
 its own is in use in its namespace. So it waits for each init in there, for each init whose group has a number in there (its own
 too), and for zombies and groups of processes outside. Where inits wait for each other in a ring, none of them ever ends.
 """

@@ -129,7 +129,7 @@ class Groups:
             file.write("max" if limit is None else str(limit))
 
     def limit(self, control: int) -> str:
-        """A group's limit; the world's own has none but the bound that keeps it safe."""
+        """A group's limit; the world's own has none except the bound that keeps it safe."""
         return "max" if control == 0 else (self.folder(control) / "pids.max").read_text().strip()
 
     def count(self, control: int) -> int:

@@ -41,7 +41,7 @@ def number_of(line: str) -> int:
 
 
 def run_length(lines: list[str], start: int, step: int) -> int:
-    """How many lines from one on are the same but for the first number, which grows by a step."""
+    """How many lines from one on are the same except for the first number, which grows by a step."""
     at = start
     while at + 1 < len(lines) and is_next(lines[at], lines[at + 1], step):
         at += 1

@@ -24,7 +24,7 @@ LED = ["fork 1", "setpgid 2 0 0", "fork 2 new", "fork 3 new", "setpgid 3 0 0", "
 
 
 def walk(last: int) -> list[str]:
-    """Lines by which the root's last number comes to be one, with none but the init's in use."""
+    """Lines by which the root's last number comes to be one, with none except the init's in use."""
     return [line for number in range(2, last + 1) for line in ("fork 1", f"exit {number} 0", f"wait 1 pid {number}")]
 
 

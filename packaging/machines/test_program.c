@@ -9,7 +9,7 @@ enum { FUTEX_WAIT, FUTEX_WAKE };
 
 static unsigned char room[8];
 
-/* Whether a function has copied just this text, and nothing behind it. */
+/* Whether a function has copied just this text, and nothing after it. */
 static int is_copied(int64_t size, const char *text)
 {
 	int same = size == (int64_t)strlen(text) && memcmp(room, text, (size_t)size) == 0 && room[size] == 0xee;

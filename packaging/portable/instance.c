@@ -332,7 +332,7 @@ uint32_t proved_space(struct pidtab *table, uint64_t id, struct pidtab_space *sp
 	return table->is_open ? space_read(table->at, Z_pidtabZ_space, id, space) : PIDTAB_CLOSED;
 }
 
-/* A function of the module that writes ids into a room of its memory, and counts them behind the two numbers that it takes. */
+/* A function of the module that writes ids into a room of its memory, and counts them after the two numbers that it takes. */
 typedef uint32_t write_inside(instance *it, uint32_t tree, uint32_t ids, uint32_t room);
 
 /* One page: the numbers of 64 bits are an id, where the page begins, and the count. */

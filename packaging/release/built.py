@@ -25,7 +25,7 @@ def read_report(file, target):
     """A report of tools/report: its commit, whether all was committed, and the sums of files by their names."""
     if not file.is_file():
         raise Fault(f"no {file}: `make {target}` writes it")
-    # Behind an empty line is what the proof said.
+    # After an empty line is what the proof said.
     text = file.read_text(encoding="utf-8").split("\n\n")[0]
     commit, tree = (re.search(rf"^{it} (\S+)$", text, re.MULTILINE) for it in ("commit", "tree"))
     if not commit or not tree:

@@ -1,4 +1,4 @@
-"""Files and archives whose bytes depend on nothing but names, contents and one time."""
+"""Files and archives whose bytes depend on nothing except names, contents and one time."""
 
 import gzip
 import hashlib

@@ -7,7 +7,7 @@ import re
 from release.faults import Fault, run
 
 
-# Behind the version of what is not released.
+# After the version of what is not released.
 DEV = "-dev"
 
 
@@ -33,7 +33,7 @@ class Source:
 
     @property
     def is_released(self):
-        """Whether this is a release. What comes before one has its version, and `-dev` behind it."""
+        """Whether this is a release. What comes before one has its version, and `-dev` after it."""
         return not self.version.endswith(DEV)
 
     @property

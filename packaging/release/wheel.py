@@ -1,11 +1,13 @@
 """The wheel for Python, with the library in the package and the program among the scripts."""
 
-import base64
-import hashlib
-import tomllib
+import pathlib
+import sys
 
-from release.built import SHARED
-from release.files import PLAIN, RUNNABLE, write_zip
+# What pip builds the package with from a checkout.
+sys.path.append(str(pathlib.Path(__file__).resolve().parents[2] / "bindings" / "python"))
+from build_wheel import entry_points, metadata, read_sections, record_line  # noqa: E402
+from release.built import SHARED  # noqa: E402
+from release.files import PLAIN, RUNNABLE, write_zip  # noqa: E402
 
 # The oldest C library of which a tag of wheels speaks as manylinux_2_N.
 OLDEST = (2, 5)
@@ -16,31 +18,9 @@ def tag_of(built):
     return f"py3-none-{built.machine.wheel.format(*max(built.glibc(), OLDEST)[:2])}"
 
 
-def metadata(project, readme):
-    lines = [
-        "Metadata-Version: 2.1",
-        f"Name: {project['name']}",
-        f"Version: {project['version']}",
-        f"Summary: {project['description']}",
-        f"License: {project['license']['text']}",
-        f"Requires-Python: {project['requires-python']}",
-        "Description-Content-Type: text/markdown",
-    ]
-    return "\n".join(lines) + f"\n\n{readme}"
-
-
-def entry_points(project):
-    return "[console_scripts]\n" + "".join(f"{name} = {place}\n" for name, place in sorted(project["scripts"].items()))
-
-
-def record_line(name, data):
-    """A line of RECORD: the sum in the alphabet of URLs, without padding, and the size."""
-    digest = base64.urlsafe_b64encode(hashlib.sha256(data).digest()).decode().rstrip("=")
-    return f"{name},sha256={digest},{len(data)}\n"
-
-
-def entries(source, built, project, tag):
+def entries(source, built, sections, tag):
     """What is in the wheel but its record: names, bytes and rights."""
+    project = sections["project"]
     head = f"{project['name']}-{project['version']}"
     about = f"{head}.dist-info"
     package = [it for it in source.below("bindings/python") if it.startswith("pidtab/")]
@@ -48,9 +28,9 @@ def entries(source, built, project, tag):
     found.append((f"pidtab/{SHARED}", built.shared.read_bytes(), RUNNABLE))
     found.append((f"{head}.data/scripts/pidtab", built.program.read_bytes(), RUNNABLE))
     texts = {
-        "METADATA": metadata(project, source.read("bindings/python/README.md")),
+        "METADATA": metadata(sections, project["version"], source.read("bindings/python/README.md")),
         "WHEEL": f"Wheel-Version: 1.0\nGenerator: packaging/dist\nRoot-Is-Purelib: false\nTag: {tag}\n",
-        "entry_points.txt": entry_points(project),
+        "entry_points.txt": entry_points(sections),
         "top_level.txt": f"{project['name']}\n",
         "licenses/LICENSE": source.read("LICENSE"),
         "GATE.txt": built.gate,
@@ -60,9 +40,10 @@ def entries(source, built, project, tag):
 
 def make(source, built, parts):
     """Packs pidtab-VERSION-TAG.whl."""
-    project = tomllib.loads(source.read("bindings/python/pyproject.toml"))["project"]
+    sections = read_sections(source.read("bindings/python/pyproject.toml"))
+    project = sections["project"]
     tag = tag_of(built)
-    packed = entries(source, built, project, tag)
+    packed = entries(source, built, sections, tag)
     name = f"{project['name']}-{project['version']}.dist-info/RECORD"
     record = "".join(record_line(it, data) for it, data, _ in packed) + f"{name},,\n"
     write_zip(parts / f"{project['name']}-{project['version']}-{tag}.whl", [*packed, (name, record.encode(), PLAIN)], source.time)

@@ -3,6 +3,25 @@
 
 const LIST = "task 1 space 0 parent 0 group 1 session 1 control 0 live\nspace 0 parent - cursor 2\ncontrol 0 parent - limit max count 1\n";
 
+// What was saved, and what stands at the addresses that were made for it.
+export const saved = [];
+const blobs = new Map();
+
+/** What a browser keeps from one visit to the next: of the words at most so many letters. */
+export class Kept {
+  constructor(most = 5_000_000) {
+    this.most = most;
+    this.words = new Map();
+  }
+  getItem(name) {
+    return this.words.get(name) ?? null;
+  }
+  setItem(name, word) {
+    if (word.length > this.most) throw new Error("QuotaExceededError");
+    this.words.set(name, word);
+  }
+}
+
 export class Element {
   constructor() {
     Object.assign(this, { value: "", textContent: "", hidden: false, children: [], dataset: {}, listeners: {}, classes: new Set(), scrollTop: 0, clientHeight: 0 });
@@ -34,6 +53,9 @@ export class Element {
   }
   get lastElementChild() {
     return Object.assign(this.children.at(-1), { remove: () => this.children.pop() });
+  }
+  click() {
+    saved.push({ name: this.attributes.download, text: blobs.get(this.attributes.href) });
   }
   /** Whether it has an element below it. */
   contains(other) {
@@ -72,7 +94,7 @@ function standIn() {
 }
 
 /** Sets up what a browser has, and loads the page's script; the elements by their ids. */
-export async function loadPage(examples, hash) {
+export async function loadPage(examples, hash, kept = new Kept()) {
   const byId = new Map();
   const find = (id) => byId.get(id) ?? byId.set(id, new Element()).get(id);
   find("examples").textContent = JSON.stringify(examples);
@@ -81,6 +103,15 @@ export async function loadPage(examples, hash) {
   const listeners = {};
   globalThis.document = { getElementById: find, createElement: () => new Element(), body };
   globalThis.location = { hash };
+  globalThis.localStorage = kept;
+  globalThis.history = { replaceState: (state, title, url) => (globalThis.location.hash = url === "#" ? "" : url) };
+  URL.createObjectURL = (blob) => {
+    const url = `blob:${blobs.size}`;
+    blobs.set(url, blob);
+    return url;
+  };
+  URL.revokeObjectURL = () => undefined;
+  find("style").textContent = ":root {} :root {}";
   globalThis.addEventListener = (kind, listener) => (listeners[kind] = listener);
   WebAssembly.compile = async () => null;
   WebAssembly.Instance = class {
@@ -93,7 +124,8 @@ export async function loadPage(examples, hash) {
   };
   /** Chooses a file of a name and a text, and waits until it is opened. */
   const choose = (name, text, size = text.length) => {
-    find("file").files = [{ name, size, text: async () => text }];
+    const bytes = typeof text === "string" ? new TextEncoder().encode(text) : text;
+    find("file").files = [{ name, size, arrayBuffer: async () => bytes.buffer.slice(bytes.byteOffset, bytes.byteOffset + bytes.length) }];
     return fire("file", "change");
   };
   while (!body.dataset.ready && find("fault").textContent === "") await new Promise((resolve) => setTimeout(resolve, 1));

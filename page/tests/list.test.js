@@ -91,3 +91,13 @@ test("every line of the stored lists is read", () => {
     assert.equal(lines.map((line) => `${line}\n`).join(""), text);
   }
 });
+
+test("a line that stays has the same row in the next list, and one that changes another", () => {
+  const rest = "space 0 parent - cursor 3\ncontrol 0 parent - limit max count 2\n";
+  const child = "task 2 space 0 parent 1 group 1 session 1 control 0";
+  const lists = [`${ROOT}${child} live\n${rest}`, `${ROOT}${child} exit 7\n${rest}`, `${ROOT}${rest}`, `${ROOT}${child} exit 7\n${rest}`].map(readList);
+  for (const list of lists) assert.equal(list.tasks[0], lists[0].tasks[0]);
+  assert.deepEqual(lists.map(({ tasks }) => tasks[1]?.status), [null, 7, undefined, 7]);
+  // The list before the last one is known too.
+  assert.equal(lists[3].tasks[1], lists[1].tasks[1]);
+});

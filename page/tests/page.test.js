@@ -3,7 +3,7 @@
 import assert from "node:assert/strict";
 import { test } from "node:test";
 
-import { loadPage } from "./fields.js";
+import { Kept, loadPage, saved } from "./fields.js";
 import { read } from "./stored.js";
 
 const EXAMPLES = [
@@ -176,4 +176,97 @@ test("a label stands at its task in the drawing, beside its control group and in
   fire("labels", "input", "1 systemd");
   fire("script", "click");
   assert.deepEqual([find("named").textContent, find("list").textContent.split("\n")[0].endsWith(" live (systemd)")], ["", true]);
+});
+
+test("one's own script is there after a reload, with its bound", async () => {
+  const kept = new Kept();
+  const { fire } = await loadPage(EXAMPLES, "", kept);
+  fire("script", "input", "getpid 1\nmk 0");
+  fire("pid-max", "input", "400");
+  fire("example", "change", "fall");
+  fire("pid-max", "input", "500");
+  const { find } = await loadPage(EXAMPLES, "", kept);
+  assert.deepEqual([find("example").value, find("script").value, find("pid-max").value], ["", "getpid 1\nmk 0", "400"]);
+});
+
+test("a script of the address takes no place of one's own, until it is edited", async () => {
+  const kept = new Kept();
+  const own = await loadPage(EXAMPLES, "", kept);
+  own.fire("script", "input", "mk 0");
+  const linked = await loadPage(EXAMPLES, "#script=getpid%201", kept);
+  assert.equal(linked.find("script").value, "getpid 1");
+  assert.equal(JSON.parse(kept.getItem("pidtab script")).script, "mk 0");
+  assert.equal(globalThis.location.hash, "#script=getpid%201");
+  linked.fire("script", "input", "getpid 1\nrm 1");
+  // The address has another script by now.
+  assert.equal(globalThis.location.hash, "");
+  assert.equal((await loadPage(EXAMPLES, "", kept)).find("script").value, "getpid 1\nrm 1");
+});
+
+test("a browser that keeps no script says so, and what it has kept may be anything", async () => {
+  const { find, fire } = await loadPage(EXAMPLES, "", new Kept(40));
+  fire("script", "input", "mk 0");
+  assert.equal(find("about").textContent, "");
+  fire("script", "input", "getpid 1\n".repeat(10));
+  assert.equal(find("about").textContent, "This browser keeps no script: it will be gone with the page.");
+  assert.equal(find("answers").children.length, 10);
+  for (const word of ["", "null", "{", '{"script":7,"pidMax":"400"}']) {
+    const kept = new Kept();
+    kept.setItem("pidtab script", word);
+    assert.equal((await loadPage(EXAMPLES, "", kept)).find("example").value, "container", word);
+  }
+  const none = { getItem: () => assert.fail("no storage"), setItem: () => assert.fail("no storage") };
+  assert.equal((await loadPage(EXAMPLES, "", none)).find("example").value, "container");
+});
+
+test("the list and the picture of what is shown are saved", async () => {
+  const { fire, choose } = await loadPage(EXAMPLES, "");
+  await choose("web.list", LIST);
+  fire("labels", "input", "2 nginx<1>");
+  saved.length = 0;
+  fire("save-list", "click");
+  fire("save-picture", "click");
+  const files = await Promise.all(saved.map(async ({ name, text }) => [name, text.type, await text.text()]));
+  assert.deepEqual(files[0], ["table.list", "text/plain", LIST]);
+  assert.deepEqual(files[1].slice(0, 2), ["table.svg", "image/svg+xml"]);
+  const picture = files[1][2];
+  assert.ok(picture.startsWith('<svg xmlns="http://www.w3.org/2000/svg" '), picture.slice(0, 80));
+  for (const part of ["namespace 1", "(nginx&lt;1>)", "zombie, exit 7", "Control groups"]) assert.ok(picture.includes(part), part);
+  // With the filter that holds.
+  fire("filter", "input", "zombie");
+  fire("save-picture", "click");
+  const sifted = await saved.at(-1).text.text();
+  assert.ok(!sifted.includes("nginx&lt;1>)</text>\n") && sifted.includes("zombie, exit 7") && sifted.length < picture.length);
+});
+
+test("a picture has what is folded as folded, and of many rows the first", async () => {
+  const { fire, choose } = await loadPage(EXAMPLES, "");
+  const tasks = Array.from({ length: 1600 }, (_, at) => `task ${at + 1} space 0 parent ${at && 1} group 1 session 1 control 0 live\n`);
+  await choose("many.list", `${tasks.join("")}space 0 parent - cursor 2\ncontrol 0 parent - limit max count 1600\n`);
+  fire("save-picture", "click");
+  const picture = await saved.at(-1).text.text();
+  assert.ok(picture.includes("100 more of 1,600"));
+  assert.ok(!picture.includes(">1501<") && picture.includes(">1500<"));
+});
+
+const HISTORY = Uint8Array.from(/```hex\n([^`]*)```/.exec(read("docs/SAVED.md"))[1].trim().split(/\s+/), (byte) => parseInt(byte, 16));
+
+test("a saved history is shown as a script, with what is answered otherwise here", async () => {
+  const { find, choose } = await loadPage(EXAMPLES, "");
+  await choose("web.saved", HISTORY);
+  assert.deepEqual([find("script").value, find("pid-max").value, find("example").value], ["fork 1 new\nnspid 1 2\nsetpgid 1 0 -1\n", "32768", ""]);
+  assert.equal(find("about").textContent, "The saved history web.saved: calls 3, workers 2.");
+  // The stand-in for the table answers 1 to each line.
+  assert.equal(find("fault").textContent, "Line 1: fork 1 new was answered child 2 root 2, and is 1 here.");
+  await choose("torn", HISTORY.slice(0, 100));
+  assert.equal(find("about").textContent, "The saved history torn: calls 1, workers 2, and 4 bytes at its end are torn.");
+  // The head of one of which the first stamp is 5, as the library writes it.
+  const later = "89 70 69 64 74 61 62 0a 01 00 00 00 00 80 00 00 05 00 00 00 00 00 00 00 01 00 00 00 00 00 00 00 00 00 00 00 00 00 00 00 45 08 86 0a c0 bc 52 6b";
+  await choose("later", Uint8Array.from(later.split(" "), (byte) => parseInt(byte, 16)));
+  assert.equal(find("fault").textContent, "The file later is not shown: its first stamp is 5, and the page plays histories from 1 on.");
+  const before = find("script").value;
+  const wrong = HISTORY.slice();
+  wrong[60] = 9;
+  await choose("wrong", wrong);
+  assert.deepEqual([find("fault").textContent, find("script").value], ["The file wrong is not shown: call 0 has a wrong byte.", before]);
 });

@@ -3,10 +3,10 @@
 import assert from "node:assert/strict";
 import { test } from "node:test";
 
-import { KEPT_EVERY, kindOf, lineAt, linesOf, MOST_LINES, Player } from "../play.js";
+import { KEPT_EVERY, kindOf, lineAt, linesOf, MOST_KEPT, MOST_LINES, NEAR, Player } from "../play.js";
 
 /** A table whose answers and lists tell of all lines since it was opened; it notes what it is asked. */
-function noting() {
+function noting(bytesOf = () => 1) {
   const asked = [];
   let made = [];
   const note = (word, answer) => {
@@ -15,7 +15,7 @@ function noting() {
   };
   return {
     asked,
-    save: () => ({ made: [...made], byteLength: 1 }),
+    save: () => ({ made: [...made], byteLength: bytesOf(made.length) }),
     restore: (state) => note("restore", void (made = [...state.made])),
     open: (pidMax) => note(`open ${pidMax}`, void (made = [pidMax])),
     answerTo: (text) => note(text, `answer ${made.push(text) - 1}`),
@@ -93,6 +93,54 @@ test("no step of a long script plays more than the lines behind a kept state, no
     assert.ok(asks(() => player.listsAround(place)) <= KEPT_EVERY, String(place));
   }
   assert.ok(asks(() => player.play(400, [...lines.slice(0, -1), "line x"])) <= KEPT_EVERY);
+});
+
+/** The places of the kept states in their order, and their bytes together without the first. */
+function keptOf(player) {
+  const places = [...player.states.keys()].sort((one, other) => one - other);
+  return [places, places.slice(1).reduce((sum, place) => sum + player.states.get(place).byteLength, 0)];
+}
+
+test("states of many bytes are thinned out evenly, and one is kept near the place", () => {
+  // 1 MiB at first, and 12 MiB at 23,000 lines.
+  const table = noting((lines) => 2 ** 20 + lines * 500);
+  const player = playerOf(table);
+  player.play(400, manyLines(23000));
+  const [places, bytes] = keptOf(player);
+  // So many of 6 MiB on average have room; every 800th line gives 28 states, and every 400th would give 57.
+  assert.deepEqual(places, Array.from({ length: 29 }, (_, at) => at * 800));
+  assert.ok(bytes <= MOST_KEPT);
+  const asks = (place) => {
+    table.asked.length = 0;
+    assert.equal(player.listsAround(place).after, `list of 400 ${manyLines(place).join(" ")}`);
+    return table.asked.filter((word) => word.startsWith("line ")).length;
+  };
+  const far = [];
+  for (let place = 22999; place > 22799; place--) if (asks(place) > NEAR + 1) far.push(place);
+  assert.ok(far.length <= 200 / NEAR, `${far}`);
+  for (const place of [11000, 3, 22000, 799, 800, 801]) assert.ok(asks(place) <= 800, String(place));
+});
+
+test("a key at the end of a long script plays few lines", () => {
+  const table = noting(() => 2 ** 24);
+  const player = playerOf(table);
+  const lines = manyLines(23000);
+  player.play(400, lines);
+  for (const key of ["x", "xy", "xyz"]) {
+    table.asked.length = 0;
+    player.play(400, [...lines.slice(0, -1), key]);
+    assert.ok(table.asked.length <= NEAR + 2, String(table.asked.length));
+  }
+  // From a change on, the states after it are those of other lines.
+  player.play(400, ["y", ...lines]);
+  assert.equal(player.listsAround(23001).after, `list of 400 y ${lines.join(" ")}`);
+});
+
+test("a state that is too large is not kept, and the first one stays", () => {
+  const player = playerOf(noting(() => MOST_KEPT + 1));
+  player.play(400, manyLines(1000));
+  assert.deepEqual(keptOf(player)[0], [0]);
+  assert.equal(player.listsAround(999).after, `list of 400 ${manyLines(999).join(" ")}`);
 });
 
 test("where the table stops, the next look begins at a kept state", () => {

@@ -1,4 +1,4 @@
-// The colours of the page, light and dark: each text is told from what is behind it as WCAG 2.1 asks (1.4.3, at least 4.5 to 1).
+// The colours of the page, light and dark: each text is told from what is after it as WCAG 2.1 asks (1.4.3, at least 4.5 to 1).
 
 import assert from "node:assert/strict";
 import { test } from "node:test";

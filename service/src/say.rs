@@ -20,7 +20,7 @@ const ERRORS: [(i32, &str); 10] = [
 
 pub fn error(out: &mut Vec<u8>, error: &Error) {
     match error {
-        Error::Refused { errno, refusal } => {
+        Error::Refused { errno, refusal, .. } => {
             let name = ERRORS.iter().find(|it| it.0 == *errno).map_or("ERR", |it| it.1);
             out.line(&format!("-{name} {refusal}"));
         }
@@ -53,7 +53,7 @@ pub fn reply(out: &mut Vec<u8>, reply: &Reply) {
         Reply::End => out.line("$-1"),
         Reply::Refused { errno, refusal } => {
             let (errno, refusal) = (*errno, *refusal);
-            error(out, &Error::Refused { errno, refusal });
+            error(out, &Error::Refused { errno, refusal, call: None });
         }
         other => out.line(&format!("-ERR unknown reply {other:?}")),
     }

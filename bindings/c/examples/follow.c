@@ -37,7 +37,7 @@ static uint32_t print_recorded(uint64_t *next)
 	return status;
 }
 
-/* All that the thread does. It has the last call too: only a wait for one behind that is ended. */
+/* All that the thread does. It has the last call too: only a wait for one after that is ended. */
 static void *follow(void *followed)
 {
 	uint64_t next = 0, recorded;

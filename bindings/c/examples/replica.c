@@ -33,7 +33,7 @@ static void close_host(struct host *host)
 	pidtab_close(&host->table);
 }
 
-/* Applies the entries behind a position, and tells the answers. */
+/* Applies the entries after a position, and tells the answers. */
 static uint32_t follow(struct host *host, size_t from, const char *name)
 {
 	struct pidtab_applied applied;
@@ -52,7 +52,7 @@ static uint32_t follow(struct host *host, size_t from, const char *name)
 	return PIDTAB_DONE;
 }
 
-/* Gives a host what another one has: the head of a snapshot, and behind it the text of the table. */
+/* Gives a host what another one has: the head of a snapshot, and after it the text of the table. */
 static uint32_t begin_with(struct host *late, const struct host *host)
 {
 	char snapshot[4096];
@@ -69,7 +69,7 @@ static uint32_t begin_with(struct host *late, const struct host *host)
 	return status == PIDTAB_DONE ? pidtab_load(&late->table, snapshot + used, head + text - used, &fault) : status;
 }
 
-/* The first bytes of the digest behind the last entry. */
+/* The first bytes of the digest after the last entry. */
 static unsigned digest_of(const struct host *host)
 {
 	struct pidtab_digest digest = { { 0 } };

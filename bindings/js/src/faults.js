@@ -67,7 +67,7 @@ export function shorten(text) {
   return text.length <= MOST_TOLD ? text : `${text.slice(0, MOST_TOLD)}..`;
 }
 
-/** The word of a refusal by its number, and the id behind it, or null. */
+/** The word of a refusal by its number, and the id after it, or null. */
 export function wordOf(number, id) {
   const word = REFUSALS[number - 1];
   return [word, WITH_ID.includes(word) ? id : null];

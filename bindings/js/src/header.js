@@ -52,7 +52,7 @@ export const REFUSALS = [
   "is-leader", "no-group", "executed", "root-init", "no-control", "control-busy", "root-control", "bad-limit", "control-depth",
 ];
 
-/** Behind these words stands the id of the namespace, or of the control group, that refuses. */
+/** After these words is the id of the namespace, or of the control group, that refuses. */
 export const WITH_ID = ["no-number", "pids-limit"];
 
 /** The errnos of Linux that a refusal may have. */

@@ -1,6 +1,6 @@
 // The list of a table, as `pidtab list` writes it (docs/SCRIPT.md, "The list").
 
-// The fields of each line in their order, each with its type. The first stands behind the word of its line, and others behind their names.
+// The fields of each line in their order, each with its type. The first stands after the word of its line, and others after their names.
 // Written by tools/interface: fields.
 const LINE_FIELDS = {
   task: { numbers: "numbers", space: "id", parent: "number", group: "number", session: "number", control: "id", live: "state", status: "status", executed: "mark", children: "apart", subreaper: "mark" },
@@ -9,7 +9,7 @@ const LINE_FIELDS = {
 };
 // The end of fields.
 
-// How a field of each type is written, behind its word.
+// How a field of each type is written, after its word.
 const WRITTEN = {
   numbers: (word, name) => `${word} (?<${name}>\\d+(?:,\\d+)*)`,
   number: (word, name) => `${word} (?<${name}>\\d+)`,
@@ -43,7 +43,7 @@ function valueOf(type, word) {
 }
 
 /** What the line says of the kind; null where it is none of a list. */
-function readRow(kind, line) {
+export function readRow(kind, line) {
   const found = LINES.get(kind)?.exec(line)?.groups;
   if (!found) return null;
   const row = Object.fromEntries(Object.entries(LINE_FIELDS[kind]).map(([name, type]) => [name, valueOf(type, found[name])]));
@@ -51,17 +51,22 @@ function readRow(kind, line) {
   return kind === "task" ? { ...row, root: row.numbers[0], killed: !row.live && row.status === null } : row;
 }
 
-/** What the text of a list says; an Error names the first line that is none of a list. */
-export function readListing(text) {
+/** The rows of a list by their kinds, each as `rowOf` reads its line; an Error names the first line that is none of a list. */
+export function readRows(text, rowOf) {
   if (text === "") throw new Error("line 1: no list");
   const lines = text.split("\n");
   if (lines.pop() !== "") throw new Error(`line ${lines.length + 1}: cut off, without a newline`);
   const listing = { tasks: [], spaces: [], controls: [] };
   for (const [place, line] of lines.entries()) {
-    const kind = line.split(" ", 1)[0];
-    const row = readRow(kind, line);
+    const kind = line.slice(0, Math.max(line.indexOf(" "), 0));
+    const row = rowOf(kind, line);
     if (!row) throw new Error(`line ${place + 1}: not a line of a list`);
     listing[`${kind}s`].push(row);
   }
   return listing;
+}
+
+/** What the text of a list says; an Error names the first line that is none of a list. */
+export function readListing(text) {
+  return readRows(text, readRow);
 }

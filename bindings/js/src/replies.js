@@ -32,7 +32,7 @@ export function anEndedChild({ words }, at) {
   return { child: words[at + REPLY.first], status, killed };
 }
 
-/** The word, and the id that may be behind it, of a reply or of a task that is refused. */
+/** The word, and the id that may be after it, of a reply or of a task that is refused. */
 export function refusalAt({ words, longs }, at) {
   return wordOf(words[at + REPLY.refusal], long(longs, at, REPLY.first));
 }
@@ -69,7 +69,7 @@ export function aSpace({ words, longs }, at) {
   };
 }
 
-/** Effects stand one behind another, and the value at the end of each has 64 bits. */
+/** Effects stand one after another, and the value at the end of each has 64 bits. */
 const EFFECT_WORDS = EFFECT.value + 2;
 export const EFFECT_BYTES = 4 * EFFECT_WORDS;
 

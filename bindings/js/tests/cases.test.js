@@ -63,7 +63,7 @@ function byItsMethod(table, line) {
   }
 }
 
-/** The answer that the line has, and behind it what its call does. */
+/** The answer that the line has, and after it what its call does. */
 function sayTold({ told }, line) {
   const it = byItsMethod(told, line);
   return it instanceof Refusal ? sayFault(it) : [say(it.answer, line.split(" ")[0]), ...it.effects.map(sayEffect)].join(", ");

@@ -16,8 +16,8 @@ from unittest import mock
 from cluster.load import Load, User, run_users, table_kind
 from cluster.writer import TROUBLE, say
 from pidtab import Cluster, EtcdLog
-from pidtab.etcd import Etcd
-from pidtab.etcd_log import append_all
+from pidtab.hosts.etcd import Etcd
+from pidtab.hosts.etcd_log import append_all
 
 # So many users make calls on each table.
 USERS = 2
@@ -41,7 +41,7 @@ def note_in(file: str) -> Callable[[list[str]], object]:
 
 def main(members: str, name: str, tables: str, batch: str, calls: str, seconds: str, file: str) -> None:
     begun = time.monotonic()
-    with mock.patch("pidtab.cluster_crew.append_all", append_with_troubles), Cluster(members.split(","), name) as cluster:
+    with mock.patch("pidtab.hosts.cluster_threads.append_all", append_with_troubles), Cluster(members.split(","), name) as cluster:
         opened = [cluster.open(str(it), table=table_kind()) for it in range(int(tables))]
         say("open", len(opened), f"{time.monotonic() - begun:.2f}")
         users = []

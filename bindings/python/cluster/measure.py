@@ -15,7 +15,7 @@ from pathlib import Path
 from cluster.etcds import Etcds, text64
 from cluster.load import table_kind
 from pidtab import EtcdLog, Replicated
-from pidtab.etcd import Etcd
+from pidtab.hosts.etcd import Etcd
 
 SECONDS = 5.0
 # How often others write in a second, and so many reads are made meanwhile.

@@ -16,7 +16,7 @@ from pathlib import Path
 from cluster.etcds import Etcds
 from cluster.measure import Client
 from pidtab import EtcdLog, Replicated, Table
-from pidtab.keeper import Keeper, Wishes
+from pidtab.hosts.keeper import Keeper, Wishes
 
 KEEP = Path(__file__).resolve().parents[1] / "bin" / "pidtab-keep"
 PID_MAX = 4_194_304

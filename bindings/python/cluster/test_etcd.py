@@ -20,10 +20,10 @@ from cluster.etcds import LONGEST, Etcds, need_etcd, text64
 from cluster.load import table_kind
 from cluster.relay import HOST, Relay
 from pidtab import EtcdLog, LogFault, NotKnown, Process, Replicated, Table, find_library, find_program
-from pidtab.etcd_cells import read_keys
-from pidtab.etcd_guard import Newest
-from pidtab.etcd_log import TIMEOUT
-from pidtab.replay import read_log
+from pidtab.commands.replay import read_log
+from pidtab.hosts.etcd_cells import read_keys
+from pidtab.hosts.etcd_log import TIMEOUT
+from pidtab.hosts.etcd_transactions import Newest
 from tests.pages import displays, fenced, read_page, section
 from tests.programs import need_tool, run
 from tests.ways import need_library, need_program
@@ -451,7 +451,7 @@ class Walks(Cluster):
         last = entries[-1][0]
         for is_compacted in (False, True):
             for most in (1, 7, 1000):
-                with mock.patch("pidtab.etcd_log.FIRST_PAGE", most), mock.patch("pidtab.etcd_log.LONGEST_PAGE", most):
+                with mock.patch("pidtab.hosts.etcd_log.FIRST_PAGE", most), mock.patch("pidtab.hosts.etcd_log.LONGEST_PAGE", most):
                     for begin in (0, 1, 30, 59):
                         after = entries[begin][0] if begin else 0
                         wanted = [it for it in entries if it[0] > after]

@@ -13,9 +13,9 @@ from cluster.etcds import LONGEST, Etcds, need_etcd
 from cluster.load import Load
 from cluster.test_etcd import PACKAGE, Cluster, add_users, environment, start_with_tls
 from pidtab import EtcdLog, MemoryLog, Replicated, Table
-from pidtab.etcd import JSON, Etcd
-from pidtab.log_form import Settings, write_settings
-from pidtab.snapshots import read_served
+from pidtab.hosts.etcd import JSON, Etcd
+from pidtab.hosts.log_entries import Settings, write_settings
+from pidtab.hosts.snapshots import read_served
 from tests import test_snapshots as cases
 from tests.keeping import Keeping
 from tests.memory_etcd import nothing

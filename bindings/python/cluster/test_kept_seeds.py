@@ -9,9 +9,9 @@ from unittest import mock
 from cluster.load import Load, User, run_users
 from cluster.test_seeds import BATCH, USERS
 from pidtab import MemoryLog, NotKnown, Replicated, Table
-from pidtab.archive import Archive
-from pidtab.keeper import Keeper, Wishes
-from pidtab.replay import Comparison, Replay, join, read_archive, read_row
+from pidtab.commands.replay import Comparison, Replay, join, read_archive, read_row
+from pidtab.hosts.archive import Archive
+from pidtab.hosts.keeper import Keeper, Wishes
 from tests.ways import need_library
 
 SEEDS = range(12)
@@ -83,7 +83,7 @@ class KeptSeeds(unittest.TestCase):
         need_library()
         cuts = 0
         for seed in SEEDS:
-            with self.subTest(f"seed {seed}"), tempfile.TemporaryDirectory() as folder, mock.patch("pidtab.keeper.HESITATION", 0.02):
+            with self.subTest(f"seed {seed}"), tempfile.TemporaryDirectory() as folder, mock.patch("pidtab.hosts.keeper.HESITATION", 0.02):
                 it = KeptRound(seed, Path(folder))
                 ends = it.run()
                 self.assertEqual(it.faults, [])

@@ -6,6 +6,7 @@ import sys
 import threading
 import time
 import unittest
+from collections.abc import Callable
 from concurrent.futures import ThreadPoolExecutor
 from pathlib import Path
 from unittest import mock
@@ -32,6 +33,15 @@ class Users(Cluster):
         self.assertEqual(table.fork(1).root, root)
         table.catch_up()
 
+    def check_waits(self, table: Replicated, mend: Callable[[], object]) -> None:
+        """A call that etcd refuses for a while waits, and is made once that is mended."""
+        asked = table.submit(["fork 1"])
+        time.sleep(1.5)
+        self.assertFalse(asked.done())
+        mend()
+        self.assertEqual(asked.result(), ("child 3 root 3",))
+        self.goes(table, 4)
+
     def test_users_are_switched_on(self) -> None:
         etcds = self.start(count=1)
         table = self.open(etcds.members, user=("web", "word"))
@@ -46,12 +56,7 @@ class Users(Cluster):
         table = self.open(etcds.members, user=("web", lambda: passwords[-1]))
         self.goes(table, 2)
         self.as_root(etcds, "/v3/auth/user/changepw", {"name": "web", "password": "other"})
-        asked = table.submit(["fork 1"])
-        time.sleep(1.0)
-        self.assertFalse(asked.done())
-        passwords.append("other")
-        self.assertEqual(asked.result(), ("child 3 root 3",))
-        self.goes(table, 4)
+        self.check_waits(table, lambda: passwords.append("other"))
 
     def test_a_role_that_is_taken_away_for_a_while(self) -> None:
         etcds = self.start(count=1)
@@ -59,13 +64,11 @@ class Users(Cluster):
         table = self.open(etcds.members, user=("web", "word"))
         self.goes(table, 2)
         self.as_root(etcds, "/v3/auth/user/revoke", {"name": "web", "role": "web"})
-        asked = table.submit(["fork 1"])
-        time.sleep(1.5)
-        self.assertFalse(asked.done())
-        self.assertRegex(str(table._replica.trouble), "etcd refuses: .*permission denied")
-        self.as_root(etcds, "/v3/auth/user/grant", {"user": "web", "role": "web"})
-        self.assertEqual(asked.result(), ("child 3 root 3",))
-        self.goes(table, 4)
+        def grant() -> None:
+            self.assertRegex(str(table._replica.trouble), "etcd refuses: .*permission denied")
+            self.as_root(etcds, "/v3/auth/user/grant", {"user": "web", "role": "web"})
+
+        self.check_waits(table, grant)
 
     def test_one_who_may_only_read(self) -> None:
         etcds = self.start(count=1)
@@ -130,7 +133,7 @@ class Members(Cluster):
 
     def test_all_are_replaced_one_by_one(self) -> None:
         etcds = self.start()
-        with mock.patch("pidtab.etcd.MEMBERS_SECONDS", 1.0):
+        with mock.patch("pidtab.hosts.etcd.MEMBERS_SECONDS", 1.0):
             table, still = (self.open(etcds.members, timeout=2) for _ in range(2))
             roots = [table.fork(1).root]
             for place in (0, 1, 2):

@@ -11,7 +11,7 @@ from typing import Any
 
 from cluster.postgres import Postgres, load_example, need_postgres
 from pidtab import LogFault, Replicated
-from pidtab.log import Log, Progress
+from pidtab.hosts.log import Log, Progress
 from tests.stand_in import StandIn
 
 # Whatever should come comes within so many seconds, on a busy machine.

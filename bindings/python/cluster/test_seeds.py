@@ -8,9 +8,9 @@ from unittest import mock
 
 from cluster.load import Load, User, run_users, table_kind
 from pidtab import Calls, Diverged, LogFault, MemoryLog, NotKnown, Process, Replicated
-from pidtab.log_form import Asked
-from pidtab.machine import Machine, Outcome, asker
-from pidtab.replay import Comparison, Replay, read_row
+from pidtab.commands.replay import Comparison, Replay, read_row
+from pidtab.hosts.log_entries import Asked
+from pidtab.hosts.machine import Machine, Outcome, asker
 from tests.ways import need_library, need_program
 
 SEEDS = range(100)
@@ -167,7 +167,7 @@ class Faults(Cases):
 
     def setUp(self) -> None:
         super().setUp()
-        ours = mock.patch("pidtab.machines.has_replicas", return_value=False)
+        ours = mock.patch("pidtab.hosts.machines.has_replicas", return_value=False)
         ours.start()
         self.addCleanup(ours.stop)
 
@@ -194,25 +194,25 @@ class Faults(Cases):
         self.assertEqual([seed for seed in FEW if self.is_found(seed)], [])
 
     def test_no_dedupe(self) -> None:
-        with self.fault("pidtab.machine.Machine._ask", without_dedupe):
+        with self.fault("pidtab.hosts.machine.Machine._ask", without_dedupe):
             self.check()
 
     def test_a_sequence_that_is_not_looked_at(self) -> None:
-        with self.fault("pidtab.machine.Machine._ask", without_sequence):
+        with self.fault("pidtab.hosts.machine.Machine._ask", without_sequence):
             self.check()
 
     def test_an_entry_applied_twice(self) -> None:
-        with self.fault("pidtab.machine.Machine._ask", with_one_twice):
+        with self.fault("pidtab.hosts.machine.Machine._ask", with_one_twice):
             self.check([odd])
 
     def test_no_memory_taken_for_an_answer(self) -> None:
-        with self.fault("pidtab.machine.NO_MEMORY", "no such answer"):
+        with self.fault("pidtab.hosts.machine.NO_MEMORY", "no such answer"):
             self.check([short(1)])
 
     def test_no_memory_that_passes(self) -> None:
         # By a pipe the calls behind were made already, so that a table is made anew.
         need_library()
-        with mock.patch("pidtab.machine.PAUSES", (0.0, 0.0)):
+        with mock.patch("pidtab.hosts.machine.PAUSES", (0.0, 0.0)):
             self.assertEqual([seed for seed in FEW if self.is_found(seed, [short(2)])], [])
 
     def test_no_memory_that_stays(self) -> None:
@@ -222,7 +222,7 @@ class Faults(Cases):
             opened.append(pid_max)
             return (short(9) if len(opened) % 2 else table_kind())(pid_max=pid_max)
 
-        with mock.patch("pidtab.machine.PAUSES", (0.0, 0.0)), mock.patch("pidtab.replica.REPLAY_PAUSE", 0.01):
+        with mock.patch("pidtab.hosts.machine.PAUSES", (0.0, 0.0)), mock.patch("pidtab.hosts.replica.REPLAY_PAUSE", 0.01):
             self.assertEqual([seed for seed in FEW if self.is_found(seed, [open_table])], [])
         # Tables were thrown away, and made anew from the log.
         self.assertGreater(len(opened), len(FEW))

@@ -83,7 +83,7 @@ class PostgresLog(pidtab.Log):
         self._idle: list[tuple[int, Connection]] = []
 
     def append(self, entry: bytes) -> int:
-        """Puts an entry behind all others."""
+        """Puts an entry after all others."""
         before = self._greatest
         position = self._ask(APPEND, entry=entry)
         if position <= before:
@@ -92,7 +92,7 @@ class PostgresLog(pidtab.Log):
         return position
 
     def follow(self, after: int) -> "PostgresFollowing":
-        """All entries behind the position, and then each that comes."""
+        """All entries after the position, and then each that comes."""
         return PostgresFollowing(self, after)
 
     def end(self) -> int:
@@ -188,7 +188,7 @@ class PostgresFollowing(pidtab.Following):
         return self._read(connection)
 
     def _read(self, connection: Connection) -> Entries:
-        """A page of what is behind the place."""
+        """A page of what is after the place."""
         with as_faults(), connection.cursor() as cursor:
             cursor.execute(READ, {"log": self._log.name, "after": self._at, "most": MOST_ENTRIES})
             return [(position, bytes(entry)) for position, entry in cursor.fetchall()]

@@ -1,56 +1,53 @@
-"""Linux process identifiers as one table: by the program `pidtab` or in this process, and readers of its language and its list."""
+"""Linux process identifiers as one table: by the program `pidtab` or in this process, and readers of its language and its list.
+
+Tables on many hosts are in `pidtab.hosts`, simulated containers in `pidtab.sim`, a test kit in `pidtab.testing`, and the programs in `pidtab.commands`.
+"""
 
 import sys
-from importlib import import_module
-from typing import TYPE_CHECKING
 
 # Without words that an earlier Python cannot read.
 if sys.version_info < (3, 10):
     raise ImportError("pidtab needs Python 3.10 or later, and this is Python %d.%d" % sys.version_info[:2])
 
-from pidtab.accounts import Accounts
-from pidtab.answers import Forked, Reaped, SpaceStat, Stat
-from pidtab.bounds import DEFAULT_PID_MAX, GREATEST_PID_MAX, LEAST_PID_MAX
-from pidtab.calls import Calls, Kind, Queries
-from pidtab.effects import Adopted, Effect, Ended, Gone, GroupGone, SessionGone, SpaceFell, SpaceGone, Told
-from pidtab.faults import (
-    BadHistory,
-    BadText,
-    Diverged,
-    LibraryFault,
-    LibraryMissing,
-    LogFault,
-    NotKept,
-    NotKnown,
-    OtherSettings,
-    ProgramEnded,
-    ProgramFault,
-    ProgramMissing,
-    Refusal,
-    SaverEnded,
-    SeatsTaken,
-    TableClosed,
-    Unsaved,
-    WaitingEnded,
-)
-from pidtab.history import Counts, Entry
-from pidtab.library import find_library
-from pidtab.listing import BadList, Changes, Control, Listing, Space, Task, read_list, write_list
-from pidtab.native import Ask, Askable, AskableCalls, ToldCalls, Would
-from pidtab.process import Process
-from pidtab.program import find_program
-from pidtab.saved import Saved
-from pidtab.shared import Seat, Shared
-from pidtab.table import Table
-from pidtab.tree import draw_list
+from pidtab.lazy import TYPE_CHECKING, names_of
 
 if TYPE_CHECKING:
-    from pidtab.cluster import Cluster
-    from pidtab.etcd_log import EtcdLog
-    from pidtab.log import Following, Log, Progress
-    from pidtab.memory_log import MemoryLog
-    from pidtab.replicated import ReplicaAsk, Replicated
-    from pidtab.submitted import Receipt, Submitted
+    from pidtab.accounts import Accounts
+    from pidtab.answers import Forked, Reaped, SpaceStat, Stat
+    from pidtab.bounds import DEFAULT_PID_MAX, GREATEST_PID_MAX, LEAST_PID_MAX
+    from pidtab.calls import Calls, Kind, Queries
+    from pidtab.effects import Adopted, Effect, Ended, Gone, GroupGone, SessionGone, SpaceFell, SpaceGone, Told
+    from pidtab.faults import (
+        BadHistory,
+        BadText,
+        Diverged,
+        LibraryFault,
+        LibraryMissing,
+        LogFault,
+        NotKept,
+        NotKnown,
+        OtherSettings,
+        ProgramEnded,
+        ProgramFault,
+        ProgramMissing,
+        Refusal,
+        SaverEnded,
+        SeatsTaken,
+        TableClosed,
+        Unsaved,
+        WaitingEnded,
+    )
+    from pidtab.history import Counts, Entry
+    from pidtab.hosts import Cluster, EtcdLog, Following, Log, MemoryLog, Progress, Receipt, ReplicaAsk, Replicated, Submitted
+    from pidtab.library import find_library
+    from pidtab.listing import BadList, Changes, Control, Listing, Space, Task, read_list, write_list
+    from pidtab.native import Ask, Askable, AskableCalls, ToldCalls, Would
+    from pidtab.process import Process
+    from pidtab.program import find_program
+    from pidtab.saved import Saved
+    from pidtab.shared import Seat, Shared
+    from pidtab.table import Table
+    from pidtab.tree import draw_list
 
 __version__ = "0.2.0.dev0"
 
@@ -128,28 +125,37 @@ __all__ = [
     "write_list",
 ]
 
-# A table does without hosts, which bring threads and TLS: each is loaded when it is first asked for.
-_HOSTS = {
-    "Cluster": "cluster",
-    "EtcdLog": "etcd_log",
-    "Following": "log",
-    "Log": "log",
-    "MemoryLog": "memory_log",
-    "Progress": "log",
-    "Receipt": "submitted",
-    "ReplicaAsk": "replicated",
-    "Replicated": "replicated",
-    "Submitted": "submitted",
-}
+_FOLDERS = ("commands", "hosts", "sim", "testing")
 
-
-def __getattr__(name: str) -> object:
-    if name not in _HOSTS:
-        raise AttributeError(f"module {__name__!r} has no attribute {name!r}")
-    value = getattr(import_module(f"{__name__}.{_HOSTS[name]}"), name)
-    globals()[name] = value
-    return value
+# Each module is loaded when one of its names is first asked for: a table brings no hosts, which have threads and TLS.
+if not TYPE_CHECKING:
+    __getattr__ = names_of(
+        __name__,
+        {
+            "accounts": "Accounts",
+            "answers": "Forked Reaped SpaceStat Stat",
+            "bounds": "DEFAULT_PID_MAX GREATEST_PID_MAX LEAST_PID_MAX",
+            "calls": "Calls Kind Queries",
+            "effects": "Adopted Effect Ended Gone GroupGone SessionGone SpaceFell SpaceGone Told",
+            "faults": (
+                "BadHistory BadText Diverged LibraryFault LibraryMissing LogFault NotKept NotKnown OtherSettings ProgramEnded ProgramFault "
+                "ProgramMissing Refusal SaverEnded SeatsTaken TableClosed Unsaved WaitingEnded"
+            ),
+            "history": "Counts Entry",
+            "hosts": "Cluster EtcdLog Following Log MemoryLog Progress Receipt ReplicaAsk Replicated Submitted",
+            "library": "find_library",
+            "listing": "BadList Changes Control Listing Space Task read_list write_list",
+            "native": "Ask Askable AskableCalls ToldCalls Would",
+            "process": "Process",
+            "program": "find_program",
+            "saved": "Saved",
+            "shared": "Seat Shared",
+            "table": "Table",
+            "tree": "draw_list",
+        },
+        _FOLDERS,
+    )
 
 
 def __dir__() -> list[str]:
-    return [*__all__, "__version__"]
+    return [*__all__, *_FOLDERS, "__version__"]

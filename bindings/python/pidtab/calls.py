@@ -10,7 +10,6 @@ from pidtab.answers import A_CHILD, A_CONTROL, A_NUMBER, AN_ENDED_CHILD, NOTHING
 from pidtab.faults import read_fault, shorten
 from pidtab.listing import Listing, read_list
 from pidtab.owner import Owner
-from pidtab.tree import draw_list
 
 Kind = Literal["task", "group", "session"]
 
@@ -150,6 +149,9 @@ class Listed(ABC):
 
     def tree(self) -> str:
         """The same as a drawing for people."""
+        # Here, as few who have a table draw it.
+        from pidtab.tree import draw_list
+
         return draw_list(self.list())
 
 

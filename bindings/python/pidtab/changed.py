@@ -9,8 +9,8 @@ from collections.abc import Callable
 class Changed(type(threading.RLock())):  # type: ignore[misc]
     """A lock for what threads change, and a wait for such a change.
 
-    The handler of a signal runs behind any call in Python code, and may raise there, as Ctrl-C does. The `Condition` of the library is entered by
-    such code: an interrupt behind its inner lock leaves that taken for ever. This is a lock of C, and `with` takes and gives it up in one step.
+    The handler of a signal runs after any call in Python code, and may raise there, as Ctrl-C does. The `Condition` of the library is entered by
+    such code: an interrupt after it has its inner lock leaves that taken for ever. This is a lock of C, and `with` takes and gives it up in one step.
     Who waits does not have it, and waits by a queue of C.
     """
 
@@ -18,7 +18,7 @@ class Changed(type(threading.RLock())):  # type: ignore[misc]
         self._gates: list[queue.SimpleQueue[None]] = []
 
     def notify_all(self) -> None:
-        """Wakes all that wait, behind a change. It takes no lock."""
+        """Wakes all that wait, after a change. It takes no lock."""
         for gate in tuple(self._gates):
             # One word is enough for who has not looked yet.
             if gate.empty():

@@ -104,9 +104,9 @@ class LibraryMissing(LibraryFault):
 
 
 class Refusal(OSError):
-    """A call that the table refused, with the kernel's errno and, as `why`, the word and the id that may stand behind it.
+    """A call that the table refused, with the kernel's errno and, as `why`, the word and the id that may stand after it.
 
-    `word` is the word alone, as "pids-limit", and `id` the number behind it: that of the namespace of a "no-number", and of the control group of a
+    `word` is the word alone, as "pids-limit", and `id` the number after it: that of the namespace of a "no-number", and of the control group of a
     "pids-limit". None has no id.
     """
 
@@ -157,7 +157,7 @@ WORDS = (
     "is-leader", "no-group", "executed", "root-init", "no-control", "control-busy", "root-control", "bad-limit", "control-depth",
 )  # fmt: skip
 
-# Behind these words stands the id of the namespace, or the control group, that refuses.
+# After these words is the id of the namespace, or the control group, that refuses.
 WORDS_WITH_ID = ("no-number", "pids-limit")
 # The end of refusals.
 

@@ -11,7 +11,7 @@ from pidtab.listing import Listing
 class Labels:
     """Labels by root numbers. One goes when its number is that of another task.
 
-    A place is how many calls were made on the table: a fork at that place or behind it has made another task than the one that was labelled.
+    A place is how many calls were made on the table: a fork at that place or after it has made another task than the one that was labelled.
     """
 
     def __init__(self) -> None:

@@ -129,7 +129,7 @@ def judge(line: bytes) -> Fault | None:
     if found is None:
         return None
     place, wanted = found
-    # The byte behind the words before it and their spaces; behind the last word it is the line's end.
+    # The byte after the words before it and their spaces; after the last word it is the line's end.
     column = sum(len(word) + 1 for word in words[:place]) + (1 if place < len(words) else 0)
     tab = words[place].find(b"\t") if place < len(words) else -1
     return Fault(column + max(tab, 0), say_place(words, place, wanted))

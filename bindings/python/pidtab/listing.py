@@ -2,11 +2,12 @@
 
 import json
 import re
-from collections.abc import Callable, Mapping
+from collections.abc import Callable, Iterator, Mapping
 from dataclasses import dataclass, field, replace
+from functools import cached_property
 from typing import Any
 
-# The fields of each line in their order, each with its type. The first stands behind the word of its line, and others behind their names.
+# The fields of each line in their order, each with its type. The first stands after the word of its line, and others after their names.
 # Written by tools/interface: fields.
 FIELDS: dict[str, dict[str, str]] = {
     "task": {
@@ -37,7 +38,7 @@ FIELDS: dict[str, dict[str, str]] = {
 }
 # The end of fields.
 
-# How a field of each type is written behind its word.
+# How a field of each type is written after its word.
 WRITTEN = {
     "numbers": r"{word} (?P<{name}>\d+(?:,\d+)*)",
     "number": r"{word} (?P<{name}>\d+)",
@@ -61,6 +62,10 @@ TASK_FIELDS = ("numbers", "space", "parent", "group", "session", "control", "sta
 
 # Those that a task may lack.
 OUTSIDE = ("label", "key")
+
+
+# Of a drawing in a notebook.
+MOST_LINES = 1000
 
 
 class BadList(ValueError):
@@ -135,11 +140,40 @@ KINDS: dict[str, Callable[..., Item]] = {"task": Task, "space": Space, "control"
 
 @dataclass(frozen=True)
 class Listing:
-    """All that stands in a table."""
+    """All that stands in a table. `for task in listing` goes over its tasks, and `listing[2]` is the one with the root number 2, else a KeyError."""
 
     tasks: tuple[Task, ...]
     spaces: tuple[Space, ...]
     controls: tuple[Control, ...]
+
+    def __len__(self) -> int:
+        """How many tasks it has."""
+        return len(self.tasks)
+
+    def __iter__(self) -> Iterator[Task]:
+        return iter(self.tasks)
+
+    def __getitem__(self, root: int) -> Task:
+        return self._by_root[root]
+
+    def __contains__(self, item: object) -> bool:
+        """Whether it has a task, or one with this root number."""
+        return item in self.tasks if isinstance(item, Task) else item in self._by_root
+
+    @cached_property
+    def _by_root(self) -> dict[int, Task]:
+        return {task.root: task for task in self.tasks}
+
+    def _repr_html_(self) -> str:
+        """The drawing of `pidtab-tree`, as a notebook shows it: its first thousand lines."""
+        # Here, as that module loads this one, and few lists are shown so.
+        from html import escape
+
+        from pidtab.tree import draw_list
+
+        lines = draw_list(self).splitlines()
+        more = [f".. and {len(lines) - MOST_LINES} more lines"] if len(lines) > MOST_LINES else []
+        return f"<pre>{escape(chr(10).join([*lines[:MOST_LINES], *more]))}</pre>"
 
     def __sub__(self, before: "Listing") -> "Changes":
         """What has changed since another list of the table. Tasks are known by their root numbers, and the rest by their ids."""

@@ -109,7 +109,7 @@ class SavedFile:
             raise fault
 
     def make_ready(self) -> None:
-        """Sees to it that the next entry comes behind the last whole one."""
+        """Sees to it that the next entry comes after the last whole one."""
         self._write_too()
         found, left = self._sizes()
         if found != left:
@@ -161,7 +161,7 @@ class SavedFile:
         return about.st_size if stat.S_ISREG(about.st_mode) else left, left
 
     def _bad(self, why: str) -> BadHistory:
-        """The fault of what stands behind the last whole call."""
+        """The fault of what stands after the last whole call."""
         fault = BadHistory(f"{self.path}: {why}")
         fault.calls, fault.place = self.at.next, self.at.bytes
         return fault

@@ -9,7 +9,7 @@ from collections.abc import Callable, Iterator, Sequence
 from itertools import groupby, islice
 from operator import index
 
-from pidtab.answers import ANSWERS, Stat
+from pidtab.answers import ANSWERS, Reaped, Stat
 from pidtab.batch import read_call
 from pidtab.bounds import DEFAULT_PID_MAX, Unnamed, check_pid_max, check_range, check_timeout
 from pidtab.faults import LibraryFault, NotKept, OtherSettings, SaverEnded, SeatsTaken, TableClosed, Unsaved, WaitingEnded
@@ -122,6 +122,20 @@ class Seat(NumberCalls):
         # The second has a call look at the first.
         self._closed = self._left = True
 
+    async def reap(self, caller: int, pid: int | None = None, *, own: bool = False, group: int | None = None) -> Reaped:
+        """waitpid(2) as `wait`, without WNOHANG, for a loop of asyncio: waits until a child has ended, and takes it away. no-caller, no-child.
+
+        No call is made before there is one. Meanwhile each call on the table costs one query for each that waits.
+        """
+        while True:
+            seen = self.shared.counts().recorded
+            if self.would.wait(caller, pid, own=own, group=group) is not None:
+                reaped = self.wait(caller, pid, own=own, group=group)
+                # Another may have taken it away.
+                if reaped is not None:
+                    return reaped
+            await self.shared.changed(seen)
+
     def _settings(self) -> str:
         return f"worker={self.worker} pid_max={self.pid_max}"
 
@@ -192,7 +206,7 @@ class Seat(NumberCalls):
         return tuple(answers)
 
     def _make_all(self, calls: Sequence[bytes]) -> Iterator[str]:
-        """The answers to calls, as many in one turn as may be. One that cannot be made ends a turn, and the next begins behind it."""
+        """The answers to calls, as many in one turn as may be. One that cannot be made ends a turn, and the next begins after it."""
         begin = 0
         while begin < len(calls):
             turn = calls[begin : begin + BLOCK]
@@ -222,7 +236,7 @@ class Shared(Labelled, Owner):
     have the same answers.
 
     The history takes 64 bytes a call until it is cut: by a checkpoint, or by itself where `keep` is not 0. Then at most so many entries are
-    kept: a call behind which there are more cuts the first, which costs that call once more.
+    kept: a call after which there are more cuts the first, which costs that call once more.
 
     Once it is closed, each method raises `TableClosed`, and so it does in a forked child, whose parent has the table. Where there is no memory,
     any call and what copies the table raise a MemoryError. One that nobody has any more, by a seat or otherwise, is closed.
@@ -394,7 +408,7 @@ class Shared(Labelled, Owner):
         of a table that was made by `from_dump`: a file has all calls from the first on.
         With `sync` the machine may crash: that is fsync(2).
 
-        A device that fails is an OSError. Behind it, and behind an interrupt, the next save goes on with the same byte.
+        A device that fails is an OSError. After it, and after an interrupt, the next save goes on with the same byte.
         """
         functions, path = self._check_open().functions, os.path.abspath(os.fsdecode(path))
         with self._saving:
@@ -408,7 +422,7 @@ class Shared(Labelled, Owner):
     def serve(self, path: FilePath, *, keep: int = 0, sync: bool = False) -> Saved:
         """The saver, for a thread of its own: it saves what is recorded, and sleeps until more is, until `end_saving` or `close`. What the file has then.
 
-        With `sync` each turn ends with fdatasync(2), so one serves all that wait, and only behind it the calls of the turn count as saved. Where `keep`
+        With `sync` each turn ends with fdatasync(2), so one serves all that wait, and only after it the calls of the turn count as saved. Where `keep`
         is not 0, it cuts the history whenever that has so many entries: all others wait while the last calls are written and the kept ones made once more.
 
         It raises what `save` does, and `wait_saved` raises it too. It may be called again; but where fdatasync failed, nobody knows what the disk has:
@@ -425,10 +439,10 @@ class Shared(Labelled, Owner):
             return file.told
 
     def wait_saved(self, ordinal: int) -> None:
-        """Waits until the call with the ordinal is saved: behind the `save`, the load or the turn of `serve` that has it, each of which wakes all that wait.
+        """Waits until the call with the ordinal is saved: after the `save`, the load or the turn of `serve` that has it, each of which wakes all that wait.
 
         What the saver's last turn has raised is raised, at once until a turn does better: whether the call is saved is not known. `SaverEnded` is
-        raised behind `end_saving`. Before the first turn it waits, and Ctrl-C does so too.
+        raised after `end_saving`. Before the first turn it waits, and Ctrl-C does so too.
         """
         ordinal = check_range("ordinal", ordinal, 0, GREATEST_NUMBER)
         hold = self._with_saver()
@@ -565,13 +579,13 @@ class Shared(Labelled, Owner):
         return table
 
     def follow(self, replica: Table, start: int) -> int:
-        """Has a table of one's own, which began as this one did, make the calls from the ordinal on that are recorded by now. The ordinal behind them.
+        """Has a table of one's own, which began as this one did, make the calls from the ordinal on that are recorded by now. The ordinal after them.
 
         So `replica.dump()` is the text of the state there, and no call waits for it. The replica is `Table(pid_max)` and the start 0, or the table of
         a text of `dump` and what was recorded then; nobody else makes a call on it. Other threads may make calls here meanwhile.
 
         `NotKept` is raised where a call that it lacks was cut away, or is not reached yet, and ValueError where a reply is not the recorded one: it is
-        no replica then. Behind a MemoryError it begins anew. It costs the calls once more.
+        no replica then. After a MemoryError it begins anew. It costs the calls once more.
         """
         following = ctypes.c_uint64(check_range("start", start, 0, GREATEST_NUMBER))
         replica._check_owner()
@@ -587,18 +601,37 @@ class Shared(Labelled, Owner):
         So a viewer, or a thread that ships the history, follows the table: it reads `entries`, or has a table `follow`, and waits for the next ordinal. It
         sleeps meanwhile, and the call wakes it. Any number of threads may wait, beside a saver. Ctrl-C interrupts the main thread.
 
-        A TimeoutError is raised where no more calls are recorded in so many seconds, `WaitingEnded` behind `end_waiting`, and `TableClosed` where the table is
+        A TimeoutError is raised where no more calls are recorded in so many seconds, `WaitingEnded` after `end_waiting`, and `TableClosed` where the table is
         closed meanwhile.
         """
         ordinal = check_range("ordinal", ordinal, 0, GREATEST_NUMBER)
         seconds = None if timeout is None else check_timeout("timeout", timeout)
-        status, recorded = self._waited(ordinal, seconds)
+        recorded = self._check_waited(ordinal, *self._waited(ordinal, seconds))
+        if recorded <= ordinal:
+            raise TimeoutError(f"call {ordinal} was not recorded in {seconds:g} seconds")
+        return recorded
+
+    async def changed(self, ordinal: int) -> int:
+        """As `wait_changed`, for a loop of asyncio: `recorded = await shared.changed(n)`. However many wait so, one thread waits in the library for all.
+
+        `asyncio.wait_for` bounds the time. What is raised at an end is what `wait_changed` raises.
+        """
+        # Here, as asyncio takes longer to load than all of this.
+        from pidtab.loops import Loops
+
+        ordinal = check_range("ordinal", ordinal, 0, GREATEST_NUMBER)
+        hold = self._with_waits()
+        # One step, as loops of several threads may come here at once.
+        loops: Loops = vars(self).setdefault("_loops", Loops())
+        wait = hold.functions.pidtab_shared_wait
+        return self._check_waited(ordinal, *await loops.wait(ordinal, lambda place, until, recorded: int(wait(hold.at, place, until, recorded))))
+
+    def _check_waited(self, ordinal: int, status: int, recorded: int) -> int:
+        """How many calls are recorded, if a wait was not ended."""
         if status == CLOSED:
             self._check_open()
             raise WaitingEnded(f"the waits were ended, and call {ordinal} is not recorded")
         check(status, f"wait for call {ordinal}")
-        if recorded <= ordinal:
-            raise TimeoutError(f"call {ordinal} was not recorded in {seconds:g} seconds")
         return recorded
 
     def end_waiting(self) -> None:
@@ -714,7 +747,7 @@ class Shared(Labelled, Owner):
         while block:
             yield from block[: max(0, end - block[0].ordinal)]
             following = block[-1].ordinal + 1
-            # Behind the end nothing is read, as it may be cut away by now.
+            # After the end nothing is read, as it may be cut away by now.
             block = self._read(following) if following < end else ()
 
 

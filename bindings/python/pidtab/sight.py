@@ -22,6 +22,6 @@ class Sight:
         return None if space is None else task.numbers[len(viewer.numbers) - 1]
 
     def seen(self, caller: int) -> list[tuple[int, Task]]:
-        """The tasks that the caller's namespace sees, each behind its number there."""
+        """The tasks that the caller's namespace sees, each after its number there."""
         numbers = [(self.number(root, caller), task) for root, task in self.tasks.items()]
         return [(number, task) for number, task in numbers if number is not None]

@@ -9,13 +9,13 @@ from collections.abc import Callable, Sequence
 from pathlib import Path
 
 from pidtab import Calls, EtcdLog, Following, Progress, Replicated
-from pidtab.archive import Archive
-from pidtab.etcd import JSON, Etcd, decode
-from pidtab.etcd_cells import read_keys
-from pidtab.etcd_guard import make_chance
-from pidtab.keeper import Keeper, Wishes
-from pidtab.log_form import Asked, write_calls
-from pidtab.snapshots import PIECES, read_served
+from pidtab.hosts.archive import Archive
+from pidtab.hosts.etcd import JSON, Etcd, decode
+from pidtab.hosts.etcd_cells import read_keys
+from pidtab.hosts.etcd_transactions import make_chance
+from pidtab.hosts.keeper import Keeper, Wishes
+from pidtab.hosts.log_entries import Asked, write_calls
+from pidtab.hosts.snapshots import PIECES, read_served
 from tests.memory_etcd import MemoryEtcd, keys_put, log_in
 from tests.stand_in import StandIn
 
@@ -84,7 +84,7 @@ def first_kept(table: Replicated) -> int:
 
 
 class Keeping(unittest.TestCase):
-    """Opens hosts and keepers, which end behind the test."""
+    """Opens hosts and keepers, which end after the test."""
 
     table: Callable[..., Calls] = StandIn
     # So many entries are put between two snapshots.
@@ -138,7 +138,7 @@ class Keeping(unittest.TestCase):
             table.answers(["fork 1", "getpid 1"])
 
     def save_twice(self, table: Replicated, keeper: Keeper, *checkers: Keeper) -> None:
-        """Has two snapshots, and so the log cut behind the older one."""
+        """Has two snapshots, and so the log cut after the older one."""
         for _ in range(2):
             self.fill(table)
             self.assertIsNotNone(keeper.save())
@@ -160,7 +160,7 @@ class Keeping(unittest.TestCase):
         return [key.name for page in read_keys(etcd_of(log), first, last, 1000) for key in page]
 
     def check_cut(self) -> None:
-        """No more than two snapshots and what is behind the older one is left."""
+        """No more than two snapshots and what is after the older one is left."""
         self.assertLess(len(self.keys()), 2 * self.many + 15)
         self.assertEqual(len(self.keys(PIECES)), len(read_served(self.make_log().cells()).all))
 
@@ -170,7 +170,7 @@ class Keeping(unittest.TestCase):
         return [key.revision for page in read_keys(etcd_of(log), log.prefix, log.prefix + b"~", 1000) for key in page]
 
     def put_late(self, table: Replicated) -> int:
-        """Puts an entry with calls, as a host does that began to long ago: its position. The number in its key is just behind the first one's."""
+        """Puts an entry with calls, as a host does that began to long ago: its position. The number in its key is just after the first one's."""
         log = self.make_log()
         hint = int(self.keys()[0][len(log.prefix) :][:16], 16) + 1
         session = log.append(b"open")

@@ -9,7 +9,7 @@ from typing import Any, NamedTuple
 from unittest import mock
 
 from pidtab import Cluster, EtcdLog
-from pidtab.etcd import JSON, Etcd, Member, TooOld, decode, encode
+from pidtab.hosts.etcd import JSON, Etcd, Member, TooOld, decode, encode
 
 # How much a watcher may be behind before it is cut off, in bytes.
 ROOM = 8 * 1024 * 1024
@@ -243,11 +243,11 @@ def keys_put(path: str, body: JSON) -> list[bytes]:
 
 
 def nothing(path: str, body: JSON) -> None:
-    """Does nothing before a call, or behind it."""
+    """Does nothing before a call, or after it."""
 
 
 class Client(Etcd):
-    """The calls of one host on it. What is called `before` a call, or `behind` it, may do something or raise."""
+    """The calls of one host on it. What is called `before` a call, or `after` it, may do something or raise."""
 
     def __init__(self, store: MemoryEtcd) -> None:
         super().__init__([Member("memory", 1)], None, None, IDLE)
@@ -274,5 +274,5 @@ def log_in(store: MemoryEtcd, name: str = "web", kind: type[EtcdLog] = EtcdLog) 
 
 def cluster_in(store: MemoryEtcd, name: str = "many", patience: float = 20.0) -> Cluster:
     """A Cluster in it, whose calls are those of its `_etcd`."""
-    with mock.patch("pidtab.cluster.open_etcd", lambda *words: Client(store)):
+    with mock.patch("pidtab.hosts.cluster.open_etcd", lambda *words: Client(store)):
         return Cluster(["memory:1"], name, patience=patience)

@@ -39,7 +39,7 @@ def quoted(cell: str) -> list[str]:
 
 
 def named_examples() -> set[str]:
-    """The scripts that the page of the examples names, but for those that have no answers of their own."""
+    """The scripts that the page of the examples names, except for those that have no answers of their own."""
     table = rows(read_page("examples/README.md").split("\n## ")[0])
     return {name for row in table for name in quoted(row[0])} - JOBS
 

@@ -1,4 +1,4 @@
-"""A lock with a wait for changes: who waits is woken, and leaves nothing behind."""
+"""A lock with a wait for changes: who waits is woken, and leaves nothing after."""
 
 import threading
 import time

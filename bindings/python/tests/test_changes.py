@@ -228,7 +228,7 @@ class Earlier(unittest.TestCase):
         need_shared()
 
     def lists(self) -> list[Listing]:
-        """The lists before each call, and behind the last."""
+        """The lists before each call, and after the last."""
         found = []
         with Table() as table:
             for line in (*self.LINES, "getpid 1"):

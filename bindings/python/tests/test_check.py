@@ -12,8 +12,8 @@ from pathlib import Path
 from unittest import mock
 
 from pidtab import Process
-from pidtab.check import find_bad
-from pidtab.command import Progress
+from pidtab.commands.check import find_bad
+from pidtab.commands.common import Progress
 from pidtab.language import FORMS, Fault, judge
 from tests.pages import EXAMPLES, REPOSITORY, quoted, read_page, rows, section, stored_scripts
 from tests.ways import need_program
@@ -248,14 +248,14 @@ class Quick(unittest.TestCase):
 
     def test_only_bad_lines_are_looked_at(self) -> None:
         need_program()
-        with mock.patch("pidtab.check.judge", side_effect=judge) as judged:
+        with mock.patch("pidtab.commands.check.judge", side_effect=judge) as judged:
             self.assertEqual(self.find(), list(self.FOUND))
         self.assertEqual([call.args[0] for call in judged.mock_calls], [b"frok 1", b"exit 2 256"])
 
     def test_blocks_of_lines(self) -> None:
         need_program()
         for size in range(1, 8):
-            with mock.patch("pidtab.check.BLOCK", size):
+            with mock.patch("pidtab.commands.check.BLOCK", size):
                 self.assertEqual(self.find(), list(self.FOUND))
 
     def test_without_a_program_that_answers(self) -> None:
@@ -304,7 +304,7 @@ class HowFar(unittest.TestCase):
         self.assertEqual(self.said(io.StringIO()), "")
 
     def test_the_lines_are_said(self) -> None:
-        with mock.patch("pidtab.command.SILENT", 0.0), mock.patch("sys.stderr", Terminal()) as terminal, Progress() as progress:
+        with mock.patch("pidtab.commands.common.SILENT", 0.0), mock.patch("sys.stderr", Terminal()) as terminal, Progress() as progress:
             self.assertEqual(len(list(find_bad("x", [b"fork 1\n", b"frok 1\n"], progress))), 1)
         self.assertTrue(terminal.getvalue().startswith("\r\x1b[Kx: line "), terminal.getvalue())
 

@@ -16,10 +16,10 @@ from unittest import mock
 
 import pidtab
 from pidtab import Cluster, Diverged, EtcdLog, LogFault, NotKnown, Replicated, TableClosed
-from pidtab.etcd import JSON, Etcd, Member, encode
-from pidtab.etcd_log import append_all
-from pidtab.etcd_watch import EtcdWatch
-from pidtab.log_form import Asked, write_calls
+from pidtab.hosts.etcd import JSON, Etcd, Member, encode
+from pidtab.hosts.etcd_log import append_all
+from pidtab.hosts.etcd_watch import EtcdWatch
+from pidtab.hosts.log_entries import Asked, write_calls
 from tests.alarms import alarms
 from tests.keeping import Keeping
 from tests.memory_etcd import Client, MemoryEtcd, cluster_in, keys_put, log_in
@@ -40,7 +40,8 @@ PACKAGE = os.path.dirname(pidtab.__file__)
 
 # What a caller's thread runs, with what of the library has locks.
 FILES = {
-    *(os.path.join(PACKAGE, f"{name}.py") for name in ("calls", "changed", "cluster", "cluster_crew", "replica", "replicated", "strands", "submitted")),
+    *(os.path.join(PACKAGE, f"{name}.py") for name in ("calls", "changed")),
+    *(os.path.join(PACKAGE, "hosts", f"{name}.py") for name in ("cluster", "cluster_threads", "replica", "replicated", "shared_threads", "submitted")),
     concurrent.futures._base.__file__,
     contextlib.__file__,
     threading.__file__,
@@ -58,7 +59,7 @@ def names_of(path: str, body: JSON) -> list[bytes]:
 
 
 class Clusters(unittest.TestCase):
-    """Opens Clusters and plain hosts, which are closed behind the test."""
+    """Opens Clusters and plain hosts, which are closed after the test."""
 
     def setUp(self) -> None:
         self.store = MemoryEtcd()
@@ -188,7 +189,7 @@ class Answers(Clusters):
             self.store = MemoryEtcd()
             self.addCleanup(self.store.close)
             troubles = Troubles(seed)
-            with self.subTest(seed), mock.patch("pidtab.cluster_crew.append_all", troubles.append_all):
+            with self.subTest(seed), mock.patch("pidtab.hosts.cluster_threads.append_all", troubles.append_all):
                 self.run_round(seed)
             self.assertGreater(troubles.most, 3)
 
@@ -223,7 +224,7 @@ class Joins(Clusters):
 
     @contextlib.contextmanager
     def hold_reads(self, cluster: Cluster, held: threading.Event, is_behind: bool) -> Iterator[threading.Event]:
-        """Holds up who reads keys, before it is said up to which revision, or behind that."""
+        """Holds up who reads keys, before it is said up to which revision, or after that."""
         goes, client = threading.Event(), self.client(cluster)
 
         def hold(path: str, body: JSON) -> None:
@@ -247,7 +248,7 @@ class Joins(Clusters):
             opening.start()
             self.assertTrue(held.wait(LONG))
             self.assertEqual([plain.fork(1).root for _ in range(5)], list(range(before[-1] + 1, before[-1] + 6)))
-            # The others are not held up, and the watch has told of all behind this.
+            # The others are not held up, and the watch has told of all after this.
             self.assertEqual(other.fork(1).root, 2)
             goes.set()
             opening.join(LONG)
@@ -267,13 +268,13 @@ class Joins(Clusters):
             cluster, held = self.begin(), threading.Event()
             table, other, plain = self.open(cluster), self.open(cluster, "other"), self.plain()
             self.check_goes(table)
-            with mock.patch("pidtab.replica.REPLAY_PAUSE", 0.01), self.hold_reads(cluster, held, is_behind) as goes:
+            with mock.patch("pidtab.hosts.replica.REPLAY_PAUSE", 0.01), self.hold_reads(cluster, held, is_behind) as goes:
                 feed = table._replica.crew
                 feed.put(MemoryError("no memory"))  # type: ignore[attr-defined]
                 self.assertTrue(held.wait(LONG))
                 for _ in range(5):
                     plain.fork(1)
-                # Behind this the watch has told of all.
+                # After this the watch has told of all.
                 other.fork(1)
                 goes.set()
                 self.check_goes(table)
@@ -283,7 +284,7 @@ class Joins(Clusters):
     def test_no_memory_for_a_call(self) -> None:
         rest = iter((50, 0))
         cluster = self.begin()
-        with mock.patch("pidtab.machine.PAUSES", (0.0, 0.01)), mock.patch("pidtab.replica.REPLAY_PAUSE", 0.01):
+        with mock.patch("pidtab.hosts.machine.PAUSES", (0.0, 0.01)), mock.patch("pidtab.hosts.replica.REPLAY_PAUSE", 0.01):
             table = self.open(cluster, table=lambda pid_max: Flaky(pid_max, next(rest)))
             self.assertEqual([table.fork(1).root for _ in range(3)], [2, 3, 4])
         self.assertEqual(table._replica.replays, 1)
@@ -342,7 +343,7 @@ class Joins(Clusters):
         quiet, busy = self.open(cluster, "quiet"), self.open(cluster, "busy")
         puts: list[bytes] = []
         self.client(cluster).before = lambda path, body: puts.extend(names_of(path, body))
-        with mock.patch("pidtab.replica.SOON", LONG):
+        with mock.patch("pidtab.hosts.replica.SOON", LONG):
             for _ in range(10):
                 busy.fork(1)
                 quiet.catch_up()

@@ -46,7 +46,7 @@ def fault():
     raise RuntimeError("no table today")
 """
 
-# A command that is whole but for some calls: no next, an end at a move, and no answer to the calls that are named.
+# A command that is whole except for some calls: no next, an end at a move, and no answer to the calls that are named.
 COMMAND = """
 import sys, time
 from pidtab import Table

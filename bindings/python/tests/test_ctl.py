@@ -11,7 +11,7 @@ import unittest
 from pathlib import Path
 
 from pidtab import __version__
-from pidtab.ctl import COMMANDS
+from pidtab.commands.pidtabctl import COMMANDS
 from tests.pages import REPOSITORY, displays, read_page
 from tests.ways import need_library, need_program
 

@@ -168,7 +168,7 @@ class ForkedChild(unittest.TestCase):
         need_program()
 
     def check(self, *child: str) -> None:
-        """The parent's table goes on behind such a child, and its program ends well."""
+        """The parent's table goes on after such a child, and its program ends well."""
         lines = ["p = pidtab.Process()", "p.fork(1)", "if os.fork() == 0:", *[f"    {line}" for line in child], "    sys.exit()"]
         after = ["os.wait()", "print(p.fork(1).root, p.transcript.count('fork'), p.close())"]
         self.assertEqual(run_python(*lines, *after), ("3 2 0\n", ""))

@@ -41,7 +41,7 @@ def interrupts(first: float, every: float = 0.0) -> AbstractContextManager[None]
 
 
 class Interrupter:
-    """Interrupts once, behind one of the places of the package where something has just been called: there a handler may run."""
+    """Interrupts once, after one of the places of the package where something has just been called: there a handler may run."""
 
     # By what the interpreter is asked to tell of its steps.
     told = sys.gettrace
@@ -89,9 +89,9 @@ class Interrupter:
 
 
 class CallInterrupter(Interrupter):
-    """Interrupts once, in the step of one of the calls that are made in some files, behind what was called.
+    """Interrupts once, in the step of one of the calls that are made in some files, after what was called.
 
-    There a handler is run too. What it raises is caught where the call is, and not where the next step is, which may be behind a `with`.
+    There a handler is run too. What it raises is caught where the call is, and not where the next step is, which may be after a `with`.
     """
 
     told = sys.getprofile
@@ -310,7 +310,7 @@ class Prompt(unittest.TestCase):
         self.wait_for(b"Forked(child=2, root=2)")
         self.wait_for(b">>> ")
         os.write(self.terminal, CTRL_C)
-        # An interrupt just before the interpreter waits for a line is told behind the line.
+        # An interrupt just before the interpreter waits for a line is told after the line.
         self.type_line("")
         self.wait_for(b"KeyboardInterrupt")
         self.type_line("try: print(p.fork(1))\nexcept Exception as fault: print(type(fault))\n")

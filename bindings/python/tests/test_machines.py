@@ -7,10 +7,10 @@ from collections.abc import Iterator
 from unittest import mock
 
 from pidtab import Diverged, LogFault, Table
-from pidtab.library_machine import LibraryMachine, has_replicas
-from pidtab.log_form import Announced, Asked, Settings, write_announced, write_calls, write_end, write_settings
-from pidtab.machine import Machine, NoMemory, Outcome
-from pidtab.machines import AnyMachine, open_machine
+from pidtab.hosts.library_machine import LibraryMachine, has_replicas
+from pidtab.hosts.log_entries import Announced, Asked, Settings, write_announced, write_calls, write_end, write_settings
+from pidtab.hosts.machine import Machine, NoMemory, Outcome
+from pidtab.hosts.machines import AnyMachine, open_machine
 from tests.ways import need_library
 
 SETTINGS = Settings(2, 32768, 1)
@@ -185,7 +185,7 @@ class Same(unittest.TestCase):
             found = open_machine(kind, SETTINGS)
             self.assertIs(type(found), machine)
             found.table.close()
-        with mock.patch("pidtab.machines.has_replicas", return_value=False), Table() as table:
+        with mock.patch("pidtab.hosts.machines.has_replicas", return_value=False), Table() as table:
             self.assertIs(type(open_machine(lambda: table, SETTINGS)), Machine)
 
     def test_no_memory_is_said(self) -> None:

@@ -13,8 +13,8 @@ import unittest
 from pathlib import Path
 
 from pidtab import find_program
-from pidtab.prompt import complete
-from pidtab.session import Mistake, Session
+from pidtab.commands.prompt import complete
+from pidtab.commands.session import Mistake, Session
 from tests.pages import EXAMPLES, REPOSITORY, blocks, read_page, script_lines, section
 from tests.ways import ByLibrary, ByProgram, Cases, need_program
 

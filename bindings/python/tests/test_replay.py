@@ -11,14 +11,14 @@ from collections.abc import Sequence
 from pathlib import Path
 
 from pidtab import LibraryFault, MemoryLog, Process, Replicated, Table, find_library, find_program
+from pidtab.hosts.log_entries import MOST_SESSIONS
 from pidtab.library import load_library
-from pidtab.log_form import MOST_SESSIONS
 from tests.ways import need_library, need_program
 
 SCRIPT = Path(__file__).resolve().parents[1] / "bin" / "pidtab-replay"
 SETTINGS = b"pidtab-log 1 pid_max 32768 model 1"
 
-# The digests behind the settings and behind the first calls, as docs/CLUSTER.md has them.
+# The digests after the settings and after the first calls, as docs/CLUSTER.md has them.
 AT_FIRST = hashlib.sha256(SETTINGS).digest()
 AT_SECOND = hashlib.sha256(AT_FIRST + b"fork 1 new\nchild 2 root 2\ngetpid 9\nESRCH no-caller\n").digest()
 

@@ -18,8 +18,8 @@ from unittest import mock
 
 import pidtab
 from pidtab import Diverged, EtcdLog, Following, LibraryFault, LogFault, MemoryLog, NotKept, NotKnown, Replicated, TableClosed
-from pidtab.log_form import MOST_SESSIONS, OPEN, Asked, Settings, read_entry, write_calls, write_end, write_settings
-from pidtab.memory_log import MemoryFollowing
+from pidtab.hosts.log_entries import MOST_SESSIONS, OPEN, Asked, Settings, read_entry, write_calls, write_end, write_settings
+from pidtab.hosts.memory_log import MemoryFollowing
 from tests.stand_in import StandIn
 from tests.test_ends import OTHERS, in_child, run_python
 from tests.alarms import alarms
@@ -35,7 +35,8 @@ PACKAGE = os.path.dirname(pidtab.__file__)
 
 # What a caller's thread runs, with what of the library has locks.
 FILES = {
-    *(os.path.join(PACKAGE, f"{name}.py") for name in ("calls", "changed", "memory_log", "replica", "replicated", "submitted")),
+    *(os.path.join(PACKAGE, f"{name}.py") for name in ("calls", "changed")),
+    *(os.path.join(PACKAGE, "hosts", f"{name}.py") for name in ("memory_log", "replica", "replicated", "submitted")),
     concurrent.futures._base.__file__,
     contextlib.__file__,
     threading.__file__,
@@ -79,7 +80,7 @@ class SwitchedLog(MemoryLog):
 
 
 class Hosts(unittest.TestCase):
-    """Opens replicas, which are closed behind the test."""
+    """Opens replicas, which are closed after the test."""
 
     def setUp(self) -> None:
         self.log = SwitchedLog()
@@ -199,7 +200,7 @@ class HeldLog(MemoryLog):
 
 
 class Reads(Hosts):
-    """Reads that are not behind the log."""
+    """Reads that are not after the log."""
 
     def setUp(self) -> None:
         self.log = self.held = HeldLog()  # type: ignore[assignment]
@@ -348,7 +349,7 @@ class Memory(Hosts):
 
     def setUp(self) -> None:
         super().setUp()
-        for name, value in (("pidtab.machine.PAUSES", (0.0, 0.01)), ("pidtab.replica.REPLAY_PAUSE", 0.01)):
+        for name, value in (("pidtab.hosts.machine.PAUSES", (0.0, 0.01)), ("pidtab.hosts.replica.REPLAY_PAUSE", 0.01)):
             patch = mock.patch(name, value)
             patch.start()
             self.addCleanup(patch.stop)

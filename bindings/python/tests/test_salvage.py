@@ -4,10 +4,10 @@ import unittest
 from collections.abc import Callable
 
 from pidtab import LogFault, Replicated
-from pidtab.archive import Archive
-from pidtab.etcd import encode
-from pidtab.log_form import MODEL, Settings, write_settings
-from pidtab.salvage import Salvaged, begin, salvage
+from pidtab.hosts.archive import Archive
+from pidtab.hosts.etcd import encode
+from pidtab.hosts.log_entries import MODEL, Settings, write_settings
+from pidtab.hosts.salvage import Salvaged, begin, salvage
 from tests.keeping import Keeping
 from tests.memory_etcd import log_in
 from tests.stand_in import StandIn

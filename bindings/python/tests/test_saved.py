@@ -84,7 +84,7 @@ def make_calls(seats: list[Seat]) -> None:
 
 
 class Files(unittest.TestCase):
-    """A folder for files, and tables that are closed behind the test."""
+    """A folder for files, and tables that are closed after the test."""
 
     @classmethod
     def setUpClass(cls) -> None:
@@ -97,7 +97,7 @@ class Files(unittest.TestCase):
         self.path = self.folder / "history"
 
     def closed_behind(self, shared: Shared) -> Shared:
-        """The same table, which is closed behind the test."""
+        """The same table, which is closed after the test."""
         self.addCleanup(shared.close)
         return shared
 
@@ -226,7 +226,7 @@ class Loads(Files):
         self.assertEqual(self.path.read_bytes(), page_bytes()[:BLOCK])
 
     def check_goes_on(self, torn: bytes, entries: list[Entry], saved: bytes) -> None:
-        """Behind a torn end the calls that it lacks make the whole file."""
+        """After a torn end the calls that it lacks make the whole file."""
         for load in (Shared.load, Shared.resume):
             self.path.write_bytes(torn)
             with load(self.path) as shared:
@@ -520,7 +520,7 @@ class Misuse(Files):
         self.assertEqual(shared.save(self.path), Saved(0, BLOCK, 0))
 
     def test_a_file_that_may_not_grow(self) -> None:
-        # A write is cut short at each length in turn, and the next save goes on behind it.
+        # A write is cut short at each length in turn, and the next save goes on after it.
         saved, entries, _ = self.whole()
         limits = resource.getrlimit(resource.RLIMIT_FSIZE)
         self.addCleanup(resource.setrlimit, resource.RLIMIT_FSIZE, limits)

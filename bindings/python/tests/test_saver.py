@@ -53,7 +53,7 @@ class Savers(Files):
         return seat.ordinal
 
     def beside_the_saver(self, shared: Shared, saver: Later, does: Callable[[], None]) -> None:
-        """Threads do it at once, and the saver ends behind them."""
+        """Threads do it at once, and the saver ends after them."""
         works = [Later(does) for _ in range(THREADS)]
         self.assertEqual([it.told() for it in works], [None] * THREADS)
         shared.end_saving()

@@ -5,16 +5,16 @@ import unittest
 from collections.abc import Sequence
 
 from pidtab import LogFault, NotKnown, Replicated
-from pidtab.etcd import JSON, decode, encode
-from pidtab.etcd_guard import HEAD
-from pidtab.keeper import Keeper
-from pidtab.log_form import FORM, MODEL, Settings, write_settings
-from pidtab.snapshots import read_served
+from pidtab.hosts.etcd import JSON, decode, encode
+from pidtab.hosts.etcd_transactions import HEAD
+from pidtab.hosts.keeper import Keeper
+from pidtab.hosts.log_entries import FORM, MODEL, Settings, write_settings
+from pidtab.hosts.snapshots import read_served
 from tests.keeping import Keeping, StillLog, cuts
 from tests.memory_etcd import cluster_in, log_in
 from tests.stand_in import StandIn
 
-# A revision that was set back is behind that which a host has read, or ahead of it by so many writes of others.
+# A revision that was set back is after that which a host has read, or ahead of it by so many writes of others.
 OTHERS = (0, 500)
 
 NOTICED = "etcd was set back to an earlier state, or the entry was deleted; nothing was put"
@@ -50,12 +50,17 @@ class SetBack(Keeping):
         self.assertEqual([table.fork(1).root for _ in range(3)], [7, 8, 9])
         return table
 
+    def begin_set_back(self, others: int) -> tuple[Replicated, Replicated]:
+        """A writer and a reader of a log that was set back, after which others have written so often."""
+        self.begin()
+        revision, writer, reader = self.make_history()
+        self.store.set_back(revision, others)
+        return writer, reader
+
     def test_a_call(self) -> None:
         for others in OTHERS:
             with self.subTest(others):
-                self.begin()
-                revision, writer, reader = self.make_history()
-                self.store.set_back(revision, others)
+                writer, reader = self.begin_set_back(others)
                 before = self.state()
                 self.check_noticed(writer)
                 self.check_noticed(reader)
@@ -65,9 +70,7 @@ class SetBack(Keeping):
     def test_a_read(self) -> None:
         for others in OTHERS:
             with self.subTest(others):
-                self.begin()
-                revision, writer, reader = self.make_history()
-                self.store.set_back(revision, others)
+                writer, reader = self.begin_set_back(others)
                 for table in (reader, writer):
                     with self.assertRaisesRegex(LogFault, NOTICED):
                         table.catch_up()

@@ -503,7 +503,7 @@ class Misuse(unittest.TestCase):
         need_shared()
 
     def open(self, workers: int = 2, **settings: Any) -> Shared:
-        """A new table, which is closed behind the test."""
+        """A new table, which is closed after the test."""
         shared = Shared(workers, **settings)
         self.addCleanup(shared.close)
         return shared
@@ -736,7 +736,7 @@ class Ends(unittest.TestCase):
                 seat.getpid(1)
             self.assertEqual((told, self.closed), ([], 0))
         thread.join(60)
-        # Its call was made, and the end came behind it.
+        # Its call was made, and the end came after it.
         self.assertEqual((told, self.closed), ([2], 1))
 
     def test_a_close_amid_calls_of_many_threads(self) -> None:

@@ -8,7 +8,7 @@ from unittest import mock
 
 from pidtab import MemoryLog, NotKept, NotKnown, Replicated, Table, TableClosed
 from pidtab.calls import Calls
-from pidtab.sights import Change
+from pidtab.hosts.monitoring import Change
 from tests.keeping import LONG, Keeping
 from tests.stand_in import StandIn
 from tests.test_replicated import Flaky
@@ -106,7 +106,7 @@ class Follows(Hosts):
 
     def test_one_that_nobody_takes(self) -> None:
         table = self.open()
-        with mock.patch("pidtab.sights.MOST_CHANGES", 5):
+        with mock.patch("pidtab.hosts.monitoring.MOST_CHANGES", 5):
             changes = table.follow()
             for _ in range(7):
                 table.fork(1)
@@ -122,7 +122,7 @@ class Follows(Hosts):
         table.fork(1)
         # So often it has no memory, and then the table is made anew.
         tables[0].left = 99
-        with mock.patch("pidtab.machine.PAUSES", (0.0, 0.01)), mock.patch("pidtab.replica.REPLAY_PAUSE", 0.01):
+        with mock.patch("pidtab.hosts.machine.PAUSES", (0.0, 0.01)), mock.patch("pidtab.hosts.replica.REPLAY_PAUSE", 0.01):
             self.assertEqual(table.fork(1).root, 3)
         table.catch_up()
         self.assertEqual([next(changes).calls[0][1] for _ in range(2)], ["child 2 root 2", "child 3 root 3"])
@@ -169,7 +169,7 @@ class Bounds(Hosts):
         table = self.open(log)
         table.fork(1)
         log.goes.clear()
-        with mock.patch("pidtab.replica.MOST_WAITING", 3):
+        with mock.patch("pidtab.hosts.replica.MOST_WAITING", 3):
             asked = [table.submit(["fork 1"]) for _ in range(3)]
             with self.assertRaisesRegex(NotKnown, "^3 submits wait for the log already: the calls were not made$") as raised:
                 table.submit(["fork 1"])
@@ -252,7 +252,7 @@ class OfATable(Hosts):
     def test_a_number_of_another_task(self) -> None:
         table = Replicated(MemoryLog(), pid_max=301)
         self.addCleanup(table.close)
-        # Behind the greatest number come those from 300 on.
+        # After the greatest number come those from 300 on.
         while table.fork(1).root != 300:
             pass
         table.label(300, "web")

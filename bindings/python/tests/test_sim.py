@@ -6,8 +6,8 @@ import unittest
 from pathlib import Path
 
 from pidtab import Table
-from pidtab.oci import BadConfig, Description, read_config
 from pidtab.sim import DOCKER, KUBERNETES, NoContainer, Restart, Simulation, World
+from pidtab.sim.oci import BadConfig, Description, read_config
 from tests.ways import need_library
 
 # As `runc spec` writes it, with fewer of its lists' items.
@@ -194,7 +194,7 @@ class Timelines(Tables):
         simulation.at(1.5, simulation.picture)
         simulation.run()
         head = "time,tasks,zombies,up,forks,refused,starts,web,db\n"
-        # What was put there first comes first, so a sample is behind what happens at its time.
+        # What was put there first comes first, so a sample is after what happens at its time.
         self.assertEqual(simulation.csv(), head + "0,1,0,0,0,0,0,0,0\n1,2,0,1,0,0,1,1,0\n2,4,0,1,2,1,1,3,0\n3,1,0,0,2,1,1,0,0\n")
         ((time, listing),) = simulation.moments
         self.assertEqual((time, len(listing.tasks)), (1.5, 2))

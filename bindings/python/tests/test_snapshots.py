@@ -1,4 +1,4 @@
-"""Snapshots of a table on many hosts, case by case: the log is cut behind them, and nothing that was answered is lost or made twice."""
+"""Snapshots of a table on many hosts, case by case: the log is cut after them, and nothing that was answered is lost or made twice."""
 
 import random
 import unittest
@@ -6,15 +6,15 @@ from collections.abc import Callable
 from unittest import mock
 
 from pidtab import Calls, Diverged, LibraryFault, LogFault, MemoryLog, NotKnown, Process, Replicated
-from pidtab.archive import Archive, ArchiveFault
-from pidtab.etcd import JSON, encode
-from pidtab.keeper import ANSWER_SECONDS, Keeper
-from pidtab.log import Log
-from pidtab.log_form import Announced, Settings, read_announced, read_entry, write_announced, write_settings
-from pidtab.machine import Machine
-from pidtab.replay import Replay, join, read_archive
-from pidtab.snapshot import PIECE_BYTES, Snapshot, pack, read_snapshot, sum_of, unpack, write_snapshot
-from pidtab.snapshots import AGREED, SERVED, is_agreed, piece_name, put_sum, read_served
+from pidtab.commands.replay import Replay, join, read_archive
+from pidtab.hosts.archive import Archive, ArchiveFault
+from pidtab.hosts.etcd import JSON, encode
+from pidtab.hosts.keeper import ANSWER_SECONDS, Keeper
+from pidtab.hosts.log import Log
+from pidtab.hosts.log_entries import Announced, Settings, read_announced, read_entry, write_announced, write_settings
+from pidtab.hosts.machine import Machine
+from pidtab.hosts.snapshot import PIECE_BYTES, Snapshot, pack, read_snapshot, sum_of, unpack, write_snapshot
+from pidtab.hosts.snapshots import AGREED, SERVED, is_agreed, piece_name, put_sum, read_served
 from tests.keeping import LONG, MANY, Crash, Keeping, StillLog, announces, cuts, first_kept
 from tests.stand_in import StandIn
 
@@ -48,7 +48,7 @@ class Cuts(Keeping):
 
     def test_the_sessions_go_on(self) -> None:
         # One that was used the longest ago ends first, also on a host that has the sessions of a snapshot.
-        with mock.patch("pidtab.machine.MOST_SESSIONS", 4):
+        with mock.patch("pidtab.hosts.machine.MOST_SESSIONS", 4):
             hosts = [self.open() for _ in range(4)]
             for it in (*hosts, *reversed(hosts)):
                 it.fork(1)
@@ -106,7 +106,7 @@ class Cuts(Keeping):
     def test_an_archive_that_cannot_be_written(self) -> None:
         table, keeper = self.open(), self.keep(archive=Archive(self.folder, self.name))
         before = self.positions()
-        with mock.patch("pidtab.archive.os.fsync", side_effect=OSError(28, "No space left on device")):
+        with mock.patch("pidtab.hosts.archive.os.fsync", side_effect=OSError(28, "No space left on device")):
             self.save_twice(table, keeper)
         self.assertIn(f"nothing is cut: the archive {self.folder} cannot be written: No space left on device", self.said)
         self.assertLessEqual(set(before), set(self.positions()))
@@ -121,11 +121,11 @@ class Walks(Keeping):
     """A log that is cut while somebody reads it."""
 
     def walk(self, is_compacted: bool) -> tuple[list[int], list[int]]:
-        """The positions that a walk gives behind its first page, behind which the log is cut; and those that there were before."""
+        """The positions that a walk gives after its first page, after which the log is cut; and those that there were before."""
         table, keeper, log = self.open(), self.keep(), self.make_log()
         self.fill(table)
         before = self.positions()
-        with mock.patch("pidtab.etcd_log.FIRST_PAGE", 5), mock.patch("pidtab.etcd_log.LONGEST_PAGE", 5):
+        with mock.patch("pidtab.hosts.etcd_log.FIRST_PAGE", 5), mock.patch("pidtab.hosts.etcd_log.LONGEST_PAGE", 5):
             following = log.follow(0)
             self.addCleanup(following.close)
             found = [position for position, _ in next(following).entries]
@@ -146,11 +146,11 @@ class Walks(Keeping):
             self.walk(is_compacted=True)
 
     def test_its_history_is_no_more(self) -> None:
-        # An entry with an early number comes behind the place of the walk, and one with a late one before it.
+        # An entry with an early number comes after the place of the walk, and one with a late one before it.
         table, log = self.open(), self.make_log()
         self.fill(table)
         before = sorted(self.positions())
-        with mock.patch("pidtab.etcd_log.FIRST_PAGE", 5), mock.patch("pidtab.etcd_log.LONGEST_PAGE", 5):
+        with mock.patch("pidtab.hosts.etcd_log.FIRST_PAGE", 5), mock.patch("pidtab.hosts.etcd_log.LONGEST_PAGE", 5):
             following = log.follow(0)
             self.addCleanup(following.close)
             found = [next(following)]
@@ -174,7 +174,7 @@ class Crashes(Keeping):
     many = 10
 
     def crash(self, keeper: Keeper, calls: int, is_behind: bool) -> bool:
-        """Has a keeper crash at one of the calls on etcd that a snapshot takes, before it or behind it; False where there are not so many."""
+        """Has a keeper crash at one of the calls on etcd that a snapshot takes, before it or after it; False where there are not so many."""
         left = [calls]
 
         def count(path: str, body: JSON) -> None:
@@ -216,7 +216,7 @@ class Crashes(Keeping):
                     raise TimeoutError("no answer")
 
             keeper.log._etcd.behind = behind  # type: ignore[attr-defined]
-            with mock.patch("pidtab.keeper.Keeper.pause"):
+            with mock.patch("pidtab.hosts.keeper.Keeper.pause"):
                 self.save_twice(table, keeper)
             self.assertIn("the log does not answer, and is asked again: no answer", self.said)
             self.check_cut()
@@ -289,7 +289,7 @@ class Two(Keeping):
         last = read_served(self.make_log().cells()).all[-1]
         two.close()
         self.save_twice(table, one)
-        # What was checked last serves, however many come behind it.
+        # What was checked last serves, however many come after it.
         self.assertEqual(read_served(self.make_log().cells()).all[0], last)
         late = self.open()
         self.assertEqual(first_kept(late), last.position)
@@ -420,7 +420,7 @@ class Losses(Keeping):
 
 
 class Still(Keeping):
-    """A host that stood still while the log was cut behind it."""
+    """A host that stood still while the log was cut after it."""
 
     def stop(self, sends: bool) -> "tuple[Replicated, Replicated, object]":
         """Such a host, another one, and what it sent."""
@@ -463,7 +463,7 @@ class Still(Keeping):
         self.check_same(other, still, self.open())
 
     def test_its_session_has_ended_meanwhile(self) -> None:
-        with mock.patch("pidtab.machine.MOST_SESSIONS", 2):
+        with mock.patch("pidtab.hosts.machine.MOST_SESSIONS", 2):
             other, keeper, still = self.open(), self.keep(), self.open(StillLog)
             log = still.log
             assert isinstance(log, StillLog)
@@ -532,7 +532,7 @@ class Refused(Keeping):
         self.fill(table)
         for error, words in ((ValueError("line 7: no number left"), "of its text no table is made: line 7: no number left"), (None, "another table is made")):
             made = mock.Mock(side_effect=error, return_value=StandIn())
-            with mock.patch("pidtab.keeper.table_of", made):
+            with mock.patch("pidtab.hosts.keeper.table_of", made):
                 self.assertIsNone(keeper.save())
             self.assertIn(words, self.said[-1])
         self.assertEqual(self.keys("snap"), [])
@@ -603,7 +603,7 @@ class Times(Keeping):
     def check_due(self, keeper: Keeper, is_due: bool) -> None:
         """Whether it is time, once the time of hesitation is over."""
         keeper.catch_up()
-        with mock.patch("pidtab.keeper.HESITATION", 0.0):
+        with mock.patch("pidtab.hosts.keeper.HESITATION", 0.0):
             self.assertEqual(keeper.is_due(), is_due)
 
     def test_by_the_bytes(self) -> None:
@@ -726,7 +726,7 @@ class Seeded(unittest.TestCase):
 
 def check_restored(case: unittest.TestCase, log: MemoryLog, table: Callable[..., Calls]) -> None:
     """At some positions of a log, a snapshot makes the same host again, which goes on as the other one does."""
-    # A repeat of an entry may come late, and behind these.
+    # A repeat of an entry may come late, and after these.
     entries = list(log.entries)
     whole = machine_of(log, table, entries[-1][0])
     for to in range(2, whole.position, 7):

@@ -16,8 +16,8 @@ from pidtab import Table
 from pidtab.forms import ALL_FORMS, form_of, method_of, select_forms
 from pidtab.language import FORMS, judge
 from pidtab.listing import Listing, read_list
-from pidtab.peer import CommandPeer, LeftOut, ObjectPeer
 from pidtab.sight import Sight
+from pidtab.testing.peer import CommandPeer, LeftOut, ObjectPeer
 from tests.toy import Toy
 from tests.ways import need_hypothesis, need_library
 
@@ -30,7 +30,7 @@ with suppress(ImportError):
 PACKAGE = Path(__file__).resolve().parents[1]
 PROGRAM = PACKAGE / "bin" / "pidtab-compare"
 
-# The toy at the other end of a pipe; behind its class stands what it is made with.
+# The toy at the other end of a pipe; after its class stands what it is made with.
 TOY_COMMAND = """\
 import errno, sys
 from tests.toy import Toy
@@ -113,10 +113,10 @@ class Found(unittest.TestCase):
         rig = testing.machine(lambda: Toy("grandparent"), **ONE_NAMESPACE).rig
         needed = ("fork 1", "fork 2", "fork 3", "exit 3 0", "getppid 4")
         for lines in (("fork 1", "getpid 1", "fork 2", "fork 3", "exec 2", "exit 3 0", "fork 4", "setsid 4", "getppid 4"), needed):
-            found = testing.play_again(rig, lines)
+            found = testing.kit.play_again(rig, lines)
             assert found
-            self.assertEqual(testing.leave_out(rig, found).lines, needed)
-        self.assertIsNone(testing.play_again(rig, needed[:-1]))
+            self.assertEqual(testing.kit.leave_out(rig, found).lines, needed)
+        self.assertIsNone(testing.kit.play_again(rig, needed[:-1]))
         self.assertEqual([form_of(line).name for line in ("limit 3 max", "setpgid 1 0 -1", "next 1 group 4", "fork 1 new")],
                          ["limit max", "setpgid", "next group", "fork new"])  # fmt: skip
 
@@ -329,7 +329,7 @@ class Commands(unittest.TestCase):
         self.assertEqual(self.answer("exit 0"), "ended with status 0")
 
     def test_one_that_says_nothing(self) -> None:
-        with mock.patch("pidtab.peer.PATIENCE", 0.2):
+        with mock.patch("pidtab.testing.peer.PATIENCE", 0.2):
             peer = CommandPeer(["sleep", "60"])
             self.assertEqual(peer.answer("fork 1"), "no answer in 0.2 s")
             peer.close()
@@ -394,7 +394,7 @@ class Program(unittest.TestCase):
                     self.assertIn(said, done.stderr)
 
     def test_without_hypothesis(self) -> None:
-        code = "import sys; sys.modules['hypothesis'] = None; sys.argv[1:] = ['cat']; from pidtab.compare import main; main()"
+        code = "import sys; sys.modules['hypothesis'] = None; sys.argv[1:] = ['cat']; from pidtab.commands.compare import main; main()"
         done = subprocess.run([sys.executable, "-B", "-c", code], cwd=PACKAGE, capture_output=True, text=True, check=False)
         self.assertEqual((done.returncode, done.stdout), (2, ""))
         self.assertIn("pidtab.testing needs Hypothesis: ", done.stderr)

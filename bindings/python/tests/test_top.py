@@ -11,7 +11,7 @@ from pathlib import Path
 
 from pidtab import BadHistory, Entry, Shared, Table
 from pidtab.accounts import Accounts
-from pidtab.blocks import follow_file, follow_service
+from pidtab.commands.history_stream import follow_file, follow_service
 from tests.pages import REPOSITORY
 from tests.ways import need_shared
 

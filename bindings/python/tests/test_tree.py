@@ -9,7 +9,7 @@ import threading
 import unittest
 
 from pidtab import BadList, Control, Listing, Space, Task, draw_list, read_list
-from pidtab.service import LIST, POSITION
+from pidtab.commands.service import LIST, POSITION
 from tests.pages import REPOSITORY, blocks, read_page, section, stored_scripts
 
 # So many tasks are drawn in so many seconds, with room for a slow machine.
@@ -160,6 +160,26 @@ class Lists(unittest.TestCase):
         self.assertEqual(listing.controls[2], Control(8, 7, 4194304, 1))
         self.assertEqual([task.root for task in listing.tasks], [1, 2, 3, 5, 6, 9])
         self.assertEqual([task.root for task in listing.tasks if task.killed], [3])
+
+    def test_its_tasks(self) -> None:
+        listing = read_list(WIDE_LIST)
+        self.assertEqual(([task.root for task in listing], len(listing)), ([1, 2, 3, 5, 6, 9], 6))
+        self.assertEqual((listing[5].children, listing[9].numbers), (4, (9, 1)))
+        self.assertEqual([it in listing for it in (2, 4, listing[2], Task((2,), 0, 1, 1, 1, 0, True, None, False, None, False))], [True, False, True, False])
+        with self.assertRaises(KeyError):
+            listing[4]
+        # What it keeps for that is none of its fields.
+        self.assertEqual(listing, read_list(WIDE_LIST))
+
+    def test_a_notebook(self) -> None:
+        listing = read_list(WIDE_LIST)
+        self.assertEqual(listing._repr_html_(), f"<pre>{WIDE_TREE.rstrip()}</pre>")
+        self.assertIn("\n        6 (&lt;b&gt;&amp;) group 5", listing.with_names({6: "<b>&"})._repr_html_())
+        # Six lines beside those of the tasks: three headings, and a line each for the namespace above the tasks, the namespace itself and the control group.
+        space, control = Space(0, None, 2, False), Control(0, None, None, 994)
+        tasks = [Task((it,), 0, int(it > 1), 1, 1, 0, True, None, False, None, False) for it in range(1, 996)]
+        self.assertTrue(Listing(tuple(tasks[:994]), (space,), (control,))._repr_html_().endswith("\n  0 count 994 limit max</pre>"))
+        self.assertTrue(Listing(tuple(tasks), (space,), (control,))._repr_html_().endswith("\ncontrol groups\n.. and 1 more lines</pre>"))
 
     def test_stored_lists_are_read_whole(self) -> None:
         texts = [script.list_text for script in stored_scripts() if script.list_text]

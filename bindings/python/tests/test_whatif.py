@@ -8,7 +8,7 @@ import unittest
 from pathlib import Path
 
 from pidtab import BadHistory, Shared, Table
-from pidtab.whatif import Bound, Log, Logged, World, play
+from pidtab.commands.whatif import Bound, Log, Logged, World, play
 from tests.pages import REPOSITORY, StoredScript, stored_scripts
 from tests.ways import need_library, need_shared
 
@@ -54,7 +54,7 @@ class Bounds(unittest.TestCase):
 
     def test_a_family(self) -> None:
         # Of 3: line 3 is refused, lines 7 and 8 are of task 4. Of 2: lines 2, 3 and 6 are refused, lines 4, 7 and 8 are of tasks 3 and 4.
-        # Of 1: nothing but line 1 is made.
+        # Of 1: nothing except line 1 is made.
         expected = [(4, 0, 0, None), (4, 0, 0, None), (3, 1, 2, 3), (2, 3, 3, 2), (1, 1, 7, 1)]
         self.assertEqual(self.rows(lines(*FAMILY), "--pids-max", "4,3,2,1"), expected)
 
@@ -78,7 +78,7 @@ class Bounds(unittest.TestCase):
         # Of 2, line 8 is refused, and so is line 11: the group's own limits are left out. Of 4 nothing is.
         expected = [(3, 1, 0, 11), (2, 2, 0, 8), (4, 0, 0, None)]
         self.assertEqual(self.rows(lines(*GROUPS), "--control", "1", "--pids-max", "2,4"), expected)
-        # The group 5 is below it, and made behind the limit that is set for it; the group 1 has its limit of 0 in line 11.
+        # The group 5 is below it, and made after the limit that is set for it; the group 1 has its limit of 0 in line 11.
         self.assertEqual(self.rows(lines(*GROUPS), "--control", "5", "--pids-max", "1"), [(2, 1, 0, 11), (1, 2, 0, 8)])
 
     def test_a_fork_that_the_log_refuses(self) -> None:

@@ -158,7 +158,7 @@ class WouldOfShared(unittest.TestCase):
 
 
 class Misuse(unittest.TestCase):
-    """A fork of this process, and an interrupt behind each step."""
+    """A fork of this process, and an interrupt after each step."""
 
     def setUp(self) -> None:
         need_shared()
@@ -174,7 +174,7 @@ class Misuse(unittest.TestCase):
             self.assertEqual(held.would.fork(1), Forked(2, 2))
 
     def interrupt_each(self, ask: Callable[[], object], check: Callable[[], None]) -> None:
-        """Asks until no step is left behind which an interrupt could come, and checks after each."""
+        """Asks until no step is left after which an interrupt could come, and checks after each."""
         places = 0
         while CallInterrupter(places + 1, FILES).run(ask):
             places += 1

@@ -17,7 +17,7 @@ DEFAULT_PID_MAX = 32768
 
 
 class Way(unittest.TestCase):
-    """Opens tables, which are closed behind the test."""
+    """Opens tables, which are closed after the test."""
 
     def open(self, pid_max: int = DEFAULT_PID_MAX) -> Calls:
         """A new table."""

@@ -9,7 +9,7 @@ fn main() -> Result<(), Error> {
     println!("{worker:?}");
     println!("{:?}", table.nspid(1, worker.root)?);
     match table.getpid(99) {
-        Err(Error::Refused { errno, refusal }) => println!("errno {errno}: {refusal}"),
+        Err(Error::Refused { errno, refusal, .. }) => println!("errno {errno}: {refusal}"),
         other => println!("{other:?}"),
     }
     table.exit(container.root, 7)?;

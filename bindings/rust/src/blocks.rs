@@ -9,7 +9,7 @@ pub struct Head {
     pub pid_max: u32,
     /// How many workers there are: 1 to 16.
     pub workers: u32,
-    /// The stamp of the first call behind the head, from 1 on.
+    /// The stamp of the first call after the head, from 1 on.
     pub first_stamp: u64,
 }
 
@@ -79,12 +79,12 @@ impl Blocks {
     /// No entry has more bytes.
     pub const LONGEST: usize = raw::SAVED_LONGEST;
 
-    /// Blocks that go on behind those with this checksum, which [`Blocks::sum`] has told.
+    /// Blocks that go on after those with this checksum, which [`Blocks::sum`] has told.
     pub fn behind(sum: u64) -> Blocks {
         Blocks { sum, wrong: 0 }
     }
 
-    /// Writes the head behind the bytes.
+    /// Writes the head after the bytes.
     ///
     /// # Errors
     /// `Argument` for settings outside their ranges.
@@ -117,7 +117,7 @@ impl Blocks {
         Ok((read, Blocks::behind(sum)))
     }
 
-    /// Writes a call of a worker with its reply behind the bytes.
+    /// Writes a call of a worker with its reply after the bytes.
     ///
     /// # Errors
     /// `OutOfRange` for a worker from 256 on, or a reply with more numbers than a task has; then nothing is written.
@@ -152,7 +152,7 @@ impl Blocks {
         self.sum
     }
 
-    /// Behind a `WrongByte` of a replay: where, in its bytes, the first block begins that is not as it was written.
+    /// After a `WrongByte` of a replay: where, in its bytes, the first block begins that is not as it was written.
     pub fn wrong(&self) -> usize {
         self.wrong
     }
@@ -172,7 +172,7 @@ impl Table {
     /// Makes the saved call at the front of the bytes again, and compares the reply with the saved one.
     ///
     /// # Errors
-    /// `Torn` where the bytes end within it; `WrongByte`, and [`Blocks::wrong`] says where. Behind these the table and the blocks are as they
+    /// `Torn` where the bytes end within it; `WrongByte`, and [`Blocks::wrong`] says where. After these the table and the blocks are as they
     /// were. `Table(Differs)`: the call was made, and has another reply. `Table(OutOfRange)` where there is no such call, `Table(NoMemory)`,
     /// `Table(Spent)`, `Table(Busy)`.
     pub fn replay(&mut self, blocks: &mut Blocks, bytes: &[u8]) -> Result<Replayed, SavedFault> {
@@ -288,7 +288,7 @@ mod tests {
         let mut table = Table::open(32768).expect("a table");
         table.getpid(1).expect("a number");
         let differs = table.replay(&mut blocks, &bytes[Blocks::HEAD..]);
-        // The namespace's id is another, and the reply is the same; a task's number is another behind one more fork.
+        // The namespace's id is another, and the reply is the same; a task's number is another after one more fork.
         assert!(differs.is_ok());
         let (_, mut blocks) = Blocks::read_head(&bytes).expect("a head");
         let mut table = Table::open(32768).expect("a table");

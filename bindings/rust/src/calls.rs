@@ -142,10 +142,14 @@ impl Reply {
 }
 
 impl Reply {
-    /// The error of a reply that is none of the call's others, so a refusal.
-    pub(crate) fn refused<T>(self) -> Result<T, Error> {
+    /// The error of a reply that is none of the call's others, so a refusal; of a read there is no call.
+    pub(crate) fn refused<T>(self, call: Option<Call>) -> Result<T, Error> {
         match self {
-            Reply::Refused { errno, refusal } => Err(Error::Refused { errno, refusal }),
+            Reply::Refused { errno, refusal } => Err(Error::Refused {
+                errno,
+                refusal,
+                call,
+            }),
             other => unreachable!("the library replies {other:?}"),
         }
     }
@@ -177,9 +181,10 @@ pub trait Calls: sealed::Sealed {
     /// # Errors
     /// `Refused` as `NoCaller`, `TooDeep`, `Elsewhere`, `SpaceFallen`, `NoNumber`, `PidsLimit`; `NoMemory`.
     fn fork(&mut self, caller: u32, new_space: bool) -> Result<Child, Error> {
-        match self.call(Call::Fork { caller, new_space })? {
+        let call = Call::Fork { caller, new_space };
+        match self.call(call)? {
             Reply::Forked(child) => Ok(child),
-            other => other.refused(),
+            other => other.refused(Some(call)),
         }
     }
 
@@ -188,9 +193,10 @@ pub trait Calls: sealed::Sealed {
     /// # Errors
     /// `Refused` as `NoCaller`.
     fn getpid(&mut self, caller: u32) -> Result<u32, Error> {
-        match self.call(Call::Getpid { caller })? {
+        let call = Call::Getpid { caller };
+        match self.call(call)? {
             Reply::Number(number) => Ok(number),
-            other => other.refused(),
+            other => other.refused(Some(call)),
         }
     }
 
@@ -199,9 +205,10 @@ pub trait Calls: sealed::Sealed {
     /// # Errors
     /// `Refused` as `NoCaller`, `NoTask`.
     fn nspid(&mut self, caller: u32, number: u32) -> Result<Vec<u32>, Error> {
-        match self.call(Call::Nspid { caller, number })? {
+        let call = Call::Nspid { caller, number };
+        match self.call(call)? {
             Reply::Levels(numbers) => Ok(numbers),
-            other => other.refused(),
+            other => other.refused(Some(call)),
         }
     }
 
@@ -210,9 +217,10 @@ pub trait Calls: sealed::Sealed {
     /// # Errors
     /// `Refused` as `NoCaller`.
     fn exec(&mut self, caller: u32) -> Result<(), Error> {
-        match self.call(Call::Exec { caller })? {
+        let call = Call::Exec { caller };
+        match self.call(call)? {
             Reply::Done => Ok(()),
-            other => other.refused(),
+            other => other.refused(Some(call)),
         }
     }
 
@@ -221,9 +229,10 @@ pub trait Calls: sealed::Sealed {
     /// # Errors
     /// `Refused` as `NoCaller`, `RootInit`.
     fn exit(&mut self, caller: u32, status: u8) -> Result<(), Error> {
-        match self.call(Call::Exit { caller, status })? {
+        let call = Call::Exit { caller, status };
+        match self.call(call)? {
             Reply::Done => Ok(()),
-            other => other.refused(),
+            other => other.refused(Some(call)),
         }
     }
 
@@ -232,10 +241,11 @@ pub trait Calls: sealed::Sealed {
     /// # Errors
     /// `Refused` as `NoCaller`, `NoChild`.
     fn wait(&mut self, caller: u32, which: Which) -> Result<Option<Reaped>, Error> {
-        match self.call(Call::Wait { caller, which })? {
+        let call = Call::Wait { caller, which };
+        match self.call(call)? {
             Reply::Reaped(reaped) => Ok(Some(reaped)),
             Reply::NoneYet => Ok(None),
-            other => other.refused(),
+            other => other.refused(Some(call)),
         }
     }
 
@@ -244,9 +254,10 @@ pub trait Calls: sealed::Sealed {
     /// # Errors
     /// `Refused` as `NoCaller`.
     fn getppid(&mut self, caller: u32) -> Result<u32, Error> {
-        match self.call(Call::Getppid { caller })? {
+        let call = Call::Getppid { caller };
+        match self.call(call)? {
             Reply::Number(number) => Ok(number),
-            other => other.refused(),
+            other => other.refused(Some(call)),
         }
     }
 
@@ -255,9 +266,10 @@ pub trait Calls: sealed::Sealed {
     /// # Errors
     /// `Refused` as `NoCaller`, `BadGroup`, `NoTask`, `OtherSession`, `Executed`, `IsLeader`, `NoGroup`.
     fn setpgid(&mut self, caller: u32, pid: i32, pgid: i32) -> Result<(), Error> {
-        match self.call(Call::Setpgid { caller, pid, pgid })? {
+        let call = Call::Setpgid { caller, pid, pgid };
+        match self.call(call)? {
             Reply::Done => Ok(()),
-            other => other.refused(),
+            other => other.refused(Some(call)),
         }
     }
 
@@ -266,9 +278,10 @@ pub trait Calls: sealed::Sealed {
     /// # Errors
     /// `Refused` as `NoCaller`, `IsLeader`.
     fn setsid(&mut self, caller: u32) -> Result<u32, Error> {
-        match self.call(Call::Setsid { caller })? {
+        let call = Call::Setsid { caller };
+        match self.call(call)? {
             Reply::Number(number) => Ok(number),
-            other => other.refused(),
+            other => other.refused(Some(call)),
         }
     }
 
@@ -277,9 +290,10 @@ pub trait Calls: sealed::Sealed {
     /// # Errors
     /// `Refused` as `NoControl`, `ControlDepth`; `NoMemory`.
     fn mk(&mut self, parent: u64) -> Result<u64, Error> {
-        match self.call(Call::Mk { parent })? {
+        let call = Call::Mk { parent };
+        match self.call(call)? {
             Reply::Control(id) => Ok(id),
-            other => other.refused(),
+            other => other.refused(Some(call)),
         }
     }
 
@@ -288,9 +302,10 @@ pub trait Calls: sealed::Sealed {
     /// # Errors
     /// `Refused` as `NoControl`, `RootControl`, `ControlBusy`.
     fn rm(&mut self, id: u64) -> Result<(), Error> {
-        match self.call(Call::Rm { id })? {
+        let call = Call::Rm { id };
+        match self.call(call)? {
             Reply::Done => Ok(()),
-            other => other.refused(),
+            other => other.refused(Some(call)),
         }
     }
 
@@ -299,9 +314,10 @@ pub trait Calls: sealed::Sealed {
     /// # Errors
     /// `Refused` as `NoControl`, `RootControl`, `BadLimit`.
     fn limit(&mut self, id: u64, limit: Option<u32>) -> Result<(), Error> {
-        match self.call(Call::Limit { id, limit })? {
+        let call = Call::Limit { id, limit };
+        match self.call(call)? {
             Reply::Done => Ok(()),
-            other => other.refused(),
+            other => other.refused(Some(call)),
         }
     }
 
@@ -310,9 +326,10 @@ pub trait Calls: sealed::Sealed {
     /// # Errors
     /// `Refused` as `NoTask`, `NoControl`.
     fn move_task(&mut self, task: u32, id: u64) -> Result<(), Error> {
-        match self.call(Call::Move { task, id })? {
+        let call = Call::Move { task, id };
+        match self.call(call)? {
             Reply::Done => Ok(()),
-            other => other.refused(),
+            other => other.refused(Some(call)),
         }
     }
 
@@ -321,9 +338,10 @@ pub trait Calls: sealed::Sealed {
     /// # Errors
     /// `Refused` as `NoControl`.
     fn count(&mut self, id: u64) -> Result<u64, Error> {
-        match self.call(Call::Count { id })? {
+        let call = Call::Count { id };
+        match self.call(call)? {
             Reply::Counted(count) => Ok(count),
-            other => other.refused(),
+            other => other.refused(Some(call)),
         }
     }
 
@@ -332,9 +350,10 @@ pub trait Calls: sealed::Sealed {
     /// # Errors
     /// `Refused` as `NoCaller`, `NoTask`.
     fn getpgid(&mut self, caller: u32, pid: u32) -> Result<u32, Error> {
-        match self.call(Call::Getpgid { caller, pid })? {
+        let call = Call::Getpgid { caller, pid };
+        match self.call(call)? {
             Reply::Number(number) => Ok(number),
-            other => other.refused(),
+            other => other.refused(Some(call)),
         }
     }
 
@@ -343,9 +362,10 @@ pub trait Calls: sealed::Sealed {
     /// # Errors
     /// `Refused` as `NoCaller`, `NoTask`.
     fn getsid(&mut self, caller: u32, pid: u32) -> Result<u32, Error> {
-        match self.call(Call::Getsid { caller, pid })? {
+        let call = Call::Getsid { caller, pid };
+        match self.call(call)? {
             Reply::Number(number) => Ok(number),
-            other => other.refused(),
+            other => other.refused(Some(call)),
         }
     }
 
@@ -354,10 +374,11 @@ pub trait Calls: sealed::Sealed {
     /// # Errors
     /// `Refused` as `NoCaller`.
     fn next(&mut self, caller: u32, kind: Kind, from: u32) -> Result<Option<u32>, Error> {
-        match self.call(Call::Next { caller, kind, from })? {
+        let call = Call::Next { caller, kind, from };
+        match self.call(call)? {
             Reply::Number(number) => Ok(Some(number)),
             Reply::End => Ok(None),
-            other => other.refused(),
+            other => other.refused(Some(call)),
         }
     }
 
@@ -366,9 +387,10 @@ pub trait Calls: sealed::Sealed {
     /// # Errors
     /// `Refused` as `NoCaller`, `NoTask`.
     fn join(&mut self, caller: u32, number: u32) -> Result<(), Error> {
-        match self.call(Call::Join { caller, number })? {
+        let call = Call::Join { caller, number };
+        match self.call(call)? {
             Reply::Done => Ok(()),
-            other => other.refused(),
+            other => other.refused(Some(call)),
         }
     }
 
@@ -377,9 +399,10 @@ pub trait Calls: sealed::Sealed {
     /// # Errors
     /// `Refused` as `NoCaller`.
     fn subreaper(&mut self, caller: u32, on: bool) -> Result<(), Error> {
-        match self.call(Call::Subreaper { caller, on })? {
+        let call = Call::Subreaper { caller, on };
+        match self.call(call)? {
             Reply::Done => Ok(()),
-            other => other.refused(),
+            other => other.refused(Some(call)),
         }
     }
     // The end of methods.

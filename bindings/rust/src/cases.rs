@@ -123,7 +123,14 @@ impl World {
             let told = by_value.told(entry.call).map(|it| it.reply);
             assert_eq!(told.as_ref(), Ok(&entry.reply));
             let told = by_its_method(by_method, entry.call).or_else(|fault| match fault {
-                Error::Refused { errno, refusal } => Ok(Reply::Refused { errno, refusal }),
+                Error::Refused {
+                    errno,
+                    refusal,
+                    call,
+                } => {
+                    assert_eq!(call, Some(entry.call), "{line}");
+                    Ok(Reply::Refused { errno, refusal })
+                }
                 other => Err(other),
             });
             assert_eq!(told.as_ref(), Ok(&entry.reply), "{line}");
@@ -360,7 +367,7 @@ fn status(fault: &dyn std::fmt::Debug) -> String {
 
 fn say_error(fault: &Error) -> String {
     match fault {
-        Error::Refused { errno, refusal } => format!("{} {refusal}", errno_name(*errno)),
+        Error::Refused { errno, refusal, .. } => format!("{} {refusal}", errno_name(*errno)),
         other => status(other),
     }
 }
@@ -395,11 +402,12 @@ fn say(reply: &Reply) -> String {
         Reply::Refused { errno, refusal } => say_error(&Error::Refused {
             errno: *errno,
             refusal: *refusal,
+            call: None,
         }),
     }
 }
 
-/// What became of a task, behind a comma.
+/// What became of a task, after a comma.
 /// The numbers of a page.
 fn say_page(told: Result<Vec<u32>, Error>) -> String {
     match told.as_deref() {

@@ -2,7 +2,7 @@
 use crate::numbers::ended_of;
 use crate::{raw, Ended, Error, Reply};
 
-/// What a call did to a task, or what is there no more behind it. All numbers are root numbers. More may come.
+/// What a call did to a task, or what is there no more after it. All numbers are root numbers. More may come.
 #[derive(Clone, Copy, Debug, PartialEq, Eq, Hash)]
 #[non_exhaustive]
 pub enum Effect {
@@ -317,7 +317,7 @@ mod tests {
         assert_eq!(vast, Err(Error::NoMemory));
     }
 
-    /// Threads fork children of a task that ends: each child that was made has another parent behind it.
+    /// Threads fork children of a task that ends: each child that was made has another parent after it.
     #[test]
     fn beside_threads_that_fork() {
         const FORKS: usize = 100;

@@ -1,5 +1,5 @@
 //! Why a call has no other answer.
-use crate::{raw, Argument};
+use crate::{raw, Argument, Call};
 use std::{fmt, io};
 
 // Written by tools/interface: refusals.
@@ -150,7 +150,7 @@ impl fmt::Display for Refusal {
 ///
 /// let fault = remove(&mut Table::open(32768)?).unwrap_err();
 /// assert_eq!(fault.kind(), io::ErrorKind::NotFound);
-/// assert_eq!(fault.to_string(), "no-control (errno 2)");
+/// assert_eq!(fault.to_string(), "rm 7: no-control (errno 2)");
 /// # Ok::<(), io::Error>(())
 /// ```
 #[derive(Clone, Copy, Debug, PartialEq, Eq, Hash)]
@@ -162,6 +162,8 @@ pub enum Error {
         errno: i32,
         /// Why.
         refusal: Refusal,
+        /// The call; none for a read that is no call, as `stat`, and for one that was made by another.
+        call: Option<Call>,
     },
     /// There was no memory: for a table, a fork, a new control group or a list; for any call of a [`Seat`](crate::Seat), as its entry takes
     /// memory; for entries that are read, and for a cut.
@@ -254,6 +256,23 @@ impl Error {
         Some(status as i32)
     }
 
+    /// Why the table refuses a call; none for an error that is no refusal.
+    ///
+    /// ```
+    /// use pidtab::{Calls, Refusal, Table};
+    ///
+    /// let fault = Table::open(32768)?.getpid(99).unwrap_err();
+    /// assert_eq!(fault.refusal(), Some(Refusal::NoCaller));
+    /// assert_eq!(fault.to_string(), "getpid 99: no-caller (errno 3)");
+    /// # Ok::<(), pidtab::Error>(())
+    /// ```
+    pub fn refusal(&self) -> Option<Refusal> {
+        match self {
+            Error::Refused { refusal, .. } => Some(*refusal),
+            _ => None,
+        }
+    }
+
     /// Nothing where the status is `DONE`; else what it says.
     pub(crate) fn unless_done(status: u32) -> Result<(), Error> {
         raw::done(status, ()).map_err(Error::of)
@@ -263,7 +282,16 @@ impl Error {
 impl fmt::Display for Error {
     fn fmt(&self, to: &mut fmt::Formatter<'_>) -> fmt::Result {
         match self {
-            Error::Refused { errno, refusal } => write!(to, "{refusal} (errno {errno})"),
+            Error::Refused {
+                errno,
+                refusal,
+                call,
+            } => {
+                if let Some(call) = call {
+                    write!(to, "{}: ", call.line())?;
+                }
+                write!(to, "{refusal} (errno {errno})")
+            }
             Error::NoMemory => to.write_str("no memory"),
             Error::Spent => to.write_str("spent"),
             Error::Argument(outside) => outside.fmt(to),
@@ -305,7 +333,7 @@ impl From<Error> for io::Error {
     }
 }
 
-/// Why a replay stopped: the entries before the place were made again, and none behind it.
+/// Why a replay stopped: the entries before the place were made again, and none after it.
 ///
 /// As an [`Error`] it is the error alone, so that `?` takes it there.
 #[derive(Clone, Copy, Debug, PartialEq, Eq, Hash)]
@@ -561,7 +589,11 @@ mod tests {
     /// The numbers are those of errno(3).
     #[test]
     fn each_error_has_an_errno() {
-        let refused = |errno, refusal| Error::Refused { errno, refusal };
+        let refused = |errno, refusal| Error::Refused {
+            errno,
+            refusal,
+            call: None,
+        };
         for (error, errno) in [
             (refused(3, Refusal::NoTask), 3),
             (refused(11, Refusal::PidsLimit(4)), 11),
@@ -582,8 +614,32 @@ mod tests {
     }
 
     #[test]
+    fn a_refusal_says_which_call() {
+        let (errno, refusal) = (11, Refusal::PidsLimit(4));
+        let fork = Call::Fork {
+            caller: 7,
+            new_space: true,
+        };
+        let said = |call| {
+            Error::Refused {
+                errno,
+                refusal,
+                call,
+            }
+            .to_string()
+        };
+        assert_eq!(said(Some(fork)), "fork 7 new: pids-limit 4 (errno 11)");
+        assert_eq!(said(None), "pids-limit 4 (errno 11)");
+        assert_eq!(Error::Busy.refusal(), None);
+    }
+
+    #[test]
     fn each_error_is_one_of_io() {
-        let refused = |errno, refusal| Error::Refused { errno, refusal };
+        let refused = |errno, refusal| Error::Refused {
+            errno,
+            refusal,
+            call: None,
+        };
         as_io(refused(2, Refusal::NoControl), 2);
         as_io(refused(13, Refusal::Executed), 13);
         as_io(refused(11, Refusal::PidsLimit(4)), 11);

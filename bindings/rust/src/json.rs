@@ -132,7 +132,7 @@ impl Error {
     /// A refusal as JSON, as docs/list.schema.json has it; none for an error that is no refusal.
     pub fn to_json(&self) -> Option<String> {
         match self {
-            Error::Refused { errno, refusal } => Some(refusal_object(*errno, *refusal)),
+            Error::Refused { errno, refusal, .. } => Some(refusal_object(*errno, *refusal)),
             _ => None,
         }
     }

@@ -116,7 +116,11 @@ fn find(task: u32) -> Call {
 /// The root number of a task that was found, where 0 is the root init.
 fn root_of(task: u32, found: &Reply) -> Result<u32, Error> {
     match *found {
-        Reply::Refused { errno, refusal } => Err(Error::Refused { errno, refusal }),
+        Reply::Refused { errno, refusal } => Err(Error::Refused {
+            errno,
+            refusal,
+            call: None,
+        }),
         _ => Ok(task.max(INIT)),
     }
 }
@@ -227,7 +231,14 @@ mod tests {
         assert_eq!(labels_of(shared.lock().listing()), []);
         assert_eq!(shared.label(1, "a\nb"), Err(Error::BadLabel));
         let (errno, refusal) = (3, Refusal::NoTask);
-        assert_eq!(shared.label(9, "x"), Err(Error::Refused { errno, refusal }));
+        assert_eq!(
+            shared.label(9, "x"),
+            Err(Error::Refused {
+                errno,
+                refusal,
+                call: None
+            })
+        );
     }
 
     #[test]
@@ -237,6 +248,13 @@ mod tests {
             assert_eq!(table.label(1, label), Err(Error::BadLabel), "{label:?}");
         }
         let (errno, refusal) = (3, Refusal::NoTask);
-        assert_eq!(table.label(9, "x"), Err(Error::Refused { errno, refusal }));
+        assert_eq!(
+            table.label(9, "x"),
+            Err(Error::Refused {
+                errno,
+                refusal,
+                call: None
+            })
+        );
     }
 }

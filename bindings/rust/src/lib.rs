@@ -4,15 +4,16 @@
 //! [`Child::root`]; every other process number is the caller's own. A refusal has the errno that the kernel would give:
 //!
 //! ```
-//! use pidtab::{Calls, Error, Refusal, Table};
+//! use pidtab::{Calls, Refusal, Table};
 //!
 //! let mut table = Table::open(32768)?;
 //! let child = table.fork(1, true)?;
 //! assert_eq!((child.number, child.root), (2, 2));
 //! assert_eq!(table.getpid(child.root)?, 1);
-//! let (errno, refusal) = (3, Refusal::NoCaller);
-//! assert_eq!(table.getpid(99), Err(Error::Refused { errno, refusal }));
-//! # Ok::<(), Error>(())
+//! let fault = table.getpid(99).unwrap_err();
+//! assert_eq!((fault.refusal(), fault.raw_os_error()), (Some(Refusal::NoCaller), Some(3)));
+//! assert_eq!(fault.to_string(), "getpid 99: no-caller (errno 3)");
+//! # Ok::<(), pidtab::Error>(())
 //! ```
 //!
 //! A [`Shared`] is such a table for many threads, with its history, which [`Shared::save`] writes and [`Shared::load`] reads. The calls are

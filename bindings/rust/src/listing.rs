@@ -47,7 +47,7 @@ impl Task {
 #[non_exhaustive]
 pub struct Space {
     // Written by tools/interface: fields of a namespace.
-    /// Its id: 0 for the root, or the number of the call that made it.
+    /// Its id, 0 for the root.
     pub id: u64,
     /// The id of the namespace around it, none for the root.
     pub parent: Option<u64>,
@@ -63,7 +63,7 @@ pub struct Space {
 #[non_exhaustive]
 pub struct Control {
     // Written by tools/interface: fields of a control group.
-    /// Its id: 0 for the root, or the number of the call that made it.
+    /// Its id, 0 for the root.
     pub id: u64,
     /// The id of the control group above it, none for the root.
     pub parent: Option<u64>,
@@ -191,7 +191,7 @@ impl<'a> Words<'a> {
         is_there
     }
 
-    /// What stands behind the word, which has to be there.
+    /// What stands after the word, which has to be there.
     fn behind(&mut self, word: &str) -> Option<&'a str> {
         if self.mark(word) {
             self.take()
@@ -200,17 +200,17 @@ impl<'a> Words<'a> {
         }
     }
 
-    /// The number behind the word.
+    /// The number after the word.
     fn number<T: FromStr>(&mut self, word: &str) -> Option<T> {
         number(self.behind(word)?)
     }
 
-    /// The numbers behind the word.
+    /// The numbers after the word.
     fn numbers(&mut self, word: &str) -> Option<Vec<u32>> {
         self.behind(word)?.split(',').map(number).collect()
     }
 
-    /// The number behind the word, but none for the one that stands for none.
+    /// The number after the word, but none for the one that stands for none.
     fn unless<T: FromStr>(&mut self, word: &str, none: &str) -> Option<Option<T>> {
         let told = self.behind(word)?;
         if told == none {
@@ -219,7 +219,7 @@ impl<'a> Words<'a> {
         number(told).map(Some)
     }
 
-    /// The id behind the word, but none where the word is not there.
+    /// The id after the word, but none where the word is not there.
     fn apart(&mut self, word: &str) -> Option<Option<u64>> {
         if self.0.first() != Some(&word) {
             return Some(None);
@@ -238,7 +238,7 @@ impl<'a> Words<'a> {
     }
 }
 
-/// What a line says by the reader of its kind, where it is one with nothing behind it.
+/// What a line says by the reader of its kind, where it is one with nothing after it.
 fn whole<T>(words: &[&str], read: impl Fn(&mut Words<'_>) -> Option<T>) -> Option<T> {
     let mut words = Words(words);
     read(&mut words).filter(|_| words.0.is_empty())

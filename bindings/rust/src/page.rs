@@ -17,7 +17,7 @@ pub(crate) fn all(
         Error::unless_done(page(&mut numbers, &mut reply))?;
         there = match Reply::of(&reply) {
             Reply::Counted(count) => count as usize,
-            other => return other.refused(),
+            other => return other.refused(None),
         };
         if there <= numbers.len() {
             numbers.truncate(there);
@@ -272,7 +272,14 @@ mod tests {
         assert_eq!(table.group_members(1, 0, u32::MAX), Ok(vec![]));
         let (errno, refusal) = (3, Refusal::NoCaller);
         for refused in [table.children(5, 0, 0), table.session_members(9, 1, 0)] {
-            assert_eq!(refused, Err(Error::Refused { errno, refusal }));
+            assert_eq!(
+                refused,
+                Err(Error::Refused {
+                    errno,
+                    refusal,
+                    call: None
+                })
+            );
         }
         assert_eq!(table.mk(0), Ok(7));
     }
@@ -299,7 +306,13 @@ mod tests {
             let found = table.control_tasks(caller, control, from);
             assert_eq!(found.as_deref(), Ok(tasks));
         }
-        let refused = |errno, refusal| Err(Error::Refused { errno, refusal });
+        let refused = |errno, refusal| {
+            Err(Error::Refused {
+                errno,
+                refusal,
+                call: None,
+            })
+        };
         assert_eq!(table.control_tasks(6, 9, 0), refused(3, Refusal::NoCaller));
         assert_eq!(table.control_tasks(1, 9, 0), refused(2, Refusal::NoControl));
         // 4 is the id of a namespace.

@@ -1173,7 +1173,7 @@ pub(crate) fn take_entry(bytes: &[u8], size: &mut usize, sum: &mut u64) -> Resul
     done(status, entry)
 }
 
-/// Reads on behind the last whole entry of a saved history. Where it is done, a size of 0 is the end, where so many bytes are left out.
+/// Reads on after the last whole entry of a saved history. Where it is done, a size of 0 is the end, where so many bytes are left out.
 pub(crate) fn next_entry(
     bytes: &[u8],
     is_end: bool,

@@ -16,7 +16,7 @@ pub struct Saved {
     bytes: u64,
     left_out: u64,
     sum: u64,
-    // So many bytes a write that failed has left behind the last whole call.
+    // So many bytes a write that failed has left after the last whole call.
     part: usize,
     is_torn: bool,
 }
@@ -37,12 +37,12 @@ impl Saved {
         self.bytes
     }
 
-    /// How many bytes of a torn end a load has left out behind them.
+    /// How many bytes of a torn end a load has left out after them.
     pub fn left_out(&self) -> u64 {
         self.left_out
     }
 
-    /// Cuts off the file what is behind the last whole call: a torn end that a load has left out, or what a write that failed has left. Then
+    /// Cuts off the file what is after the last whole call: a torn end that a load has left out, or what a write that failed has left. Then
     /// the file's position is its end, and a save goes on there. [`Options::resume`] does so.
     ///
     /// # Errors
@@ -100,7 +100,7 @@ impl Saved {
         Ok(())
     }
 
-    /// Writes the next entries, at most a batch. Behind a write that failed, what is whole counts, and the rest is the part: so the next write is
+    /// Writes the next entries, at most a batch. After a write that failed, what is whole counts, and the rest is the part: so the next write is
     /// of the same entry, and perhaps more, and the same bytes come first.
     fn write_entries(
         &mut self,
@@ -122,7 +122,7 @@ impl Saved {
         Ok(written?)
     }
 
-    /// What is behind the last whole call is left out.
+    /// What is after the last whole call is left out.
     fn leave_out(&mut self, count: u64) {
         self.left_out = count;
         self.is_torn = count != 0;
@@ -162,11 +162,11 @@ impl Shared {
     /// # Ok::<(), std::io::Error>(())
     /// ```
     ///
-    /// What a `File` was given survives the process, and behind `File::sync_data` the machine. A call that is saved may be cut, by
+    /// What a `File` was given survives the process, and after `File::sync_data` the machine. A call that is saved may be cut, by
     /// [`Shared::checkpoint_at`] with [`Saved::calls`].
     ///
     /// # Errors
-    /// `Io`: behind it, the next save to the same writer goes on with the byte that is missing, so nothing is lost or doubled. Short and
+    /// `Io`: after it, the next save to the same writer goes on with the byte that is missing, so nothing is lost or doubled. Short and
     /// interrupted writes are gone on with. `Table(NotKept)` where the next call to be saved was cut away, and of a
     /// table that [`Shared::from_dump`] made. `OtherTable`; `Torn` where a load
     /// has left out a torn end that is not trimmed; `Table(Busy)`.
@@ -176,7 +176,7 @@ impl Shared {
     }
 
     /// The saver of a table that threads work on, in a thread of its own. It saves, sleeps until a call is recorded, and begins again, until
-    /// [`Shared::end_saving`]. Each turn ends with `sync`, as `File::sync_data`, so one sync serves all that wait: only behind it a turn's calls
+    /// [`Shared::end_saving`]. Each turn ends with `sync`, as `File::sync_data`, so one sync serves all that wait: only after it a turn's calls
     /// count as saved. Where `keep` is not 0, it cuts the history whenever that has so many entries: all others wait while the last entries are
     /// written and the kept ones made once more.
     ///
@@ -203,7 +203,7 @@ impl Shared {
     /// ```
     ///
     /// # Errors
-    /// Those of [`Shared::save`], and `Io` of the sync. Who waits has them too. It may be called again; but behind a sync of a `File` that failed,
+    /// Those of [`Shared::save`], and `Io` of the sync. Who waits has them too. It may be called again; but after a sync of a `File` that failed,
     /// nobody knows what the disk has: load it.
     pub fn serve<W: Write>(
         &self,
@@ -213,7 +213,7 @@ impl Shared {
         mut sync: impl FnMut() -> io::Result<()>,
     ) -> Result<(), SavedError> {
         let (mut has_ended, mut is_last) = (false, false);
-        // One turn more behind the end, for what was recorded before it.
+        // One turn more after the end, for what was recorded before it.
         while !is_last {
             is_last = has_ended;
             let mut done = self.save_on(saved, &mut to);
@@ -226,7 +226,7 @@ impl Shared {
         Ok(())
     }
 
-    /// Waits until the call with the ordinal is saved: behind the [`Shared::save`], the load or the turn of [`Shared::serve`] that has it. Each of
+    /// Waits until the call with the ordinal is saved: after the [`Shared::save`], the load or the turn of [`Shared::serve`] that has it. Each of
     /// these wakes all that wait. It costs a lock, and a sleep where the call is not saved yet.
     ///
     /// # Errors
@@ -295,7 +295,7 @@ impl Shared {
         saved.write_up_to(counts.recorded, to, read)
     }
 
-    /// Cuts the history where it is long enough, behind its last entries. Where there is no memory for that, it grows on.
+    /// Cuts the history where it is long enough, after its last entries. Where there is no memory for that, it grows on.
     fn cut_saved(
         &self,
         saved: &mut Saved,
@@ -331,7 +331,7 @@ impl Shared {
 impl Options {
     /// As [`Shared::load`], from the beginning of a file, which then goes on: a torn end is cut off, and the file's position is its end.
     ///
-    /// A file that is empty, or ends within its head, is begun, and the table has these options. Those of another file are its own. Behind
+    /// A file that is empty, or ends within its head, is begun, and the table has these options. Those of another file are its own. After
     /// this, [`Options::keep`] is never used: no call is cut unasked that is not saved.
     ///
     /// The file is opened to be read and to be written. One process at a time has it.
@@ -349,7 +349,7 @@ impl Options {
     /// ```
     ///
     /// # Errors
-    /// Those of a load but for `Torn`; `Table(OutOfRange)` for options outside their ranges; `Io` where the file cannot be written or cut too.
+    /// Those of a load except for `Torn`; `Table(OutOfRange)` for options outside their ranges; `Io` where the file cannot be written or cut too.
     ///
     /// # Panics
     /// As [`Options::open`].
@@ -373,7 +373,7 @@ impl Options {
     }
 }
 
-/// Opens a table by the head, and makes the calls behind it.
+/// Opens a table by the head, and makes the calls after it.
 fn load_into(saved: &mut Saved, from: impl Read, keep: u64) -> Result<Shared, SavedFault> {
     let mut input = Input::of(from);
     let head = input.take_head(saved)?;
@@ -399,7 +399,7 @@ struct Input<R> {
     bytes: Vec<u8>,
     taken: usize,
     has_ended: bool,
-    // So many bytes behind the last whole entry are passed.
+    // So many bytes after the last whole entry are passed.
     left_out: u64,
 }
 
@@ -507,7 +507,7 @@ impl SavedError {
 pub enum SavedFault {
     /// A read or a write failed, or the cut of a torn end. `WriteZero` is a writer that takes no byte.
     Io(io::Error),
-    /// The bytes end within the head: there is no history yet. Of a save: a torn end is behind the last whole call yet.
+    /// The bytes end within the head: there is no history yet. Of a save: a torn end is after the last whole call yet.
     Torn,
     /// The bytes are no saved history.
     NotSaved,

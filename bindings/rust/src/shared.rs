@@ -61,7 +61,7 @@ impl Options {
         }
     }
 
-    /// How many entries are kept at most: a call behind which there are more cuts the first, which costs that call once more. 0, as without
+    /// How many entries are kept at most: a call after which there are more cuts the first, which costs that call once more. 0, as without
     /// this, is any number.
     pub fn keep(self, keep: u64) -> Options {
         Options { keep, ..self }
@@ -568,7 +568,7 @@ impl Shared {
     }
     // The end of forwards.
 
-    /// Has a table that began as this one did make the calls from `next` on that are recorded by now, and moves `next` behind them. So
+    /// Has a table that began as this one did make the calls from `next` on that are recorded by now, and moves `next` after them. So
     /// [`Table::dump`] of it is the text of the state in front of the call `next`, and no call waits for it.
     ///
     /// The replica is opened with the same `pid_max`, and `next` is 0, where the first stamp is 1; or it is made of a text of [`Shared::dump`],
@@ -1632,7 +1632,7 @@ mod tests {
         assert_eq!((seat.ordinal(), seat.getpid(1)), (None, Ok(1)));
     }
 
-    /// While a query is under way another one is answered, and a call waits. Then a query waits behind the call, and sees what it has done.
+    /// While a query is under way another one is answered, and a call waits. Then a query waits after the call, and sees what it has done.
     #[test]
     fn queries_at_once() {
         let shared = Shared::open(32768, 1).expect("a table");

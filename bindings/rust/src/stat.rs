@@ -17,6 +17,7 @@ impl Stat {
             errno => Err(Error::Refused {
                 errno: errno as i32,
                 refusal: Refusal::of(task.refusal, 0),
+                call: None,
             }),
         }
     }
@@ -145,8 +146,22 @@ mod tests {
         table.exit(2, 0).expect("an end");
         assert!(table.stat(1, 3).is_err());
         let (errno, refusal) = (3, Refusal::NoCaller);
-        assert_eq!(table.stat(9, 0), Err(Error::Refused { errno, refusal }));
+        assert_eq!(
+            table.stat(9, 0),
+            Err(Error::Refused {
+                errno,
+                refusal,
+                call: None
+            })
+        );
         let refusal = Refusal::NoTask;
-        assert_eq!(table.stat(1, 9), Err(Error::Refused { errno, refusal }));
+        assert_eq!(
+            table.stat(1, 9),
+            Err(Error::Refused {
+                errno,
+                refusal,
+                call: None
+            })
+        );
     }
 }

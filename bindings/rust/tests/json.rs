@@ -16,7 +16,12 @@ fn answers() {
     assert_eq!(refused.as_deref(), Some(wanted));
     let (errno, refusal) = (11, Refusal::NoNumber(u64::MAX));
     let wanted = r#"{"error":"EAGAIN","word":"no-number","id":18446744073709551615}"#;
-    let refused = Error::Refused { errno, refusal }.to_json();
+    let refused = Error::Refused {
+        errno,
+        refusal,
+        call: None,
+    }
+    .to_json();
     assert_eq!(refused.as_deref(), Some(wanted));
     assert_eq!(Error::NoMemory.to_json(), None);
 }

@@ -193,7 +193,7 @@ fn facts(saved: &Saved) -> (u64, u64, u64) {
     (saved.calls(), saved.bytes(), saved.left_out())
 }
 
-/// A file of this test, which is removed behind it.
+/// A file of this test, which is removed after it.
 struct Kept {
     path: PathBuf,
 }
@@ -423,7 +423,7 @@ fn entries_that_no_table_has() {
     for (at, put, calls) in [(72, 3, 0), (124, 2, 1), (149, 5, 2)] {
         refused(&changed(at, &[put]), calls, "a reply is not the saved one");
     }
-    // No operation, no worker; and more levels than any task has, which would be behind the end.
+    // No operation, no worker; and more levels than any task has, which would be after the end.
     refused(&changed(96, &[19]), 1, "out of range");
     refused(&changed(98, &[2]), 1, "out of range");
     for levels in [34, 255] {
@@ -481,7 +481,7 @@ fn entries_that_are_cut_as_they_load() {
     assert_eq!([bytes, more].concat(), bytes_of(&shared));
 }
 
-/// A device: it moves a byte at a time, each second try is interrupted, and behind so many bytes it fails.
+/// A device: it moves a byte at a time, each second try is interrupted, and after so many bytes it fails.
 struct Device<T> {
     of: T,
     left: usize,
@@ -528,7 +528,7 @@ fn is_of_the_device(fault: &SavedError) -> bool {
     matches!(&fault.fault, SavedFault::Io(it) if it.kind() == io::ErrorKind::TimedOut)
 }
 
-/// Behind a write that failed at each byte, the next save goes on with the same byte, also where calls came between.
+/// After a write that failed at each byte, the next save goes on with the same byte, also where calls came between.
 #[test]
 fn a_writer_that_fails_after_each_byte() {
     let (shared, bytes) = whole();

@@ -65,7 +65,7 @@ fn ask(seat: &mut Seat<'_>) -> u64 {
     seat.ordinal().expect("an ordinal")
 }
 
-/// The threads do it at once beside the saver, which ends behind them: how many calls are saved.
+/// The threads do it at once beside the saver, which ends after them: how many calls are saved.
 fn beside_the_saver(shared: &Shared, disk: &Disk, keep: u64, does: impl Fn() + Sync) -> u64 {
     let mut saved = Saved::new();
     thread::scope(|scope| {
@@ -80,7 +80,7 @@ fn beside_the_saver(shared: &Shared, disk: &Disk, keep: u64, does: impl Fn() + S
     saved.calls()
 }
 
-/// Each call is behind a sync when it is answered. No thread has more than one that is not, so a cut leaves as many as there are threads.
+/// Each call is after a sync when it is answered. No thread has more than one that is not, so a cut leaves as many as there are threads.
 #[test]
 fn each_answer_is_on_the_disk() {
     let (shared, disk) = (open(), Disk::default());
@@ -221,7 +221,7 @@ fn wait_until(holds: impl Fn() -> bool) {
     }
 }
 
-/// All busy threads wait for the lock, and behind them one that counts: how many calls come before it.
+/// All busy threads wait for the lock, and after them one that counts: how many calls come before it.
 fn calls_before_the_count(shared: &Shared, busy: &[AtomicU32]) -> u64 {
     let counting = AtomicU32::new(0);
     thread::scope(|scope| {

@@ -143,7 +143,7 @@ fn sixteen_threads_share_a_table() {
     assert_eq!(shared.worker(3), Ok(EACH as u64));
 }
 
-/// With `keep` the history is not longer behind a replay either.
+/// With `keep` the history is not longer after a replay either.
 #[test]
 fn a_bound_behind_a_replay() {
     let shared = open(1);

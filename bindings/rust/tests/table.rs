@@ -15,7 +15,7 @@ fn child(number: u32, root: u32) -> Result<Child, Error> {
 fn what_errors_say() {
     let mut table = open();
     let fault = table.getpid(9).expect_err("nobody");
-    assert_eq!(fault.to_string(), "no-caller (errno 3)");
+    assert_eq!(fault.to_string(), "getpid 9: no-caller (errno 3)");
     assert_eq!(Refusal::NoNumber(0).to_string(), "no-number 0");
     assert_eq!(Error::NoMemory.to_string(), "no memory");
     assert_eq!(

@@ -1,0 +1,1 @@
+"""The programs beside `pidtab`, one module each with a `main`, and what they share."""

@@ -1,0 +1,621 @@
+"""One host's part in a table on many hosts, in steps: it follows the log, appends to it, and watches the time."""
+
+import copy
+import logging
+import threading
+import time
+from collections import deque
+from collections.abc import Callable, Sequence
+from contextlib import suppress
+from typing import TypeVar
+
+from pidtab.calls import Calls
+from pidtab.changed import Changed
+from pidtab.faults import Diverged, LogFault, NotKnown, ProgramFault, TableClosed
+from pidtab.hosts.backoff import Backoff
+from pidtab.hosts.crew import Crew
+from pidtab.hosts.log import CutLog, Following, Log, Progress
+from pidtab.hosts.log_entries import ANNOUNCES, FORM, MODEL, MOST_BYTES, OPEN, SHORT_DIGEST, Announced, Asked, Settings, Wanted, read_entry, write_calls, write_end, write_settings
+from pidtab.hosts.machine import NoMemory, Outcome, text_of
+from pidtab.hosts.machines import open_machine
+from pidtab.hosts.monitoring import Change, Changes, Numbers, change_of
+from pidtab.hosts.snapshots import Checker
+from pidtab.hosts.submitted import Part, Receipt, Submitted, deadline_behind
+from pidtab.labels import Labels
+
+T = TypeVar("T")
+
+# What says that a table is not that of the log any more.
+LOSSES = (NoMemory, ProgramFault, MemoryError)
+
+# So often a table is made anew from the log without a gain of so many positions; then the replica stops.
+MOST_REPLAYS = 4
+GAIN = 1000
+
+# Seconds before the next of them, times how many there were.
+REPLAY_PAUSE = 0.5
+
+# A reader that waits so long for its own log asks for a mark, which the log's follower reaches by itself.
+SOON = 0.02
+
+# At least so many tries of the log are made within the patience, if it answers at once.
+PATIENCE_TRIES = 8
+
+CLOSED = "the table was closed"
+
+# So many submits may wait for answers at once: each takes some 2 KB.
+MOST_WAITING = 100_000
+
+# Silent, unless the program has it written somewhere.
+LOGGER = logging.getLogger("pidtab")
+LOGGER.addHandler(logging.NullHandler())
+
+
+class Batch:
+    """The parts of one entry of calls."""
+
+    def __init__(self, session: int, sequence: int, parts: Sequence[Part], place: tuple[int, str]) -> None:
+        self.session = session
+        self.sequence = sequence
+        self.parts = parts
+        position, digest = place
+        lines = [line for part in parts for line in part.lines]
+        self.entry = write_calls(Asked(session, sequence, position, digest[:SHORT_DIGEST], lines))
+
+
+class Replica:
+    """A table that follows a log, and what this host puts into it.
+
+    An interrupt comes into a thread of the caller alone. So what takes several steps is done by a crew: three threads of its own, or some that
+    serve many replicas. One thread at a time follows, one appends, and one watches the time.
+
+    Nothing here has its own reference to the `Replicated` that it serves, but by what was submitted and is not answered.
+    """
+
+    def __init__(
+        self, log: Log, pid_max: int, open_table: Callable[[], Calls], patience: float, hire: "Callable[[Replica], Crew]", checks: bool = False
+    ) -> None:
+        self.log = log
+        self.patience = patience
+        self.settings = Settings(FORM, pid_max, MODEL)
+        self.open_table = open_table
+        # Set in a forked child, where the threads are not.
+        self.left = False
+        self.stopped = False
+        self.closing = False
+        # Nothing is waited for any more.
+        self.hurried = False
+        self.fault: Exception | None = None
+        # What the log last said that it could not do, for the words of a fault; and what of that was written to the program's log.
+        self._trouble: Exception | None = None
+        self._told_trouble = ""
+        # Whether the log has done nothing since then.
+        self._ails = False
+        # What is counted, and when something was heard of the log, and of a snapshot.
+        self.retries = self.not_known = self.all_replays = 0
+        self.heard_at, self.snapshot_at = time.monotonic(), 0.0
+        self.labels = Labels()
+        self.feeds: Sequence[Changes] = ()
+        # The position up to which the log was read; entries behind it may be applied already.
+        self.seen = 0
+        # Why the table is not that of the log any more; None where it is.
+        self.lost: Exception | None = None
+        self.replays = 0
+        self.failed_at = 0
+        self.changed = Changed()
+        self._have_nothing_to_send()
+        self.following: Following | None = None
+        self.table_lock = threading.Lock()
+        # Its sums, if this host checks snapshots.
+        self.checker = Checker() if checks else None
+        self.machine = open_machine(open_table, self.settings)
+        if checks:
+            # A table that has no text says so before it is needed.
+            text_of(self.machine.table)
+        # The last entry that was applied, and the digest behind it. While the log is replayed it stays.
+        self.place = (0, "")
+        self.crew = hire(self)
+
+    def _have_nothing_to_send(self) -> None:
+        """What a host has before its first call."""
+        self.queue: deque[Part] = deque()
+        # What was sent and is not answered, by session and number.
+        self.pending: dict[tuple[int, int], Batch] = {}
+        self.waiting: deque[Submitted] = deque()
+        self.session = 0
+        self.sequence = 0
+        # What is being sent; and whether it is what opens a session.
+        self.batch: Batch | None = None
+        self.opens = False
+
+    @property
+    def threads(self) -> Sequence[threading.Thread]:
+        """Those of the crew."""
+        return self.crew.threads
+
+    @property
+    def trouble(self) -> Exception | None:
+        """What the log last said that it could not do."""
+        return self._trouble
+
+    @trouble.setter
+    def trouble(self, fault: Exception) -> None:
+        self._trouble, self._ails = fault, True
+        self.retries += 1
+        # Not by a thread of the caller, where an interrupt might leave a lock of `logging` taken.
+        if str(fault) != self._told_trouble and threading.current_thread() in self.threads:
+            self._told_trouble = str(fault)
+            LOGGER.warning("%r does not answer, and is asked again: %s", self.log, fault)
+
+    def numbers(self) -> Numbers:
+        """How it does."""
+        now = time.monotonic()
+        with self.changed:
+            waiting = [it.submitted_at for it in self.waiting if not it.done()]
+        age = now - self.snapshot_at if self.snapshot_at else None
+        counts = (self.retries, self.not_known, self.all_replays)
+        lag = now - min(waiting) if waiting else 0.0
+        return Numbers(self.place[0], self.machine.calls, len(waiting), lag, now - self.heard_at, *counts, age, str(self._trouble) if self._ails else "")
+
+    def tell(self) -> None:
+        """Says that something has changed. It takes no lock."""
+        self.changed.notify_all()
+        self.crew.tell()
+
+    def make_backoff(self) -> Backoff:
+        """Pauses of which there are some within the patience."""
+        return Backoff(self.patience / PATIENCE_TRIES)
+
+    # What the threads of the caller do.
+
+    def start(self) -> None:
+        """Begins, and waits until the table is as the log has it now."""
+        # The first, as that ends what cannot be opened.
+        self.crew.watch_time()
+        try:
+            # Before the log is followed, which so gets there by itself.
+            end = self.insist(self.log.end, deadline_behind(self.patience))
+            self.crew.follow_log()
+            self.reach(end)
+            if not self.machine.begun:
+                self.insist(lambda: self.log.append(write_settings(self.settings)), deadline_behind(self.patience))
+                self.wait_until(lambda: self.machine.begun)
+        except NotKnown as fault:
+            raise LogFault(f"the log was not opened: {fault}") from self.trouble
+
+    def submit(self, submitted: Submitted) -> None:
+        """Has calls made."""
+        with self.changed:
+            self.check_open()
+            if len(self.waiting) >= MOST_WAITING:
+                raise NotKnown(f"{len(self.waiting)} submits wait for the log already: the calls were not made", sent=False)
+            self.waiting.append(submitted)
+            self.queue.extend(submitted.parts)
+            self.tell()
+
+    def check_open(self) -> None:
+        """Raises why the replica takes no calls, if it does not."""
+        if self.closing or (self.stopped and self.fault is None):
+            raise TableClosed(CLOSED)
+        if self.fault is not None:
+            # A copy, since one that several threads raise has the traces of all.
+            raise copy.copy(self.fault) from self.fault.__cause__
+
+    def check_running(self) -> None:
+        """Raises why the replica has stopped, if it has."""
+        if self.stopped:
+            self.check_open()
+
+    def check_thread(self) -> None:
+        """Sees to it that no thread of the crew waits for itself, as in what was added to a `Future` to be called when it is done."""
+        if threading.current_thread() in self.threads:
+            raise RuntimeError("what is called when a Future is done cannot wait for its table: use `submit` there, or another thread")
+
+    def read(self, look: Callable[[Calls], T]) -> T:
+        """What is seen in the table, which nobody changes meanwhile. Amid a replay it would be as it was before, so who reads waits for its end."""
+        while True:
+            self.check_open()
+            if not self.is_whole():
+                self.check_thread()
+                self.wait_until(self.is_whole)
+            with self.table_lock:
+                self.check_open()
+                if self.is_whole():
+                    return look(self.machine.table)
+
+    def is_whole(self) -> bool:
+        """Whether the table has all that was ever answered here."""
+        return self.lost is None and self.machine.position >= self.place[0]
+
+    def catch_up(self) -> int:
+        """Waits until the table has all that the log had when this was asked: the position."""
+        self.check_thread()
+        self.check_open()
+        deadline = deadline_behind(self.patience)
+        end = self.insist(self.log.end, deadline)
+        self.crew.expect(end)
+        if self.changed.wait_for(lambda: self.seen >= end or self.stopped, SOON) and not self.stopped:
+            return self.place[0]
+        self.reach(self.insist(self.log.mark, deadline))
+        return self.place[0]
+
+    def reach(self, position: int) -> None:
+        """Waits until the log was read up to a position."""
+        self.wait_until(lambda: self.seen >= position)
+
+    def wait_until(self, holds: Callable[[], bool]) -> None:
+        """Waits for something that the follower brings, as long as it goes on within the patience."""
+        while not holds():
+            self.check_open()
+            before = self.progress()
+            self.changed.wait_for(lambda: holds() or self.stopped or before != self.progress(), self.patience)
+            if not (holds() or self.stopped) and before == self.progress():
+                raise self.over()
+
+    def progress(self) -> tuple[int, int, int]:
+        """What changes as long as the follower goes on."""
+        return (self.seen, self.machine.position, self.replays)
+
+    def over(self) -> NotKnown:
+        """What is raised when the patience is over for what makes no call."""
+        return NotKnown(f"{self.why_late()}: no call was made", sent=False)
+
+    def why_late(self) -> str:
+        """Why the patience is over, in words."""
+        trouble = "" if self.trouble is None else f" ({self.trouble})"
+        return f"the log has not answered for {self.patience:g} seconds{trouble}"
+
+    def insist(self, step: Callable[[], T], deadline: float) -> T:
+        """What a step of the log answers, which is tried until it does."""
+        backoff = self.make_backoff()
+        while True:
+            try:
+                return step()
+            except OSError as fault:
+                self.trouble = fault
+            self.check_running()
+            if time.monotonic() > deadline:
+                raise self.over()
+            self.pause(backoff.next())
+
+    def pause(self, seconds: float) -> None:
+        """Waits, and less if the replica stops."""
+        self.changed.wait_for(lambda: self.stopped, seconds)
+
+    def close(self) -> None:
+        """Waits within the patience until what was submitted is answered, and ends. What still waits gets a `NotKnown`."""
+        self.check_thread()
+        self.crew.wish()
+        try:
+            self.crew.wait()
+        except BaseException:
+            self.abandon()
+            raise
+
+    def abandon(self) -> None:
+        """Has the replica end at once. Who asks this does not wait for it."""
+        self.hurried = True
+        self.crew.wish()
+        self.tell()
+
+    def stop(self, fault: Exception | None, why: str) -> None:
+        """Ends all work and the table, and fails all that waits. Where it has stopped before, that stays as it was."""
+        with self.changed:
+            first, self.stopped = not self.stopped, True
+            self.fault = fault if first else self.fault
+            failed = [it for it in self.waiting if not it.done()]
+            self.waiting.clear()
+            self.queue.clear()
+            self.pending.clear()
+            self.tell()
+        following = self.following
+        if following is not None:
+            # A generator that is at work cannot be closed, and ends behind its next word.
+            with suppress(ValueError):
+                following.close()
+        self.crew.leave_log()
+        self.not_known += len(failed)
+        for it in failed:
+            it.fail(why, fault)
+        if first and fault is not None:
+            LOGGER.error("the table of %r has stopped: %s", self.log, fault)
+        if fault is None:
+            with self.table_lock:
+                self.machine.table.close()
+
+    # Who follows the log.
+
+    def attempt(self, step: Callable[[], object]) -> float | None:
+        """Does a step of who follows, and sees to what it raises. How many seconds to wait then, beside what a try waits that fails; None without a fault."""
+        try:
+            step()
+            return None
+        except OSError as fault:
+            self.trouble = fault
+        except LOSSES as fault:
+            return self.lose(fault)
+        except Exception as fault:
+            self.stop(fault, f"the replica has stopped, {fault}")
+        return 0.0
+
+    def take(self, progress: Progress) -> None:
+        """Applies what has come, and answers what is this host's."""
+        if progress.snapshot is not None:
+            text = progress.snapshot
+            self.advance(progress.position, lambda: self.machine.load(progress.position, text))
+            self.skip(progress.position)
+            self.snapshot_at = time.monotonic()
+            # Whose numbers they are now is not told.
+            self.labels.by_root.clear()
+            self.feed(Change(progress.position, 0, 0, ()))
+        for position, data in progress.entries:
+            outcome = self.advance(position, lambda: self.machine.apply(position, data))
+            if outcome is not None:
+                self.show(position, data, outcome)
+                self.settle(outcome)
+            elif self.checker is not None and not self.stopped:
+                self.check(self.checker, position, data)
+            if self.stopped:
+                return
+            self.snapshot_at = time.monotonic() if data.startswith(ANNOUNCES) else self.snapshot_at
+        self.heard_at = time.monotonic()
+        if progress.entries or progress.snapshot is not None:
+            self.recover()
+        with self.changed:
+            self.seen = max(self.seen, progress.position)
+            self.tell()
+
+    def recover(self) -> None:
+        """Says that the log has done something."""
+        self._ails = False
+        if self._told_trouble:
+            self._told_trouble = ""
+            LOGGER.info("%r answers again", self.log)
+
+    def show(self, position: int, data: bytes, outcome: Outcome) -> None:
+        """Shows calls that were made to who follows them, and that a number is that of another task to the labels."""
+        if outcome.what != "made":
+            return
+        if self.labels.by_root:
+            first = self.machine.calls - len(outcome.answers)
+            for number, answer in enumerate(outcome.answers, start=first):
+                if answer.startswith("child "):
+                    self.labels.fork(int(answer.split(" ")[3]), number)
+        if self.feeds:
+            self.feed(change_of(position, data, outcome.answers))
+
+    def feed(self, change: Change) -> None:
+        """Tells who follows."""
+        for it in self.feeds:
+            it.put(change)
+
+    def advance(self, position: int, step: Callable[[], T]) -> T | None:
+        """Has the table go on to a position; None where the replica has stopped."""
+        with self.table_lock:
+            if self.stopped:
+                return None
+            try:
+                done = step()
+            except LOSSES as fault:
+                # Before anybody reads it.
+                self.lost = fault
+                raise
+            self.note(position, self.machine.digest)
+            return done
+
+    def check(self, checker: Checker, position: int, data: bytes) -> None:
+        """Makes the text of the table where a snapshot is asked for, and compares it with the one that is announced."""
+        entry = read_entry(data)
+        if isinstance(entry, Wanted):
+            # Without memory for it, this host says nothing of that snapshot.
+            with suppress(MemoryError):
+                with self.table_lock:
+                    text = self.machine.write()
+                checker.note(position, text)
+        elif isinstance(entry, Announced):
+            announced = entry
+            # Not by this thread, which must not wait for what the log is asked.
+            self.crew.do(lambda: self.judge(checker, announced))
+
+    def judge(self, checker: Checker, it: Announced) -> None:
+        """Says whether this host has the same table as a snapshot. Where it cannot, the next one serves."""
+        try:
+            assert isinstance(self.log, CutLog)
+            checker.judge(self.log.cells(), it)
+        except OSError as fault:
+            self.trouble = fault
+        except Exception as fault:
+            self.stop(fault, f"the replica has stopped, {fault}")
+
+    def skip(self, position: int) -> None:
+        """A snapshot has come in the place of entries: what of this host's may be among them has no answer, and is never sent again."""
+        with self.changed:
+            if not self.session or self.session > position:
+                return
+            last = self.machine.last_of(self.session)
+            keys = [key for key in self.pending if last is None or key[1] <= last]
+            lost = {id(part.submitted): part.submitted for key in keys for part in self.pending.pop(key).parts}
+            # What was not sent goes on: its numbers are those behind the last one.
+            self.queue = deque([part for part in self.queue if id(part.submitted) not in lost])
+            if last is None:
+                self.session = 0
+            self.tell()
+        self.not_known += len(lost)
+        for it in lost.values():
+            it.fail("the log was cut before this host had read it")
+
+    def note(self, position: int, digest: str) -> None:
+        """Notes the digest behind an entry. Where the log is replayed, it has to be the one that was noted before."""
+        if position == self.place[0] and digest != self.place[1]:
+            before, now = self.place[1][:SHORT_DIGEST], digest[:SHORT_DIGEST]
+            raise Diverged(f"behind entry {position} the digest was {before} here, and after a replay it is {now}")
+        if position > self.place[0]:
+            self.place = (position, digest)
+
+    def settle(self, outcome: Outcome) -> None:
+        """Answers an entry that is this host's."""
+        with self.changed:
+            if outcome.what == "repeated":
+                return
+            if outcome.what == "gap" and outcome.session == self.session:
+                raise LogFault(f"the log has lost an entry of session {outcome.session} before number {outcome.sequence}")
+            if outcome.what == "gone" and outcome.session == self.session:
+                self.renew()
+                return
+            batch = self.pending.pop((outcome.session, outcome.sequence), None)
+            self.tell()
+        if batch is not None and outcome.what == "made":
+            self.answer(batch, outcome.answers)
+
+    def answer(self, batch: Batch, answers: Sequence[str]) -> None:
+        """Hands the answers of an entry to those who wait for them."""
+        at = 0
+        for part in batch.parts:
+            count = len(part.lines)
+            part.submitted.answer(part, Receipt(batch.session, batch.sequence, at, count), answers[at : at + count])
+            at += count
+        with self.changed:
+            while self.waiting and self.waiting[0].done():
+                self.waiting.popleft()
+            self.tell()
+
+    def renew(self) -> None:
+        """Gives up a session that the log has ended: what was sent in it and not made there, never will be, so it is sent in a new one."""
+        parts = [part for _, batch in sorted(self.pending.items()) for part in batch.parts if not part.submitted.done()]
+        self.pending.clear()
+        self.queue.extendleft(reversed(parts))
+        self.session = 0
+        self.tell()
+
+    def lose(self, fault: Exception) -> float:
+        """Counts how often the table was lost without a gain, and stops the replica behind a bound. How many seconds to wait before the next replay."""
+        self.lost = fault
+        self.all_replays += 1
+        self.replays = 1 if self.machine.position > self.failed_at + GAIN else self.replays + 1
+        self.failed_at = max(self.failed_at, self.machine.position)
+        if self.replays > MOST_REPLAYS:
+            words = f"the replica has stopped behind entry {self.failed_at}, after {MOST_REPLAYS} replays of the log: {fault}"
+            self.stop(type(fault)(words) if isinstance(fault, ProgramFault) else MemoryError(words), words)
+        return self.replays * REPLAY_PAUSE
+
+    def replay(self) -> None:
+        """Throws the table away where it is not that of the log any more, and begins anew from the log's first entry."""
+        with self.table_lock:
+            if self.stopped or self.lost is None:
+                return
+            self.machine.table.close()
+            self.machine = open_machine(self.open_table, self.settings)
+            self.lost = None
+        with self.changed:
+            self.seen = 0
+            self.tell()
+
+    # Who appends.
+
+    def guard(self, step: Callable[[], T]) -> T | None:
+        """Does a step of who appends. What it raises stops the replica."""
+        try:
+            return step()
+        except Exception as fault:
+            self.stop(fault, f"the replica has stopped, {fault}")
+            return None
+
+    def has_to_send(self) -> bool:
+        """Whether something goes into the log yet."""
+        with self.changed:
+            return bool(self.queue or self.batch) and not self.stopped
+
+    def next_entry(self) -> bytes | None:
+        """What goes into the log now: all that waits, as far as it fits, as one entry. Behind a try with an unknown end that is the same again."""
+        self.opens = not self.session
+        if self.opens:
+            return OPEN
+        batch = self.batch = self.batch or self.take_batch()
+        if batch is not None and self.is_wanted(batch):
+            return batch.entry
+        self.batch = None
+        return None
+
+    def sent(self, position: int) -> None:
+        """That entry is in the log."""
+        if self.opens:
+            with self.changed:
+                self.session, self.sequence = position, 0
+        else:
+            self.batch = None
+
+    def send(self, backoff: Backoff) -> float:
+        """Puts an entry into the log, if there is one to put, by one try. How many seconds to wait before the next one."""
+        try:
+            entry = self.next_entry()
+            if entry is not None:
+                self.sent(self.log.append(entry))
+            backoff.reset()
+        except OSError as fault:
+            self.trouble = fault
+            return backoff.next()
+        return 0.0
+
+    def end_session(self) -> None:
+        """Ends the session, by one try: one that nobody ends goes when there are too many."""
+        if self.session and not self.stopped:
+            with suppress(OSError):
+                self.log.append(write_end(self.session))
+
+    def take_batch(self) -> Batch | None:
+        """What goes into the next entry; None where nothing does."""
+        parts, size = [], 0
+        with self.changed:
+            while self.session and self.queue and size + self.queue[0].size <= MOST_BYTES:
+                part = self.queue.popleft()
+                if part.submitted.send():
+                    parts.append(part)
+                    size += part.size
+            if not parts or self.stopped:
+                return None
+            self.sequence += 1
+            batch = Batch(self.session, self.sequence, parts, self.place)
+            self.pending[batch.session, batch.sequence] = batch
+            return batch
+
+    def is_wanted(self, batch: Batch) -> bool:
+        """Whether an entry is still to be sent: it was not applied, and its session goes on."""
+        with self.changed:
+            return not self.stopped and (batch.session, batch.sequence) in self.pending
+
+    # Who watches the time, and ends the replica.
+
+    def first_deadline(self) -> float:
+        """When the first of the patiences is over."""
+        with self.changed:
+            return self.waiting[0].deadline if self.waiting else deadline_behind(self.patience)
+
+    def begin_to_end(self) -> None:
+        """Takes no more calls."""
+        with self.changed:
+            self.closing = True
+            self.tell()
+
+    def is_unwanted(self) -> bool:
+        """Whether nobody waits for an answer that may come yet."""
+        with self.changed:
+            return self.stopped or self.hurried or all(it.done() for it in self.waiting)
+
+    def is_idle(self) -> bool:
+        """Whether nothing waits for an answer, and the session can be ended."""
+        with self.changed:
+            return not (self.stopped or self.hurried or self.queue or self.pending)
+
+    def expire(self) -> None:
+        """Fails what waits longer than the patience."""
+        now, overdue = time.monotonic(), []
+        with self.changed:
+            while self.waiting and (self.waiting[0].done() or self.waiting[0].deadline <= now):
+                overdue.append(self.waiting.popleft())
+            # What was not sent yet is not sent any more.
+            late = {id(it) for it in overdue}
+            self.queue = deque([part for part in self.queue if id(part.submitted) not in late])
+            self.tell()
+        self.not_known += sum(not it.done() for it in overdue)
+        for it in overdue:
+            it.fail(self.why_late())
