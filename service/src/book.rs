@@ -46,8 +46,6 @@ pub struct Kin {
     /// The namespace that its children go into.
     children: u64,
     pub is_zombie: bool,
-    /// The stamp of the fork that made it, 0 where that is not known.
-    pub born: u64,
     first_child: u32,
     before: u32,
     after: u32,
@@ -56,8 +54,8 @@ pub struct Kin {
 impl Kin {
     /// A task without children, in front of a sibling.
     fn new(parent: u32, number: u32, space: u64, children: u64, after: u32) -> Kin {
-        let (is_zombie, born, first_child, before) = (false, 0, 0, 0);
-        Kin { parent, number, space, children, is_zombie, born, first_child, before, after }
+        let (is_zombie, first_child, before) = (false, 0, 0);
+        Kin { parent, number, space, children, is_zombie, first_child, before, after }
     }
 }
 
@@ -150,10 +148,6 @@ impl Book {
 
     pub fn kin(&self, task: u32) -> Option<&Kin> {
         self.tasks.get(&task)
-    }
-
-    pub fn kin_mut(&mut self, task: u32) -> Option<&mut Kin> {
-        self.tasks.get_mut(&task)
     }
 
     /// The cgroup and those above it, to the root's.
@@ -268,8 +262,7 @@ impl Book {
             let (parent, init, members) = (around, child.root, BTreeSet::new());
             self.spaces.insert(space, Space { parent, init, members });
         }
-        let mut kin = Kin::new(caller, child.number, space, space, first);
-        kin.born = stamp;
+        let kin = Kin::new(caller, child.number, space, space, first);
         self.add(child.root, kin, new_space);
     }
 

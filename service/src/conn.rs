@@ -1,7 +1,9 @@
 //! A client: its socket, what it has sent and was not done yet, and what is to be sent to it.
+use crate::connections::Roles;
 use crate::engine::Text;
 use crate::events::Channel;
 use crate::options::Rights;
+use crate::replica::TextKind;
 use crate::resp::Answer;
 use mio::net::UnixStream;
 use pidtab::Call;
@@ -20,9 +22,9 @@ pub enum Pause {
     Sleeps,
     /// The second table's answer to a query.
     Asks,
-    /// The answer to LIST or DUMP, which has so many calls at least.
+    /// The answer to LIST, DUMP or FOLLOW, which has so many entries at least.
     Awaits {
-        is_dump: bool,
+        kind: TextKind,
         ordinal: u64,
     },
     /// That a text is sent, from that byte on.
@@ -95,6 +97,8 @@ pub struct Conn {
     pub ends: bool,
     pub is_queued: bool,
     pub is_touched: bool,
+    /// Those that are known of it.
+    pub roles: Roles,
     /// When output went out last, in ms.
     pub moved: u64,
 }
@@ -131,6 +135,7 @@ impl Conn {
             ends: false,
             is_queued: false,
             is_touched: false,
+            roles: Roles::default(),
             moved: now,
         }
     }

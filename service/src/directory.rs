@@ -1,5 +1,5 @@
-//! The directory of a table: `snap-N` is its text after N calls, `log-N` has the calls from the ordinal N on in the form of docs/SAVED.md,
-//! `current` names the newest log, `leases` has what is leased, `identity` tells the table from others, and `lock` is held.
+//! The directory of a table: `snap-N` is its text after N entries, `log-N` has the entries from the ordinal N on in the form of docs/SAVED.md,
+//! `current` names the newest log, `identity` tells the table from others, and `lock` is held.
 use nix::unistd::geteuid;
 use std::fs::{self, File, OpenOptions, TryLockError};
 use std::io::{self, Read, Write};
@@ -9,7 +9,7 @@ use std::path::{Path, PathBuf};
 /// How many workers a head has: the seats of the service.
 pub const SEATS: u32 = 16;
 
-/// What is there besides the snapshots and the logs.
+/// What may be there besides the snapshots and the logs.
 const OTHERS: [&str; 5] = ["lock", "current", "identity", "leases", "lost+found"];
 
 /// Files that are being written have this end, and are nothing yet.
@@ -102,8 +102,15 @@ impl Directory {
         self.path.join(format!("snap-{ordinal:020}"))
     }
 
-    pub fn leases(&self) -> PathBuf {
+    /// Where a former release had its leases.
+    pub fn former_leases(&self) -> PathBuf {
         self.path.join("leases")
+    }
+
+    /// The log has them now.
+    pub fn remove_former_leases(&self) -> Result<(), Fault> {
+        let path = self.former_leases();
+        fs::remove_file(&path).and_then(|()| self.sync()).map_err(fault_at(&path))
     }
 
     /// What was created, renamed or removed is so on the disk.

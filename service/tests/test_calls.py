@@ -640,6 +640,7 @@ class Leases(Case):
         self.assertEqual(client.say("FORK 1"), [300, 300])
         other.say("EXIT 300 0")
         other.say("WAIT 1 ANY")
+        self.assertEqual(other.say("LEASES"), [["rig", 100, 1, []]])
         self.assertEqual(other.say("FORK 1"), [300, 300])
         client.close()
         time.sleep(0.4)
