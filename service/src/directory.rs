@@ -39,28 +39,45 @@ pub fn fault_at<T: std::fmt::Display>(path: &Path) -> impl Fn(T) -> Fault {
 impl Directory {
     /// Takes the directory for this process, if it is one of its own.
     pub fn take(path: &Path) -> Result<Directory, Fault> {
-        let about = fs::metadata(path).map_err(fault_at(path))?;
-        if !about.is_dir() {
-            return Err(fault_at(path)("is no directory"));
-        }
-        let user = geteuid().as_raw();
-        if about.uid() != user {
-            let owner = about.uid();
+        let (owner, user) = (owner_of(path)?, geteuid().as_raw());
+        if owner != user {
             return Err(fault_at(path)(format!("belongs to the user {owner}, and this process is the user {user}'s")));
-        }
-        if about.mode() & 0o022 != 0 {
-            return Err(fault_at(path)("may be written by others: `chmod go-w` it"));
         }
         let mut options = OpenOptions::new();
         options.read(true).write(true).create(true).truncate(false).mode(0o600);
         Directory::list(path)?;
         let place = path.join("lock");
         let guard = options.open(&place).map_err(fault_at(&place))?;
+        Directory::hold(path, &place, guard)
+    }
+
+    /// The same to read it alone, whoever it belongs to: nothing is made there.
+    pub fn look(path: &Path) -> Result<Directory, Fault> {
+        owner_of(path)?;
+        Directory::list(path)?;
+        let place = path.join("lock");
+        match File::open(&place) {
+            Ok(guard) => Directory::hold(path, &place, guard),
+            Err(error) if error.kind() == io::ErrorKind::NotFound => {
+                let guard = File::open(path).map_err(fault_at(path))?;
+                Ok(Directory { path: path.to_owned(), guard })
+            }
+            Err(error) => Err(fault_at(&place)(error)),
+        }
+    }
+
+    fn hold(path: &Path, place: &Path, guard: File) -> Result<Directory, Fault> {
         match guard.try_lock() {
             Ok(()) => Ok(Directory { path: path.to_owned(), guard }),
-            Err(TryLockError::WouldBlock) => Err(fault_at(&place)("another pidtabd has this directory")),
-            Err(TryLockError::Error(error)) => Err(fault_at(&place)(error)),
+            Err(TryLockError::WouldBlock) => Err(fault_at(place)("another pidtabd has this directory")),
+            Err(TryLockError::Error(error)) => Err(fault_at(place)(error)),
         }
+    }
+
+    /// Whether it has nothing of a table.
+    pub fn is_new(&self) -> Result<bool, Fault> {
+        let has_one = self.files()? != Files::default() || self.identity()?.is_some() || self.current()?.is_some();
+        Ok(!has_one && !self.former_leases().exists())
     }
 
     /// The same for another thread.
@@ -188,6 +205,18 @@ impl Directory {
         }
         Ok(())
     }
+}
+
+/// Whose the directory is, if nobody else may write it.
+fn owner_of(path: &Path) -> Result<u32, Fault> {
+    let about = fs::metadata(path).map_err(fault_at(path))?;
+    if !about.is_dir() {
+        return Err(fault_at(path)("is no directory"));
+    }
+    if about.mode() & 0o022 != 0 {
+        return Err(fault_at(path)("may be written by others: `chmod go-w` it"));
+    }
+    Ok(about.uid())
 }
 
 /// 128 random bits.

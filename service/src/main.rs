@@ -4,6 +4,7 @@
 mod accounts;
 mod asks;
 mod book;
+mod check;
 mod checksum;
 mod clients;
 mod commands;
@@ -23,6 +24,7 @@ mod leases;
 mod log;
 mod metrics;
 mod options;
+mod peer;
 mod recover;
 mod replica;
 mod resp;
@@ -64,10 +66,9 @@ fn main() -> ExitCode {
         Ok(Wanted::Serve(options)) => serve(*options),
         Ok(Wanted::Help) => show(USAGE),
         Ok(Wanted::Version) => show(concat!("pidtabd ", env!("CARGO_PKG_VERSION"), "\n")),
-        Ok(Wanted::Metrics(socket)) => match metrics::ask(&socket) {
-            Ok(text) => show(&text),
-            Err(fault) => fail(&fault, 1),
-        },
+        Ok(Wanted::Metrics(socket)) => tell(metrics::ask(&socket)),
+        Ok(Wanted::Check(directory)) => tell(check::check(&directory)),
+        Ok(Wanted::Copy { socket, directory }) => tell(check::copy(&socket, &directory)),
         Ok(Wanted::Commands) => {
             let lines: Vec<_> = commands::COMMANDS.iter().map(say::help_line).collect();
             show(&(lines.join("\n") + "\n"))
@@ -76,6 +77,13 @@ fn main() -> ExitCode {
             eprint!("pidtabd: {fault}\n{USAGE}");
             ExitCode::from(2)
         }
+    }
+}
+
+fn tell(told: Result<String, String>) -> ExitCode {
+    match told {
+        Ok(text) => show(&text),
+        Err(fault) => fail(&fault, 1),
     }
 }
 

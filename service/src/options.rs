@@ -26,6 +26,8 @@ usage: pidtabd [OPTION ..]
   --stall SECONDS     who takes no answer for so long is closed: 1 to 86400 (60)
   --slowlog-log-slower-than N  SLOWLOG has what takes so many microseconds: 0 or more (10000)
   --metrics SOCKET    writes the figures of the service there for Prometheus, and ends
+  --check DIR         writes what the directory has, or what is wrong with it, and ends; it changes nothing
+  --copy SOCKET DIR   writes the table of the service there into an empty directory, and ends
   --commands          writes the table of commands, and ends
   --version, --help
 ";
@@ -65,6 +67,13 @@ pub enum Wanted {
     Commands,
     /// The figures of the service at that socket.
     Metrics(PathBuf),
+    /// What the directory has.
+    Check(PathBuf),
+    /// The table of the service at that socket, in an empty directory.
+    Copy {
+        socket: PathBuf,
+        directory: PathBuf,
+    },
 }
 
 impl Default for Options {
@@ -113,7 +122,12 @@ pub fn read(words: impl IntoIterator<Item = OsString> + 'static) -> Result<Wante
             Long("help") => return Ok(Wanted::Help),
             Long("version") => return Ok(Wanted::Version),
             Long("commands") => return Ok(Wanted::Commands),
-            Long("metrics") => return parser.value().map(|it| Wanted::Metrics(it.into())).map_err(|it| it.to_string()),
+            Long("metrics") => return Ok(Wanted::Metrics(path(&mut parser)?)),
+            Long("check") => return Ok(Wanted::Check(path(&mut parser)?)),
+            Long("copy") => {
+                let (socket, directory) = (path(&mut parser)?, path(&mut parser)?);
+                return Ok(Wanted::Copy { socket, directory });
+            }
             Long("archive") => options.keep.archive = true,
             Long("reap") => options.reaps = true,
             Long(name) if !WITH_VALUES.contains(&name) => return Err(format!("there is no option --{name}")),
@@ -126,6 +140,10 @@ pub fn read(words: impl IntoIterator<Item = OsString> + 'static) -> Result<Wante
         }
     }
     Ok(Wanted::Serve(Box::new(options)))
+}
+
+fn path(parser: &mut Parser) -> Result<PathBuf, String> {
+    parser.value().map(PathBuf::from).map_err(|fault| fault.to_string())
 }
 
 fn take(options: &mut Options, name: &str, value: OsString) -> Result<(), String> {
@@ -211,7 +229,7 @@ mod tests {
 
     #[test]
     fn what_is_wrong_is_said() {
-        let wrong: [&[&str]; 14] = [
+        let wrong: [&[&str]; 16] = [
             &["--nothing", "x"],
             &["--pid-max", "300"],
             &["--fsync", "often"],
@@ -225,6 +243,8 @@ mod tests {
             &["word"],
             &["--stall"],
             &["--metrics"],
+            &["--check"],
+            &["--copy", "socket"],
             &["--slowlog-log-slower-than", "-1"],
         ];
         assert_eq!(wrong.iter().find(|it| options(it).is_ok()), None);

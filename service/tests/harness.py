@@ -124,6 +124,12 @@ def request(words):
     return b"*%d\r\n" % len(parts) + b"".join(b"$%d\r\n%s\r\n" % (len(part), part) for part in parts)
 
 
+def by_itself(*words):
+    """What the program does that serves nobody: its status, its output, and its fault without its name."""
+    done = subprocess.run([DAEMON, *map(str, words)], capture_output=True, text=True, check=False, timeout=60)
+    return done.returncode, done.stdout, done.stderr.removeprefix("pidtabd: ").rstrip("\n")
+
+
 class Daemon:
     """A process of the daemon in a folder, which may be killed and started again."""
 

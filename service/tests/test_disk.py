@@ -9,7 +9,7 @@ import threading
 import time
 import unittest
 
-from harness import BUILT, Case, LONG, Refused, need, request
+from harness import BUILT, Case, LONG, Refused, by_itself, need, request
 
 NUMBERS = {"EPERM": 1, "ENOENT": 2, "ESRCH": 3, "ECHILD": 10, "EAGAIN": 11, "ENOMEM": 12, "EACCES": 13, "EBUSY": 16, "EINVAL": 22, "ENOSPC": 28}
 
@@ -233,9 +233,12 @@ class Damaged(Case):
             two.kept.mkdir(mode=0o700)
             for each, data in whole.items():
                 (two.kept / each).write_bytes(damaged(data, dice) if each == name else data)
+            checked = by_itself("--check", two.kept)
             two.start(is_up=False)
             status = self.status_of(two)
             statuses[status] += 1
+            self.assertEqual(checked[0], status == 3)
+            self.assertTrue(two.said().endswith(f"pidtabd: {checked[2]}\n" if status else ""), f"{checked}; {two.said()}")
             if status == 3:
                 self.assertIn("pidtabd: ", two.said())
                 self.assertRegex(two.said(), f"{name}|log-|current")
@@ -473,6 +476,82 @@ class Leased(Case):
                 self.assertEqual(live - set(leases[0][3]), set(), f"round {number}")
                 forked = set(leases[0][3])
                 one.kill()
+
+
+class Checked(Case):
+    """A directory that is read alone, and one that is copied of a service."""
+
+    def files(self, kept):
+        return {path.name: (path.read_bytes(), path.stat().st_mtime_ns, path.stat().st_ino) for path in kept.iterdir()}
+
+    def test_what_a_directory_has(self):
+        one = self.daemon().start()
+        client = one.client()
+        for line in ("LEASE rig 60000", "FORK 1", "FORK 1 NEW", "MK 0", "BGSAVE"):
+            client.say(line)
+        while "snapshot:3\r" not in client.say("INFO"):
+            time.sleep(0.02)
+        client.say("FORK 1")
+        self.assertEqual(by_itself("--check", one.kept)[::2], (1, f"{one.kept}/lock: another pidtabd has this directory"))
+        one.kill()
+        last = max(path for path in one.kept.iterdir() if path.name.startswith("log-"))
+        with open(last, "ab") as file:
+            file.write(b"x" * 11)
+        before = self.files(one.kept)
+        identity = (one.kept / "identity").read_text(encoding="ascii").strip()
+        told = [f"identity:{identity}", "calls:4", "entries:5", "snapshot:3", "replayed:1", "left_out_bytes:11", "pid_max:32768", "tasks:4", "controls:1",
+                "leases:1", "leased_tasks:3"]
+        self.assertEqual(by_itself("--check", one.kept), (0, "".join(f"{line}\n" for line in told), ""))
+        self.assertEqual(self.files(one.kept), before)
+        self.assertEqual(one.start().client().say("POSITION"), 4)
+
+    def test_one_without_a_lock(self):
+        """Nothing is made in it, not even a lock; a file of leases of a former release counts."""
+        one = self.daemon().start()
+        one.client().say("FORK 1")
+        one.kill()
+        (one.kept / "lock").unlink()
+        (one.kept / "leases").write_bytes(former_file("at 1", "lease 0 rig 1 60000", "bind 1 2 1"))
+        before = self.files(one.kept)
+        status, told, _ = by_itself("--check", one.kept)
+        self.assertEqual((status, told.splitlines()[-2:]), (0, ["leases:1", "leased_tasks:1"]))
+        self.assertEqual(self.files(one.kept), before)
+
+    def test_what_is_none(self):
+        one = self.daemon()
+        self.assertEqual(by_itself("--check", one.kept), (0, "empty: a start begins a new table\n", ""))
+        (one.kept / "passwd").touch()
+        self.assertIn('has "passwd", which is no file of pidtabd', by_itself("--check", one.kept)[2])
+        self.assertEqual(by_itself("--check", one.folder / "none")[0], 1)
+        one.kept.chmod(0o770)
+        self.assertIn("may be written by others", by_itself("--check", one.kept)[2])
+
+    def test_a_copy(self):
+        """While another client forks: the copy has a front of the calls, with the leases of then, and goes on by itself."""
+        one = self.daemon().start()
+        client, other = one.client(), one.client()
+        client.say("LEASE rig 60000")
+        client.socket.sendall(b"FORK 1\r\n" * 300)
+        [client.answer() for _ in range(300)]
+        for number in range(5):
+            before = other.say("POSITION")
+            client.socket.sendall(b"FORK 1\r\n" * 2000)
+            two = self.daemon(name=f"copy{number}")
+            status, told, fault = by_itself("--copy", one.socket, two.kept)
+            [client.answer() for _ in range(2000)]
+            self.assertEqual((status, fault), (0, ""))
+            copied = two.start().client()
+            position = copied.say("POSITION")
+            self.assertTrue(before <= position <= before + 2000, position)
+            self.assertEqual(told, f"{two.kept}/snap-{position + 1:020}: {position} calls, 1 leases\n")
+            self.assertEqual(copied.say("LEASES"), [["rig", 60000, 0, list(range(2, position + 2))]])
+            self.assertEqual(copied.say("FORK 1"), [position + 2, position + 2])
+            two.kill()
+            self.assertEqual((two.kept / "identity").read_bytes(), (one.kept / "identity").read_bytes())
+        self.assertIn("has a table: name an empty directory", by_itself("--copy", one.socket, two.kept)[2])
+        three = self.daemon(name="three")
+        self.assertEqual(by_itself("--copy", three.socket, three.kept)[0], 1)
+        self.assertEqual([path.name for path in three.kept.iterdir()], ["lock"])
 
 
 POLYNOMIAL = 0xc96c5795d7870f42
