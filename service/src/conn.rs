@@ -3,6 +3,7 @@ use crate::connections::Roles;
 use crate::engine::Text;
 use crate::events::Channel;
 use crate::options::Rights;
+use crate::recall::Recalling;
 use crate::replica::TextKind;
 use crate::resp::Answer;
 use mio::net::UnixStream;
@@ -22,6 +23,8 @@ pub enum Pause {
     Sleeps,
     /// The second table's answer to a query.
     Asks,
+    /// The events from before.
+    Recalls,
     /// The answer to LIST, DUMP or FOLLOW, which has so many entries at least.
     Awaits {
         kind: TextKind,
@@ -75,6 +78,7 @@ pub struct Conn {
     pub pause: Pause,
     pub multi: Option<Multi>,
     pub channels: Vec<Channel>,
+    pub recalling: Option<Recalling>,
     pub follower: Option<Follower>,
     pub lease: Option<Held>,
     /// Its next request waits until the disk takes what was recorded.
@@ -122,6 +126,7 @@ impl Conn {
             pause: Pause::None,
             multi: None,
             channels: Vec::new(),
+            recalling: None,
             follower: None,
             lease: None,
             is_delayed: false,
@@ -225,6 +230,13 @@ impl Conn {
 
     /// So many bytes wait for it.
     pub fn waiting(&self) -> usize {
-        self.unsent() + self.follower.as_ref().map_or(0, |it| it.held.len())
+        let held = self.recalling.as_ref().map_or(0, |it| it.held.len());
+        self.unsent() + held + self.follower.as_ref().map_or(0, |it| it.held.len())
+    }
+
+    /// Where messages go: behind those from before, if these are waited for.
+    pub fn messages(&mut self) -> (&mut Vec<u8>, &[Channel]) {
+        let to = self.recalling.as_mut().map_or(&mut self.out, |it| &mut it.held);
+        (to, &self.channels)
     }
 }

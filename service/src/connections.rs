@@ -15,7 +15,7 @@ impl Roles {
         Roles {
             follows: conn.follower.is_some(),
             subscribes: !conn.channels.is_empty(),
-            awaits: matches!(conn.pause, Pause::Awaits { .. }),
+            awaits: matches!(conn.pause, Pause::Awaits { .. } | Pause::Recalls),
         }
     }
 }
@@ -31,7 +31,7 @@ pub struct Connections {
     pub touched: Vec<usize>,
     followers: BTreeSet<usize>,
     subscribers: BTreeSet<usize>,
-    /// Who waits for a text; some of them have it already.
+    /// Who waits for a text, or for events from before; some of them have it already.
     awaiting: BTreeSet<usize>,
     /// Whose socket has not taken all.
     full: BTreeSet<usize>,
@@ -147,7 +147,9 @@ impl Connections {
 
     /// Who may have output that was not taken.
     pub fn owed(&self) -> impl Iterator<Item = &Conn> {
-        self.full.union(&self.followers).filter_map(|it| self.all[*it].as_deref())
+        let others = self.full.difference(&self.followers);
+        let recalling = self.awaiting.iter().filter(|it| !self.followers.contains(it) && !self.full.contains(it));
+        self.followers.iter().chain(others).chain(recalling).filter_map(|it| self.all[*it].as_deref())
     }
 }
 

@@ -26,6 +26,7 @@ use crate::facts::{forks, Fact};
 use crate::former::{self, Known};
 use crate::leases::{Key, Leases};
 use crate::log::{Closed, Committed, Log, Sync};
+use crate::recall::Recall;
 use crate::recover::{End, Recovery};
 use crate::replica::{loose_blocks, Asker, Order, Replica, Report, Source, TextKind};
 use crate::snapshot::{self, Place};
@@ -413,6 +414,12 @@ impl Engine {
         self.replica.order(Order::Ask { asker, query });
     }
 
+    /// Events of calls that were made before. All that was recorded is written.
+    pub fn order_recall(&mut self, recall: Recall) {
+        let (base, bytes) = self.log.as_ref().map_or((0, 0), |it| (it.base, it.bytes));
+        self.replica.order(Order::Recall { recall, base, bytes });
+    }
+
     fn order_saved(&mut self) {
         match &self.log {
             Some(log) => self.replica.order(Order::File { base: log.base, bytes: log.bytes }),
@@ -435,7 +442,7 @@ impl Engine {
                 self.log.iter_mut().for_each(Log::has_dropped);
                 done.iter().for_each(|fault| eprintln!("pidtabd: older files stay: {fault}"));
             }
-            Report::Text { .. } | Report::Told { .. } => {}
+            Report::Text { .. } | Report::Told { .. } | Report::Recalled { .. } => {}
         }
     }
 

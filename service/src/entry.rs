@@ -1,6 +1,6 @@
 //! An entry of the log: a call, with the note before it if there is one, or a fact. It is read whole or not at all.
 use crate::facts::{Fact, FORKS};
-use pidtab::{Blocks, Replayed, SavedFault, Table};
+use pidtab::{Blocks, Call, Replayed, SavedFault, Table};
 
 /// No entry has more bytes.
 pub const LONGEST: usize = Blocks::LONGEST + Blocks::HEAD;
@@ -37,6 +37,16 @@ pub fn take(table: &mut Table, blocks: &mut Blocks, bytes: &[u8]) -> Result<Take
     Ok(taken)
 }
 
+/// The call of the entry at the front of the bytes, which is not made.
+pub fn next_call(blocks: &Blocks, bytes: &[u8]) -> Option<Call> {
+    let mut ahead = *blocks;
+    let front = match ahead.take_note(bytes) {
+        Ok(Some((note, size))) if note.kind == FORKS => size,
+        _ => 0,
+    };
+    ahead.next_call(&bytes[front..])
+}
+
 fn take_ahead(table: &mut Table, ahead: &mut Blocks, bytes: &[u8]) -> Result<Taken, Wrong> {
     let noted = ahead.take_note(bytes).map_err(|fault| Wrong { fault, place: ahead.wrong() })?;
     let (lease, front) = match noted {
@@ -57,7 +67,7 @@ fn take_ahead(table: &mut Table, ahead: &mut Blocks, bytes: &[u8]) -> Result<Tak
 mod tests {
     use super::*;
     use crate::facts::forks;
-    use pidtab::{Call, Calls, Head};
+    use pidtab::{Calls, Head};
 
     /// A lease, a fork under it, and its end.
     fn log() -> (Vec<u8>, Blocks) {

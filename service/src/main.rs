@@ -25,6 +25,7 @@ mod log;
 mod metrics;
 mod options;
 mod peer;
+mod recall;
 mod recover;
 mod replica;
 mod resp;

@@ -3,6 +3,7 @@ use crate::directory::{fault_at, Directory, Fault, SEATS};
 use crate::entry::{self, Entry, Wrong};
 use crate::leases::Leases;
 use crate::log::BATCH;
+use crate::recall::{Recall, Watcher};
 use crate::snapshot::{self, Place};
 use pidtab::{Blocks, Head, Reply, SavedFault, Table};
 use std::collections::HashMap;
@@ -104,6 +105,8 @@ pub struct Recovery {
     pub replayed: u64,
     /// The ordinals of the forks that were replayed, by the children's root numbers: where the leases of a former release are to be compared with them.
     pub born: Option<HashMap<u32, u64>>,
+    /// Who looks at each call.
+    pub watcher: Option<Box<Watcher>>,
     input: Option<Input>,
 }
 
@@ -167,7 +170,18 @@ impl Recovery {
 
     fn of(directory: Directory, table: Table, pid_max: u32) -> Recovery {
         let (leases, place, born) = (Leases::default(), Place::default(), None);
-        Recovery { directory, table, leases, pid_max, place, snapshot: place, replayed: 0, born, input: None }
+        Recovery {
+            directory,
+            table,
+            leases,
+            pid_max,
+            place,
+            snapshot: place,
+            replayed: 0,
+            born,
+            watcher: None,
+            input: None,
+        }
     }
 
     /// Makes all calls to the end of the last log. None: there is no log to go on with.
@@ -269,6 +283,7 @@ impl Recovery {
             if input.rest().is_empty() {
                 break;
             }
+            self.foresee(&input);
             let (blocks, bytes) = (&mut input.blocks, &input.bytes[input.at..]);
             let taken = entry::take(&mut self.table, blocks, bytes);
             let is_torn = match &taken {
@@ -289,8 +304,24 @@ impl Recovery {
         Ok(())
     }
 
+    /// From here on each call is looked at.
+    pub fn watch(&mut self, recall: Recall) -> Result<(), Fault> {
+        self.watcher = Some(Box::new(Watcher::begin(&self.table, self.place.calls, recall)?));
+        Ok(())
+    }
+
+    fn foresee(&mut self, input: &Input) {
+        let Some(watcher) = &mut self.watcher else { return };
+        if let Some(call) = entry::next_call(&input.blocks, input.rest()) {
+            watcher.foresee(&mut self.table, call, self.place.calls);
+        }
+    }
+
     fn count(&mut self, entry: &Entry) {
         self.place.entries += 1;
+        if let Some(watcher) = &mut self.watcher {
+            watcher.note(&mut self.table, entry, self.place.calls);
+        }
         let (made, lease) = match entry {
             Entry::Fact(fact) => return self.leases.apply(fact),
             Entry::Call { made, lease } => (made, lease),

@@ -4,6 +4,7 @@ use crate::asks::{Answered, Query};
 use crate::directory::{fault_at, Directory, Fault, SEATS};
 use crate::entry::{self, Entry};
 use crate::leases::Leases;
+use crate::recall::Recall;
 use crate::recover::Recovery;
 use crate::snapshot::{self, Place};
 use pidtab::{Blocks, Head, Reply, Table};
@@ -27,6 +28,8 @@ pub enum Order {
     Text { kind: TextKind, ordinal: u64 },
     /// Answers a query of that connection.
     Ask { asker: Asker, query: Query },
+    /// Tells events of the calls up to a place of the log.
+    Recall { recall: Recall, base: u64, bytes: u64 },
 }
 
 /// What a text has of a table.
@@ -73,6 +76,12 @@ pub enum Report {
     Told {
         asker: Asker,
         told: Result<Answered, Fault>,
+    },
+    /// The messages.
+    Recalled {
+        asker: Asker,
+        user: u32,
+        told: Result<Vec<u8>, Fault>,
     },
 }
 
@@ -195,7 +204,21 @@ impl Copy {
                 self.begin_anew();
                 Some(Report::Told { asker, told })
             }
+            Order::Recall { recall, base, bytes } => {
+                let (asker, user) = (recall.asker, recall.user);
+                Some(Report::Recalled { asker, user, told: self.recall(recall, base, bytes) })
+            }
         }
+    }
+
+    /// Beside the second table, which is further than that.
+    fn recall(&self, recall: Recall, base: u64, bytes: u64) -> Result<Vec<u8>, Fault> {
+        let Source::Directory { directory, .. } = &self.source else { return Ok(Vec::new()) };
+        let begun = Recovery::begin(directory.again()?)?;
+        let mut recovery = begun.ok_or("there is nothing to replay")?;
+        recovery.watch(recall)?;
+        recovery.go_on(base, bytes)?;
+        recovery.watcher.map_or(Ok(Vec::new()), |it| it.end())
     }
 
     /// Whether `current` names that log. If it cannot be written, it names the log before, or this one, and both stay there.

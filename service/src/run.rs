@@ -27,6 +27,8 @@ const KILLED: u8 = 137;
 const NO_PASSWORDS: &str =
     "-ERR AUTH called without any password configured: the socket's mode and --allow say who may connect";
 
+const NO_CHANNEL: &str = "-ERR a channel is exit, fork or fall, alone or with :space:ID or :control:ID behind";
+
 /// The longest sleep of WAITCHILD, in ms: a day.
 const LONGEST_SLEEP: u64 = 86_400_000;
 
@@ -358,23 +360,52 @@ impl Service {
         }
     }
 
-    fn run_subscribe(&mut self, conn: &mut Conn, names: Words) {
-        for place in 0..names.len() {
-            let name = names.at(place);
-            let Some(channel) = Channel::read(name) else {
-                conn.out.line("-ERR a channel is exit, fork or fall, alone or with :space:ID or :control:ID behind");
-                continue;
-            };
-            if !conn.channels.contains(&channel) {
-                if conn.channels.len() == MOST_CHANNELS || !self.accounts.takes_channel(conn.user) {
-                    conn.out.line("-ERR too many channels");
-                    continue;
+    fn run_subscribe(&mut self, conn: &mut Conn, words: Words) {
+        let count = words.len();
+        if count > 2 && is_word(words.at(count - 2), "FROM") {
+            return self.subscribe_from(conn, words.to(count - 2), number(words.at(count - 1), u64::MAX));
+        }
+        for place in 0..count {
+            match self.add_channel(conn, words.at(place)) {
+                Ok(()) => {
+                    events::say(&mut conn.out, "subscribe", Some(words.at(place)));
+                    conn.out.number(conn.channels.len() as u64);
                 }
-                conn.channels.push(channel);
+                Err(why) => conn.out.line(why),
             }
-            events::say(&mut conn.out, "subscribe", Some(name));
-            conn.out.number(conn.channels.len() as u64);
-            self.engine.book.is_watched = true;
+        }
+    }
+
+    /// The client has the channel from now on, if he had it before or not.
+    fn add_channel(&mut self, conn: &mut Conn, name: &[u8]) -> Result<(), &'static str> {
+        let channel = Channel::read(name).ok_or(NO_CHANNEL)?;
+        if !conn.channels.contains(&channel) {
+            if conn.channels.len() == MOST_CHANNELS || !self.accounts.takes_channel(conn.user) {
+                return Err("-ERR too many channels");
+            }
+            conn.channels.push(channel);
+        }
+        self.engine.book.is_watched = true;
+        Ok(())
+    }
+
+    /// All of the channels, with what was before; or none of them.
+    fn subscribe_from(&mut self, conn: &mut Conn, names: Words, from: Option<u64>) {
+        let had = conn.channels.len();
+        let why = match from {
+            None => Some("-ERR FROM takes the ordinal of a call".to_owned()),
+            Some(from) => self.refusal_of_recall(conn, from),
+        };
+        let added = (0..names.len()).try_for_each(|it| self.add_channel(conn, names.at(it)));
+        let new = conn.channels.len() - had;
+        let had_one = (new < names.len()).then(|| "-ERR the connection has such a channel already".to_owned());
+        match (why.or(added.err().map(str::to_owned)).or(had_one), from) {
+            (None, Some(from)) => self.begin_recall(conn, had, from),
+            (why, _) => {
+                self.accounts.gives_channels(conn.user, new);
+                conn.channels.truncate(had);
+                conn.out.line(&why.unwrap_or_default());
+            }
         }
     }
 

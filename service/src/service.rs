@@ -5,11 +5,13 @@ use crate::conn::{Conn, Pause, MUCH_OUTPUT};
 use crate::connections::Connections;
 use crate::directory::Fault;
 use crate::engine::{Engine, Text};
+use crate::events;
 use crate::facts::Fact;
 use crate::haste::{Haste, LOOK};
 use crate::leader::Leader;
 use crate::log::Committed;
 use crate::options::{Options, Rights};
+use crate::recall::Recall;
 use crate::replica::{Report, TextKind};
 use crate::resp::{Answer, Reader, LONGEST_REQUEST};
 use crate::sleepers::Sleepers;
@@ -85,6 +87,9 @@ pub struct Service {
     pub reader: Reader,
     spare: Option<File>,
     texts: Texts,
+    /// The users whose connections wait for events from before, and what was not ordered yet.
+    pub recalls: Vec<u32>,
+    pub wanted_recalls: Vec<Recall>,
 }
 
 /// The last text of each kind, and all that are being sent.
@@ -160,6 +165,8 @@ impl Service {
             reader: Reader::default(),
             spare: File::open("/dev/null").ok(),
             texts: Texts::default(),
+            recalls: Vec::new(),
+            wanted_recalls: Vec::new(),
             options,
         };
         service.watch().map_err(fault)?;
@@ -383,6 +390,7 @@ impl Service {
         if !self.is_stuck() {
             self.stream();
             self.order_texts();
+            self.order_recalls();
         }
         for token in std::mem::take(&mut self.clients.touched) {
             self.send_to(token);
@@ -554,6 +562,7 @@ impl Service {
                     self.deliver(kind, ordinal, text);
                 }
                 Report::Told { asker, told } => self.tell(asker, told),
+                Report::Recalled { asker, user, told } => self.end_recall(asker, user, told),
                 Report::Named { .. } | Report::Snapshot(_) | Report::Dropped(_) => {}
             }
         }
@@ -624,21 +633,22 @@ impl Service {
 
     /// Events go to those who have subscribed.
     fn publish(&mut self) {
-        let events = std::mem::take(&mut self.engine.book.events);
-        if events.is_empty() {
+        let happened = std::mem::take(&mut self.engine.book.events);
+        if happened.is_empty() {
             return;
         }
         let those = self.clients.subscribers();
         // Events are kept while somebody wants them.
         self.engine.book.is_watched = !those.is_empty();
-        let payloads: Vec<_> = events.iter().map(|it| (it, crate::events::payload(it))).collect();
+        let payloads: Vec<_> = happened.iter().map(|it| (it, events::payload(it))).collect();
         let mut poured = 0;
         for token in those {
             let Some(conn) = self.clients.get(token) else { continue };
-            let before = conn.out.len();
-            payloads.iter().for_each(|(event, payload)| tell(conn, event, payload));
-            if conn.out.len() > before {
-                poured += usize::from(conn.is_guest) * (conn.out.len() - before);
+            let (is_guest, (out, channels)) = (conn.is_guest, conn.messages());
+            let before = out.len();
+            payloads.iter().for_each(|(event, payload)| events::tell(out, channels, event, payload));
+            if out.len() > before {
+                poured += usize::from(is_guest) * (out.len() - before);
                 self.touch(token);
             }
         }
@@ -740,11 +750,17 @@ impl Service {
     /// The table is another: the texts that were ordered of the one before never come, and who follows asks anew.
     pub fn renew(&mut self) {
         (self.texts.last, self.texts.ordered) = ([None, None, None], [false; 3]);
+        self.recalls.clear();
+        self.wanted_recalls.clear();
         for token in self.clients.tokens() {
             let Some(conn) = self.conn(token) else { continue };
             conn.is_gone |= conn.follower.is_some();
             match conn.pause {
                 Pause::Awaits { kind, .. } => self.texts.wanted[kind as usize] = true,
+                Pause::Recalls => {
+                    let (asker, user) = ((token, conn.id), conn.user);
+                    self.end_recall(asker, user, Err("the table is taken anew".to_owned()));
+                }
                 Pause::Asks => {
                     conn.pause = Pause::None;
                     conn.out.line("-BUSY the table is taken anew");
@@ -804,13 +820,6 @@ fn watch_output(registry: &mio::Registry, conn: &mut Conn) {
     let token = Token(CLIENTS + conn.token);
     conn.is_gone |= registry.reregister(&mut conn.socket, token, interests).is_err();
     conn.is_full = is_full;
-}
-
-fn tell(conn: &mut Conn, event: &crate::book::Event, payload: &str) {
-    for channel in conn.channels.iter().filter(|it| it.has(event)) {
-        crate::events::say(&mut conn.out, "message", Some(&channel.name));
-        conn.out.bulk(payload.as_bytes());
-    }
 }
 
 fn is_no_descriptor(error: &io::Error) -> bool {

@@ -571,8 +571,9 @@ class Events(Case):
         for line in ("FORK 2 NEW", "FORK 3", "EXIT 3 9"):
             self.client.say(line)
         tail = f"space 4 control {control}"
-        wanted = [["fork", f"2 3 {tail}"], ["fork", f"3 4 {tail}"], ["exit", f"4 killed {tail}"], [f"exit:control:{control}", f"4 killed {tail}"]]
-        wanted += [["exit", f"3 9 {tail}"], [f"exit:control:{control}", f"3 9 {tail}"], ["fall", "4"]]
+        wanted = [["fork", f"2 3 {tail} at 3"], ["fork", f"3 4 {tail} at 4"], ["exit", f"4 killed {tail} at 5"]]
+        wanted += [[f"exit:control:{control}", f"4 killed {tail} at 5"], ["exit", f"3 9 {tail} at 5"], [f"exit:control:{control}", f"3 9 {tail} at 5"]]
+        wanted += [["fall", "4 at 5"]]
         self.assertEqual([self.other.answer() for _ in wanted], [["message", *it] for it in wanted])
         self.assertEqual(self.other.say("PING"), ["pong", ""])
         self.refused(self.other, "FORK 1", "ERR only (P)SUBSCRIBE")
@@ -582,6 +583,85 @@ class Events(Case):
 
     def test_what_is_no_channel(self):
         self.refused(self.other, "SUBSCRIBE nothing", "ERR a channel is")
+        self.refused(self.other, "SUBSCRIBE exit nothing FROM 0", "ERR a channel is")
+        self.refused(self.other, "SUBSCRIBE exit FROM x", "ERR FROM takes the ordinal of a call")
+        self.refused(self.other, "SUBSCRIBE exit FROM 1", "ERR there are 0 calls")
+        self.client.say("FORK 1")
+        self.refused(self.other, "SUBSCRIBE exit FROM 0", "ERR events are kept from call 1 on")
+        self.assertEqual((self.other.say("SUBSCRIBE exit FROM 1"), self.other.say("PING")), (["subscribe", "exit", 1], ["pong", ""]))
+        self.refused(self.other, "SUBSCRIBE exit fork FROM 1", "ERR the connection has such a channel already")
+
+    def messages(self, client, count):
+        return [client.answer()[1:] for _ in range(count)]
+
+    def kept_from(self, client):
+        """The call from which on events are kept, once no snapshot is in work, nor will be by itself."""
+        quiet = 0
+        while quiet < 10:
+            told = client.say("INFO")
+            quiet = quiet + 1 if "compacting:0" in told else 0
+            time.sleep(0.03)
+        return int(re.search("snapshot:([0-9]+)", told)[1])
+
+    def test_from_an_ordinal(self):
+        """Who subscribes from a call on is told the same messages that one has had who was there, over snapshots, starts and a log that goes on."""
+        dice, names = random.Random(3), ("exit", "fork", "fall", "exit:space:5", "fork:control:1")
+        one = self.daemon("--segment", "40000", name="two").start()
+        client, listener = one.client(), one.client()
+        listener.send("SUBSCRIBE", *names)
+        self.messages(listener, len(names))
+        client.say("LEASE rig 60000")
+        lines = ["MK 0", "FORK 1 NEW", "MOVE 2 1", "FORK 1 NEW", "FORK 3 NEW", "MOVE 3 1"]
+        for number in range(1500):
+            task = dice.randrange(2, 12 + number // 5)
+            lines += [dice.choice([f"FORK {task}", f"FORK {task} NEW", "FORK 1", f"EXIT {task} {number % 256}", "WAIT 1 ANY", f"WAIT {task} ANY"])]
+        for some in (lines[:900], lines[900:]):
+            client.socket.sendall("".join(f"{line}\r\n" for line in some).encode())
+            for _ in some:
+                client.answer()
+            self.kept_from(client)
+        listener.send("PING", "end")
+        heard = []
+        while (message := listener.answer()) != ["pong", "end"]:
+            heard.append(message[1:])
+        ordinals = [int(payload.rsplit(" ", 1)[1]) for _, payload in heard]
+        self.assertTrue(len(heard) > 500 and ordinals == sorted(ordinals) and 3 < ordinals[0] + 3 < ordinals[-1] <= len(lines))
+        for turn in range(3):
+            kept = self.kept_from(client)
+            self.assertTrue(0 < kept < ordinals[-1], kept)
+            for start in (kept, kept + 1, (kept + len(lines)) // 2, ordinals[-1], len(lines)):
+                other = one.client()
+                other.send("SUBSCRIBE", *names, "FROM", str(start))
+                self.assertEqual(self.messages(other, len(names)), [[name, place + 1] for place, name in enumerate(names)])
+                wanted = [message for message, ordinal in zip(heard, ordinals) if ordinal >= start]
+                self.assertEqual(self.messages(other, len(wanted)), wanted, f"from {start}")
+                self.assertEqual(other.say("PING x"), ["pong", "x"])
+                other.close()
+            if turn == 0:
+                one.kill()
+                client = one.start().client()
+            if turn == 1:
+                self.assertEqual((client.say("LEASE late 9"), client.say("RELEASE late")), ("OK", 1))
+        client.say("BGSAVE")
+        while f"snapshot:{len(lines)}\r" not in client.say("INFO"):
+            time.sleep(0.02)
+        self.refused(one.client(), f"SUBSCRIBE exit FROM {len(lines) - 1}", f"ERR events are kept from call {len(lines)} on")
+        self.assertEqual(one.client().say(f"SUBSCRIBE exit FROM {len(lines)}"), ["subscribe", "exit", 1])
+
+    def test_what_comes_meanwhile(self):
+        """While others fork, each fork is told once, and in order, whatever was before and whatever comes by itself."""
+        one = self.daemon(name="two").start()
+        client = one.client()
+        client.socket.sendall(b"FORK 1\r\n" * 8000)
+        others = []
+        for _ in range(6):
+            [client.answer() for _ in range(1000)]
+            others.append(one.client())
+            others[-1].send("SUBSCRIBE", "fork", "FROM", "500")
+        [client.answer() for _ in range(2000)]
+        for other in others:
+            self.assertEqual(other.answer(), ["subscribe", "fork", 1])
+            self.assertEqual([int(other.answer()[2].rsplit(" ", 1)[1]) for _ in range(7500)], list(range(500, 8000)))
 
     def test_one_that_never_reads(self):
         """A subscriber that does not read is closed, and nobody else is held up."""

@@ -226,6 +226,13 @@ impl Blocks {
         Ok(Some((Note::of(&entry), size)))
     }
 
+    /// The call at the front of the bytes, which is not made. None: there is none, or it is not whole.
+    pub fn next_call(&self, bytes: &[u8]) -> Option<Call> {
+        let is_call = bytes.first().is_some_and(|it| u32::from(*it) <= raw::SUBREAPER);
+        let (entry, _) = self.clone().take(bytes).ok().filter(|_| is_call)?;
+        Some(Call::of(&entry.call))
+    }
+
     /// The entry at the front of the bytes, and how many it has.
     fn take(&mut self, bytes: &[u8]) -> Result<(raw::Entry, usize), SavedFault> {
         let mut size = 0;
@@ -386,6 +393,10 @@ mod tests {
         let (bytes, _) = example();
         assert!(matches!(Blocks::behind(5).take_note(&bytes[48..]), Ok(None)));
         assert!(matches!(Blocks::behind(5).take_note(b""), Ok(None)));
+        let (_, blocks) = Blocks::read_head(&bytes).expect("a head");
+        let call = Call::Fork { caller: 1, new_space: true };
+        assert_eq!(blocks.next_call(&bytes[48..]), Some(call));
+        assert_eq!((blocks.next_call(&bytes[48..95]), blocks.next_call(&bytes[..48])), (None, None));
     }
 
     #[test]
