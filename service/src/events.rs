@@ -19,6 +19,8 @@ pub struct Channel {
     pub name: Vec<u8>,
     kind: &'static str,
     scope: Scope,
+    /// Events of calls before that ordinal are not for it.
+    since: u64,
 }
 
 impl Channel {
@@ -32,7 +34,12 @@ impl Channel {
             (Some(b"control"), Some(Some(id)), None) => Scope::Control(id),
             _ => return None,
         };
-        Some(Channel { name: name.to_vec(), kind, scope })
+        Some(Channel { name: name.to_vec(), kind, scope, since: 0 })
+    }
+
+    /// The same with the events of the calls from that ordinal on.
+    pub fn since(self, since: u64) -> Channel {
+        Channel { since, ..self }
     }
 
     /// Whether the event is one of the channel's.
@@ -42,7 +49,7 @@ impl Channel {
             Scope::Space(id) => event.spaces.contains(&id),
             Scope::Control(id) => event.controls.contains(&id),
         };
-        is_within && self.kind == kind_of(event.what)
+        is_within && self.kind == kind_of(event.what) && event.ordinal >= self.since
     }
 }
 
@@ -105,6 +112,8 @@ mod tests {
         let event = Event { ordinal: 7, what: What::Fell, spaces, controls };
         let of = |name: &[u8]| Channel::read(name).expect("a channel").has(&event);
         assert!(of(b"fall") && of(b"fall:space:1") && of(b"fall:control:5") && of(b"fall:space:0"));
+        let since = |ordinal| Channel::read(b"fall").expect("a channel").since(ordinal).has(&event);
+        assert!(since(7) && !since(8));
         assert!(!of(b"exit") && !of(b"fall:space:2") && !of(b"fall:control:3"));
         let wrong: [&[u8]; 8] = [
             b"",

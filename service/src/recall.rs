@@ -95,7 +95,8 @@ impl Service {
 
     /// The channels from that place on are of a client who has to be told what was before.
     pub fn begin_recall(&mut self, conn: &mut Conn, had: usize, from: u64) {
-        let (asker, user, channels) = ((conn.token, conn.id), conn.user, conn.channels[had..].to_vec());
+        let (asker, user, channels) = ((conn.token, conn.id), conn.user, conn.channels[had..].iter());
+        let channels = channels.map(|it| it.clone().since(from)).collect();
         conn.recalling = Some(Recalling { had, held: Vec::new() });
         conn.pause = Pause::Recalls;
         self.recalls.push(user);

@@ -378,8 +378,8 @@ impl Service {
 
     /// The client has the channel from now on, if he had it before or not.
     fn add_channel(&mut self, conn: &mut Conn, name: &[u8]) -> Result<(), &'static str> {
-        let channel = Channel::read(name).ok_or(NO_CHANNEL)?;
-        if !conn.channels.contains(&channel) {
+        let channel = Channel::read(name).ok_or(NO_CHANNEL)?.since(self.engine.made);
+        if !conn.channels.iter().any(|it| it.name == channel.name) {
             if conn.channels.len() == MOST_CHANNELS || !self.accounts.takes_channel(conn.user) {
                 return Err("-ERR too many channels");
             }

@@ -649,19 +649,27 @@ class Events(Case):
         self.assertEqual(one.client().say(f"SUBSCRIBE exit FROM {len(lines)}"), ["subscribe", "exit", 1])
 
     def test_what_comes_meanwhile(self):
-        """While others fork, each fork is told once, and in order, whatever was before and whatever comes by itself."""
-        one = self.daemon(name="two").start()
-        client = one.client()
-        client.socket.sendall(b"FORK 1\r\n" * 8000)
-        others = []
-        for _ in range(6):
-            [client.answer() for _ in range(1000)]
+        """While another client forks, each fork is told once, and in order, whatever was before and whatever comes by itself."""
+        one = self.daemon("--pid-max", "100000", name="two").start()
+        client, others, ends = one.client(), [], threading.Event()
+
+        def fork():
+            while not ends.is_set():
+                client.socket.sendall(b"FORK 1\r\n" * 40)
+                [client.answer() for _ in range(40)]
+
+        thread = threading.Thread(target=fork)
+        thread.start()
+        for _ in range(8):
             others.append(one.client())
-            others[-1].send("SUBSCRIBE", "fork", "FROM", "500")
-        [client.answer() for _ in range(2000)]
+            others[-1].send("SUBSCRIBE", "fork", "FROM", "0")
+            time.sleep(0.03)
+        ends.set()
+        thread.join()
+        made = one.client().say("POSITION")
         for other in others:
             self.assertEqual(other.answer(), ["subscribe", "fork", 1])
-            self.assertEqual([int(other.answer()[2].rsplit(" ", 1)[1]) for _ in range(7500)], list(range(500, 8000)))
+            self.assertEqual([int(other.answer()[2].rsplit(" ", 1)[1]) for _ in range(made)], list(range(made)))
 
     def test_one_that_never_reads(self):
         """A subscriber that does not read is closed, and nobody else is held up."""
