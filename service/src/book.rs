@@ -157,6 +157,11 @@ impl Book {
         self.controls.len()
     }
 
+    /// Whether there is such a cgroup.
+    pub fn has_control(&self, id: u64) -> bool {
+        id == 0 || self.controls.contains_key(&id)
+    }
+
     pub fn kin(&self, task: u32) -> Option<&Kin> {
         self.tasks.get(&task)
     }

@@ -65,6 +65,7 @@ pub struct Conn {
     pub id: u64,
     pub seat: u32,
     pub user: u32,
+    pub group: u32,
     pub rights: Rights,
     /// What CLIENT SETNAME has given it.
     pub name: Vec<u8>,
@@ -115,6 +116,7 @@ impl Conn {
             id,
             seat,
             user,
+            group: 0,
             rights,
             name: Vec::new(),
             last: "NULL",

@@ -2,6 +2,7 @@
 #![forbid(unsafe_code)]
 
 mod accounts;
+mod allowed;
 mod asks;
 mod book;
 mod check;
@@ -44,8 +45,8 @@ use nix::sys::resource::{getrlimit, setrlimit, Resource};
 use nix::sys::stat::{umask, Mode};
 use options::{Options, Wanted, USAGE};
 use sd_notify::NotifyState;
-use service::Service;
-use signal_hook::consts::{SIGINT, SIGTERM};
+use service::{Service, Signals};
+use signal_hook::consts::{SIGHUP, SIGINT, SIGTERM};
 use std::fs::{File, TryLockError};
 use std::io;
 use std::os::unix::net;
@@ -98,7 +99,7 @@ fn show(text: &str) -> ExitCode {
 
 /// 0: ended as asked. 1: it cannot listen. 2: users cannot be told apart. 3: the directory is not taken. 4: what was recorded cannot be saved.
 fn serve(options: Options) -> ExitCode {
-    if !options.allowed.is_empty() && !rights::sees_all_users() {
+    if !options.allowed.is_open() && !rights::sees_all_users() {
         return fail(
             "--allow: this user namespace does not have all users (/proc/self/uid_map), so they cannot be told apart",
             2,
@@ -140,10 +141,14 @@ fn raise_files(wanted: u64) {
     }
 }
 
-/// SIGTERM and SIGINT, as bytes of a stream.
-fn signals() -> Result<UnixStream, String> {
+/// SIGTERM and SIGINT, and SIGHUP, as bytes of streams.
+fn signals() -> Result<Signals, String> {
+    Ok(Signals { end: stream_of(&[SIGTERM, SIGINT])?, reload: stream_of(&[SIGHUP])? })
+}
+
+fn stream_of(signals: &[i32]) -> Result<UnixStream, String> {
     let (end, begin) = net::UnixStream::pair().map_err(|error| error.to_string())?;
-    for signal in [SIGTERM, SIGINT] {
+    for signal in signals.iter().copied() {
         let again = begin.try_clone().map_err(|error| error.to_string())?;
         signal_hook::low_level::pipe::register(signal, again).map_err(|error| error.to_string())?;
     }

@@ -1,4 +1,5 @@
 //! The command line.
+use crate::allowed::Allowed;
 use crate::engine::Keep;
 use crate::log::Sync;
 use lexopt::prelude::*;
@@ -10,8 +11,9 @@ pub const USAGE: &str = "\
 usage: pidtabd [OPTION ..]
   --socket PATH       a Unix socket; without it those that systemd passes
   --mode OCTAL        the socket's mode (0600)
-  --allow WHO,..      who may connect: UID; UID:ro, who may only ask; UID:below=CGROUP, who makes and ends
-                      tasks below that cgroup alone (whoever the mode lets)
+  --allow WHO,..      who may connect: UID, NAME or %GROUP; with :ro he may only ask, with :below=CGROUP he
+                      makes and ends tasks below that cgroup alone (whoever the mode lets)
+  --allow-file FILE   the same, a WHO a line, which SIGHUP has read again
   --dir DIR           where the log and the snapshots are (nothing is kept)
   --fsync WHEN        no, everysec, always (everysec)
   --segment BYTES     of the log, before a snapshot is made: 4096 or more (67108864)
@@ -46,7 +48,7 @@ pub enum Rights {
 pub struct Options {
     pub socket: Option<PathBuf>,
     pub mode: u32,
-    pub allowed: Vec<(u32, Rights)>,
+    pub allowed: Allowed,
     pub keep: Keep,
     pub follow: Option<PathBuf>,
     pub most_clients: usize,
@@ -82,7 +84,7 @@ impl Default for Options {
         Options {
             socket: None,
             mode: 0o600,
-            allowed: Vec::new(),
+            allowed: Allowed::default(),
             keep: Keep { path, sync, segment, archive, pid_max: 32768, most_controls: 65536 },
             follow: None,
             most_clients: 1000,
@@ -96,12 +98,13 @@ impl Default for Options {
 }
 
 /// The options behind which a value comes.
-const WITH_VALUES: [&str; 14] = [
+const WITH_VALUES: [&str; 15] = [
     "socket",
     "follow",
     "dir",
     "mode",
     "allow",
+    "allow-file",
     "fsync",
     "segment",
     "pid-max",
@@ -114,9 +117,9 @@ const WITH_VALUES: [&str; 14] = [
 ];
 
 /// Reads the command line. What is wrong with it is a sentence.
-pub fn read(words: impl IntoIterator<Item = OsString> + 'static) -> Result<Wanted, String> {
-    let mut parser = Parser::from_args(words);
-    let mut options = Options::default();
+pub fn read(line: impl IntoIterator<Item = OsString> + 'static) -> Result<Wanted, String> {
+    let mut parser = Parser::from_args(line);
+    let (mut options, mut words) = (Options::default(), Words::default());
     while let Some(word) = parser.next().map_err(|fault| fault.to_string())? {
         match word {
             Long("help") => return Ok(Wanted::Help),
@@ -134,11 +137,12 @@ pub fn read(words: impl IntoIterator<Item = OsString> + 'static) -> Result<Wante
             Long(name) => {
                 let name = name.to_owned();
                 let value = parser.value().map_err(|fault| fault.to_string())?;
-                take(&mut options, &name, value)?;
+                take(&mut options, &mut words, &name, value)?;
             }
             other => return Err(other.unexpected().to_string()),
         }
     }
+    options.allowed = Allowed::read(&words.allow, words.allow_file)?;
     Ok(Wanted::Serve(Box::new(options)))
 }
 
@@ -146,7 +150,14 @@ fn path(parser: &mut Parser) -> Result<PathBuf, String> {
     parser.value().map(PathBuf::from).map_err(|fault| fault.to_string())
 }
 
-fn take(options: &mut Options, name: &str, value: OsString) -> Result<(), String> {
+/// What is read once all options are there.
+#[derive(Default)]
+struct Words {
+    allow: String,
+    allow_file: Option<PathBuf>,
+}
+
+fn take(options: &mut Options, words: &mut Words, name: &str, value: OsString) -> Result<(), String> {
     let path = PathBuf::from(&value);
     let word = value.to_string_lossy();
     let number = |least, most| number(name, &word, least, most);
@@ -158,7 +169,8 @@ fn take(options: &mut Options, name: &str, value: OsString) -> Result<(), String
             options.mode =
                 u32::from_str_radix(&word, 8).ok().filter(|it| *it <= 0o777).ok_or("--mode is three octal digits")?
         }
-        "allow" => options.allowed = word.split(',').map(allowed).collect::<Result<_, _>>()?,
+        "allow" => words.allow = word.into_owned(),
+        "allow-file" => words.allow_file = Some(path),
         "fsync" => options.keep.sync = sync(&word)?,
         "segment" => options.keep.segment = number(4096, u64::MAX)?,
         "pid-max" => options.keep.pid_max = number(301, 4_194_304)? as u32,
@@ -182,20 +194,6 @@ fn sync(word: &str) -> Result<Sync, String> {
     let all = [Sync::Never, Sync::EverySecond, Sync::Always];
     let found = all.into_iter().find(|it| it.word() == word);
     found.ok_or_else(|| "--fsync is no, everysec or always".to_owned())
-}
-
-/// `1000`, `1000:ro` or `1000:below=5`.
-fn allowed(word: &str) -> Result<(u32, Rights), String> {
-    let fault = || format!("--allow has {word:?}, and takes UID, UID:ro or UID:below=CGROUP");
-    let (user, rights) = word.split_once(':').unwrap_or((word, ""));
-    let user = crate::resp::number(user.as_bytes(), u64::from(u32::MAX)).ok_or_else(fault)?;
-    let rights = match rights.strip_prefix("below=") {
-        Some(control) => Rights::Below(crate::resp::number(control.as_bytes(), u64::MAX).ok_or_else(fault)?),
-        None if rights == "ro" => Rights::Asks,
-        None if word.contains(':') => return Err(fault()),
-        None => Rights::All,
-    };
-    Ok((user as u32, rights))
 }
 
 #[cfg(test)]
@@ -223,7 +221,10 @@ mod tests {
         ])
         .expect("options");
         assert_eq!((read.keep.sync, read.keep.segment, read.keep.archive), (Sync::Always, 4096, true));
-        assert_eq!(read.allowed, [(0, Rights::All), (7, Rights::Asks), (8, Rights::Below(5))]);
+        assert_eq!(
+            (read.allowed.rights_of(7, 7), read.allowed.rights_of(8, 8)),
+            (Some(Rights::Asks), Some(Rights::Below(5)))
+        );
         assert_eq!((read.mode, read.keep.pid_max, read.stall), (0o600, 32768, 60));
     }
 

@@ -1,5 +1,6 @@
 //! The sockets, in one thread. A turn: what has come is read and done, what was recorded is written in one go, and then the answers go out.
 use crate::accounts::{Accounts, MOST_OUTPUT};
+use crate::allowed::{group_of_user, Allowed};
 use crate::commands::{find, Command};
 use crate::conn::{Conn, Pause, MUCH_OUTPUT};
 use crate::connections::Connections;
@@ -21,7 +22,7 @@ use mio::net::{UnixListener, UnixStream};
 use mio::{Events, Interest, Poll, Token, Waker};
 use nix::sys::socket::{getsockopt, sockopt::PeerCredentials};
 use std::fs::File;
-use std::io::{self, Write};
+use std::io::{self, Read, Write};
 use std::os::fd::AsRawFd;
 use std::sync::{Arc, Weak};
 use std::time::{Duration, Instant};
@@ -33,7 +34,8 @@ const READ_AT_ONCE: usize = 16 << 10;
 const SIGNAL: Token = Token(0);
 const WAKE: Token = Token(1);
 pub const LEADER: Token = Token(2);
-const LISTENERS: usize = 3;
+const RELOAD: Token = Token(3);
+const LISTENERS: usize = 4;
 const CLIENTS: usize = 16;
 
 /// So often it is looked at the clock, in ms.
@@ -77,7 +79,7 @@ pub struct Service {
     haste: Haste,
     poll: Poll,
     waker: Arc<Waker>,
-    signals: UnixStream,
+    signals: Signals,
     listeners: Vec<UnixListener>,
     is_calling: bool,
     clients: Connections,
@@ -127,7 +129,11 @@ struct Disk {
     delayed: Vec<usize>,
 }
 
-type Signals = Result<UnixStream, Fault>;
+/// What comes of the signals that end the service, and of the one that has it read its rights again.
+pub struct Signals {
+    pub end: UnixStream,
+    pub reload: UnixStream,
+}
 
 /// What wakes the loop from another thread.
 pub fn wake_by(waker: &Arc<Waker>) -> impl Fn() + Clone + Send + 'static {
@@ -137,7 +143,11 @@ pub fn wake_by(waker: &Arc<Waker>) -> impl Fn() + Clone + Send + 'static {
 
 impl Service {
     /// The signals come as bytes of a stream once the directory was read; until then they end the process.
-    pub fn begin(options: Options, listeners: Vec<UnixListener>, signals: fn() -> Signals) -> Result<Service, Fault> {
+    pub fn begin(
+        options: Options,
+        listeners: Vec<UnixListener>,
+        signals: fn() -> Result<Signals, Fault>,
+    ) -> Result<Service, Fault> {
         let fault = |error: io::Error| format!("the loop cannot begin: {error}");
         let poll = Poll::new().map_err(fault)?;
         let waker = Arc::new(Waker::new(poll.registry(), WAKE).map_err(fault)?);
@@ -170,12 +180,13 @@ impl Service {
             options,
         };
         service.watch().map_err(fault)?;
-        Ok(service)
+        service.refusal_of(&service.options.allowed).map_or(Ok(service), Err)
     }
 
     fn watch(&mut self) -> io::Result<()> {
         let registry = self.poll.registry();
-        registry.register(&mut self.signals, SIGNAL, Interest::READABLE)?;
+        registry.register(&mut self.signals.end, SIGNAL, Interest::READABLE)?;
+        registry.register(&mut self.signals.reload, RELOAD, Interest::READABLE)?;
         for (place, listener) in self.listeners.iter_mut().enumerate() {
             registry.register(listener, Token(LISTENERS + place), Interest::READABLE)?;
         }
@@ -250,6 +261,7 @@ impl Service {
     fn take_event(&mut self, event: &Event) {
         match event.token() {
             SIGNAL => self.is_ending = true,
+            RELOAD => self.read_rights_again(),
             WAKE => {}
             LEADER => {
                 if let Some(leader) = &mut self.leader {
@@ -521,8 +533,9 @@ impl Service {
         if self.figures.clients >= self.options.most_clients {
             return self.turn_away(&socket, "-ERR max number of clients reached\r\n");
         }
-        let user = getsockopt(socket.as_raw_fd(), PeerCredentials).map(|it| it.uid());
-        let Some((user, rights)) = user.ok().and_then(|it| Some((it, self.rights_of(it)?))) else {
+        let peer = getsockopt(socket.as_raw_fd(), PeerCredentials).map(|it| (it.uid(), it.gid()));
+        let known = peer.ok().and_then(|it| Some((it, self.options.allowed.rights_of(it.0, it.1)?)));
+        let Some(((user, group), rights)) = known else {
             return self.turn_away(&socket, "-NOPERM this user may not connect\r\n");
         };
         if let Some(why) = self.accounts.refuses(user, self.figures.clients) {
@@ -534,6 +547,7 @@ impl Service {
         }
         let seat = self.emptiest_seat();
         let mut conn = Box::new(Conn::new(socket, token, self.figures.accepted + 1, seat, user, rights, self.now));
+        conn.group = group;
         conn.is_guest = self.accounts.is_guest(user);
         self.accounts.connected(user);
         self.figures.seated[seat as usize] += 1;
@@ -542,10 +556,47 @@ impl Service {
         self.clients.add(conn);
     }
 
-    fn rights_of(&self, user: u32) -> Option<Rights> {
+    /// What a user may do who need not be connected.
+    fn rights_of(&self, user: u32) -> Rights {
         let allowed = &self.options.allowed;
-        let found = allowed.iter().find(|it| it.0 == user).map(|it| it.1);
-        found.or(allowed.is_empty().then_some(Rights::All))
+        if allowed.is_open() {
+            return Rights::All;
+        }
+        let group = group_of_user(user).unwrap_or(u32::MAX);
+        allowed.rights_of(user, group).unwrap_or(Rights::Asks)
+    }
+
+    /// A cgroup that is not there would be that of whoever makes the call with its number.
+    fn refusal_of(&self, allowed: &Allowed) -> Option<Fault> {
+        let missing = allowed.controls().find(|it| !self.engine.book.has_control(*it))?;
+        Some(format!("below={missing}: there is no such cgroup"))
+    }
+
+    /// SIGHUP: the rights as their file has them now, also of who is connected. One that is wrong changes nothing.
+    fn read_rights_again(&mut self) {
+        let mut room = [0; 64];
+        while matches!(self.signals.reload.read(&mut room), Ok(count) if count > 0) {}
+        let read = self.options.allowed.again();
+        let read = read.and_then(|it| self.refusal_of(&it).map_or(Ok(it), Err));
+        match read {
+            Ok(allowed) => {
+                let path = allowed.file().map_or(String::new(), |it| it.display().to_string());
+                self.options.allowed = allowed;
+                self.give_rights();
+                eprintln!("pidtabd: {path}: the rights are those of the file again");
+            }
+            Err(why) => eprintln!("pidtabd: {why}: the rights stay as they were"),
+        }
+    }
+
+    fn give_rights(&mut self) {
+        for token in self.clients.tokens() {
+            let Some(conn) = self.clients.get(token) else { continue };
+            match self.options.allowed.rights_of(conn.user, conn.group) {
+                Some(rights) => conn.rights = rights,
+                None => self.end(token),
+            }
+        }
     }
 
     fn emptiest_seat(&self) -> u32 {
@@ -622,7 +673,7 @@ impl Service {
             return;
         }
         for (number, user, tasks) in self.engine.leases.over(self.now) {
-            let rights = self.rights_of(user).unwrap_or(Rights::Asks);
+            let rights = self.rights_of(user);
             tasks.iter().for_each(|it| self.kill(rights, *it));
             if self.options.reaps {
                 self.reap(&tasks);

@@ -160,6 +160,17 @@ class Daemon:
                     raise AssertionError(f"the daemon does not serve: {self.said()}") from None
                 time.sleep(0.01)
 
+    def reload(self):
+        """Has it read its rights again: what it says of them."""
+        before = self.said()
+        self.process.send_signal(signal.SIGHUP)
+        end = time.monotonic() + 10
+        while "the rights " not in (said := self.said()[len(before):]):
+            if time.monotonic() > end:
+                raise AssertionError("nothing is said of the rights")
+            time.sleep(0.005)
+        return said
+
     def kill(self):
         self.process.send_signal(signal.SIGKILL)
         self.process.wait()
@@ -206,6 +217,16 @@ class Case(unittest.TestCase):
         os.chmod(folder, 0o755)
         self.daemons.append(Daemon(folder, *options, **others))
         return self.daemons[-1]
+
+    def with_rights(self, *words, options=(), name="one", **others):
+        """A daemon with the cgroup 1, where root may all, and others may what the words say."""
+        file = self.folder / f"allowed-{name}"
+        file.write_text("0\n", encoding="ascii")
+        one = self.daemon("--mode", "666", "--allow-file", str(file), *options, name=name, **others).start()
+        self.assertEqual(one.client().say("MK 0"), 1)
+        file.write_text("\n".join(["0", *words, ""]), encoding="ascii")
+        self.assertIn("the rights are those of the file again", one.reload())
+        return one
 
     def refused(self, client, words, front):
         """The request is refused with an answer that begins so."""

@@ -823,9 +823,9 @@ class Users(Case):
         return done.stdout.decode().removesuffix("+OK\r\n" if lines else "")
 
     def test_below_a_cgroup(self):
-        one = self.daemon("--mode", "666", "--allow", f"0,{self.ENEMY}:below=1").start()
+        one = self.with_rights(f"{self.ENEMY}:below=1")
         client = one.client()
-        for line in ("MK 0", "FORK 1", "FORK 1", "MOVE 2 1", "MK 1", "MK 0", "FORK 1 NEW"):
+        for line in ("FORK 1", "FORK 1", "MOVE 2 1", "MK 1", "MK 0", "FORK 1 NEW"):
             client.say(line)
         # 1 is his, 5 below it, 6 beside it; task 2 is his, 3 and 4 are not.
         listed = client.say("LIST")
@@ -842,9 +842,9 @@ class Users(Case):
         self.assertEqual(told, ":3\r\n:9\r\n+OK\r\n+OK\r\n+OK\r\n+OK\r\n*2\r\n:5\r\n:3\r\n+OK\r\n")
 
     def test_an_init_takes_nobody_else_with_it(self):
-        one = self.daemon("--mode", "666", "--allow", f"0,{self.ENEMY}:below=1").start()
+        one = self.with_rights(f"{self.ENEMY}:below=1")
         client = one.client()
-        for line in ("MK 0", "FORK 1", "MOVE 2 1"):
+        for line in ("FORK 1", "MOVE 2 1"):
             client.say(line)
         self.as_enemy(one, ["FORK 2 NEW", "FORK 3"])
         self.assertEqual(client.say("MOVE 4 0"), "OK")
@@ -856,18 +856,18 @@ class Users(Case):
 
     def test_a_child_that_has_gone_outside(self):
         """Who is below a cgroup does not reap one that ended outside."""
-        one = self.daemon("--mode", "666", "--allow", f"0,{self.ENEMY}:below=1").start()
+        one = self.with_rights(f"{self.ENEMY}:below=1")
         client = one.client()
-        for line in ("MK 0", "FORK 1", "MOVE 2 1", "FORK 2", "FORK 2", "MOVE 3 0", "EXIT 3 5", "EXIT 4 6"):
+        for line in ("FORK 1", "MOVE 2 1", "FORK 2", "FORK 2", "MOVE 3 0", "EXIT 3 5", "EXIT 4 6"):
             client.say(line)
         self.assertEqual(self.as_enemy(one, ["WAIT 2 PID 3", "WAIT 2 PID 4"]), "-NOPERM this user may call by tasks below his cgroup alone\r\n*2\r\n:4\r\n:6\r\n")
         self.assertEqual(client.say("WAIT 2 ANY"), [3, 5])
 
     def test_a_lease_ends_what_its_user_may(self):
         """The init of a namespace where another user's task is stays, as by EXIT."""
-        one = self.daemon("--mode", "666", "--allow", f"0,{self.ENEMY}:below=1").start()
+        one = self.with_rights(f"{self.ENEMY}:below=1")
         client = one.client()
-        for line in ("MK 0", "FORK 1", "MOVE 2 1"):
+        for line in ("FORK 1", "MOVE 2 1"):
             client.say(line)
         other = self.keep_as_enemy(one, ["LEASE rig 100", "FORK 2 NEW", "FORK 2"])
         for line in ("FORK 1", "JOIN 5 3", "FORK 5"):
@@ -910,7 +910,7 @@ class Users(Case):
         own = client.say("CLIENT LIST").count("\n")
         words = [it[3] for it in client.say("SLOWLOG GET 99")]
         self.assertTrue(own == 1 and ["ECHO", "mine"] in words and ["PING"] in words, words)
-        below = self.daemon("--mode", "666", "--allow", f"0,{self.ENEMY}:below=1", name="two").start()
+        below = self.with_rights(f"{self.ENEMY}:below=1", name="two")
         self.assertIn("-NOPERM", self.as_enemy(below, ["CLIENT KILL TYPE normal"]))
 
     def test_where_users_cannot_be_told_apart(self):
@@ -924,6 +924,42 @@ class Users(Case):
         two = self.daemon(name="two")
         two.command = one.command
         self.assertEqual(two.start().client().say("PING"), "PONG")
+
+    def test_rights_are_read_again(self):
+        """A file that is wrong changes nothing, and it is said why; who is connected has the new rights at once, or is closed."""
+        one = self.with_rights(f"{self.ENEMY}:ro")
+        file, other = self.folder / "allowed-one", Client.of(self.ENEMY, one.socket)
+        self.refused(other, "FORK 1", "NOPERM this user may only ask")
+        wrong = [("0\n7:rw\n", 'allowed-one: line 2: "7:rw" is none of UID, NAME or %GROUP'), ("0\n1000:below=77\n", "below=77: there is no such cgroup"),
+                 ("0\nnobody-by-that-name\n", "line 2: there is no user nobody-by-that-name"), ("%no-such-group", "line 1: there is no group no-such-group")]
+        for text, why in wrong:
+            file.write_text(text, encoding="ascii")
+            self.assertIn(f"{why}", said := one.reload())
+            self.assertTrue(said.endswith(": the rights stay as they were\n"), said)
+            self.assertEqual(other.say("GETPID 1"), 1)
+        file.write_text("0 # root\n\nnobody\n", encoding="ascii")
+        one.reload()
+        self.assertEqual(other.say("FORK 1"), [2, 2])
+        file.write_text("0\n%nogroup:below=1\n", encoding="ascii")
+        one.reload()
+        self.refused(other, "FORK 1", "NOPERM this user may call by tasks below his cgroup alone")
+        file.write_text("0\n", encoding="ascii")
+        one.reload()
+        self.assertRaises((EOFError, ConnectionError), other.say, "PING")
+        self.assertEqual(self.as_enemy(one, []), "-NOPERM this user may not connect\r\n")
+        file.unlink()
+        self.assertIn("No such file", one.reload())
+        self.assertEqual(one.client().say("PING"), "PONG")
+        two = self.daemon(name="two").start()
+        self.assertEqual(two.client().say("PING"), "PONG")
+        self.assertIn("there is no --allow-file to read again", two.reload())
+
+    def test_a_cgroup_that_is_not_there(self):
+        """Whoever makes the call with its number would fill it: so a start with it is refused."""
+        one = self.daemon("--allow", f"0,{self.ENEMY}:below=1")
+        one.start(is_up=False)
+        self.assertEqual(one.process.wait(timeout=10), 3)
+        self.assertIn("below=1: there is no such cgroup", one.said())
 
     def test_who_may_not_come(self):
         one = self.daemon("--mode", "666", "--allow", "0").start()
