@@ -4,6 +4,7 @@ import os
 import pathlib
 import random
 import re
+import signal
 import subprocess
 import sys
 import textwrap
@@ -670,6 +671,22 @@ class Events(Case):
         for other in others:
             self.assertEqual(other.answer(), ["subscribe", "fork", 1])
             self.assertEqual([int(other.answer()[2].rsplit(" ", 1)[1]) for _ in range(made)], list(range(made)))
+
+    def test_what_comes_in_the_same_turn(self):
+        """Calls before and behind the SUBSCRIBE, all of which the daemon finds at once: each is told once."""
+        one = self.daemon(name="two").start()
+        before, other, behind = [one.client() for _ in range(3)]
+        for client in (before, other, behind):
+            self.assertEqual(client.say("PING"), "PONG")
+        one.client().say("SUBSCRIBE exit")
+        one.process.send_signal(signal.SIGSTOP)
+        before.socket.sendall(b"FORK 1\r\n" * 5)
+        other.send("SUBSCRIBE", "fork", "FROM", "2")
+        behind.socket.sendall(b"FORK 1\r\n" * 5)
+        one.process.send_signal(signal.SIGCONT)
+        self.assertEqual(other.answer(), ["subscribe", "fork", 1])
+        self.assertEqual([int(other.answer()[2].rsplit(" ", 1)[1]) for _ in range(8)], list(range(2, 10)))
+        self.assertEqual(other.say("PING"), ["pong", ""])
 
     def test_one_that_never_reads(self):
         """A subscriber that does not read is closed, and nobody else is held up."""
