@@ -46,6 +46,7 @@ from pidtab.tree import draw_list
 
 if TYPE_CHECKING:
     from pidtab.cluster import Cluster
+    from pidtab.connected import Connected, NotServed, connect
     from pidtab.etcd_log import EtcdLog
     from pidtab.log import Following, Log, Progress
     from pidtab.memory_log import MemoryLog
@@ -69,6 +70,7 @@ __all__ = [
     "Calls",
     "Changes",
     "Cluster",
+    "Connected",
     "Control",
     "Counts",
     "Diverged",
@@ -89,6 +91,7 @@ __all__ = [
     "MemoryLog",
     "NotKept",
     "NotKnown",
+    "NotServed",
     "OtherSettings",
     "Process",
     "ProgramEnded",
@@ -121,6 +124,7 @@ __all__ = [
     "Unsaved",
     "WaitingEnded",
     "Would",
+    "connect",
     "draw_list",
     "find_library",
     "find_program",
@@ -128,18 +132,21 @@ __all__ = [
     "write_list",
 ]
 
-# A table does without hosts, which bring threads and TLS: each is loaded when it is first asked for.
+# A table does without hosts, which bring threads and TLS, and without a service: each is loaded when it is first asked for.
 _HOSTS = {
     "Cluster": "cluster",
+    "Connected": "connected",
     "EtcdLog": "etcd_log",
     "Following": "log",
     "Log": "log",
     "MemoryLog": "memory_log",
+    "NotServed": "connected",
     "Progress": "log",
     "Receipt": "submitted",
     "ReplicaAsk": "replicated",
     "Replicated": "replicated",
     "Submitted": "submitted",
+    "connect": "connected",
 }
 
 
