@@ -46,8 +46,6 @@ pub struct Kin {
     /// The namespace that its children go into.
     children: u64,
     pub is_zombie: bool,
-    /// The stamp of the fork that made it, 0 where that is not known.
-    pub born: u64,
     first_child: u32,
     before: u32,
     after: u32,
@@ -56,8 +54,8 @@ pub struct Kin {
 impl Kin {
     /// A task without children, in front of a sibling.
     fn new(parent: u32, number: u32, space: u64, children: u64, after: u32) -> Kin {
-        let (is_zombie, born, first_child, before) = (false, 0, 0, 0);
-        Kin { parent, number, space, children, is_zombie, born, first_child, before, after }
+        let (is_zombie, first_child, before) = (false, 0, 0);
+        Kin { parent, number, space, children, is_zombie, first_child, before, after }
     }
 }
 
@@ -67,6 +65,14 @@ struct Space {
     parent: u64,
     init: u32,
     members: BTreeSet<u32>,
+    /// Those that stand directly in it.
+    inside: BTreeSet<u64>,
+}
+
+impl Space {
+    fn new(parent: u64, init: u32) -> Space {
+        Space { parent, init, members: BTreeSet::new(), inside: BTreeSet::new() }
+    }
 }
 
 /// What has happened, for those who wait for it.
@@ -80,6 +86,8 @@ pub enum What {
 /// With the namespace and the cgroup, each with all around it, the innermost first.
 #[derive(Clone, Debug, PartialEq)]
 pub struct Event {
+    /// That of the call that has done it.
+    pub ordinal: u64,
     pub what: What,
     pub spaces: Vec<u64>,
     pub controls: Vec<u64>,
@@ -118,9 +126,10 @@ impl Book {
         let mut book = Book::default();
         for space in &listing.spaces {
             let Some(parent) = space.parent.filter(|_| !space.fallen) else { continue };
-            let (init, members) = (0, BTreeSet::new());
-            book.spaces.insert(space.id, Space { parent, init, members });
+            book.spaces.insert(space.id, Space::new(parent, 0));
         }
+        let parents: Vec<_> = book.spaces.iter().map(|it| (*it.0, it.1.parent)).collect();
+        parents.into_iter().for_each(|(space, parent)| book.put_inside(space, parent));
         for control in &listing.controls {
             if let Some(parent) = control.parent {
                 book.controls.insert(control.id, parent);
@@ -148,12 +157,13 @@ impl Book {
         self.controls.len()
     }
 
-    pub fn kin(&self, task: u32) -> Option<&Kin> {
-        self.tasks.get(&task)
+    /// Whether there is such a cgroup.
+    pub fn has_control(&self, id: u64) -> bool {
+        id == 0 || self.controls.contains_key(&id)
     }
 
-    pub fn kin_mut(&mut self, task: u32) -> Option<&mut Kin> {
-        self.tasks.get_mut(&task)
+    pub fn kin(&self, task: u32) -> Option<&Kin> {
+        self.tasks.get(&task)
     }
 
     /// The cgroup and those above it, to the root's.
@@ -174,12 +184,6 @@ impl Book {
         std::iter::successors(Some(control), next).any(|it| it == top)
     }
 
-    /// Whether the namespace is that one, or stands within it.
-    fn is_inside(&self, space: u64, around: u64) -> bool {
-        let next = |it: &u64| self.spaces.get(it).map(|it| it.parent);
-        std::iter::successors(Some(space), next).any(|it| it == around)
-    }
-
     /// The children of a task, live or ended.
     pub fn children(&self, task: u32) -> impl Iterator<Item = (u32, &Kin)> {
         let mut at = self.tasks.get(&task).map_or(0, |it| it.first_child);
@@ -197,8 +201,24 @@ impl Book {
         if space == 0 || self.spaces.get(&space).is_none_or(|it| it.init != task) {
             return Vec::new();
         }
-        let inside = self.spaces.iter().filter(|it| self.is_inside(*it.0, space));
-        inside.flat_map(|it| it.1.members.iter().copied()).collect()
+        let inside = self.all_inside(space);
+        inside.iter().filter_map(|it| self.spaces.get(it)).flat_map(|it| it.members.iter().copied()).collect()
+    }
+
+    /// The namespace, and those that stand within it, each behind the one around it.
+    fn all_inside(&self, space: u64) -> Vec<u64> {
+        let (mut all, mut at) = (vec![space], 0);
+        while let Some(this) = all.get(at) {
+            all.extend(self.spaces.get(this).into_iter().flat_map(|it| it.inside.iter().copied()));
+            at += 1;
+        }
+        all
+    }
+
+    fn put_inside(&mut self, space: u64, parent: u64) {
+        if let Some(around) = self.space(parent) {
+            around.inside.insert(space);
+        }
     }
 
     /// Before a call: what will not be known behind it.
@@ -224,9 +244,12 @@ impl Book {
         match (call, reply) {
             (Call::Fork { caller, new_space }, Reply::Forked(child)) => {
                 self.note_fork(caller, new_space, child, stamp);
-                self.tell_fork(table, caller, child.root);
+                self.tell_fork(table, caller, child.root, stamp - 1);
             }
-            (Call::Exit { caller, status }, Reply::Done) => self.note_exit(table, caller, status),
+            (Call::Exit { caller, status }, Reply::Done) => {
+                self.tell_ends(caller, status, stamp - 1);
+                self.note_exit(table, caller);
+            }
             (Call::Wait { caller, .. }, Reply::Reaped(it)) => {
                 if let Some(task) = self.zombies.get(&(caller, it.child)).copied() {
                     self.remove(task);
@@ -265,29 +288,27 @@ impl Book {
         }
         let space = if new_space { stamp } else { around };
         if new_space {
-            let (parent, init, members) = (around, child.root, BTreeSet::new());
-            self.spaces.insert(space, Space { parent, init, members });
+            self.spaces.insert(space, Space::new(around, child.root));
+            self.put_inside(space, around);
         }
-        let mut kin = Kin::new(caller, child.number, space, space, first);
-        kin.born = stamp;
+        let kin = Kin::new(caller, child.number, space, space, first);
         self.add(child.root, kin, new_space);
     }
 
-    fn tell_fork(&mut self, table: &mut Table, parent: u32, child: u32) {
+    fn tell_fork(&mut self, table: &mut Table, parent: u32, child: u32, ordinal: u64) {
         if !self.is_watched {
             return;
         }
         let Some(space) = self.tasks.get(&child).map(|it| it.space) else { return };
         let control = table.stat(INIT, child).map_or(0, |it| it.control());
         let (spaces, controls) = (self.spaces_around(space), self.controls_above(control));
-        self.events.push(Event { what: What::Forked { parent, child }, spaces, controls });
+        self.events.push(Event { ordinal, what: What::Forked { parent, child }, spaces, controls });
     }
 
     /// The task ends; its children have another parent; if it is an init, its namespace falls.
-    fn note_exit(&mut self, table: &mut Table, task: u32, status: u8) {
+    fn note_exit(&mut self, table: &mut Table, task: u32) {
         let space = self.tasks.get(&task).map_or(0, |it| it.space);
         let fallen = self.falls_with(task);
-        self.tell_ends(task, status);
         self.stirred.push(task);
         let mut changed: Vec<u32> = self.children(task).map(|it| it.0).collect();
         if fallen.is_empty() {
@@ -299,8 +320,11 @@ impl Book {
         changed.extend(&fallen);
         changed.iter().for_each(|it| self.refresh(table, *it));
         if !fallen.is_empty() {
-            let gone: Vec<_> = self.spaces.keys().copied().filter(|it| self.is_inside(*it, space)).collect();
-            gone.iter().for_each(|it| drop(self.spaces.remove(it)));
+            let parent = self.spaces.get(&space).map_or(0, |it| it.parent);
+            self.all_inside(space).iter().for_each(|it| drop(self.spaces.remove(it)));
+            if let Some(around) = self.space(parent) {
+                around.inside.remove(&space);
+            }
         }
     }
 
@@ -318,13 +342,13 @@ impl Book {
     }
 
     /// The events of those that have ended; a namespace falls behind its init.
-    fn tell_ends(&mut self, task: u32, status: u8) {
+    fn tell_ends(&mut self, task: u32, status: u8, ordinal: u64) {
         for Doomed { task: it, space, controls } in std::mem::take(&mut self.doomed) {
             let ended = if it == task { Ended::Exited(status) } else { Ended::Killed };
             let spaces = self.spaces_around(space);
             let is_init = self.spaces.get(&space).is_some_and(|around| around.init == it);
-            let fell = Event { what: What::Fell, spaces: spaces.clone(), controls: controls.clone() };
-            self.events.push(Event { what: What::Ended { task: it, ended }, spaces, controls });
+            let fell = Event { ordinal, what: What::Fell, spaces: spaces.clone(), controls: controls.clone() };
+            self.events.push(Event { ordinal, what: What::Ended { task: it, ended }, spaces, controls });
             self.events.extend(is_init.then_some(fell));
         }
     }
@@ -424,18 +448,14 @@ mod tests {
     use std::collections::BTreeMap;
 
     /// What two books of one table must agree on.
-    type Facts = (
-        Vec<(u32, u32, u32, u64, u64, bool)>,
-        Numbers<(u32, u32), u32>,
-        BTreeMap<u64, (u64, u32, BTreeSet<u32>)>,
-        BTreeMap<u64, u64>,
-    );
+    type Facts =
+        (Vec<(u32, u32, u32, u64, u64, bool)>, Numbers<(u32, u32), u32>, BTreeMap<u64, Space>, BTreeMap<u64, u64>);
 
     fn facts(book: &Book) -> Facts {
         let facts = |it: (&u32, &Kin)| (*it.0, it.1.parent, it.1.number, it.1.space, it.1.children, it.1.is_zombie);
         let mut tasks: Vec<_> = book.tasks.iter().map(facts).collect();
         tasks.sort_unstable();
-        let spaces = book.spaces.iter().map(|it| (*it.0, (it.1.parent, it.1.init, it.1.members.clone())));
+        let spaces = book.spaces.iter().map(|it| (*it.0, it.1.clone()));
         let controls = book.controls.iter().map(|it| (*it.0, *it.1));
         (tasks, book.zombies.clone(), spaces.collect(), controls.collect())
     }
@@ -509,13 +529,13 @@ mod tests {
             book.note(&mut table, call, &reply, place as u64 + 1);
         }
         let wanted = [
-            What::Forked { parent: 1, child: 2 },
-            What::Forked { parent: 2, child: 3 },
-            What::Ended { task: 3, ended: Ended::Killed },
-            What::Ended { task: 2, ended: Ended::Exited(7) },
-            What::Fell,
+            (0, What::Forked { parent: 1, child: 2 }),
+            (1, What::Forked { parent: 2, child: 3 }),
+            (2, What::Ended { task: 3, ended: Ended::Killed }),
+            (2, What::Ended { task: 2, ended: Ended::Exited(7) }),
+            (2, What::Fell),
         ];
-        let wanted = wanted.map(|what| Event { what, spaces: vec![1, 0], controls: vec![0] });
+        let wanted = wanted.map(|(ordinal, what)| Event { ordinal, what, spaces: vec![1, 0], controls: vec![0] });
         assert_eq!(book.events, wanted);
         assert_eq!(book.zombies.keys().collect::<Vec<_>>(), [&(1, 2)]);
     }

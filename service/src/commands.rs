@@ -409,7 +409,7 @@ pub const COMMANDS: &[Command] = &[
     row("SPACE", A::Space, &[Id], "the namespace, or nil where there is none"),
     row("STAT", A::Stat, &[Caller, Process], "the task as the caller's namespace sees it"),
     row("SUBREAPER", A::Call(Verb::Subreaper), &[Caller, Switch], "the caller takes orphans"),
-    row("SUBSCRIBE", A::Subscribe, &[Other("CHANNEL ..", 1, 63)], "events: exit, fork or fall, alone or of space:ID or control:ID, as exit:control:5"),
+    row("SUBSCRIBE", A::Subscribe, &[Other("CHANNEL .. [FROM ORDINAL]", 1, 63)], "events: exit, fork or fall, alone or of space:ID or control:ID, as exit:control:5; with FROM those of the calls from that ordinal on too"),
     row("TAKEOVER", A::Takeover, &[Other("[FORCE]", 0, 1)], "a follower serves from now on"),
     row("TOLD", A::Told, &[Other("VERB ..", 1, 5)], "CALL, with what the call did besides: who ended, has another parent, or is gone"),
     row("UNSUBSCRIBE", A::Unsubscribe, &[Other("[CHANNEL ..]", 0, 63)], "no more events of these, or of any"),

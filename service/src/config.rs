@@ -20,6 +20,7 @@ fn settings(options: &Options, pid_max: u32) -> Vec<(&'static str, String)> {
     let path = |it: &Option<std::path::PathBuf>| it.as_ref().map_or(String::new(), |it| it.display().to_string());
     let yes = |it: bool| if it { "yes" } else { "no" }.to_owned();
     vec![
+        ("allow-file", path(&options.allowed.file().map(Into::into))),
         ("appendfsync", keep.sync.word().to_owned()),
         ("appendonly", yes(keep.path.is_some())),
         ("archive", yes(keep.archive)),

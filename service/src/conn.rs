@@ -1,7 +1,10 @@
 //! A client: its socket, what it has sent and was not done yet, and what is to be sent to it.
+use crate::connections::Roles;
 use crate::engine::Text;
 use crate::events::Channel;
 use crate::options::Rights;
+use crate::recall::Recalling;
+use crate::replica::TextKind;
 use crate::resp::Answer;
 use mio::net::UnixStream;
 use pidtab::Call;
@@ -20,9 +23,11 @@ pub enum Pause {
     Sleeps,
     /// The second table's answer to a query.
     Asks,
-    /// The answer to LIST or DUMP, which has so many calls at least.
+    /// The events from before.
+    Recalls,
+    /// The answer to LIST, DUMP or FOLLOW, which has so many entries at least.
     Awaits {
-        is_dump: bool,
+        kind: TextKind,
         ordinal: u64,
     },
     /// That a text is sent, from that byte on.
@@ -60,6 +65,7 @@ pub struct Conn {
     pub id: u64,
     pub seat: u32,
     pub user: u32,
+    pub group: u32,
     pub rights: Rights,
     /// What CLIENT SETNAME has given it.
     pub name: Vec<u8>,
@@ -73,6 +79,7 @@ pub struct Conn {
     pub pause: Pause,
     pub multi: Option<Multi>,
     pub channels: Vec<Channel>,
+    pub recalling: Option<Recalling>,
     pub follower: Option<Follower>,
     pub lease: Option<Held>,
     /// Its next request waits until the disk takes what was recorded.
@@ -95,6 +102,8 @@ pub struct Conn {
     pub ends: bool,
     pub is_queued: bool,
     pub is_touched: bool,
+    /// Those that are known of it.
+    pub roles: Roles,
     /// When output went out last, in ms.
     pub moved: u64,
 }
@@ -107,6 +116,7 @@ impl Conn {
             id,
             seat,
             user,
+            group: 0,
             rights,
             name: Vec::new(),
             last: "NULL",
@@ -118,6 +128,7 @@ impl Conn {
             pause: Pause::None,
             multi: None,
             channels: Vec::new(),
+            recalling: None,
             follower: None,
             lease: None,
             is_delayed: false,
@@ -131,6 +142,7 @@ impl Conn {
             ends: false,
             is_queued: false,
             is_touched: false,
+            roles: Roles::default(),
             moved: now,
         }
     }
@@ -220,6 +232,13 @@ impl Conn {
 
     /// So many bytes wait for it.
     pub fn waiting(&self) -> usize {
-        self.unsent() + self.follower.as_ref().map_or(0, |it| it.held.len())
+        let held = self.recalling.as_ref().map_or(0, |it| it.held.len());
+        self.unsent() + held + self.follower.as_ref().map_or(0, |it| it.held.len())
+    }
+
+    /// Where messages go: behind those from before, if these are waited for.
+    pub fn messages(&mut self) -> (&mut Vec<u8>, &[Channel]) {
+        let to = self.recalling.as_mut().map_or(&mut self.out, |it| &mut it.held);
+        (to, &self.channels)
     }
 }

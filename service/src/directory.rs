@@ -1,5 +1,5 @@
-//! The directory of a table: `snap-N` is its text after N calls, `log-N` has the calls from the ordinal N on in the form of docs/SAVED.md,
-//! `current` names the newest log, `leases` has what is leased, `identity` tells the table from others, and `lock` is held.
+//! The directory of a table: `snap-N` is its text after N entries, `log-N` has the entries from the ordinal N on in the form of docs/SAVED.md,
+//! `current` names the newest log, `identity` tells the table from others, and `lock` is held.
 use nix::unistd::geteuid;
 use std::fs::{self, File, OpenOptions, TryLockError};
 use std::io::{self, Read, Write};
@@ -9,7 +9,7 @@ use std::path::{Path, PathBuf};
 /// How many workers a head has: the seats of the service.
 pub const SEATS: u32 = 16;
 
-/// What is there besides the snapshots and the logs.
+/// What may be there besides the snapshots and the logs.
 const OTHERS: [&str; 5] = ["lock", "current", "identity", "leases", "lost+found"];
 
 /// Files that are being written have this end, and are nothing yet.
@@ -39,28 +39,45 @@ pub fn fault_at<T: std::fmt::Display>(path: &Path) -> impl Fn(T) -> Fault {
 impl Directory {
     /// Takes the directory for this process, if it is one of its own.
     pub fn take(path: &Path) -> Result<Directory, Fault> {
-        let about = fs::metadata(path).map_err(fault_at(path))?;
-        if !about.is_dir() {
-            return Err(fault_at(path)("is no directory"));
-        }
-        let user = geteuid().as_raw();
-        if about.uid() != user {
-            let owner = about.uid();
+        let (owner, user) = (owner_of(path)?, geteuid().as_raw());
+        if owner != user {
             return Err(fault_at(path)(format!("belongs to the user {owner}, and this process is the user {user}'s")));
-        }
-        if about.mode() & 0o022 != 0 {
-            return Err(fault_at(path)("may be written by others: `chmod go-w` it"));
         }
         let mut options = OpenOptions::new();
         options.read(true).write(true).create(true).truncate(false).mode(0o600);
         Directory::list(path)?;
         let place = path.join("lock");
         let guard = options.open(&place).map_err(fault_at(&place))?;
+        Directory::hold(path, &place, guard)
+    }
+
+    /// The same to read it alone, whoever it belongs to: nothing is made there.
+    pub fn look(path: &Path) -> Result<Directory, Fault> {
+        owner_of(path)?;
+        Directory::list(path)?;
+        let place = path.join("lock");
+        match File::open(&place) {
+            Ok(guard) => Directory::hold(path, &place, guard),
+            Err(error) if error.kind() == io::ErrorKind::NotFound => {
+                let guard = File::open(path).map_err(fault_at(path))?;
+                Ok(Directory { path: path.to_owned(), guard })
+            }
+            Err(error) => Err(fault_at(&place)(error)),
+        }
+    }
+
+    fn hold(path: &Path, place: &Path, guard: File) -> Result<Directory, Fault> {
         match guard.try_lock() {
             Ok(()) => Ok(Directory { path: path.to_owned(), guard }),
-            Err(TryLockError::WouldBlock) => Err(fault_at(&place)("another pidtabd has this directory")),
-            Err(TryLockError::Error(error)) => Err(fault_at(&place)(error)),
+            Err(TryLockError::WouldBlock) => Err(fault_at(place)("another pidtabd has this directory")),
+            Err(TryLockError::Error(error)) => Err(fault_at(place)(error)),
         }
+    }
+
+    /// Whether it has nothing of a table.
+    pub fn is_new(&self) -> Result<bool, Fault> {
+        let has_one = self.files()? != Files::default() || self.identity()?.is_some() || self.current()?.is_some();
+        Ok(!has_one && !self.former_leases().exists())
     }
 
     /// The same for another thread.
@@ -102,8 +119,15 @@ impl Directory {
         self.path.join(format!("snap-{ordinal:020}"))
     }
 
-    pub fn leases(&self) -> PathBuf {
+    /// Where a former release had its leases.
+    pub fn former_leases(&self) -> PathBuf {
         self.path.join("leases")
+    }
+
+    /// The log has them now.
+    pub fn remove_former_leases(&self) -> Result<(), Fault> {
+        let path = self.former_leases();
+        fs::remove_file(&path).and_then(|()| self.sync()).map_err(fault_at(&path))
     }
 
     /// What was created, renamed or removed is so on the disk.
@@ -181,6 +205,18 @@ impl Directory {
         }
         Ok(())
     }
+}
+
+/// Whose the directory is, if nobody else may write it.
+fn owner_of(path: &Path) -> Result<u32, Fault> {
+    let about = fs::metadata(path).map_err(fault_at(path))?;
+    if !about.is_dir() {
+        return Err(fault_at(path)("is no directory"));
+    }
+    if about.mode() & 0o022 != 0 {
+        return Err(fault_at(path)("may be written by others: `chmod go-w` it"));
+    }
+    Ok(about.uid())
 }
 
 /// 128 random bits.

@@ -3,9 +3,9 @@
 //! What becomes of a call, in a turn of the loop:
 //!
 //! ```text
-//! taken --make--> batched --leases, then log--> written --fdatasync, if always--> answered
-//!                    |   ^                         |
-//!              no room   room                      +--> read by followers and the second table
+//! taken --make--> batched --write--> written --fdatasync, if always--> answered
+//!                    |   ^              |
+//!              no room   room           +--> read by followers and the second table
 //!                    v   |
 //!                    stuck: who was to be answered in this turn waits, other calls too; queries are answered by the second table
 //! ```
@@ -13,18 +13,25 @@
 //! - Which of these is next, and when the log turns to a new file, says the machine that [`Log`] drives. What was written stays in `written` until
 //!   followers have it.
 //! - By `everysec` a thread syncs each second what was written.
-//! - Turning: the log is synced beside, and the leases are marked with the place and synced, before the machine is asked to. The second table names the
-//!   new log in `current` and makes the snapshot, and then the older files go.
-//! - Adopting, of a follower: the leases are forgotten, the leader's text is the snapshot, a new log and a new machine begin, and texts that were ordered
-//!   are ordered anew.
+//! - What is recorded of leases is taken as a call is. A fork and its lease are one entry, so that a crash leaves both or neither.
+//! - Turning: the log is synced beside, before the machine is asked to. The second table names the new log in `current` and makes the snapshot, and then the
+//!   older files go.
+//! - Adopting, of a follower: the leader's text is the snapshot, a new log and a new machine begin, and texts that were ordered are ordered anew.
 //! - Stopping: what is batched is written, or waited for up to 5 s; then the machine ends the log.
 use crate::asks::{Answered, Query};
 use crate::book::Book;
 use crate::directory::{new_identity, Directory, Fault, SEATS};
+use crate::entry::{self, Entry};
+use crate::facts::{forks, Fact};
+use crate::former::{self, Known};
+use crate::leases::{Key, Leases};
 use crate::log::{Closed, Committed, Log, Sync};
+use crate::recall::Recall;
 use crate::recover::{End, Recovery};
-use crate::replica::{loose_blocks, Asker, Order, Replica, Report, Source};
+use crate::replica::{loose_blocks, Asker, Order, Replica, Report, Source, TextKind};
+use crate::snapshot::{self, Place};
 use pidtab::{Blocks, Call, Error, Head, Made, Reply, Table, Told};
+use std::collections::HashMap;
 use std::path::PathBuf;
 use std::sync::Arc;
 use std::time::{Duration, Instant};
@@ -62,16 +69,20 @@ pub struct Engine {
     pub identity: String,
     pub table: Table,
     pub book: Book,
+    pub leases: Leases,
     pub pid_max: u32,
     /// So many calls are recorded: the ordinal of the next one.
     pub made: u64,
     /// So many of them are written.
     pub saved: u64,
+    /// So many entries are recorded: the calls, and what is recorded of leases.
+    pub entries: u64,
     pub counts: [u64; SEATS as usize],
     pub asked: u64,
     pub log: Option<Log>,
     pub replica: Replica,
     pub keep: Keep,
+    /// So many calls are before the newest snapshot.
     pub snapshot: u64,
     pub replayed: u64,
     pub left_out: u64,
@@ -88,11 +99,13 @@ pub struct Engine {
 /// What the directory has, or a new table.
 struct Opened {
     table: Table,
+    leases: Leases,
     pid_max: u32,
-    made: u64,
+    place: Place,
+    /// So many calls are before the snapshot.
     snapshot: u64,
     replayed: u64,
-    born: std::collections::HashMap<u32, u64>,
+    born: HashMap<u32, u64>,
     end: Option<End>,
 }
 
@@ -100,13 +113,15 @@ fn read_directory(directory: &Directory, keep: &Keep) -> Result<Opened, Fault> {
     let Some(mut recovery) = Recovery::begin(directory.again()?)? else {
         return new_table(keep);
     };
+    recovery.born = directory.former_leases().exists().then(HashMap::new);
     let end = recovery.finish()?;
     Ok(Opened {
+        leases: recovery.leases,
         pid_max: recovery.pid_max,
-        made: recovery.made,
-        snapshot: recovery.snapshot,
+        place: recovery.place,
+        snapshot: recovery.snapshot.calls,
         replayed: recovery.replayed,
-        born: recovery.born,
+        born: recovery.born.unwrap_or_default(),
         table: recovery.table,
         end,
     })
@@ -114,8 +129,8 @@ fn read_directory(directory: &Directory, keep: &Keep) -> Result<Opened, Fault> {
 
 fn new_table(keep: &Keep) -> Result<Opened, Fault> {
     let table = Table::open(keep.pid_max).map_err(|error| error.to_string())?;
-    let born = std::collections::HashMap::new();
-    Ok(Opened { table, pid_max: keep.pid_max, made: 0, snapshot: 0, replayed: 0, born, end: None })
+    let (leases, place, born) = (Leases::default(), Place::default(), HashMap::new());
+    Ok(Opened { table, leases, pid_max: keep.pid_max, place, snapshot: 0, replayed: 0, born, end: None })
 }
 
 /// The log, the checksum that it goes on from, and where the second table has its calls from.
@@ -125,13 +140,13 @@ fn begin_log(
     opened: &mut Opened,
     wake: impl Fn() + Send + 'static,
 ) -> Result<(Option<Log>, Blocks, Source), Fault> {
-    let (made, pid_max) = (opened.made, opened.pid_max);
+    let (place, pid_max) = (opened.place, opened.pid_max);
     let Some(directory) = directory else {
         let blocks = loose_blocks(pid_max).map_err(|error| error.to_string())?;
         return Ok((None, blocks, Source::Nothing { pid_max, text: None }));
     };
     let (again, end) = (directory.again()?, opened.end.take());
-    let (log, blocks) = Log::open(again, keep.sync, keep.segment, end, made, pid_max, wake)?;
+    let (log, blocks) = Log::open(again, keep.sync, keep.segment, end, place, pid_max, wake)?;
     let source = Source::Directory { directory: directory.again()?, archive: keep.archive };
     Ok((Some(log), blocks, source))
 }
@@ -155,16 +170,18 @@ impl Engine {
             Some(directory) => read_directory(directory, &keep)?,
             None => new_table(&keep)?,
         };
-        let (made, pid_max) = (opened.made, opened.pid_max);
+        let (Place { entries, calls: made }, pid_max) = (opened.place, opened.pid_max);
         let left_out = opened.end.as_ref().map_or(0, |it| it.left_out);
         let (log, blocks, source) = begin_log(directory.as_ref(), &keep, &mut opened, wake.clone())?;
         let mut engine = Engine {
             identity: identity_of(directory.as_ref())?,
             book: Book::default(),
             table: opened.table,
+            leases: opened.leases,
             pid_max,
             made,
             saved: made,
+            entries,
             counts: [0; SEATS as usize],
             asked: 0,
             log,
@@ -181,27 +198,36 @@ impl Engine {
             head: Vec::new(),
             loose: Vec::new(),
         };
-        engine.read_book(&opened.born)?;
+        engine.read_book()?;
+        engine.take_over_former(&opened.born)?;
         engine.snapshot_if_long();
         Ok(engine)
     }
 
-    /// What is kept, for another part of the service.
-    pub fn directory(&self) -> Result<Option<Directory>, Fault> {
-        self.directory.as_ref().map(Directory::again).transpose()
+    fn read_book(&mut self) -> Result<(), Fault> {
+        let listing = self.table.listing().map_err(|error| error.to_string())?;
+        let is_watched = self.book.is_watched;
+        self.book = Book::of(&listing);
+        (self.book.is_watched, self.book.tells_gone) = (is_watched, !self.leases.is_empty());
+        let book = &self.book;
+        self.leases.keep_those_that(|task| book.kin(task).is_some());
+        Ok(())
     }
 
-    fn read_book(&mut self, born: &std::collections::HashMap<u32, u64>) -> Result<(), Fault> {
-        let listing = self.table.listing().map_err(|error| error.to_string())?;
-        let (is_watched, tells_gone) = (self.book.is_watched, self.book.tells_gone);
-        self.book = Book::of(&listing);
-        (self.book.is_watched, self.book.tells_gone) = (is_watched, tells_gone);
-        for (task, ordinal) in born {
-            if let Some(kin) = self.book.kin_mut(*task) {
-                kin.born = ordinal + 1;
-            }
+    /// The leases of a former release are in the log from now on, and on the disk, before their file goes. If the process ends between, a start records
+    /// them once more, which changes nothing.
+    fn take_over_former(&mut self, born: &HashMap<u32, u64>) -> Result<(), Fault> {
+        let Some(directory) = self.directory.as_ref().map(Directory::again).transpose()? else { return Ok(()) };
+        let (book, known) = (&self.book, Known { snapshot: self.snapshot, born });
+        let Some(facts) = former::read_file(&directory, &known, |task| book.kin(task).is_some())? else {
+            return Ok(());
+        };
+        facts.iter().for_each(|it| self.record(it));
+        if let Committed::Waits(why) = self.commit()? {
+            return Err(why);
         }
-        Ok(())
+        self.log.as_mut().map_or(Ok(()), Log::sync_all)?;
+        directory.remove_former_leases()
     }
 
     /// One that lives too briefly for a snapshot would start ever later.
@@ -212,28 +238,59 @@ impl Engine {
         }
     }
 
-    /// Makes a call, and records it.
-    pub fn make(&mut self, seat: u32, call: Call) -> Result<Reply, Refused> {
+    /// Makes a call, and records it. The child of a fork is the lease's.
+    pub fn make(&mut self, seat: u32, call: Call, lease: Option<u64>) -> Result<Reply, Refused> {
         self.foresee(call)?;
         self.table.make(seat, call, &mut self.last).map_err(Refused::Table)?;
-        let reply = self.last.reply();
-        let before = self.batch.len();
+        let (reply, before) = (self.last.reply(), self.batch.len());
+        self.put_lease(&reply, lease);
         let put = self.blocks.put_made(&self.last, &mut self.batch);
         put.expect(HAS_A_PLACE);
         self.take(before);
-        self.note(seat, call, &reply);
+        self.note(seat, call, &reply, lease);
         Ok(reply)
     }
 
     /// The same, and tells what the call did.
-    pub fn make_told(&mut self, seat: u32, call: Call) -> Result<Told, Refused> {
+    pub fn make_told(&mut self, seat: u32, call: Call, lease: Option<u64>) -> Result<Told, Refused> {
         self.foresee(call)?;
         let told = self.table.told(call).map_err(Refused::Table)?;
-        let before = self.batch.len();
-        self.blocks.put(seat, call, &told.reply, &mut self.batch).expect(HAS_A_PLACE);
-        self.take(before);
-        self.note(seat, call, &told.reply);
+        self.put(seat, call, &told.reply, lease).expect(HAS_A_PLACE);
         Ok(told)
+    }
+
+    /// Records a call that was made.
+    fn put(&mut self, seat: u32, call: Call, reply: &Reply, lease: Option<u64>) -> Result<(), Error> {
+        let before = self.batch.len();
+        self.put_lease(reply, lease);
+        self.blocks.put(seat, call, reply, &mut self.batch)?;
+        self.take(before);
+        self.note(seat, call, reply, lease);
+        Ok(())
+    }
+
+    /// What is before a fork under a lease, in one entry with it.
+    fn put_lease(&mut self, reply: &Reply, lease: Option<u64>) {
+        if let (Reply::Forked(_), Some(lease)) = (reply, lease) {
+            self.blocks.put_note(&forks(lease), &mut self.batch).expect(HAS_A_PLACE);
+        }
+    }
+
+    /// Records what comes of a lease.
+    pub fn record(&mut self, fact: &Fact) {
+        let before = self.batch.len();
+        self.blocks.put_note(&fact.note(), &mut self.batch).expect(HAS_A_PLACE);
+        self.take(before);
+        self.leases.apply(fact);
+        self.book.tells_gone = true;
+    }
+
+    /// A connection takes the lease of that name, which is new if there is none: its number.
+    pub fn hold(&mut self, key: &Key, ttl: u64) -> Option<u64> {
+        self.record(&self.leases.hold_of(key, ttl));
+        let number = self.leases.number(key)?;
+        self.leases.hold(number);
+        Some(number)
     }
 
     /// What will not be known behind the call, if there is room for what it makes.
@@ -245,17 +302,24 @@ impl Engine {
         Ok(())
     }
 
-    /// What the batch has from there on is a call.
+    /// What the batch has from there on is an entry.
     fn take(&mut self, from: usize) {
         let size = self.batch.len() - from;
+        self.entries += 1;
         self.log.iter_mut().for_each(|it| it.take(size));
     }
 
     /// A call that was made and is in the batch.
-    fn note(&mut self, seat: u32, call: Call, reply: &Reply) {
+    fn note(&mut self, seat: u32, call: Call, reply: &Reply, lease: Option<u64>) {
         self.made += 1;
         self.counts[seat as usize % SEATS as usize] += 1;
         self.book.note(&mut self.table, call, reply, self.made);
+        if let Reply::Forked(child) = reply {
+            self.leases.forked(child.root, lease);
+        }
+        for task in self.book.gone.drain(..) {
+            self.leases.gone(task);
+        }
     }
 
     /// Answers a query, which is not recorded.
@@ -271,7 +335,7 @@ impl Engine {
 
     /// Has written what was recorded. What is written stays in `written` until it is taken, however many turns that takes.
     pub fn commit(&mut self) -> Result<Committed, Fault> {
-        let done = self.log.as_mut().map_or(Ok(Committed::Done), |it| it.commit(&self.batch))?;
+        let done = self.log.as_mut().map_or(Ok(Committed::Done), |it| it.commit(&self.batch, self.made))?;
         if !self.batch.is_empty() && self.log.as_ref().is_none_or(Log::has_answered) {
             self.move_batch();
         }
@@ -313,11 +377,6 @@ impl Engine {
         self.written = written;
     }
 
-    /// Whether the log goes on in a new file behind the next commit.
-    pub fn is_to_turn(&self) -> bool {
-        self.log.as_ref().is_some_and(Log::is_to_turn)
-    }
-
     /// Whether a snapshot is in work, or older files go away.
     pub fn is_compacting(&self) -> bool {
         self.log.as_ref().is_some_and(Log::is_compacting)
@@ -327,7 +386,7 @@ impl Engine {
     fn compact(&mut self, closed: &Closed, blocks: Blocks) {
         self.blocks = blocks;
         self.head = head_bytes(self.pid_max, self.made);
-        self.replica.order(Order::Current { base: self.made });
+        self.replica.order(Order::Current { base: self.entries });
         self.replica.order(Order::File { base: closed.base, bytes: closed.bytes });
         self.replica.order(Order::Snapshot);
     }
@@ -338,9 +397,14 @@ impl Engine {
     }
 
     /// The second table goes on to here, and tells its text. All that was recorded is written.
-    pub fn order_text(&mut self, is_dump: bool) {
+    pub fn order_text(&mut self, kind: TextKind) {
         self.order_saved();
-        self.replica.order(Order::Text { is_dump, ordinal: self.made });
+        self.replica.order(Order::Text { kind, ordinal: self.entries });
+    }
+
+    /// The same text by the table that serves.
+    pub fn text(&self, kind: TextKind) -> Result<Vec<u8>, Fault> {
+        kind.of(&self.table, &self.leases, Place { entries: self.entries, calls: self.made })
     }
 
     /// The second table goes on to the end of what was written, and answers.
@@ -348,6 +412,12 @@ impl Engine {
         self.asked += 1;
         self.order_saved();
         self.replica.order(Order::Ask { asker, query });
+    }
+
+    /// Events of calls that were made before. All that was recorded is written.
+    pub fn order_recall(&mut self, recall: Recall) {
+        let (base, bytes) = self.log.as_ref().map_or((0, 0), |it| (it.base, it.bytes));
+        self.replica.order(Order::Recall { recall, base, bytes });
     }
 
     fn order_saved(&mut self) {
@@ -372,17 +442,17 @@ impl Engine {
                 self.log.iter_mut().for_each(Log::has_dropped);
                 done.iter().for_each(|fault| eprintln!("pidtabd: older files stay: {fault}"));
             }
-            Report::Text { .. } | Report::Told { .. } => {}
+            Report::Text { .. } | Report::Told { .. } | Report::Recalled { .. } => {}
         }
     }
 
     /// What is before a snapshot goes away, if `current` names the log behind it.
-    fn note_snapshot(&mut self, done: &Result<u64, Fault>) {
+    fn note_snapshot(&mut self, done: &Result<Place, Fault>) {
         match done {
-            Ok(ordinal) => self.snapshot = *ordinal,
+            Ok(place) => self.snapshot = place.calls,
             Err(fault) => eprintln!("pidtabd: no snapshot was made, and the log goes on: {fault}"),
         }
-        let ordinal = done.as_ref().ok().copied();
+        let ordinal = done.as_ref().ok().map(|it| it.entries);
         if let Some(below) = self.log.as_mut().and_then(|it| it.is_compacted(ordinal)) {
             self.replica.order(Order::Drop { below });
         }
@@ -413,15 +483,17 @@ impl Engine {
         self.blocks.sum()
     }
 
-    /// Makes the call at the front of a leader's blocks again, and records it: how many bytes it has.
+    /// Makes the entry at the front of a leader's blocks again, and records it: how many bytes it has.
     pub fn follow(&mut self, blocks: &mut Blocks, bytes: &[u8]) -> Result<usize, Fault> {
-        let made = self.table.replay(blocks, bytes).map_err(|fault| fault.to_string())?;
-        let before = self.batch.len();
-        let put = self.blocks.put(made.worker, made.call, &made.reply, &mut self.batch);
-        put.map_err(|error| error.to_string())?;
-        self.take(before);
-        self.note(made.worker, made.call, &made.reply);
-        Ok(made.size)
+        let taken = entry::take(&mut self.table, blocks, bytes).map_err(|wrong| wrong.fault.to_string())?;
+        match taken.entry {
+            Entry::Fact(fact) => self.record(&fact),
+            Entry::Call { made, lease } => {
+                let put = self.put(made.worker, made.call, &made.reply, lease);
+                put.map_err(|error| error.to_string())?;
+            }
+        }
+        Ok(taken.size)
     }
 
     /// The table is to be that of a leader. Its identity is on the disk before the table is.
@@ -435,22 +507,23 @@ impl Engine {
 
     /// The table is that of a text from now on, and what was kept before goes away. If the disk does not take it, nothing has changed here.
     pub fn adopt(&mut self, text: &[u8], wake: impl Fn() + Clone + Send + 'static) -> Result<(), Fault> {
-        let table = Table::from_dump(text).map_err(|fault| fault.to_string())?;
-        let (pid_max, stamp) = crate::recover::settings_of(text).ok_or("the text has no settings")?;
-        let (log, blocks, source) = self.keep_adopted(text, stamp - 1, pid_max, wake.clone())?;
+        let read = snapshot::read(text)?;
+        let (place, pid_max) = (read.place, read.pid_max);
+        let table = Table::from_dump(read.table).map_err(|fault| fault.to_string())?;
+        let (log, blocks, source) = self.keep_adopted(text, place, pid_max, wake.clone())?;
         (self.log, self.blocks, self.replica) = (log, blocks, Replica::start(source, wake));
-        (self.table, self.pid_max, self.made, self.saved) = (table, pid_max, stamp - 1, stamp - 1);
-        self.snapshot = self.made;
+        (self.table, self.leases, self.pid_max) = (table, Leases::of(&read.facts), pid_max);
+        (self.entries, self.made, self.saved, self.snapshot) = (place.entries, place.calls, place.calls, place.calls);
         self.batch.clear();
         self.loose.clear();
-        self.read_book(&std::collections::HashMap::new())
+        self.read_book()
     }
 
     /// The text as a snapshot, with a log behind it. Then the older files go; those that stay are looked at no more.
     fn keep_adopted(
         &self,
         text: &[u8],
-        made: u64,
+        place: Place,
         pid_max: u32,
         wake: impl Fn() + Send + 'static,
     ) -> Result<(Option<Log>, Blocks, Source), Fault> {
@@ -458,10 +531,11 @@ impl Engine {
             let blocks = loose_blocks(pid_max).map_err(|error| error.to_string())?;
             return Ok((None, blocks, Source::Nothing { pid_max, text: Some(text.to_vec()) }));
         };
-        let (path, keep) = (directory.snapshot(made), &self.keep);
+        let (entries, keep) = (place.entries, &self.keep);
+        let path = directory.snapshot(entries);
         directory.write(&path, &[text]).map_err(crate::directory::fault_at(&path))?;
-        let (mut log, blocks) = Log::open(directory.again()?, keep.sync, keep.segment, None, made, pid_max, wake)?;
-        let dropped = log.is_compacted(Some(made)).map_or(Ok(()), |below| directory.put_away(below, keep.archive));
+        let (mut log, blocks) = Log::open(directory.again()?, keep.sync, keep.segment, None, place, pid_max, wake)?;
+        let dropped = log.is_compacted(Some(entries)).map_or(Ok(()), |below| directory.put_away(below, keep.archive));
         if let Err(error) = dropped {
             eprintln!("pidtabd: {}: older files stay: {error}", directory.path.display());
         }

@@ -19,6 +19,8 @@ pub struct Channel {
     pub name: Vec<u8>,
     kind: &'static str,
     scope: Scope,
+    /// Events of calls before that ordinal are not for it.
+    since: u64,
 }
 
 impl Channel {
@@ -32,7 +34,12 @@ impl Channel {
             (Some(b"control"), Some(Some(id)), None) => Scope::Control(id),
             _ => return None,
         };
-        Some(Channel { name: name.to_vec(), kind, scope })
+        Some(Channel { name: name.to_vec(), kind, scope, since: 0 })
+    }
+
+    /// The same with the events of the calls from that ordinal on.
+    pub fn since(self, since: u64) -> Channel {
+        Channel { since, ..self }
     }
 
     /// Whether the event is one of the channel's.
@@ -42,7 +49,7 @@ impl Channel {
             Scope::Space(id) => event.spaces.contains(&id),
             Scope::Control(id) => event.controls.contains(&id),
         };
-        is_within && self.kind == kind_of(event.what)
+        is_within && self.kind == kind_of(event.what) && event.ordinal >= self.since
     }
 }
 
@@ -54,16 +61,34 @@ fn kind_of(what: What) -> &'static str {
     }
 }
 
-/// What a message says: root numbers, the status, and the ids of the namespace and the cgroup.
+/// What a message says: root numbers, the status, the ids of the namespace and the cgroup, and the ordinal of the call that has done it.
 pub fn payload(event: &Event) -> String {
-    let (space, control) = (event.spaces[0], event.controls[0]);
+    let (space, control, at) = (event.spaces[0], event.controls[0], event.ordinal);
     match event.what {
-        What::Forked { parent, child } => format!("{parent} {child} space {space} control {control}"),
+        What::Forked { parent, child } => format!("{parent} {child} space {space} control {control} at {at}"),
         What::Ended { task, ended: Ended::Exited(status) } => {
-            format!("{task} {status} space {space} control {control}")
+            format!("{task} {status} space {space} control {control} at {at}")
         }
-        What::Ended { task, ended: Ended::Killed } => format!("{task} killed space {space} control {control}"),
-        What::Fell => format!("{space}"),
+        What::Ended { task, ended: Ended::Killed } => {
+            format!("{task} killed space {space} control {control} at {at}")
+        }
+        What::Fell => format!("{space} at {at}"),
+    }
+}
+
+/// The messages of an event to who has these channels.
+pub fn tell(out: &mut Vec<u8>, channels: &[Channel], event: &Event, payload: &str) {
+    for channel in channels.iter().filter(|it| it.has(event)) {
+        say(out, "message", Some(&channel.name));
+        out.bulk(payload.as_bytes());
+    }
+}
+
+/// That the client has the channels from that place on.
+pub fn say_subscribed(out: &mut Vec<u8>, channels: &[Channel], had: usize) {
+    for (place, channel) in channels.iter().enumerate().skip(had) {
+        say(out, "subscribe", Some(&channel.name));
+        out.number(place as u64 + 1);
     }
 }
 
@@ -84,9 +109,11 @@ mod tests {
     #[test]
     fn channels_by_their_names() {
         let (spaces, controls) = (vec![3, 1, 0], vec![5, 0]);
-        let event = Event { what: What::Fell, spaces, controls };
+        let event = Event { ordinal: 7, what: What::Fell, spaces, controls };
         let of = |name: &[u8]| Channel::read(name).expect("a channel").has(&event);
         assert!(of(b"fall") && of(b"fall:space:1") && of(b"fall:control:5") && of(b"fall:space:0"));
+        let since = |ordinal| Channel::read(b"fall").expect("a channel").since(ordinal).has(&event);
+        assert!(since(7) && !since(8));
         assert!(!of(b"exit") && !of(b"fall:space:2") && !of(b"fall:control:3"));
         let wrong: [&[u8]; 8] = [
             b"",

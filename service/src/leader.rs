@@ -1,6 +1,7 @@
 //! A follower's side: it asks a leader for its table, and makes each call that the leader records.
 use crate::directory::{is_identity, Fault};
 use crate::service::{wake_by, Service, LEADER};
+use crate::snapshot::{self, Place};
 use mio::net::UnixStream;
 use mio::Interest;
 use pidtab::Blocks;
@@ -185,12 +186,12 @@ impl Service {
 
     /// A directory that is ahead of its leader, which has lost calls, is not overwritten.
     fn adopt_text(&mut self, text: &[u8]) -> Result<(), Fault> {
-        let (_, stamp) = crate::recover::settings_of(text).ok_or("the leader's text is that of no table")?;
-        if stamp <= self.engine.made {
-            let made = self.engine.made;
-            return Err(format!("the leader has {} calls, and this has {made}: it is not overwritten", stamp - 1));
+        let Place { entries, calls } = snapshot::read(text).map_err(|why| format!("the leader's text {why}"))?.place;
+        let (own, made) = (self.engine.entries, self.engine.made);
+        if entries < own || calls < made {
+            let (theirs, own, what) = if calls < made { (calls, made, "calls") } else { (entries, own, "entries") };
+            return Err(format!("the leader has {theirs} {what}, and this has {own}: it is not overwritten"));
         }
-        self.leases.forget(stamp - 1)?;
         let wake = wake_by(self.waker());
         self.engine.adopt(text, wake)?;
         self.renew();

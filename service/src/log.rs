@@ -8,6 +8,7 @@
 //! that a loss of power has cut.
 use crate::directory::{fault_at, Directory, Fault, SEATS};
 use crate::recover::End;
+use crate::snapshot::Place;
 use crate::syncer::Syncer;
 use log_turns::{Step, Turns};
 use pidtab::{Blocks, Head};
@@ -66,6 +67,9 @@ pub struct Log {
     sync: Sync,
     segment: u64,
     pid_max: u32,
+    /// So many calls are recorded, with those that are not written yet.
+    calls: u64,
+    /// So many entries are in the files before.
     pub base: u64,
     /// How long the log is, with all that is answered and nothing else.
     pub bytes: u64,
@@ -95,20 +99,20 @@ pub struct Closed {
 }
 
 impl Log {
-    /// Goes on where the recovery has ended; else begins a file at that ordinal. It gives the checksum to go on with.
+    /// Goes on where the recovery has ended; else begins a file at that place. It gives the checksum to go on with.
     pub fn open(
         directory: Directory,
         sync: Sync,
         segment: u64,
         end: Option<End>,
-        made: u64,
+        place: Place,
         pid_max: u32,
         wake: impl Fn() + Send + 'static,
     ) -> Result<(Log, Blocks), Fault> {
-        let base = end.as_ref().map_or(made, |it| it.base);
+        let base = end.as_ref().map_or(place.entries, |it| it.base);
         let opened = match &end {
             Some(end) => go_on(&directory, end),
-            None => begin(&directory, made, pid_max).and_then(|begun| directory.set_current(made).map(|_| begun)),
+            None => begin(&directory, place, pid_max).and_then(|begun| directory.set_current(base).map(|_| begun)),
         };
         let (file, blocks) = opened.map_err(fault_at(&directory.log(base)))?;
         let (length, is_named) = (end.map_or(HEAD, |it| it.bytes), directory.current()? == Some(base));
@@ -118,9 +122,10 @@ impl Log {
             sync,
             segment,
             pid_max,
+            calls: place.calls,
             base,
             bytes: length,
-            turns: Turns::begin(made, length - HEAD, sync == Sync::Always, is_named),
+            turns: Turns::begin(place.entries, length - HEAD, sync == Sync::Always, is_named),
             length,
             turn: Turn::Goes,
             syncer: Syncer::start(wake),
@@ -136,9 +141,9 @@ impl Log {
         Ok((log, blocks))
     }
 
-    /// A call is behind the batch, and has so many bytes. None is, once the log ends.
+    /// An entry is behind the batch, and has so many bytes. None is, once the log ends.
     pub fn take(&mut self, size: usize) {
-        assert!(self.turns.take(size as u64), "no call is made once the log ends");
+        assert!(self.turns.take(size as u64), "nothing is recorded once the log ends");
     }
 
     /// Whether all that was taken may be answered.
@@ -146,9 +151,10 @@ impl Log {
         self.turns.has_answered()
     }
 
-    /// Has the batch written, and synced where that is always done: all calls that were taken and not answered. Where that has failed before, it goes
-    /// on from what is written.
-    pub fn commit(&mut self, batch: &[u8]) -> Result<Committed, Fault> {
+    /// Has the batch written, and synced where that is always done: all entries that were taken and not answered, with which there are so many calls. Where
+    /// that has failed before, it goes on from what is written.
+    pub fn commit(&mut self, batch: &[u8], calls: u64) -> Result<Committed, Fault> {
+        self.calls = calls;
         self.turns.retry();
         if self.is_to_turn() {
             self.turn = Turn::Goes;
@@ -299,13 +305,11 @@ impl Log {
         Ok(true)
     }
 
-    /// The sync behind which what is written in this turn is on the disk; none where nobody waits for one.
-    pub fn next_sync(&self) -> Option<u64> {
-        (self.sync == Sync::EverySecond).then(|| self.syncer.next())
-    }
-
-    pub fn has_synced(&self, sync: u64) -> bool {
-        self.syncer.has_done(sync)
+    /// All that is written is on the disk, whatever the rhythm is.
+    pub fn sync_all(&mut self) -> Result<(), Fault> {
+        self.sync_here().inspect_err(|_| self.turns.lose())?;
+        self.turns.sync_to(self.turns.written());
+        Ok(())
     }
 
     /// Whether the log is to go on in a new file now.
@@ -322,7 +326,8 @@ impl Log {
     fn begin(&mut self, first: u64) -> Result<(), Fault> {
         self.beside = first;
         let place = self.directory.log(first);
-        let (file, blocks) = begin(&self.directory, first, self.pid_max).map_err(|error| {
+        let begins = Place { entries: first, calls: self.calls };
+        let (file, blocks) = begin(&self.directory, begins, self.pid_max).map_err(|error| {
             eprintln!("pidtabd: {}: cannot be begun, and the log goes on in its file: {error}", place.display());
             fault_at(&place)(error)
         })?;
@@ -362,7 +367,7 @@ impl Log {
         }
     }
 
-    /// The snapshot of that many calls is whole, or none could be made. It gives the ordinal below which files are needed no more.
+    /// The snapshot of that many entries is whole, or none could be made. It gives the ordinal below which files are needed no more.
     pub fn is_compacted(&mut self, ordinal: Option<u64>) -> Option<u64> {
         if ordinal == Some(self.base) {
             self.turns.compact();
@@ -397,12 +402,12 @@ fn unless_missing(error: io::Error) -> io::Result<()> {
 }
 
 /// A new file with its head. Its name is on the disk before an entry is, and before `current` names it.
-fn begin(directory: &Directory, made: u64, pid_max: u32) -> io::Result<(File, Blocks)> {
-    let head = Head { pid_max, workers: SEATS, first_stamp: made + 1 };
+fn begin(directory: &Directory, place: Place, pid_max: u32) -> io::Result<(File, Blocks)> {
+    let head = Head { pid_max, workers: SEATS, first_stamp: place.calls + 1 };
     let mut bytes = Vec::new();
     let blocks = Blocks::begin(&head, &mut bytes)?;
     let mut options = OpenOptions::new();
-    let file = options.write(true).create(true).truncate(true).mode(0o600).open(directory.log(made))?;
+    let file = options.write(true).create(true).truncate(true).mode(0o600).open(directory.log(place.entries))?;
     file.write_all_at(&bytes, 0)?;
     file.sync_all()?;
     directory.sync()?;

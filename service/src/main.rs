@@ -2,24 +2,31 @@
 #![forbid(unsafe_code)]
 
 mod accounts;
+mod allowed;
 mod asks;
 mod book;
+mod check;
 mod checksum;
 mod clients;
 mod commands;
 mod config;
 mod conn;
+mod connections;
 mod directory;
 mod engine;
+mod entry;
 mod events;
+mod facts;
+mod former;
 mod haste;
 mod info;
 mod leader;
-mod lease_file;
 mod leases;
 mod log;
 mod metrics;
 mod options;
+mod peer;
+mod recall;
 mod recover;
 mod replica;
 mod resp;
@@ -29,6 +36,7 @@ mod say;
 mod service;
 mod sleepers;
 mod slowlog;
+mod snapshot;
 mod syncer;
 
 use listenfd::ListenFd;
@@ -37,8 +45,8 @@ use nix::sys::resource::{getrlimit, setrlimit, Resource};
 use nix::sys::stat::{umask, Mode};
 use options::{Options, Wanted, USAGE};
 use sd_notify::NotifyState;
-use service::Service;
-use signal_hook::consts::{SIGINT, SIGTERM};
+use service::{Service, Signals};
+use signal_hook::consts::{SIGHUP, SIGINT, SIGTERM};
 use std::fs::{File, TryLockError};
 use std::io;
 use std::os::unix::net;
@@ -60,10 +68,9 @@ fn main() -> ExitCode {
         Ok(Wanted::Serve(options)) => serve(*options),
         Ok(Wanted::Help) => show(USAGE),
         Ok(Wanted::Version) => show(concat!("pidtabd ", env!("CARGO_PKG_VERSION"), "\n")),
-        Ok(Wanted::Metrics(socket)) => match metrics::ask(&socket) {
-            Ok(text) => show(&text),
-            Err(fault) => fail(&fault, 1),
-        },
+        Ok(Wanted::Metrics(socket)) => tell(metrics::ask(&socket)),
+        Ok(Wanted::Check(directory)) => tell(check::check(&directory)),
+        Ok(Wanted::Copy { socket, directory }) => tell(check::copy(&socket, &directory)),
         Ok(Wanted::Commands) => {
             let lines: Vec<_> = commands::COMMANDS.iter().map(say::help_line).collect();
             show(&(lines.join("\n") + "\n"))
@@ -72,6 +79,13 @@ fn main() -> ExitCode {
             eprint!("pidtabd: {fault}\n{USAGE}");
             ExitCode::from(2)
         }
+    }
+}
+
+fn tell(told: Result<String, String>) -> ExitCode {
+    match told {
+        Ok(text) => show(&text),
+        Err(fault) => fail(&fault, 1),
     }
 }
 
@@ -85,7 +99,7 @@ fn show(text: &str) -> ExitCode {
 
 /// 0: ended as asked. 1: it cannot listen. 2: users cannot be told apart. 3: the directory is not taken. 4: what was recorded cannot be saved.
 fn serve(options: Options) -> ExitCode {
-    if !options.allowed.is_empty() && !rights::sees_all_users() {
+    if !options.allowed.is_open() && !rights::sees_all_users() {
         return fail(
             "--allow: this user namespace does not have all users (/proc/self/uid_map), so they cannot be told apart",
             2,
@@ -127,10 +141,14 @@ fn raise_files(wanted: u64) {
     }
 }
 
-/// SIGTERM and SIGINT, as bytes of a stream.
-fn signals() -> Result<UnixStream, String> {
+/// SIGTERM and SIGINT, and SIGHUP, as bytes of streams.
+fn signals() -> Result<Signals, String> {
+    Ok(Signals { end: stream_of(&[SIGTERM, SIGINT])?, reload: stream_of(&[SIGHUP])? })
+}
+
+fn stream_of(signals: &[i32]) -> Result<UnixStream, String> {
     let (end, begin) = net::UnixStream::pair().map_err(|error| error.to_string())?;
-    for signal in [SIGTERM, SIGINT] {
+    for signal in signals.iter().copied() {
         let again = begin.try_clone().map_err(|error| error.to_string())?;
         signal_hook::low_level::pipe::register(signal, again).map_err(|error| error.to_string())?;
     }

@@ -1,8 +1,7 @@
 //! METRICS: figures in the text format of Prometheus, and `--metrics`, which asks a service for them.
+use crate::peer::Peer;
 use crate::service::Service;
 use std::fmt::Write as _;
-use std::io::{self, BufRead, BufReader, Read, Write};
-use std::os::unix::net::UnixStream;
 use std::path::Path;
 use std::time::Duration;
 
@@ -68,7 +67,7 @@ fn of_table(service: &Service) -> Vec<Figure> {
         ("pidtabd_pid_max", Gauge, u64::from(engine.pid_max), "The greatest number of a task."),
         ("pidtabd_tasks", Gauge, engine.book.tasks() as u64, "Tasks, live or not waited for yet."),
         ("pidtabd_controls", Gauge, engine.book.controls() as u64, "Cgroups beside the root's."),
-        ("pidtabd_leases", Gauge, service.leases.count() as u64, "Leases."),
+        ("pidtabd_leases", Gauge, service.engine.leases.count() as u64, "Leases."),
         ("pidtabd_calls_total", Counter, figures.calls, "Calls that were made."),
         ("pidtabd_refusals_total", Counter, figures.refused, "Of these those that the table refused."),
         ("pidtabd_queries_total", Counter, engine.asked, "Queries."),
@@ -90,21 +89,6 @@ fn of_log(service: &Service) -> Vec<Figure> {
 
 /// Asks the service at the socket. What is wrong is a sentence.
 pub fn ask(path: &Path) -> Result<String, String> {
-    let fault = |error: io::Error| format!("{}: {error}", path.display());
-    let mut socket = UnixStream::connect(path).map_err(fault)?;
-    socket.set_read_timeout(Some(PATIENCE)).map_err(fault)?;
-    socket.write_all(b"*1\r\n$7\r\nMETRICS\r\n").map_err(fault)?;
-    let (mut reader, mut line) = (BufReader::new(socket).take(1 << 20), String::new());
-    reader.read_line(&mut line).map_err(fault)?;
-    let line = line.trim_end();
-    let Some(size) = line.strip_prefix('$').and_then(|it| it.parse().ok()) else {
-        let said = if line.is_empty() { "nothing" } else { line };
-        return Err(format!("{}: no figures, but {said}", path.display()));
-    };
-    let mut text = String::new();
-    reader.take(size).read_to_string(&mut text).map_err(fault)?;
-    if text.len() as u64 != size {
-        return Err(format!("{}: the figures end within", path.display()));
-    }
-    Ok(text)
+    let text = Peer::ask(path, "METRICS", PATIENCE)?.bulk()?;
+    String::from_utf8(text).map_err(|_| format!("{}: the figures are no text", path.display()))
 }

@@ -1,4 +1,5 @@
 //! The command line.
+use crate::allowed::Allowed;
 use crate::engine::Keep;
 use crate::log::Sync;
 use lexopt::prelude::*;
@@ -10,8 +11,9 @@ pub const USAGE: &str = "\
 usage: pidtabd [OPTION ..]
   --socket PATH       a Unix socket; without it those that systemd passes
   --mode OCTAL        the socket's mode (0600)
-  --allow WHO,..      who may connect: UID; UID:ro, who may only ask; UID:below=CGROUP, who makes and ends
-                      tasks below that cgroup alone (whoever the mode lets)
+  --allow WHO,..      who may connect: UID, NAME or %GROUP; with :ro he may only ask, with :below=CGROUP he
+                      makes and ends tasks below that cgroup alone (whoever the mode lets)
+  --allow-file FILE   the same, a WHO a line, which SIGHUP has read again
   --dir DIR           where the log and the snapshots are (nothing is kept)
   --fsync WHEN        no, everysec, always (everysec)
   --segment BYTES     of the log, before a snapshot is made: 4096 or more (67108864)
@@ -26,6 +28,8 @@ usage: pidtabd [OPTION ..]
   --stall SECONDS     who takes no answer for so long is closed: 1 to 86400 (60)
   --slowlog-log-slower-than N  SLOWLOG has what takes so many microseconds: 0 or more (10000)
   --metrics SOCKET    writes the figures of the service there for Prometheus, and ends
+  --check DIR         writes what the directory has, or what is wrong with it, and ends; it changes nothing
+  --copy SOCKET DIR   writes the table of the service there into an empty directory, and ends
   --commands          writes the table of commands, and ends
   --version, --help
 ";
@@ -44,7 +48,7 @@ pub enum Rights {
 pub struct Options {
     pub socket: Option<PathBuf>,
     pub mode: u32,
-    pub allowed: Vec<(u32, Rights)>,
+    pub allowed: Allowed,
     pub keep: Keep,
     pub follow: Option<PathBuf>,
     pub most_clients: usize,
@@ -65,6 +69,13 @@ pub enum Wanted {
     Commands,
     /// The figures of the service at that socket.
     Metrics(PathBuf),
+    /// What the directory has.
+    Check(PathBuf),
+    /// The table of the service at that socket, in an empty directory.
+    Copy {
+        socket: PathBuf,
+        directory: PathBuf,
+    },
 }
 
 impl Default for Options {
@@ -73,7 +84,7 @@ impl Default for Options {
         Options {
             socket: None,
             mode: 0o600,
-            allowed: Vec::new(),
+            allowed: Allowed::default(),
             keep: Keep { path, sync, segment, archive, pid_max: 32768, most_controls: 65536 },
             follow: None,
             most_clients: 1000,
@@ -87,12 +98,13 @@ impl Default for Options {
 }
 
 /// The options behind which a value comes.
-const WITH_VALUES: [&str; 14] = [
+const WITH_VALUES: [&str; 15] = [
     "socket",
     "follow",
     "dir",
     "mode",
     "allow",
+    "allow-file",
     "fsync",
     "segment",
     "pid-max",
@@ -105,30 +117,47 @@ const WITH_VALUES: [&str; 14] = [
 ];
 
 /// Reads the command line. What is wrong with it is a sentence.
-pub fn read(words: impl IntoIterator<Item = OsString> + 'static) -> Result<Wanted, String> {
-    let mut parser = Parser::from_args(words);
-    let mut options = Options::default();
+pub fn read(line: impl IntoIterator<Item = OsString> + 'static) -> Result<Wanted, String> {
+    let mut parser = Parser::from_args(line);
+    let (mut options, mut words) = (Options::default(), Words::default());
     while let Some(word) = parser.next().map_err(|fault| fault.to_string())? {
         match word {
             Long("help") => return Ok(Wanted::Help),
             Long("version") => return Ok(Wanted::Version),
             Long("commands") => return Ok(Wanted::Commands),
-            Long("metrics") => return parser.value().map(|it| Wanted::Metrics(it.into())).map_err(|it| it.to_string()),
+            Long("metrics") => return Ok(Wanted::Metrics(path(&mut parser)?)),
+            Long("check") => return Ok(Wanted::Check(path(&mut parser)?)),
+            Long("copy") => {
+                let (socket, directory) = (path(&mut parser)?, path(&mut parser)?);
+                return Ok(Wanted::Copy { socket, directory });
+            }
             Long("archive") => options.keep.archive = true,
             Long("reap") => options.reaps = true,
             Long(name) if !WITH_VALUES.contains(&name) => return Err(format!("there is no option --{name}")),
             Long(name) => {
                 let name = name.to_owned();
                 let value = parser.value().map_err(|fault| fault.to_string())?;
-                take(&mut options, &name, value)?;
+                take(&mut options, &mut words, &name, value)?;
             }
             other => return Err(other.unexpected().to_string()),
         }
     }
+    options.allowed = Allowed::read(&words.allow, words.allow_file)?;
     Ok(Wanted::Serve(Box::new(options)))
 }
 
-fn take(options: &mut Options, name: &str, value: OsString) -> Result<(), String> {
+fn path(parser: &mut Parser) -> Result<PathBuf, String> {
+    parser.value().map(PathBuf::from).map_err(|fault| fault.to_string())
+}
+
+/// What is read once all options are there.
+#[derive(Default)]
+struct Words {
+    allow: String,
+    allow_file: Option<PathBuf>,
+}
+
+fn take(options: &mut Options, words: &mut Words, name: &str, value: OsString) -> Result<(), String> {
     let path = PathBuf::from(&value);
     let word = value.to_string_lossy();
     let number = |least, most| number(name, &word, least, most);
@@ -140,7 +169,8 @@ fn take(options: &mut Options, name: &str, value: OsString) -> Result<(), String
             options.mode =
                 u32::from_str_radix(&word, 8).ok().filter(|it| *it <= 0o777).ok_or("--mode is three octal digits")?
         }
-        "allow" => options.allowed = word.split(',').map(allowed).collect::<Result<_, _>>()?,
+        "allow" => words.allow = word.into_owned(),
+        "allow-file" => words.allow_file = Some(path),
         "fsync" => options.keep.sync = sync(&word)?,
         "segment" => options.keep.segment = number(4096, u64::MAX)?,
         "pid-max" => options.keep.pid_max = number(301, 4_194_304)? as u32,
@@ -164,20 +194,6 @@ fn sync(word: &str) -> Result<Sync, String> {
     let all = [Sync::Never, Sync::EverySecond, Sync::Always];
     let found = all.into_iter().find(|it| it.word() == word);
     found.ok_or_else(|| "--fsync is no, everysec or always".to_owned())
-}
-
-/// `1000`, `1000:ro` or `1000:below=5`.
-fn allowed(word: &str) -> Result<(u32, Rights), String> {
-    let fault = || format!("--allow has {word:?}, and takes UID, UID:ro or UID:below=CGROUP");
-    let (user, rights) = word.split_once(':').unwrap_or((word, ""));
-    let user = crate::resp::number(user.as_bytes(), u64::from(u32::MAX)).ok_or_else(fault)?;
-    let rights = match rights.strip_prefix("below=") {
-        Some(control) => Rights::Below(crate::resp::number(control.as_bytes(), u64::MAX).ok_or_else(fault)?),
-        None if rights == "ro" => Rights::Asks,
-        None if word.contains(':') => return Err(fault()),
-        None => Rights::All,
-    };
-    Ok((user as u32, rights))
 }
 
 #[cfg(test)]
@@ -205,13 +221,16 @@ mod tests {
         ])
         .expect("options");
         assert_eq!((read.keep.sync, read.keep.segment, read.keep.archive), (Sync::Always, 4096, true));
-        assert_eq!(read.allowed, [(0, Rights::All), (7, Rights::Asks), (8, Rights::Below(5))]);
+        assert_eq!(
+            (read.allowed.rights_of(7, 7), read.allowed.rights_of(8, 8)),
+            (Some(Rights::Asks), Some(Rights::Below(5)))
+        );
         assert_eq!((read.mode, read.keep.pid_max, read.stall), (0o600, 32768, 60));
     }
 
     #[test]
     fn what_is_wrong_is_said() {
-        let wrong: [&[&str]; 14] = [
+        let wrong: [&[&str]; 16] = [
             &["--nothing", "x"],
             &["--pid-max", "300"],
             &["--fsync", "often"],
@@ -225,6 +244,8 @@ mod tests {
             &["word"],
             &["--stall"],
             &["--metrics"],
+            &["--check"],
+            &["--copy", "socket"],
             &["--slowlog-log-slower-than", "-1"],
         ];
         assert_eq!(wrong.iter().find(|it| options(it).is_ok()), None);

@@ -1,7 +1,11 @@
 //! Reads a directory: the newest snapshot, and the logs behind it, in parts.
 use crate::directory::{fault_at, Directory, Fault, SEATS};
+use crate::entry::{self, Entry, Wrong};
+use crate::leases::Leases;
 use crate::log::BATCH;
-use pidtab::{Blocks, Call, Head, Replayed, Reply, SavedFault, Table};
+use crate::recall::{Recall, Watcher};
+use crate::snapshot::{self, Place};
+use pidtab::{Blocks, Head, Reply, SavedFault, Table};
 use std::collections::HashMap;
 use std::fs::{self, File};
 use std::io::{self, Read, Seek, SeekFrom};
@@ -34,7 +38,7 @@ impl Input {
 
     /// Reads on where less than the longest entry is in hand.
     fn fill(&mut self) -> io::Result<()> {
-        if self.rest().len() >= Blocks::LONGEST {
+        if self.rest().len() >= entry::LONGEST {
             return Ok(());
         }
         self.bytes.drain(..self.at);
@@ -52,8 +56,8 @@ impl Input {
     /// Whether the wrong block is where a write was cut off. Either all is 0 from its checksum on: a file may have its length before its bytes. Or a
     /// loss of power has kept some sectors of one batch and not others: one with bytes of the block is all 0 from there, and no batch is longer than
     /// what comes behind.
-    fn is_cut_off(&mut self) -> io::Result<bool> {
-        let block = self.taken + self.blocks.wrong() as u64;
+    fn is_cut_off(&mut self, place: usize) -> io::Result<bool> {
+        let block = self.taken + place as u64;
         let end = self.written_end(block)?;
         if end <= block + 40 {
             return Ok(true);
@@ -91,15 +95,18 @@ impl Input {
 pub struct Recovery {
     directory: Directory,
     pub table: Table,
+    pub leases: Leases,
     pub pid_max: u32,
-    /// So many calls were made.
-    pub made: u64,
-    /// The ordinal of the snapshot, 0 for none.
-    pub snapshot: u64,
-    /// So many were replayed.
+    /// So far it goes.
+    pub place: Place,
+    /// The place of the snapshot, 0 for none.
+    pub snapshot: Place,
+    /// So many calls were replayed.
     pub replayed: u64,
-    /// The ordinals of the forks that were replayed, by the children's root numbers.
-    pub born: HashMap<u32, u64>,
+    /// The ordinals of the forks that were replayed, by the children's root numbers: where the leases of a former release are to be compared with them.
+    pub born: Option<HashMap<u32, u64>>,
+    /// Who looks at each call.
+    pub watcher: Option<Box<Watcher>>,
     input: Option<Input>,
 }
 
@@ -121,19 +128,20 @@ impl Recovery {
         };
         let path = directory.snapshot(snapshot);
         let text = fs::read(&path).map_err(fault_at(&path))?;
-        let table = Table::from_dump(&text).map_err(|why| {
+        let damaged = |why: String| {
             fault_at(&path)(format!(
                 "{why}: the snapshot is damaged, or was not copied whole; restore the directory from a copy"
             ))
-        })?;
-        let (pid_max, stamp) = settings_of(&text).ok_or_else(|| fault_at(&path)("has no settings"))?;
-        if stamp != snapshot + 1 {
-            return Err(fault_at(&path)(format!(
-                "is the text after {} calls, and its name says {snapshot}",
-                stamp - 1
-            )));
+        };
+        let read = snapshot::read(&text).map_err(damaged)?;
+        let table = Table::from_dump(read.table).map_err(|why| damaged(why.to_string()))?;
+        let (place, pid_max) = (read.place, read.pid_max);
+        if place.entries != snapshot {
+            let entries = place.entries;
+            return Err(fault_at(&path)(format!("is the text after {entries} entries, and its name says {snapshot}")));
         }
-        Ok(Some(Recovery::of(directory, table, pid_max, snapshot)))
+        let leases = Leases::of(&read.facts);
+        Ok(Some(Recovery { leases, snapshot: place, place, ..Recovery::of(directory, table, pid_max) }))
     }
 
     fn begin_with_log(directory: Directory, logs: &[u64]) -> Result<Option<Recovery>, Fault> {
@@ -157,17 +165,29 @@ impl Recovery {
             Err(fault) => return Err(fault_at(&path)(fault)),
         };
         let table = Table::open(pid_max).map_err(fault_at(&path))?;
-        Ok(Some(Recovery::of(directory, table, pid_max, 0)))
+        Ok(Some(Recovery::of(directory, table, pid_max)))
     }
 
-    fn of(directory: Directory, table: Table, pid_max: u32, snapshot: u64) -> Recovery {
-        let (born, input) = (HashMap::new(), None);
-        Recovery { directory, table, pid_max, made: snapshot, snapshot, replayed: 0, born, input }
+    fn of(directory: Directory, table: Table, pid_max: u32) -> Recovery {
+        let (leases, place, born) = (Leases::default(), Place::default(), None);
+        Recovery {
+            directory,
+            table,
+            leases,
+            pid_max,
+            place,
+            snapshot: place,
+            replayed: 0,
+            born,
+            watcher: None,
+            input: None,
+        }
     }
 
     /// Makes all calls to the end of the last log. None: there is no log to go on with.
     pub fn finish(&mut self) -> Result<Option<End>, Fault> {
-        let logs: Vec<_> = self.directory.files()?.logs.into_iter().filter(|it| *it >= self.snapshot).collect();
+        let snapshot = self.snapshot.entries;
+        let logs: Vec<_> = self.directory.files()?.logs.into_iter().filter(|it| *it >= snapshot).collect();
         self.compare_current(logs.last().copied())?;
         let Some((last, closed)) = logs.split_last() else { return Ok(None) };
         for base in closed {
@@ -187,7 +207,7 @@ impl Recovery {
     /// A directory that was copied while it was in use may lack its newest log.
     fn compare_current(&self, last: Option<u64>) -> Result<(), Fault> {
         let Some(current) = self.directory.current()? else { return Ok(()) };
-        if last.is_some_and(|it| it >= current) || current < self.snapshot {
+        if last.is_some_and(|it| it >= current) || current < self.snapshot.entries {
             return Ok(());
         }
         let path = self.directory.log(current);
@@ -215,7 +235,7 @@ impl Recovery {
         }
         let logs = self.directory.files()?.logs;
         for base in logs.into_iter().filter(|it| *it < below) {
-            if base >= self.made {
+            if base >= self.place.entries {
                 self.open(base)?;
                 self.replay_all(false)?;
             }
@@ -225,17 +245,17 @@ impl Recovery {
 
     fn open(&mut self, base: u64) -> Result<(), Fault> {
         let path = self.directory.log(base);
-        if base != self.made {
+        let Place { entries, calls } = self.place;
+        if base != entries {
             return Err(fault_at(&path)(format!(
-                "begins at call {base}, and the log before ends at call {}: a file is missing or was cut",
-                self.made
+                "begins at entry {base}, and the log before ends at entry {entries}: a file is missing or was cut"
             )));
         }
         let mut file = File::open(&path).map_err(fault_at(&path))?;
         let mut block = [0; Blocks::HEAD];
         let read = read_up_to(&mut file, &mut block).map_err(fault_at(&path))?;
         let (head, blocks) = Blocks::read_head(&block[..read]).map_err(fault_at(&path))?;
-        if head != (Head { pid_max: self.pid_max, workers: SEATS, first_stamp: base + 1 }) {
+        if head != (Head { pid_max: self.pid_max, workers: SEATS, first_stamp: calls + 1 }) {
             return Err(fault_at(&path)("has the head of another table"));
         }
         let (taken, end) = (read as u64, file.metadata().map_err(fault_at(&path))?.len());
@@ -248,7 +268,7 @@ impl Recovery {
         let path = self.directory.log(base);
         let bytes = fs::metadata(&path).map(|it| it.len()).map_err(fault_at(&path));
         let is_begun = self.directory.current()?.is_none_or(|it| it < base);
-        if base == self.made && is_begun && bytes? < Blocks::HEAD as u64 {
+        if base == self.place.entries && is_begun && bytes? < Blocks::HEAD as u64 {
             return Ok(false);
         }
         self.open(base).map(|_| true)
@@ -263,34 +283,61 @@ impl Recovery {
             if input.rest().is_empty() {
                 break;
             }
+            self.foresee(&input);
             let (blocks, bytes) = (&mut input.blocks, &input.bytes[input.at..]);
-            let made = self.table.replay(blocks, bytes);
-            let is_torn = match &made {
-                Err(SavedFault::Torn) => true,
-                Err(SavedFault::WrongByte) => input.is_cut_off().map_err(fault_at(&path))?,
+            let taken = entry::take(&mut self.table, blocks, bytes);
+            let is_torn = match &taken {
+                Err(Wrong { fault: SavedFault::Torn, .. }) => true,
+                Err(Wrong { fault: SavedFault::WrongByte, place }) => {
+                    input.is_cut_off(*place).map_err(fault_at(&path))?
+                }
                 _ => false,
             };
             if is_torn && may_be_torn {
                 break;
             }
-            let made = made.map_err(|fault| self.damaged(&path, &input, fault))?;
-            input.count(made.size);
-            self.count(&made);
+            let taken = taken.map_err(|wrong| self.damaged(&path, &input, wrong.fault))?;
+            input.count(taken.size);
+            self.count(&taken.entry);
         }
         self.input = Some(input);
         Ok(())
     }
 
-    fn count(&mut self, made: &Replayed) {
-        if let (Call::Fork { .. }, Reply::Forked(child)) = (made.call, &made.reply) {
-            self.born.insert(child.root, self.made);
+    /// From here on each call is looked at.
+    pub fn watch(&mut self, recall: Recall) -> Result<(), Fault> {
+        self.watcher = Some(Box::new(Watcher::begin(&self.table, self.place.calls, recall)?));
+        Ok(())
+    }
+
+    fn foresee(&mut self, input: &Input) {
+        let Some(watcher) = &mut self.watcher else { return };
+        if let Some(call) = entry::next_call(&input.blocks, input.rest()) {
+            watcher.foresee(&mut self.table, call, self.place.calls);
         }
-        self.made += 1;
+    }
+
+    fn count(&mut self, entry: &Entry) {
+        self.place.entries += 1;
+        if let Some(watcher) = &mut self.watcher {
+            watcher.note(&mut self.table, entry, self.place.calls);
+        }
+        let (made, lease) = match entry {
+            Entry::Fact(fact) => return self.leases.apply(fact),
+            Entry::Call { made, lease } => (made, lease),
+        };
+        if let Reply::Forked(child) = &made.reply {
+            self.leases.forked(child.root, *lease);
+            if let Some(born) = &mut self.born {
+                born.insert(child.root, self.place.calls);
+            }
+        }
+        self.place.calls += 1;
         self.replayed += 1;
     }
 
     fn damaged(&self, path: &Path, input: &Input, fault: SavedFault) -> Fault {
-        let (bytes, call) = (input.taken, self.made);
+        let (bytes, call) = (input.taken, self.place.calls);
         fault_at(path)(format!(
             "call {call}, at byte {bytes}: {fault}; restore the directory from a copy, or, to lose this call and all behind it, \
              move the later files away and cut this one with `truncate -s {bytes}`"
@@ -304,16 +351,4 @@ fn read_up_to(file: &mut File, room: &mut [u8]) -> io::Result<usize> {
     let count = file.by_ref().take(room.len() as u64).read_to_end(&mut all)?;
     room[..count].copy_from_slice(&all);
     Ok(count)
-}
-
-/// The pid_max and the stamp of the first line of a table's text.
-pub fn settings_of(text: &[u8]) -> Option<(u32, u64)> {
-    let line = text.split(|it| *it == b'\n').next()?;
-    let words: Vec<_> = std::str::from_utf8(line).ok()?.split(' ').collect();
-    match words[..] {
-        ["pidtab", "table", "1", "pid-max", pid_max, "stamp", stamp] => {
-            Some((pid_max.parse().ok()?, stamp.parse().ok()?))
-        }
-        _ => None,
-    }
 }

@@ -2,8 +2,12 @@
 //! so the table that serves is never copied, and each log is seen to replay, reply for reply, before it is taken away.
 use crate::asks::{Answered, Query};
 use crate::directory::{fault_at, Directory, Fault, SEATS};
+use crate::entry::{self, Entry};
+use crate::leases::Leases;
+use crate::recall::Recall;
 use crate::recover::Recovery;
-use pidtab::{Blocks, Head, Table};
+use crate::snapshot::{self, Place};
+use pidtab::{Blocks, Head, Reply, Table};
 use std::sync::mpsc::{channel, Receiver, Sender};
 use std::sync::Arc;
 use std::thread;
@@ -18,12 +22,36 @@ pub enum Order {
     Blocks(Vec<u8>),
     /// Writes the snapshot.
     Snapshot,
-    /// Takes away what the snapshot of that many calls makes needless.
+    /// Takes away what the snapshot of that many entries makes needless.
     Drop { below: u64 },
-    /// Tells its text, or its list.
-    Text { is_dump: bool, ordinal: u64 },
+    /// Tells a text of it.
+    Text { kind: TextKind, ordinal: u64 },
     /// Answers a query of that connection.
     Ask { asker: Asker, query: Query },
+    /// Tells events of the calls up to a place of the log.
+    Recall { recall: Recall, base: u64, bytes: u64 },
+}
+
+/// What a text has of a table.
+#[derive(Clone, Copy, Debug, PartialEq)]
+pub enum TextKind {
+    List,
+    Dump,
+    /// The leases too: what a snapshot has, and a follower begins with.
+    Whole,
+}
+
+impl TextKind {
+    pub const ALL: [TextKind; 3] = [TextKind::List, TextKind::Dump, TextKind::Whole];
+
+    pub fn of(self, table: &Table, leases: &Leases, place: Place) -> Result<Vec<u8>, Fault> {
+        let text = if self == TextKind::List { table.list() } else { table.dump() };
+        let text = text.map_err(|error| error.to_string())?.into_bytes();
+        match self {
+            TextKind::List | TextKind::Dump => Ok(text),
+            TextKind::Whole => Ok([snapshot::front(leases, place, table), text].concat()),
+        }
+    }
 }
 
 /// A connection: its token, and its own number.
@@ -38,16 +66,22 @@ pub enum Report {
     },
     /// Older files are gone, or why not.
     Dropped(Option<Fault>),
-    /// The ordinal of the new snapshot.
-    Snapshot(Result<u64, Fault>),
+    /// The place of the new snapshot.
+    Snapshot(Result<Place, Fault>),
     Text {
-        is_dump: bool,
+        kind: TextKind,
         ordinal: u64,
         text: Result<Arc<Vec<u8>>, Fault>,
     },
     Told {
         asker: Asker,
         told: Result<Answered, Fault>,
+    },
+    /// The messages.
+    Recalled {
+        asker: Asker,
+        user: u32,
+        told: Result<Vec<u8>, Fault>,
     },
 }
 
@@ -98,12 +132,43 @@ impl Replica {
 enum State {
     Unread,
     Kept(Box<Recovery>),
-    Loose {
-        table: Table,
-        blocks: Blocks,
-    },
+    Loose(Box<Loose>),
     /// It cannot go on, and says why each time.
     Failed(Fault),
+}
+
+/// A table whose calls are in no file.
+struct Loose {
+    table: Table,
+    leases: Leases,
+    blocks: Blocks,
+    place: Place,
+}
+
+impl Loose {
+    fn replay(&mut self, bytes: &[u8]) -> Result<(), Fault> {
+        let mut at = 0;
+        while at < bytes.len() {
+            let taken = entry::take(&mut self.table, &mut self.blocks, &bytes[at..]);
+            let taken = taken.map_err(|wrong| wrong.fault.to_string())?;
+            at += taken.size;
+            self.count(&taken.entry);
+        }
+        Ok(())
+    }
+
+    fn count(&mut self, entry: &Entry) {
+        self.place.entries += 1;
+        match entry {
+            Entry::Fact(fact) => self.leases.apply(fact),
+            Entry::Call { made, lease } => {
+                self.place.calls += 1;
+                if let Reply::Forked(child) = &made.reply {
+                    self.leases.forked(child.root, *lease);
+                }
+            }
+        }
+    }
 }
 
 struct Copy {
@@ -129,17 +194,31 @@ impl Copy {
                 self.begin_anew();
                 Some(Report::Snapshot(done))
             }
-            Order::Text { is_dump, ordinal } => {
-                let text = self.text(is_dump).map(|it| Arc::new(it.into_bytes()));
+            Order::Text { kind, ordinal } => {
+                let text = self.text(kind).map(Arc::new);
                 self.begin_anew();
-                Some(Report::Text { is_dump, ordinal, text })
+                Some(Report::Text { kind, ordinal, text })
             }
             Order::Ask { asker, query } => {
-                let told = self.table().map(|it| query.answer(it));
+                let told = self.table().map(|it| query.answer(it.0));
                 self.begin_anew();
                 Some(Report::Told { asker, told })
             }
+            Order::Recall { recall, base, bytes } => {
+                let (asker, user) = (recall.asker, recall.user);
+                Some(Report::Recalled { asker, user, told: self.recall(recall, base, bytes) })
+            }
         }
+    }
+
+    /// Beside the second table, which is further than that.
+    fn recall(&self, recall: Recall, base: u64, bytes: u64) -> Result<Vec<u8>, Fault> {
+        let Source::Directory { directory, .. } = &self.source else { return Ok(Vec::new()) };
+        let begun = Recovery::begin(directory.again()?)?;
+        let mut recovery = begun.ok_or("there is nothing to replay")?;
+        recovery.watch(recall)?;
+        recovery.go_on(base, bytes)?;
+        recovery.watcher.map_or(Ok(Vec::new()), |it| it.end())
     }
 
     /// Whether `current` names that log. If it cannot be written, it names the log before, or this one, and both stay there.
@@ -185,45 +264,37 @@ impl Copy {
         if let (State::Unread, Source::Nothing { pid_max, text }) = (&self.state, &mut self.source) {
             self.state = begin_loose(*pid_max, text.take());
         }
-        let State::Loose { table, blocks } = &mut self.state else { return };
-        let mut at = 0;
-        while at < bytes.len() {
-            match table.replay(blocks, &bytes[at..]) {
-                Ok(made) => at += made.size,
-                Err(fault) => {
-                    self.state = State::Failed(fault.to_string());
-                    return;
-                }
-            }
+        let State::Loose(loose) = &mut self.state else { return };
+        if let Err(fault) = loose.replay(bytes) {
+            self.state = State::Failed(fault);
         }
     }
 
-    fn table(&mut self) -> Result<&Table, Fault> {
+    fn table(&mut self) -> Result<(&Table, &Leases, Place), Fault> {
         if matches!(self.state, State::Unread) {
             self.replay(b"");
         }
         match &self.state {
-            State::Kept(recovery) => Ok(&recovery.table),
-            State::Loose { table, .. } => Ok(table),
+            State::Kept(it) => Ok((&it.table, &it.leases, it.place)),
+            State::Loose(it) => Ok((&it.table, &it.leases, it.place)),
             State::Failed(fault) => Err(fault.clone()),
             State::Unread => Err("there is no second table".to_owned()),
         }
     }
 
-    fn text(&mut self, is_dump: bool) -> Result<String, Fault> {
-        let table = self.table()?;
-        let text = if is_dump { table.dump() } else { table.list() };
-        text.map_err(|error| error.to_string())
+    fn text(&mut self, kind: TextKind) -> Result<Vec<u8>, Fault> {
+        let (table, leases, place) = self.table()?;
+        kind.of(table, leases, place)
     }
 
-    fn snapshot(&mut self) -> Result<u64, Fault> {
-        let text = self.text(true);
+    fn snapshot(&mut self) -> Result<Place, Fault> {
+        let text = self.text(TextKind::Whole);
         let (State::Kept(recovery), Source::Directory { directory, .. }) = (&self.state, &self.source) else {
             return text.and(Err("nothing is kept".to_owned()));
         };
-        let path = directory.snapshot(recovery.made);
-        directory.write(&path, &[text?.as_bytes()]).map_err(fault_at(&path))?;
-        Ok(recovery.made)
+        let path = directory.snapshot(recovery.place.entries);
+        directory.write(&path, &[&text?]).map_err(fault_at(&path))?;
+        Ok(recovery.place)
     }
 }
 
@@ -234,13 +305,21 @@ pub fn loose_blocks(pid_max: u32) -> Result<Blocks, pidtab::Error> {
 }
 
 fn begin_loose(pid_max: u32, text: Option<Vec<u8>>) -> State {
-    let table = match text {
-        Some(text) => Table::from_dump(text).map_err(|fault| fault.to_string()),
-        None => Table::open(pid_max).map_err(|error| error.to_string()),
+    let begun = match text {
+        Some(text) => loose_of(&text),
+        None => {
+            Table::open(pid_max).map_err(|error| error.to_string()).map(|it| (it, Leases::default(), Place::default()))
+        }
     };
-    match (table, loose_blocks(pid_max)) {
-        (Ok(table), Ok(blocks)) => State::Loose { table, blocks },
+    match (begun, loose_blocks(pid_max)) {
+        (Ok((table, leases, place)), Ok(blocks)) => State::Loose(Box::new(Loose { table, leases, blocks, place })),
         (Err(fault), _) => State::Failed(fault),
         (_, Err(error)) => State::Failed(error.to_string()),
     }
+}
+
+fn loose_of(text: &[u8]) -> Result<(Table, Leases, Place), Fault> {
+    let read = snapshot::read(text)?;
+    let table = Table::from_dump(read.table).map_err(|fault| fault.to_string())?;
+    Ok((table, Leases::of(&read.facts), read.place))
 }

@@ -46,6 +46,12 @@ impl<'a> Words<'a> {
         let spans = self.spans.get(place..).unwrap_or(&[]);
         Words { spans, ..self }
     }
+
+    /// The words before the place.
+    pub fn to(self, place: usize) -> Words<'a> {
+        let spans = &self.spans[..place.min(self.spans.len())];
+        Words { spans, ..self }
+    }
 }
 
 /// What reads requests, with the room for their words.

@@ -7,9 +7,10 @@ use crate::commands::{find, without_prefix, Action, Command, Values, Verb, COMMA
 use crate::conn::{Conn, Follower, Held, Multi, Pause};
 use crate::directory::{Fault, SEATS};
 use crate::events::{self, Channel, MOST_CHANNELS};
+use crate::facts::Fact;
 use crate::leases::{is_name, read_ttl, Lease};
 use crate::options::Rights;
-use crate::replica::Asker;
+use crate::replica::{Asker, TextKind};
 use crate::resp::{is_word, number, Answer, Words};
 use crate::rights::may_make;
 use crate::say;
@@ -25,6 +26,8 @@ const KILLED: u8 = 137;
 
 const NO_PASSWORDS: &str =
     "-ERR AUTH called without any password configured: the socket's mode and --allow say who may connect";
+
+const NO_CHANNEL: &str = "-ERR a channel is exit, fork or fall, alone or with :space:ID or :control:ID behind";
 
 /// The longest sleep of WAITCHILD, in ms: a day.
 const LONGEST_SLEEP: u64 = 86_400_000;
@@ -105,9 +108,9 @@ impl Service {
         if let Some(why) = self.refusal_of_call(conn, call) {
             return conn.out.line(&why);
         }
-        match self.engine.make(conn.seat, call) {
+        match self.engine.make(conn.seat, call, lease_of(conn)) {
             Ok(reply) => {
-                self.note_made(conn, &reply);
+                self.note_made(&reply);
                 say::reply(&mut conn.out, &reply);
             }
             Err(why) => say::refused(&mut conn.out, &why),
@@ -119,9 +122,9 @@ impl Service {
         if let Some(why) = self.refusal_of_call(conn, call) {
             return conn.out.line(&why);
         }
-        match self.engine.make_told(conn.seat, call) {
+        match self.engine.make_told(conn.seat, call, lease_of(conn)) {
             Ok(told) => {
-                self.note_made(conn, &told.reply);
+                self.note_made(&told.reply);
                 say::told(&mut conn.out, &told);
             }
             Err(why) => say::refused(&mut conn.out, &why),
@@ -135,7 +138,7 @@ impl Service {
             return why;
         }
         let is_fork = matches!(call, Call::Fork { .. });
-        if is_fork && conn.lease.as_ref().is_some_and(|it| !self.leases.is_there(it.number)) {
+        if is_fork && conn.lease.as_ref().is_some_and(|it| !self.engine.leases.is_there(it.number)) {
             let why = "-NOLEASE the lease of this connection was released: say LEASE, or RELEASE and its name";
             return Some(why.to_owned());
         }
@@ -145,13 +148,10 @@ impl Service {
         None
     }
 
-    /// A call was made: its child is the lease's.
-    fn note_made(&mut self, conn: &Conn, reply: &Reply) {
+    /// A call was made.
+    fn note_made(&mut self, reply: &Reply) {
         self.figures.calls += 1;
         self.figures.refused += u64::from(matches!(reply, Reply::Refused { .. }));
-        if let (Reply::Forked(child), Some(held)) = (reply, &conn.lease) {
-            self.leases.bind(held.number, child.root, self.engine.made);
-        }
     }
 
     /// Why the client may not make the call, or what changes the service, if he may not.
@@ -267,8 +267,8 @@ impl Service {
                 Some(_) => conn.out.ok(),
                 None => conn.out.line("-ERR DISCARD without MULTI"),
             },
-            Action::List => self.want_text(conn, false),
-            Action::Dump => self.want_text(conn, true),
+            Action::List => self.want_text(conn, TextKind::List),
+            Action::Dump => self.want_text(conn, TextKind::Dump),
             Action::Position => conn.out.number(self.engine.made),
             Action::Ping => ping(conn, words),
             Action::Echo => conn.out.bulk(words.at(1)),
@@ -360,23 +360,52 @@ impl Service {
         }
     }
 
-    fn run_subscribe(&mut self, conn: &mut Conn, names: Words) {
-        for place in 0..names.len() {
-            let name = names.at(place);
-            let Some(channel) = Channel::read(name) else {
-                conn.out.line("-ERR a channel is exit, fork or fall, alone or with :space:ID or :control:ID behind");
-                continue;
-            };
-            if !conn.channels.contains(&channel) {
-                if conn.channels.len() == MOST_CHANNELS || !self.accounts.takes_channel(conn.user) {
-                    conn.out.line("-ERR too many channels");
-                    continue;
+    fn run_subscribe(&mut self, conn: &mut Conn, words: Words) {
+        let count = words.len();
+        if count > 2 && is_word(words.at(count - 2), "FROM") {
+            return self.subscribe_from(conn, words.to(count - 2), number(words.at(count - 1), u64::MAX));
+        }
+        for place in 0..count {
+            match self.add_channel(conn, words.at(place)) {
+                Ok(()) => {
+                    events::say(&mut conn.out, "subscribe", Some(words.at(place)));
+                    conn.out.number(conn.channels.len() as u64);
                 }
-                conn.channels.push(channel);
+                Err(why) => conn.out.line(why),
             }
-            events::say(&mut conn.out, "subscribe", Some(name));
-            conn.out.number(conn.channels.len() as u64);
-            self.engine.book.is_watched = true;
+        }
+    }
+
+    /// The client has the channel from now on, if he had it before or not.
+    fn add_channel(&mut self, conn: &mut Conn, name: &[u8]) -> Result<(), &'static str> {
+        let channel = Channel::read(name).ok_or(NO_CHANNEL)?.since(self.engine.made);
+        if !conn.channels.iter().any(|it| it.name == channel.name) {
+            if conn.channels.len() == MOST_CHANNELS || !self.accounts.takes_channel(conn.user) {
+                return Err("-ERR too many channels");
+            }
+            conn.channels.push(channel);
+        }
+        self.engine.book.is_watched = true;
+        Ok(())
+    }
+
+    /// All of the channels, with what was before; or none of them.
+    fn subscribe_from(&mut self, conn: &mut Conn, names: Words, from: Option<u64>) {
+        let had = conn.channels.len();
+        let why = match from {
+            None => Some("-ERR FROM takes the ordinal of a call".to_owned()),
+            Some(from) => self.refusal_of_recall(conn, from),
+        };
+        let added = (0..names.len()).try_for_each(|it| self.add_channel(conn, names.at(it)));
+        let new = conn.channels.len() - had;
+        let had_one = (new < names.len()).then(|| "-ERR the connection has such a channel already".to_owned());
+        match (why.or(added.err().map(str::to_owned)).or(had_one), from) {
+            (None, Some(from)) => self.begin_recall(conn, had, from),
+            (why, _) => {
+                self.accounts.gives_channels(conn.user, new);
+                conn.channels.truncate(had);
+                conn.out.line(&why.unwrap_or_default());
+            }
         }
     }
 
@@ -405,16 +434,14 @@ impl Service {
             return conn.out.line(&why);
         }
         if let Some(before) = conn.lease.take() {
-            self.leases.let_go(before.number, self.now);
+            self.engine.leases.let_go(before.number, self.now);
         }
         let key = (conn.user, name.to_vec());
-        let is_full = conn.is_guest && self.leases.count_of(conn.user) >= MOST_LEASES;
-        if is_full && self.leases.number(&key).is_none() {
+        let is_full = conn.is_guest && self.engine.leases.count_of(conn.user) >= MOST_LEASES;
+        if is_full && self.engine.leases.number(&key).is_none() {
             return conn.out.line("-OOM too-many-leases");
         }
-        let number = self.leases.hold(&key, ttl);
-        conn.lease = Some(Held { number, name: name.to_vec() });
-        self.engine.book.tells_gone = true;
+        conn.lease = self.engine.hold(&key, ttl).map(|number| Held { number, name: name.to_vec() });
         conn.out.ok();
     }
 
@@ -426,7 +453,7 @@ impl Service {
 
     fn run_leases(&mut self, conn: &mut Conn) {
         let is_seen = |it: &&Lease| it.key.0 == conn.user || conn.rights == Rights::All;
-        let those: Vec<_> = self.leases.named().filter(is_seen).collect();
+        let those: Vec<_> = self.engine.leases.named().filter(is_seen).collect();
         conn.out.array(those.len());
         for lease in those {
             conn.out.array(4);
@@ -434,7 +461,7 @@ impl Service {
             conn.out.number(lease.ttl);
             conn.out.number(lease.holders as u64);
             conn.out.array(lease.tasks.len());
-            lease.tasks.keys().for_each(|it| conn.out.number(u64::from(*it)));
+            lease.tasks.iter().for_each(|it| conn.out.number(u64::from(*it)));
         }
     }
 
@@ -443,9 +470,10 @@ impl Service {
             return conn.out.line(&why);
         }
         let held = conn.lease.take_if(|it| it.name == name);
-        let is_another_s = held.is_some_and(|it| !self.leases.is_there(it.number));
-        let number = self.leases.number(&(conn.user, name.to_vec())).filter(|_| !is_another_s);
-        number.into_iter().for_each(|it| self.leases.release(it));
+        let leases = &self.engine.leases;
+        let is_another_s = held.is_some_and(|it| !leases.is_there(it.number));
+        let number = leases.number(&(conn.user, name.to_vec())).filter(|_| !is_another_s);
+        number.into_iter().for_each(|number| self.engine.record(&Fact::Release { number }));
         conn.out.number(u64::from(number.is_some()));
     }
 
@@ -469,7 +497,7 @@ impl Service {
         }
     }
 
-    /// The identity, if asked, the text, the checksum to go on from, and then blocks. A follower may only listen: who says more is closed.
+    /// The identity and the leases, if asked, the text, the checksum to go on from, and then blocks. A follower may only listen: who says more is closed.
     fn run_follow(&mut self, conn: &mut Conn, command: &Command, words: Words) {
         let tells = is_word(words.at(1), "IDENTITY");
         if words.len() == 2 && !tells {
@@ -481,7 +509,7 @@ impl Service {
         if tells {
             conn.out.bulk(self.engine.identity.as_bytes());
         }
-        self.want_text(conn, true);
+        self.want_text(conn, if tells { TextKind::Whole } else { TextKind::Dump });
         if matches!(conn.pause, Pause::Awaits { .. }) {
             conn.follower = Some(Follower::default());
             self.figures.followers += 1;
@@ -504,6 +532,7 @@ impl Service {
             }
             Some(_) => {
                 self.leader = None;
+                self.engine.leases.begin(self.now);
                 conn.out.ok();
             }
         }
@@ -522,7 +551,7 @@ impl Service {
         for task in tasks {
             if self.engine.book.kin(*task).is_some_and(|it| it.is_zombie && it.parent == INIT) {
                 let call = Call::Wait { caller: INIT, which: Which::Pid(*task) };
-                self.figures.calls += u64::from(self.engine.make(0, call).is_ok());
+                self.figures.calls += u64::from(self.engine.make(0, call, None).is_ok());
             }
         }
     }
@@ -533,10 +562,14 @@ impl Service {
             return;
         }
         let call = Call::Exit { caller: task, status: KILLED };
-        if may_make(&mut self.engine, rights, call) && self.engine.make(0, call).is_ok() {
+        if may_make(&mut self.engine, rights, call) && self.engine.make(0, call, None).is_ok() {
             self.figures.calls += 1;
         }
     }
+}
+
+fn lease_of(conn: &Conn) -> Option<u64> {
+    conn.lease.as_ref().map(|it| it.number)
 }
 
 fn is_of_multi(action: Action) -> bool {

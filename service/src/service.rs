@@ -1,15 +1,19 @@
 //! The sockets, in one thread. A turn: what has come is read and done, what was recorded is written in one go, and then the answers go out.
 use crate::accounts::{Accounts, MOST_OUTPUT};
+use crate::allowed::{group_of_user, Allowed};
 use crate::commands::{find, Command};
 use crate::conn::{Conn, Pause, MUCH_OUTPUT};
+use crate::connections::Connections;
 use crate::directory::Fault;
 use crate::engine::{Engine, Text};
+use crate::events;
+use crate::facts::Fact;
 use crate::haste::{Haste, LOOK};
 use crate::leader::Leader;
-use crate::leases::{Known, Leases};
-use crate::log::{Committed, Log};
+use crate::log::Committed;
 use crate::options::{Options, Rights};
-use crate::replica::Report;
+use crate::recall::Recall;
+use crate::replica::{Report, TextKind};
 use crate::resp::{Answer, Reader, LONGEST_REQUEST};
 use crate::sleepers::Sleepers;
 use crate::slowlog::Slowlog;
@@ -18,7 +22,7 @@ use mio::net::{UnixListener, UnixStream};
 use mio::{Events, Interest, Poll, Token, Waker};
 use nix::sys::socket::{getsockopt, sockopt::PeerCredentials};
 use std::fs::File;
-use std::io::{self, Write};
+use std::io::{self, Read, Write};
 use std::os::fd::AsRawFd;
 use std::sync::{Arc, Weak};
 use std::time::{Duration, Instant};
@@ -30,7 +34,8 @@ const READ_AT_ONCE: usize = 16 << 10;
 const SIGNAL: Token = Token(0);
 const WAKE: Token = Token(1);
 pub const LEADER: Token = Token(2);
-const LISTENERS: usize = 3;
+const RELOAD: Token = Token(3);
+const LISTENERS: usize = 4;
 const CLIENTS: usize = 16;
 
 /// So often it is looked at the clock, in ms.
@@ -64,7 +69,6 @@ pub struct Service {
     pub options: Options,
     pub engine: Engine,
     pub figures: Figures,
-    pub leases: Leases,
     pub sleepers: Sleepers,
     pub accounts: Accounts,
     pub slowlog: Slowlog,
@@ -75,39 +79,37 @@ pub struct Service {
     haste: Haste,
     poll: Poll,
     waker: Arc<Waker>,
-    signals: UnixStream,
+    signals: Signals,
     listeners: Vec<UnixListener>,
     is_calling: bool,
-    conns: Vec<Option<Box<Conn>>>,
-    free: Vec<usize>,
-    freed: Vec<usize>,
-    ready: Vec<usize>,
-    touched: Vec<usize>,
+    clients: Connections,
     disk: Disk,
-    next_id: u64,
     ticked: u64,
     input: Vec<u8>,
     pub reader: Reader,
     spare: Option<File>,
     texts: Texts,
+    /// The users whose connections wait for events from before, and what was not ordered yet.
+    pub recalls: Vec<u32>,
+    pub wanted_recalls: Vec<Recall>,
 }
 
 /// The last text of each kind, and all that are being sent.
 #[derive(Default)]
 struct Texts {
-    last: [Option<(u64, Text)>; 2],
+    last: [Option<(u64, Text)>; 3],
     alive: Vec<Weak<Vec<u8>>>,
     /// Whether one is wanted that was not ordered yet, and whether one is in work. Who comes meanwhile waits for the next: so all who wait for a text have
     /// one.
-    wanted: [bool; 2],
-    ordered: [bool; 2],
+    wanted: [bool; 3],
+    ordered: [bool; 3],
 }
 
 impl Texts {
     /// Those that are not of now.
-    fn forget(&mut self, made: u64) {
+    fn forget(&mut self, entries: u64) {
         for last in &mut self.last {
-            last.take_if(|it| it.0 != made);
+            last.take_if(|it| it.0 != entries);
         }
     }
 
@@ -125,11 +127,13 @@ struct Disk {
     /// Whose answers wait for that, and whose requests.
     held: Vec<usize>,
     delayed: Vec<usize>,
-    /// Leases whose tasks have ended, each with the sync that saves that.
-    ending: Vec<(u64, Option<u64>)>,
 }
 
-type Signals = Result<UnixStream, Fault>;
+/// What comes of the signals that end the service, and of the one that has it read its rights again.
+pub struct Signals {
+    pub end: UnixStream,
+    pub reload: UnixStream,
+}
 
 /// What wakes the loop from another thread.
 pub fn wake_by(waker: &Arc<Waker>) -> impl Fn() + Clone + Send + 'static {
@@ -139,16 +143,18 @@ pub fn wake_by(waker: &Arc<Waker>) -> impl Fn() + Clone + Send + 'static {
 
 impl Service {
     /// The signals come as bytes of a stream once the directory was read; until then they end the process.
-    pub fn begin(options: Options, listeners: Vec<UnixListener>, signals: fn() -> Signals) -> Result<Service, Fault> {
+    pub fn begin(
+        options: Options,
+        listeners: Vec<UnixListener>,
+        signals: fn() -> Result<Signals, Fault>,
+    ) -> Result<Service, Fault> {
         let fault = |error: io::Error| format!("the loop cannot begin: {error}");
         let poll = Poll::new().map_err(fault)?;
         let waker = Arc::new(Waker::new(poll.registry(), WAKE).map_err(fault)?);
         let engine = Engine::open(options.keep.clone(), wake_by(&waker))?;
-        let leases = read_leases(&engine, wake_by(&waker))?;
         let mut service = Service {
             engine,
             figures: Figures::default(),
-            leases,
             sleepers: Sleepers::default(),
             accounts: Accounts::of(&options),
             slowlog: Slowlog::new(options.slower_than),
@@ -162,28 +168,25 @@ impl Service {
             signals: signals()?,
             listeners,
             is_calling: false,
-            conns: Vec::new(),
-            free: Vec::new(),
-            freed: Vec::new(),
-            ready: Vec::new(),
-            touched: Vec::new(),
+            clients: Connections::default(),
             disk: Disk::default(),
-            next_id: 1,
             ticked: 0,
             input: vec![0; LONGEST_REQUEST + READ_AT_ONCE],
             reader: Reader::default(),
             spare: File::open("/dev/null").ok(),
             texts: Texts::default(),
+            recalls: Vec::new(),
+            wanted_recalls: Vec::new(),
             options,
         };
         service.watch().map_err(fault)?;
-        service.engine.book.tells_gone = !service.leases.is_empty();
-        Ok(service)
+        service.refusal_of(&service.options.allowed).map_or(Ok(service), Err)
     }
 
     fn watch(&mut self) -> io::Result<()> {
         let registry = self.poll.registry();
-        registry.register(&mut self.signals, SIGNAL, Interest::READABLE)?;
+        registry.register(&mut self.signals.end, SIGNAL, Interest::READABLE)?;
+        registry.register(&mut self.signals.reload, RELOAD, Interest::READABLE)?;
         for (place, listener) in self.listeners.iter_mut().enumerate() {
             registry.register(listener, Token(LISTENERS + place), Interest::READABLE)?;
         }
@@ -200,7 +203,7 @@ impl Service {
     }
 
     fn turn(&mut self, events: &mut Events) -> Result<(), Fault> {
-        let is_busy = self.is_calling || !self.ready.is_empty();
+        let is_busy = self.is_calling || !self.clients.ready.is_empty();
         let wait = if is_busy { 0 } else { self.wait() };
         self.await_events(events, wait)?;
         for event in events.iter() {
@@ -212,7 +215,7 @@ impl Service {
         if self.is_calling {
             self.accept_some();
         }
-        self.free.append(&mut self.freed);
+        self.clients.end_turn();
         Ok(())
     }
 
@@ -258,6 +261,7 @@ impl Service {
     fn take_event(&mut self, event: &Event) {
         match event.token() {
             SIGNAL => self.is_ending = true,
+            RELOAD => self.read_rights_again(),
             WAKE => {}
             LEADER => {
                 if let Some(leader) = &mut self.leader {
@@ -270,7 +274,7 @@ impl Service {
     }
 
     fn take_client_event(&mut self, token: usize, event: &Event) {
-        let Some(conn) = self.conns.get_mut(token).and_then(|it| it.as_mut()) else { return };
+        let Some(conn) = self.clients.get(token) else { return };
         conn.is_readable |= event.is_readable() || event.is_read_closed();
         conn.is_half |= event.is_read_closed();
         conn.is_hung |= event.is_error() || event.is_write_closed();
@@ -282,32 +286,26 @@ impl Service {
 
     /// The client is looked at in this turn, or the next.
     pub fn queue(&mut self, token: usize) {
-        if let Some(conn) = self.conns[token].as_mut().filter(|it| !it.is_queued) {
-            conn.is_queued = true;
-            self.ready.push(token);
-        }
+        self.clients.queue(token);
     }
 
     /// It is sent what it has.
     pub fn touch(&mut self, token: usize) {
-        if let Some(conn) = self.conns[token].as_mut().filter(|it| !it.is_touched) {
-            conn.is_touched = true;
-            self.touched.push(token);
-        }
+        self.clients.touch(token);
     }
 
     pub fn conn(&mut self, token: usize) -> Option<&mut Conn> {
-        self.conns.get_mut(token)?.as_deref_mut()
+        self.clients.get(token)
     }
 
     /// Each client that is ready is read from once, and its requests are done.
     fn work(&mut self) {
         self.accounts.begin_turn();
-        for token in std::mem::take(&mut self.ready) {
-            let Some(mut conn) = self.conns[token].take() else { continue };
+        for token in std::mem::take(&mut self.clients.ready) {
+            let Some(mut conn) = self.clients.take(token) else { continue };
             conn.is_queued = false;
             if conn.is_delayed {
-                self.conns[token] = Some(conn);
+                self.clients.put(conn);
                 continue;
             }
             conn.is_cut = !self.accounts.begin(conn.user);
@@ -318,7 +316,7 @@ impl Service {
             let goes_on = conn.is_free() && (conn.is_readable || conn.is_cut) && !conn.is_gone;
             let is_touched = conn.waiting() > 0 || conn.ends || conn.is_gone;
             self.disk.delayed.extend(conn.is_delayed.then_some(token));
-            self.conns[token] = Some(conn);
+            self.clients.put(conn);
             if goes_on {
                 self.queue(token);
             }
@@ -393,7 +391,6 @@ impl Service {
     /// What was recorded is written, and the answers go out. Where the disk does not take it, nobody is told anything.
     fn settle(&mut self) -> Result<(), Fault> {
         self.wake_sleepers();
-        self.free_gone();
         self.publish();
         let was_stuck = self.is_stuck();
         self.commit()?;
@@ -405,8 +402,9 @@ impl Service {
         if !self.is_stuck() {
             self.stream();
             self.order_texts();
+            self.order_recalls();
         }
-        for token in std::mem::take(&mut self.touched) {
+        for token in std::mem::take(&mut self.clients.touched) {
             self.send_to(token);
         }
         Ok(())
@@ -414,8 +412,8 @@ impl Service {
 
     /// The answers of this turn may be of what is not saved: they wait, and the clients with them. These stay touched, and so are not sent anything.
     fn hold(&mut self) {
-        for token in std::mem::take(&mut self.touched) {
-            let Some(conn) = self.conns[token].as_deref_mut() else { continue };
+        for token in std::mem::take(&mut self.clients.touched) {
+            let Some(conn) = self.clients.get(token) else { continue };
             conn.is_delayed = true;
             self.disk.held.push(token);
             self.disk.delayed.push(token);
@@ -424,23 +422,16 @@ impl Service {
 
     /// What has waited for the disk goes on.
     fn go_on(&mut self) {
-        self.touched.append(&mut self.disk.held);
+        self.clients.touched.append(&mut self.disk.held);
         for token in std::mem::take(&mut self.disk.delayed) {
-            let Some(conn) = self.conns[token].as_deref_mut() else { continue };
+            let Some(conn) = self.clients.get(token) else { continue };
             conn.is_delayed = false;
             self.queue(token);
         }
     }
 
-    /// The leases come first: so a fork that the log has is bound, whenever the process ends.
     fn commit(&mut self) -> Result<(), Fault> {
-        if self.engine.is_to_turn() {
-            self.leases.mark(self.engine.made);
-        }
-        let done = match self.leases.commit()? {
-            Committed::Done => self.engine.commit()?,
-            waits => waits,
-        };
+        let done = self.engine.commit()?;
         match (&done, &self.disk.stuck) {
             (Committed::Waits(why), before) if before.as_ref() != Some(why) => {
                 eprintln!("pidtabd: {why}: answers wait until it can be written");
@@ -457,14 +448,22 @@ impl Service {
 
     fn send_to(&mut self, token: usize) {
         let now = self.now;
-        let Some(conn) = self.conns[token].as_deref_mut() else { return };
+        let Some(conn) = self.clients.get(token) else { return };
         conn.is_touched = false;
         let goes_on = conn.send(now);
+        let was_full = conn.is_full;
         watch_output(self.poll.registry(), conn);
+        let (is_full, has_changed) = (conn.is_full, conn.is_full != was_full);
+        if has_changed {
+            conn.moved = now;
+        }
         if conn.is_gone || (conn.ends && conn.unsent() == 0 && !goes_on) {
             return self.end(token);
         }
         let is_free = conn.is_free() && (conn.is_readable || !conn.rest.is_empty());
+        if has_changed {
+            self.clients.mark_full(token, is_full);
+        }
         if goes_on {
             self.touch(token);
         }
@@ -475,21 +474,20 @@ impl Service {
 
     /// Those that are not being served at the moment.
     pub fn connections(&self) -> impl Iterator<Item = &Conn> {
-        self.conns.iter().flatten().map(|it| &**it)
+        self.clients.iter()
     }
 
     /// The client is gone: its place is free in the next turn, since events of it may be in hand.
     pub fn end(&mut self, token: usize) {
-        let Some(mut conn) = self.conns[token].take() else { return };
+        let Some(mut conn) = self.clients.remove(token) else { return };
         let _ = self.poll.registry().deregister(&mut conn.socket);
-        self.freed.push(token);
         self.sleepers.forget(token);
         self.figures.clients -= 1;
         self.figures.seated[conn.seat as usize] -= 1;
         self.accounts.gone(conn.user, conn.channels.len());
         self.figures.followers -= usize::from(conn.follower.is_some());
         if let Some(held) = &conn.lease {
-            self.leases.let_go(held.number, self.now);
+            self.engine.leases.let_go(held.number, self.now);
         }
     }
 
@@ -535,36 +533,70 @@ impl Service {
         if self.figures.clients >= self.options.most_clients {
             return self.turn_away(&socket, "-ERR max number of clients reached\r\n");
         }
-        let user = getsockopt(socket.as_raw_fd(), PeerCredentials).map(|it| it.uid());
-        let Some((user, rights)) = user.ok().and_then(|it| Some((it, self.rights_of(it)?))) else {
+        let peer = getsockopt(socket.as_raw_fd(), PeerCredentials).map(|it| (it.uid(), it.gid()));
+        let known = peer.ok().and_then(|it| Some((it, self.options.allowed.rights_of(it.0, it.1)?)));
+        let Some(((user, group), rights)) = known else {
             return self.turn_away(&socket, "-NOPERM this user may not connect\r\n");
         };
         if let Some(why) = self.accounts.refuses(user, self.figures.clients) {
             return self.turn_away(&socket, why);
         }
-        let token = self.free.pop().unwrap_or(self.conns.len());
+        let token = self.clients.next_token();
         if self.poll.registry().register(&mut socket, Token(CLIENTS + token), Interest::READABLE).is_err() {
-            self.freed.push(token);
-            return;
+            return self.clients.give_back(token);
         }
         let seat = self.emptiest_seat();
-        let mut conn = Box::new(Conn::new(socket, token, self.next_id, seat, user, rights, self.now));
+        let mut conn = Box::new(Conn::new(socket, token, self.figures.accepted + 1, seat, user, rights, self.now));
+        conn.group = group;
         conn.is_guest = self.accounts.is_guest(user);
         self.accounts.connected(user);
-        self.next_id += 1;
         self.figures.seated[seat as usize] += 1;
         self.figures.clients += 1;
         self.figures.accepted += 1;
-        match self.conns.get_mut(token) {
-            Some(place) => *place = Some(conn),
-            None => self.conns.push(Some(conn)),
+        self.clients.add(conn);
+    }
+
+    /// What a user may do who need not be connected.
+    fn rights_of(&self, user: u32) -> Rights {
+        let allowed = &self.options.allowed;
+        if allowed.is_open() {
+            return Rights::All;
+        }
+        let group = group_of_user(user).unwrap_or(u32::MAX);
+        allowed.rights_of(user, group).unwrap_or(Rights::Asks)
+    }
+
+    /// A cgroup that is not there would be that of whoever makes the call with its number.
+    fn refusal_of(&self, allowed: &Allowed) -> Option<Fault> {
+        let missing = allowed.controls().find(|it| !self.engine.book.has_control(*it))?;
+        Some(format!("below={missing}: there is no such cgroup"))
+    }
+
+    /// SIGHUP: the rights as their file has them now, also of who is connected. One that is wrong changes nothing.
+    fn read_rights_again(&mut self) {
+        let mut room = [0; 64];
+        while matches!(self.signals.reload.read(&mut room), Ok(count) if count > 0) {}
+        let read = self.options.allowed.again();
+        let read = read.and_then(|it| self.refusal_of(&it).map_or(Ok(it), Err));
+        match read {
+            Ok(allowed) => {
+                let path = allowed.file().map_or(String::new(), |it| it.display().to_string());
+                self.options.allowed = allowed;
+                self.give_rights();
+                eprintln!("pidtabd: {path}: the rights are those of the file again");
+            }
+            Err(why) => eprintln!("pidtabd: {why}: the rights stay as they were"),
         }
     }
 
-    fn rights_of(&self, user: u32) -> Option<Rights> {
-        let allowed = &self.options.allowed;
-        let found = allowed.iter().find(|it| it.0 == user).map(|it| it.1);
-        found.or(allowed.is_empty().then_some(Rights::All))
+    fn give_rights(&mut self) {
+        for token in self.clients.tokens() {
+            let Some(conn) = self.clients.get(token) else { continue };
+            match self.options.allowed.rights_of(conn.user, conn.group) {
+                Some(rights) => conn.rights = rights,
+                None => self.end(token),
+            }
+        }
     }
 
     fn emptiest_seat(&self) -> u32 {
@@ -576,20 +608,20 @@ impl Service {
     fn tick(&mut self) -> Result<(), Fault> {
         while let Some(report) = self.engine.take_report() {
             match report {
-                Report::Text { is_dump, ordinal, text } => {
-                    self.texts.ordered[usize::from(is_dump)] = false;
-                    self.deliver(is_dump, ordinal, text);
+                Report::Text { kind, ordinal, text } => {
+                    self.texts.ordered[kind as usize] = false;
+                    self.deliver(kind, ordinal, text);
                 }
                 Report::Told { asker, told } => self.tell(asker, told),
+                Report::Recalled { asker, user, told } => self.end_recall(asker, user, told),
                 Report::Named { .. } | Report::Snapshot(_) | Report::Dropped(_) => {}
             }
         }
         self.follow_leader()?;
         self.engine.tick()?;
-        self.leases.tick()?;
         if self.now - self.ticked >= TICK {
             self.ticked = self.now;
-            self.texts.forget(self.engine.made);
+            self.texts.forget(self.engine.entries);
             self.end_leases();
             self.close_stalled();
             self.close_heavy();
@@ -601,7 +633,8 @@ impl Service {
     fn close_stalled(&mut self) {
         let (now, stall) = (self.now, self.options.stall * 1000);
         let mut stalled = Vec::new();
-        for conn in self.conns.iter_mut().flatten() {
+        for token in self.clients.full() {
+            let Some(conn) = self.clients.get(token) else { continue };
             if conn.unsent() == 0 || self.disk.stuck.is_some() {
                 conn.moved = now;
             } else if now - conn.moved > stall || conn.waiting() > FAR_BEHIND {
@@ -621,7 +654,7 @@ impl Service {
 
     /// Of guests whose output is too much together, those connections go that have most.
     fn close_heavy(&mut self) {
-        let guests = self.conns.iter().flatten().filter(|it| it.is_guest && it.waiting() > 0);
+        let guests = self.clients.owed().filter(|it| it.is_guest && it.waiting() > 0);
         let mut heavy: Vec<_> = guests.map(|it| (it.user, it.waiting(), it.token)).collect();
         heavy.sort_unstable();
         let (mut user, mut sum) = (None, 0);
@@ -633,58 +666,43 @@ impl Service {
         heavy.into_iter().for_each(|it| self.end(it.2));
     }
 
-    /// The tasks of leases whose time is over end, as if killed, where their users may still end them.
+    /// The tasks of leases whose time is over end, as if killed, where their users may still end them. The end of a lease is recorded behind the exits: so a
+    /// crash leaves no task that lives on without it.
     fn end_leases(&mut self) {
         if self.leader.is_some() || self.is_stuck() {
             return;
         }
-        self.forget_ended();
-        for (number, user, tasks) in self.leases.take_over(self.now) {
-            let rights = self.rights_of(user).unwrap_or(Rights::Asks);
+        for (number, user, tasks) in self.engine.leases.over(self.now) {
+            let rights = self.rights_of(user);
             tasks.iter().for_each(|it| self.kill(rights, *it));
             if self.options.reaps {
                 self.reap(&tasks);
             }
-            self.disk.ending.push((number, self.engine.log.as_ref().and_then(Log::next_sync)));
-        }
-    }
-
-    /// A lease is forgotten when the exits of its tasks are saved: else these could live on without it.
-    fn forget_ended(&mut self) {
-        let log = self.engine.log.as_ref();
-        let is_saved = |it: &(u64, Option<u64>)| it.1.zip(log).is_none_or(|(sync, log)| log.has_synced(sync));
-        let (saved, rest) = std::mem::take(&mut self.disk.ending).into_iter().partition(is_saved);
-        self.disk.ending = rest;
-        let saved: Vec<_> = saved;
-        saved.into_iter().for_each(|it| self.leases.release(it.0));
-    }
-
-    fn free_gone(&mut self) {
-        for task in std::mem::take(&mut self.engine.book.gone) {
-            self.leases.free(task);
+            self.engine.record(&Fact::End { number });
         }
     }
 
     /// Events go to those who have subscribed.
     fn publish(&mut self) {
-        let events = std::mem::take(&mut self.engine.book.events);
-        if events.is_empty() {
+        let happened = std::mem::take(&mut self.engine.book.events);
+        if happened.is_empty() {
             return;
         }
-        let mut told = Vec::new();
+        let those = self.clients.subscribers();
         // Events are kept while somebody wants them.
-        self.engine.book.is_watched = self.conns.iter().flatten().any(|it| !it.channels.is_empty());
-        let payloads: Vec<_> = events.iter().map(|it| (it, crate::events::payload(it))).collect();
+        self.engine.book.is_watched = !those.is_empty();
+        let payloads: Vec<_> = happened.iter().map(|it| (it, events::payload(it))).collect();
         let mut poured = 0;
-        for conn in self.conns.iter_mut().flatten().filter(|it| !it.channels.is_empty()) {
-            let before = conn.out.len();
-            payloads.iter().for_each(|(event, payload)| tell(conn, event, payload));
-            if conn.out.len() > before {
-                told.push(conn.token);
-                poured += usize::from(conn.is_guest) * (conn.out.len() - before);
+        for token in those {
+            let Some(conn) = self.clients.get(token) else { continue };
+            let (is_guest, (out, channels)) = (conn.is_guest, conn.messages());
+            let before = out.len();
+            payloads.iter().for_each(|(event, payload)| events::tell(out, channels, event, payload));
+            if out.len() > before {
+                poured += usize::from(is_guest) * (out.len() - before);
+                self.touch(token);
             }
         }
-        told.into_iter().for_each(|it| self.touch(it));
         self.pour(poured);
     }
 
@@ -694,74 +712,74 @@ impl Service {
         if self.figures.followers == 0 {
             return self.engine.give_back(blocks);
         }
-        let (mut told, mut poured) = (Vec::new(), 0);
-        for conn in self.conns.iter_mut().flatten().filter(|it| it.follower.is_some()) {
+        let mut poured = 0;
+        for token in self.clients.followers() {
+            let Some(conn) = self.clients.get(token) else { continue };
             let parts = [&blocks[..], &head[..]];
             parts.iter().filter(|it| !it.is_empty()).for_each(|it| conn.stream(it));
             poured += usize::from(conn.is_guest) * blocks.len();
-            told.push(conn.token);
+            self.touch(token);
         }
-        told.into_iter().for_each(|it| self.touch(it));
         self.engine.give_back(blocks);
         self.pour(poured);
     }
 
     /// LIST, DUMP and FOLLOW: the text of now. A client waits for it, and nobody else does.
-    pub fn want_text(&mut self, conn: &mut Conn, is_dump: bool) {
+    pub fn want_text(&mut self, conn: &mut Conn, kind: TextKind) {
         if self.texts.bytes() > self.options.most_output {
             return conn.out.line("-BUSY too much output is waiting");
         }
-        let ordinal = self.engine.made;
-        conn.pause = Pause::Awaits { is_dump, ordinal };
-        self.texts.wanted[usize::from(is_dump)] = true;
+        let ordinal = self.engine.entries;
+        conn.pause = Pause::Awaits { kind, ordinal };
+        self.texts.wanted[kind as usize] = true;
     }
 
     /// All that was recorded is written: the texts that are wanted are those of now.
     fn order_texts(&mut self) {
-        for is_dump in [false, true] {
-            let kind = usize::from(is_dump);
-            if self.texts.ordered[kind] || !std::mem::take(&mut self.texts.wanted[kind]) {
+        for kind in TextKind::ALL {
+            let place = kind as usize;
+            if self.texts.ordered[place] || !std::mem::take(&mut self.texts.wanted[place]) {
                 continue;
             }
-            self.begin_followers(is_dump);
-            let made = self.engine.made;
-            let last = self.texts.last[kind].take().filter(|it| it.0 == made);
+            self.begin_followers(kind);
+            let entries = self.engine.entries;
+            let last = self.texts.last[place].take().filter(|it| it.0 == entries);
             if let Some((ordinal, text)) = last {
-                self.deliver(is_dump, ordinal, Ok(text));
+                self.deliver(kind, ordinal, Ok(text));
             } else if self.engine.book.tasks() <= FEW_TASKS {
-                let table = &mut self.engine.table;
-                let text = if is_dump { table.dump() } else { table.list() };
-                let text = text.map(|it| Arc::new(it.into_bytes()));
-                self.deliver(is_dump, made, text.map_err(|error| error.to_string()));
+                let text = self.engine.text(kind).map(Arc::new);
+                self.deliver(kind, entries, text);
             } else {
-                self.engine.order_text(is_dump);
-                self.texts.ordered[kind] = true;
+                self.engine.order_text(kind);
+                self.texts.ordered[place] = true;
             }
         }
     }
 
     /// A follower gets what is recorded behind its text.
-    fn begin_followers(&mut self, is_dump: bool) {
-        let (sum, ordinal) = (self.engine.sum(), self.engine.made);
-        for conn in self.conns.iter_mut().flatten().filter(|_| is_dump) {
-            if let Some(follower) = conn.follower.as_mut().filter(|it| !it.is_begun) {
+    fn begin_followers(&mut self, kind: TextKind) {
+        let (sum, ordinal) = (self.engine.sum(), self.engine.entries);
+        for token in self.clients.followers() {
+            let Some(conn) = self.clients.get(token) else { continue };
+            let Pause::Awaits { kind: wanted, .. } = conn.pause else { continue };
+            if let Some(follower) = conn.follower.as_mut().filter(|it| !it.is_begun && wanted == kind) {
                 follower.is_begun = true;
-                conn.pause = Pause::Awaits { is_dump, ordinal };
+                conn.pause = Pause::Awaits { kind, ordinal };
                 follower.held.bulk(format!("{sum:016x}").as_bytes());
             }
         }
     }
 
     /// The text goes to those who wait for it. One that was asked for behind its ordinal waits for the next.
-    fn deliver(&mut self, is_dump: bool, ordinal: u64, text: Result<Text, Fault>) {
+    fn deliver(&mut self, kind: TextKind, ordinal: u64, text: Result<Text, Fault>) {
         if let Ok(text) = &text {
             self.texts.alive.push(Arc::downgrade(text));
-            self.texts.last[usize::from(is_dump)] = Some((ordinal, Arc::clone(text)));
+            self.texts.last[kind as usize] = Some((ordinal, Arc::clone(text)));
         }
-        let mut told = Vec::new();
-        for conn in self.conns.iter_mut().flatten() {
+        for token in self.clients.awaiting() {
+            let Some(conn) = self.clients.get(token) else { continue };
             match conn.pause {
-                Pause::Awaits { is_dump: it, ordinal: wanted } if it == is_dump && wanted <= ordinal => {}
+                Pause::Awaits { kind: it, ordinal: wanted } if it == kind && wanted <= ordinal => {}
                 _ => continue,
             }
             if conn.follower.as_ref().is_some_and(|it| !it.is_begun) {
@@ -775,9 +793,6 @@ impl Service {
                     conn.ends |= conn.follower.is_some();
                 }
             }
-            told.push(conn.token);
-        }
-        for token in told {
             self.touch(token);
             self.queue(token);
         }
@@ -785,12 +800,18 @@ impl Service {
 
     /// The table is another: the texts that were ordered of the one before never come, and who follows asks anew.
     pub fn renew(&mut self) {
-        (self.texts.last, self.texts.ordered) = ([None, None], [false, false]);
-        for token in 0..self.conns.len() {
+        (self.texts.last, self.texts.ordered) = ([None, None, None], [false; 3]);
+        self.recalls.clear();
+        self.wanted_recalls.clear();
+        for token in self.clients.tokens() {
             let Some(conn) = self.conn(token) else { continue };
             conn.is_gone |= conn.follower.is_some();
             match conn.pause {
-                Pause::Awaits { is_dump, .. } => self.texts.wanted[usize::from(is_dump)] = true,
+                Pause::Awaits { kind, .. } => self.texts.wanted[kind as usize] = true,
+                Pause::Recalls => {
+                    let (asker, user) = ((token, conn.id), conn.user);
+                    self.end_recall(asker, user, Err("the table is taken anew".to_owned()));
+                }
                 Pause::Asks => {
                     conn.pause = Pause::None;
                     conn.out.line("-BUSY the table is taken anew");
@@ -820,7 +841,7 @@ impl Service {
 
     /// How many bytes the follower that is the farthest behind was not sent.
     pub fn follower_lag(&self) -> usize {
-        let followers = self.conns.iter().flatten().filter(|it| it.follower.is_some());
+        let followers = self.clients.owed().filter(|it| it.follower.is_some());
         followers.map(|it| it.waiting()).max().unwrap_or(0)
     }
 
@@ -852,23 +873,10 @@ fn watch_output(registry: &mio::Registry, conn: &mut Conn) {
     conn.is_full = is_full;
 }
 
-fn tell(conn: &mut Conn, event: &crate::book::Event, payload: &str) {
-    for channel in conn.channels.iter().filter(|it| it.has(event)) {
-        crate::events::say(&mut conn.out, "message", Some(&channel.name));
-        conn.out.bulk(payload.as_bytes());
-    }
-}
-
 fn is_no_descriptor(error: &io::Error) -> bool {
     use nix::errno::Errno;
     let errnos = [Errno::EMFILE, Errno::ENFILE].map(|it| it as i32);
     error.raw_os_error().is_some_and(|it| errnos.contains(&it))
-}
-
-fn read_leases(engine: &Engine, wake: impl Fn() + Send + 'static) -> Result<Leases, Fault> {
-    let born = |task| engine.book.kin(task).map(|it| it.born);
-    let known = Known { made: engine.made, snapshot: engine.snapshot, born };
-    Leases::open(engine.directory()?, engine.keep.sync, &known, wake)
 }
 
 /// A client with more output than that is not read from, so few answers are lost with it.

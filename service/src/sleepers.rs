@@ -117,7 +117,7 @@ impl Service {
             self.answer(sleeper.token, |out| out.line(no_permission(rights)));
             return true;
         }
-        let made = self.engine.make(seat % SEATS, call);
+        let made = self.engine.make(seat % SEATS, call, None);
         if matches!(made, Ok(Reply::NoneYet)) {
             return false;
         }

@@ -12,8 +12,6 @@ pub struct Syncer {
     /// When something was written that no sync has been ordered for.
     unsynced: Option<Instant>,
     is_syncing: bool,
-    ordered: u64,
-    synced: u64,
 }
 
 impl Syncer {
@@ -29,7 +27,7 @@ impl Syncer {
                 wake();
             }
         });
-        Syncer { orders, done, unsynced: None, is_syncing: false, ordered: 0, synced: 0 }
+        Syncer { orders, done, unsynced: None, is_syncing: false }
     }
 
     /// Something was written.
@@ -40,8 +38,6 @@ impl Syncer {
     /// All that was written is on the disk.
     pub fn has_synced(&mut self) {
         self.unsynced = None;
-        self.ordered += 1;
-        self.synced += 1;
     }
 
     /// Whether something has waited for a second.
@@ -58,23 +54,12 @@ impl Syncer {
         let Ok(done) = self.done.try_recv() else { return Ok(false) };
         done?;
         self.is_syncing = false;
-        self.synced += 1;
         Ok(true)
     }
 
     /// Syncs what was written to the file so far.
     pub fn order(&mut self, file: &Arc<File>) {
         self.unsynced = None;
-        self.ordered += 1;
         self.is_syncing = self.orders.send(Arc::clone(file)).is_ok();
-    }
-
-    /// The sync behind which all is on the disk that is written before it is ordered.
-    pub fn next(&self) -> u64 {
-        self.ordered + 1
-    }
-
-    pub fn has_done(&self, sync: u64) -> bool {
-        self.synced >= sync
     }
 }

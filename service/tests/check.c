@@ -1,5 +1,5 @@
-/* check DIR [DUMP]: replays all that the log of DIR has, from the first call on, on a fresh table, and compares each reply. It needs the files of
- * --archive. Writes `ORDINAL SEAT|COMMAND|REPLY` for each call, and the text of the table to DUMP. It shares no code with the daemon but the library. */
+/* check DIR [DUMP]: replays all that the log of DIR has, from the first call on, on a fresh table, and compares each reply. What is recorded of leases is
+ * counted among the entries, and passed. It needs the files of --archive. Writes `ORDINAL SEAT|COMMAND|REPLY` for each call, and the text of the table to DUMP. It shares no code with the daemon but the library. */
 #define _GNU_SOURCE
 #include <pidtab_saved.h>
 
@@ -15,6 +15,9 @@
 
 static const char *const names[] = { "FORK", "GETPID", "NSPID", "EXEC", "EXIT", "WAIT", "GETPPID", "SETPGID", "SETSID", "MK", "RM", "LIMIT", "MOVE", "COUNT", "GETPGID",
 	"GETSID", "NEXT", "JOIN", "SUBREAPER" };
+
+/* From this operation on an entry is no call; one with the other is a part of the fork behind it. */
+enum { FIRST_NOTE = 128, FORKS = 200 };
 
 static void print_call(const struct pidtab_call *c)
 {
@@ -69,7 +72,7 @@ int main(int count, char **words)
 {
 	struct pidtab table = PIDTAB_INIT;
 	struct dirent **files;
-	uint64_t ordinal = 0, sum = 0;
+	uint64_t ordinal = 0, entries = 0, sum = 0;
 	int found = scandir(words[1], &files, is_log, by_base);
 	size_t size = 0, used = 0, room;
 	char *dump;
@@ -84,24 +87,27 @@ int main(int count, char **words)
 			return wrong(path, "cannot be read", 0);
 		const char *bytes = mmap(NULL, (size_t)about.st_size, PROT_READ, MAP_PRIVATE, file, 0);
 		size_t at = 0, length = (size_t)about.st_size;
-		if (strtoull(strrchr(path, '-') + 1, NULL, 10) != ordinal)
-			return wrong(path, "a gap", ordinal);
+		if (strtoull(strrchr(path, '-') + 1, NULL, 10) != entries)
+			return wrong(path, "a gap", entries);
 		if (bytes == MAP_FAILED || pidtab_saved_take_head(bytes, length, &head, &used, &sum) != PIDTAB_DONE)
 			return wrong(path, "no head", 0);
-		if (ordinal == 0 && pidtab_open(&table, head.pid_max) != PIDTAB_DONE)
+		if (entries == 0 && pidtab_open(&table, head.pid_max) != PIDTAB_DONE)
 			return wrong(path, "no table", 0);
-		for (at = used; at < length; at += used, ordinal++) {
+		for (at = used; at < length; at += used) {
 			struct pidtab_entry entry;
 			struct pidtab_reply reply;
 			uint32_t status = pidtab_saved_take(bytes + at, length - at, &entry, &used, &sum);
 			if (status != PIDTAB_DONE)
 				return wrong(path, pidtab_saved_text(status), at);
+			entries += entry.call.operation != FORKS;
+			if (entry.call.operation >= FIRST_NOTE)
+				continue;
 			if (pidtab_call(&table, &entry.call, &reply) != PIDTAB_DONE)
 				return wrong(path, "a call is not made", ordinal);
 			if (reply.kind != entry.reply.kind || reply.error != entry.reply.error || reply.refusal != entry.reply.refusal || reply.first != entry.reply.first
 				|| reply.second != entry.reply.second || reply.count != entry.reply.count || memcmp(reply.levels, entry.reply.levels, sizeof reply.levels) != 0)
 				return wrong(path, "another reply", ordinal);
-			printf("%" PRIu64 " %" PRIu64 "|", ordinal, entry.worker);
+			printf("%" PRIu64 " %" PRIu64 "|", ordinal++, entry.worker);
 			print_call(&entry.call);
 			putchar('|');
 			print_reply(&entry.reply);

@@ -124,6 +124,12 @@ def request(words):
     return b"*%d\r\n" % len(parts) + b"".join(b"$%d\r\n%s\r\n" % (len(part), part) for part in parts)
 
 
+def by_itself(*words):
+    """What the program does that serves nobody: its status, its output, and its fault without its name."""
+    done = subprocess.run([DAEMON, *map(str, words)], capture_output=True, text=True, check=False, timeout=60)
+    return done.returncode, done.stdout, done.stderr.removeprefix("pidtabd: ").rstrip("\n")
+
+
 class Daemon:
     """A process of the daemon in a folder, which may be killed and started again."""
 
@@ -153,6 +159,17 @@ class Daemon:
                 if self.process.poll() is not None or time.monotonic() > end:
                     raise AssertionError(f"the daemon does not serve: {self.said()}") from None
                 time.sleep(0.01)
+
+    def reload(self):
+        """Has it read its rights again: what it says of them."""
+        before = self.said()
+        self.process.send_signal(signal.SIGHUP)
+        end = time.monotonic() + 10
+        while "the rights " not in (said := self.said()[len(before):]):
+            if time.monotonic() > end:
+                raise AssertionError("nothing is said of the rights")
+            time.sleep(0.005)
+        return said
 
     def kill(self):
         self.process.send_signal(signal.SIGKILL)
@@ -200,6 +217,16 @@ class Case(unittest.TestCase):
         os.chmod(folder, 0o755)
         self.daemons.append(Daemon(folder, *options, **others))
         return self.daemons[-1]
+
+    def with_rights(self, *words, options=(), name="one", **others):
+        """A daemon with the cgroup 1, where root may all, and others may what the words say."""
+        file = self.folder / f"allowed-{name}"
+        file.write_text("0\n", encoding="ascii")
+        one = self.daemon("--mode", "666", "--allow-file", str(file), *options, name=name, **others).start()
+        self.assertEqual(one.client().say("MK 0"), 1)
+        file.write_text("\n".join(["0", *words, ""]), encoding="ascii")
+        self.assertIn("the rights are those of the file again", one.reload())
+        return one
 
     def refused(self, client, words, front):
         """The request is refused with an answer that begins so."""

@@ -4,6 +4,7 @@ import os
 import pathlib
 import random
 import re
+import signal
 import subprocess
 import sys
 import textwrap
@@ -432,7 +433,7 @@ class Looked(Case):
                   "clients_accepted_total": 4, "clients_max": 1000, "leases": 1, "followers": 0, "follower_lag_bytes": 0, "stuck": 0, "pid_max": 400, "faults_total": 0,
                   "snapshot_position": 0, "info": 1, "leader_link": 0}
         self.assertEqual({name: values[f"pidtabd_{name}"] for name in wanted}, wanted)
-        self.assertTrue(1 <= values["pidtabd_commits_total"] <= 3 and values["pidtabd_log_bytes"] > 0 and values["pidtabd_slow_requests_total"] == 5, values)
+        self.assertTrue(1 <= values["pidtabd_commits_total"] <= 4 and values["pidtabd_log_bytes"] > 0 and values["pidtabd_slow_requests_total"] == 5, values)
         self.one.end()
         done = subprocess.run([DAEMON, "--metrics", str(self.one.socket)], capture_output=True, text=True, check=False)
         self.assertEqual((done.returncode, done.stdout), (1, ""))
@@ -571,8 +572,9 @@ class Events(Case):
         for line in ("FORK 2 NEW", "FORK 3", "EXIT 3 9"):
             self.client.say(line)
         tail = f"space 4 control {control}"
-        wanted = [["fork", f"2 3 {tail}"], ["fork", f"3 4 {tail}"], ["exit", f"4 killed {tail}"], [f"exit:control:{control}", f"4 killed {tail}"]]
-        wanted += [["exit", f"3 9 {tail}"], [f"exit:control:{control}", f"3 9 {tail}"], ["fall", "4"]]
+        wanted = [["fork", f"2 3 {tail} at 3"], ["fork", f"3 4 {tail} at 4"], ["exit", f"4 killed {tail} at 5"]]
+        wanted += [[f"exit:control:{control}", f"4 killed {tail} at 5"], ["exit", f"3 9 {tail} at 5"], [f"exit:control:{control}", f"3 9 {tail} at 5"]]
+        wanted += [["fall", "4 at 5"]]
         self.assertEqual([self.other.answer() for _ in wanted], [["message", *it] for it in wanted])
         self.assertEqual(self.other.say("PING"), ["pong", ""])
         self.refused(self.other, "FORK 1", "ERR only (P)SUBSCRIBE")
@@ -582,6 +584,109 @@ class Events(Case):
 
     def test_what_is_no_channel(self):
         self.refused(self.other, "SUBSCRIBE nothing", "ERR a channel is")
+        self.refused(self.other, "SUBSCRIBE exit nothing FROM 0", "ERR a channel is")
+        self.refused(self.other, "SUBSCRIBE exit FROM x", "ERR FROM takes the ordinal of a call")
+        self.refused(self.other, "SUBSCRIBE exit FROM 1", "ERR there are 0 calls")
+        self.client.say("FORK 1")
+        self.refused(self.other, "SUBSCRIBE exit FROM 0", "ERR events are kept from call 1 on")
+        self.assertEqual((self.other.say("SUBSCRIBE exit FROM 1"), self.other.say("PING")), (["subscribe", "exit", 1], ["pong", ""]))
+        self.refused(self.other, "SUBSCRIBE exit fork FROM 1", "ERR the connection has such a channel already")
+
+    def messages(self, client, count):
+        return [client.answer()[1:] for _ in range(count)]
+
+    def kept_from(self, client):
+        """The call from which on events are kept, once no snapshot is in work, nor will be by itself."""
+        quiet = 0
+        while quiet < 10:
+            told = client.say("INFO")
+            quiet = quiet + 1 if "compacting:0" in told else 0
+            time.sleep(0.03)
+        return int(re.search("snapshot:([0-9]+)", told)[1])
+
+    def test_from_an_ordinal(self):
+        """Who subscribes from a call on is told the same messages that one has had who was there, over snapshots, starts and a log that goes on."""
+        dice, names = random.Random(3), ("exit", "fork", "fall", "exit:space:5", "fork:control:1")
+        one = self.daemon("--segment", "40000", name="two").start()
+        client, listener = one.client(), one.client()
+        listener.send("SUBSCRIBE", *names)
+        self.messages(listener, len(names))
+        client.say("LEASE rig 60000")
+        lines = ["MK 0", "FORK 1 NEW", "MOVE 2 1", "FORK 1 NEW", "FORK 3 NEW", "MOVE 3 1"]
+        for number in range(1500):
+            task = dice.randrange(2, 12 + number // 5)
+            lines += [dice.choice([f"FORK {task}", f"FORK {task} NEW", "FORK 1", f"EXIT {task} {number % 256}", "WAIT 1 ANY", f"WAIT {task} ANY"])]
+        for some in (lines[:900], lines[900:]):
+            client.socket.sendall("".join(f"{line}\r\n" for line in some).encode())
+            for _ in some:
+                client.answer()
+            self.kept_from(client)
+        listener.send("PING", "end")
+        heard = []
+        while (message := listener.answer()) != ["pong", "end"]:
+            heard.append(message[1:])
+        ordinals = [int(payload.rsplit(" ", 1)[1]) for _, payload in heard]
+        self.assertTrue(len(heard) > 500 and ordinals == sorted(ordinals) and 3 < ordinals[0] + 3 < ordinals[-1] <= len(lines))
+        for turn in range(3):
+            kept = self.kept_from(client)
+            self.assertTrue(0 < kept < ordinals[-1], kept)
+            for start in (kept, kept + 1, (kept + len(lines)) // 2, ordinals[-1], len(lines)):
+                other = one.client()
+                other.send("SUBSCRIBE", *names, "FROM", str(start))
+                self.assertEqual(self.messages(other, len(names)), [[name, place + 1] for place, name in enumerate(names)])
+                wanted = [message for message, ordinal in zip(heard, ordinals) if ordinal >= start]
+                self.assertEqual(self.messages(other, len(wanted)), wanted, f"from {start}")
+                self.assertEqual(other.say("PING x"), ["pong", "x"])
+                other.close()
+            if turn == 0:
+                one.kill()
+                client = one.start().client()
+            if turn == 1:
+                self.assertEqual((client.say("LEASE late 9"), client.say("RELEASE late")), ("OK", 1))
+        client.say("BGSAVE")
+        while f"snapshot:{len(lines)}\r" not in client.say("INFO"):
+            time.sleep(0.02)
+        self.refused(one.client(), f"SUBSCRIBE exit FROM {len(lines) - 1}", f"ERR events are kept from call {len(lines)} on")
+        self.assertEqual(one.client().say(f"SUBSCRIBE exit FROM {len(lines)}"), ["subscribe", "exit", 1])
+
+    def test_what_comes_meanwhile(self):
+        """While another client forks, each fork is told once, and in order, whatever was before and whatever comes by itself."""
+        one = self.daemon("--pid-max", "100000", name="two").start()
+        client, others, ends = one.client(), [], threading.Event()
+
+        def fork():
+            while not ends.is_set():
+                client.socket.sendall(b"FORK 1\r\n" * 40)
+                [client.answer() for _ in range(40)]
+
+        thread = threading.Thread(target=fork)
+        thread.start()
+        for _ in range(8):
+            others.append(one.client())
+            others[-1].send("SUBSCRIBE", "fork", "FROM", "0")
+            time.sleep(0.03)
+        ends.set()
+        thread.join()
+        made = one.client().say("POSITION")
+        for other in others:
+            self.assertEqual(other.answer(), ["subscribe", "fork", 1])
+            self.assertEqual([int(other.answer()[2].rsplit(" ", 1)[1]) for _ in range(made)], list(range(made)))
+
+    def test_what_comes_in_the_same_turn(self):
+        """Calls before and behind the SUBSCRIBE, all of which the daemon finds at once: each is told once."""
+        one = self.daemon(name="two").start()
+        before, other, behind = [one.client() for _ in range(3)]
+        for client in (before, other, behind):
+            self.assertEqual(client.say("PING"), "PONG")
+        one.client().say("SUBSCRIBE exit")
+        one.process.send_signal(signal.SIGSTOP)
+        before.socket.sendall(b"FORK 1\r\n" * 5)
+        other.send("SUBSCRIBE", "fork", "FROM", "2")
+        behind.socket.sendall(b"FORK 1\r\n" * 5)
+        one.process.send_signal(signal.SIGCONT)
+        self.assertEqual(other.answer(), ["subscribe", "fork", 1])
+        self.assertEqual([int(other.answer()[2].rsplit(" ", 1)[1]) for _ in range(8)], list(range(2, 10)))
+        self.assertEqual(other.say("PING"), ["pong", ""])
 
     def test_one_that_never_reads(self):
         """A subscriber that does not read is closed, and nobody else is held up."""
@@ -640,6 +745,7 @@ class Leases(Case):
         self.assertEqual(client.say("FORK 1"), [300, 300])
         other.say("EXIT 300 0")
         other.say("WAIT 1 ANY")
+        self.assertEqual(other.say("LEASES"), [["rig", 100, 1, []]])
         self.assertEqual(other.say("FORK 1"), [300, 300])
         client.close()
         time.sleep(0.4)
@@ -734,9 +840,9 @@ class Users(Case):
         return done.stdout.decode().removesuffix("+OK\r\n" if lines else "")
 
     def test_below_a_cgroup(self):
-        one = self.daemon("--mode", "666", "--allow", f"0,{self.ENEMY}:below=1").start()
+        one = self.with_rights(f"{self.ENEMY}:below=1")
         client = one.client()
-        for line in ("MK 0", "FORK 1", "FORK 1", "MOVE 2 1", "MK 1", "MK 0", "FORK 1 NEW"):
+        for line in ("FORK 1", "FORK 1", "MOVE 2 1", "MK 1", "MK 0", "FORK 1 NEW"):
             client.say(line)
         # 1 is his, 5 below it, 6 beside it; task 2 is his, 3 and 4 are not.
         listed = client.say("LIST")
@@ -753,9 +859,9 @@ class Users(Case):
         self.assertEqual(told, ":3\r\n:9\r\n+OK\r\n+OK\r\n+OK\r\n+OK\r\n*2\r\n:5\r\n:3\r\n+OK\r\n")
 
     def test_an_init_takes_nobody_else_with_it(self):
-        one = self.daemon("--mode", "666", "--allow", f"0,{self.ENEMY}:below=1").start()
+        one = self.with_rights(f"{self.ENEMY}:below=1")
         client = one.client()
-        for line in ("MK 0", "FORK 1", "MOVE 2 1"):
+        for line in ("FORK 1", "MOVE 2 1"):
             client.say(line)
         self.as_enemy(one, ["FORK 2 NEW", "FORK 3"])
         self.assertEqual(client.say("MOVE 4 0"), "OK")
@@ -767,18 +873,18 @@ class Users(Case):
 
     def test_a_child_that_has_gone_outside(self):
         """Who is below a cgroup does not reap one that ended outside."""
-        one = self.daemon("--mode", "666", "--allow", f"0,{self.ENEMY}:below=1").start()
+        one = self.with_rights(f"{self.ENEMY}:below=1")
         client = one.client()
-        for line in ("MK 0", "FORK 1", "MOVE 2 1", "FORK 2", "FORK 2", "MOVE 3 0", "EXIT 3 5", "EXIT 4 6"):
+        for line in ("FORK 1", "MOVE 2 1", "FORK 2", "FORK 2", "MOVE 3 0", "EXIT 3 5", "EXIT 4 6"):
             client.say(line)
         self.assertEqual(self.as_enemy(one, ["WAIT 2 PID 3", "WAIT 2 PID 4"]), "-NOPERM this user may call by tasks below his cgroup alone\r\n*2\r\n:4\r\n:6\r\n")
         self.assertEqual(client.say("WAIT 2 ANY"), [3, 5])
 
     def test_a_lease_ends_what_its_user_may(self):
         """The init of a namespace where another user's task is stays, as by EXIT."""
-        one = self.daemon("--mode", "666", "--allow", f"0,{self.ENEMY}:below=1").start()
+        one = self.with_rights(f"{self.ENEMY}:below=1")
         client = one.client()
-        for line in ("MK 0", "FORK 1", "MOVE 2 1"):
+        for line in ("FORK 1", "MOVE 2 1"):
             client.say(line)
         other = self.keep_as_enemy(one, ["LEASE rig 100", "FORK 2 NEW", "FORK 2"])
         for line in ("FORK 1", "JOIN 5 3", "FORK 5"):
@@ -821,7 +927,7 @@ class Users(Case):
         own = client.say("CLIENT LIST").count("\n")
         words = [it[3] for it in client.say("SLOWLOG GET 99")]
         self.assertTrue(own == 1 and ["ECHO", "mine"] in words and ["PING"] in words, words)
-        below = self.daemon("--mode", "666", "--allow", f"0,{self.ENEMY}:below=1", name="two").start()
+        below = self.with_rights(f"{self.ENEMY}:below=1", name="two")
         self.assertIn("-NOPERM", self.as_enemy(below, ["CLIENT KILL TYPE normal"]))
 
     def test_where_users_cannot_be_told_apart(self):
@@ -835,6 +941,42 @@ class Users(Case):
         two = self.daemon(name="two")
         two.command = one.command
         self.assertEqual(two.start().client().say("PING"), "PONG")
+
+    def test_rights_are_read_again(self):
+        """A file that is wrong changes nothing, and it is said why; who is connected has the new rights at once, or is closed."""
+        one = self.with_rights(f"{self.ENEMY}:ro")
+        file, other = self.folder / "allowed-one", Client.of(self.ENEMY, one.socket)
+        self.refused(other, "FORK 1", "NOPERM this user may only ask")
+        wrong = [("0\n7:rw\n", 'allowed-one: line 2: "7:rw" is none of UID, NAME or %GROUP'), ("0\n1000:below=77\n", "below=77: there is no such cgroup"),
+                 ("0\nnobody-by-that-name\n", "line 2: there is no user nobody-by-that-name"), ("%no-such-group", "line 1: there is no group no-such-group")]
+        for text, why in wrong:
+            file.write_text(text, encoding="ascii")
+            self.assertIn(f"{why}", said := one.reload())
+            self.assertTrue(said.endswith(": the rights stay as they were\n"), said)
+            self.assertEqual(other.say("GETPID 1"), 1)
+        file.write_text("0 # root\n\nnobody\n", encoding="ascii")
+        one.reload()
+        self.assertEqual(other.say("FORK 1"), [2, 2])
+        file.write_text("0\n%nogroup:below=1\n", encoding="ascii")
+        one.reload()
+        self.refused(other, "FORK 1", "NOPERM this user may call by tasks below his cgroup alone")
+        file.write_text("0\n", encoding="ascii")
+        one.reload()
+        self.assertRaises((EOFError, ConnectionError), other.say, "PING")
+        self.assertEqual(self.as_enemy(one, []), "-NOPERM this user may not connect\r\n")
+        file.unlink()
+        self.assertIn("No such file", one.reload())
+        self.assertEqual(one.client().say("PING"), "PONG")
+        two = self.daemon(name="two").start()
+        self.assertEqual(two.client().say("PING"), "PONG")
+        self.assertIn("there is no --allow-file to read again", two.reload())
+
+    def test_a_cgroup_that_is_not_there(self):
+        """Whoever makes the call with its number would fill it: so a start with it is refused."""
+        one = self.daemon("--allow", f"0,{self.ENEMY}:below=1")
+        one.start(is_up=False)
+        self.assertEqual(one.process.wait(timeout=10), 3)
+        self.assertIn("below=1: there is no such cgroup", one.said())
 
     def test_who_may_not_come(self):
         one = self.daemon("--mode", "666", "--allow", "0").start()

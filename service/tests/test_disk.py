@@ -1,5 +1,4 @@
 """What is on the disk: kills, losses of power, damage, a full disk, wrong directories. `check` replays the log, and shares no code with the daemon."""
-import contextlib
 import os
 import pathlib
 import random
@@ -10,7 +9,7 @@ import threading
 import time
 import unittest
 
-from harness import BUILT, Case, LONG, Refused, need, request
+from harness import BUILT, Case, LONG, Refused, by_itself, need, request
 
 NUMBERS = {"EPERM": 1, "ENOENT": 2, "ESRCH": 3, "ECHILD": 10, "EAGAIN": 11, "ENOMEM": 12, "EACCES": 13, "EBUSY": 16, "EINVAL": 22, "ENOSPC": 28}
 
@@ -214,6 +213,7 @@ class Damaged(Case):
         dice = random.Random(2)
         one = self.daemon(name="whole").start()
         client = one.client()
+        client.say("LEASE rig 3600000")
         client.socket.sendall(b"FORK 1 NEW\r\nFORK 2\r\nMK 0\r\nCALL NSPID 1 3\r\n" * 20)
         [client.answer() for _ in range(80)]
         client.say("BGSAVE")
@@ -223,7 +223,7 @@ class Damaged(Case):
         [client.answer() for _ in range(60)]
         self.assertEqual(one.end(), 0)
         whole = {path.name: path.read_bytes() for path in one.kept.iterdir()}
-        names = [name for name in whole if name[:4] in ("snap", "log-", "leas")]
+        names = [name for name in whole if name[:4] in ("snap", "log-")]
         statuses = {0: 0, 3: 0}
         for number in range(500 * LONG):
             name = names[number % len(names)]
@@ -233,9 +233,12 @@ class Damaged(Case):
             two.kept.mkdir(mode=0o700)
             for each, data in whole.items():
                 (two.kept / each).write_bytes(damaged(data, dice) if each == name else data)
+            checked = by_itself("--check", two.kept)
             two.start(is_up=False)
             status = self.status_of(two)
             statuses[status] += 1
+            self.assertEqual(checked[0], status == 3)
+            self.assertTrue(two.said().endswith(f"pidtabd: {checked[2]}\n" if status else ""), f"{checked}; {two.said()}")
             if status == 3:
                 self.assertIn("pidtabd: ", two.said())
                 self.assertRegex(two.said(), f"{name}|log-|current")
@@ -373,18 +376,14 @@ def damaged(data, dice):
     return bytes(data)
 
 
-class Leased(Case):
-    """The file `leases`."""
+def told_by(client):
+    """The leases, and the tasks that live but the first one."""
+    live = {int(line.split()[1].split(",")[0]) for line in client.say("LIST").splitlines() if line.startswith("task ") and " live" in line}
+    return client.say("LEASES"), live - {1}
 
-    def reuse(self, client, number):
-        """Another task has that number, as numbers below 300 are not given again (docs/MODEL.md)."""
-        for _ in range(400):
-            task = client.say("FORK 1")[1]
-            if task == number:
-                return
-            client.say(f"EXIT {task} 0")
-            client.say("WAIT 1 ANY")
-        raise AssertionError(f"{number} does not come again")
+
+class Leased(Case):
+    """What the log has of leases."""
 
     def snapshot(self, client):
         before = client.say("POSITION")
@@ -392,75 +391,66 @@ class Leased(Case):
         while f"snapshot:{before}\r" not in client.say("INFO"):
             time.sleep(0.02)
 
-    def leased(self):
-        """A daemon with a task that was leased, and ended; another has its number. And the file as it was before."""
-        one = self.daemon("--pid-max", "400").start()
-        client = one.client()
-        for number in range(2, 310):
-            client.say("FORK 1")
-            client.say(f"EXIT {number} 0")
-            client.say("WAIT 1 ANY")
-        client.say("LEASE rig 100")
-        client.say("FORK 1")
-        one.kill()
-        client = one.start().client()
-        before = (one.kept / "leases").read_bytes()
-        for line in ("LEASE rig 100", "EXIT 310 0", "WAIT 1 ANY", "RELEASE rig"):
-            client.say(line)
-        self.reuse(one.client(), 310)
-        return one, before
-
-    def test_an_old_file_ends_nobody_else_s_task(self):
-        one, before = self.leased()
-        one.kill()
-        (one.kept / "leases").write_bytes(before)
-        client = one.start().client()
-        self.assertEqual(client.say("LEASES"), [["rig", 100, 0, []]])
-        time.sleep(0.5)
-        self.assertEqual((client.say("LEASES"), client.say("GETPID 310")), ([], 310))
-
-    def test_a_file_older_than_the_snapshot_is_refused(self):
-        one, before = self.leased()
-        self.snapshot(one.client())
-        one.kill()
-        (one.kept / "leases").write_bytes(before)
-        one.start(is_up=False)
-        self.assertEqual(one.process.wait(timeout=20), 3)
-        self.assertRegex(one.said(), "leases: is that of call [0-9]+, and the snapshot that of call [0-9]+: restore both from one copy")
-
     def test_a_snapshot_behind_a_lease(self):
-        """What was leased before a snapshot is leased behind a start from it."""
+        """What was leased before a snapshot is leased behind a start from it, and all that comes behind."""
         one = self.daemon().start()
         client = one.client()
-        for line in ("LEASE rig 60000", "FORK 1", "FORK 1", "EXIT 3 0", "WAIT 1 ANY"):
+        for line in ("LEASE old 60000", "RELEASE old", "LEASE rig 60000", "FORK 1", "FORK 1", "EXIT 3 0", "WAIT 1 ANY"):
             client.say(line)
         self.snapshot(client)
         client.say("FORK 1")
+        client.say("LEASE rig 70000")
         one.kill()
-        self.assertEqual(one.start().client().say("LEASES"), [["rig", 60000, 0, [2, 4]]])
+        text = next(path for path in one.kept.iterdir() if path.name.startswith("snap-")).read_text(encoding="ascii")
+        self.assertRegex(text, "\\Apidtabd snapshot 1 entries 7\nlease 2 [0-9]+ rig 60000\nbind 2 2\nend [0-9a-f]{16}\npidtab table 1 .* stamp 5\n")
+        self.assertEqual(one.start().client().say("LEASES"), [["rig", 70000, 0, [2, 4]]])
 
-    def test_damage(self):
-        """A file that is missing, or has another byte, is refused by its name; a torn end is left out."""
-        one = self.daemon().start()
+    def test_a_lease_without_a_call(self):
+        """What is answered is saved, also where nobody makes a call; and a lease that was released comes never again."""
+        one = self.daemon("--fsync", "always").start()
         client = one.client()
-        for line in ("LEASE rig 60000", "FORK 1", "FORK 1"):
+        for line in ("LEASE rig 60000", "LEASE other 60000", "BGSAVE", "LEASE third 60000", "RELEASE rig"):
             client.say(line)
         one.kill()
-        path = one.kept / "leases"
-        whole = path.read_bytes()
-        for place in range(0, len(whole) - 1, 7):
-            path.write_bytes(whole[:place] + bytes([whole[place] ^ 1]) + whole[place + 1:])
-            one.start(is_up=False)
-            self.assertEqual(one.process.wait(timeout=20), 3, place)
-        self.assertIn(f"{path}: line 5: a byte is not the one that was written", one.said())
-        path.unlink()
-        one.start(is_up=False)
-        self.assertEqual(one.process.wait(timeout=20), 3)
-        self.assertIn(f"{path}: is missing", one.said())
-        for end in (whole[:-4], whole[:-9] + bytes(9)):
-            path.write_bytes(end)
-            self.assertEqual(one.start().client().say("LEASES"), [["rig", 60000, 0, [2]]])
+        self.assertEqual([row[0] for row in one.start().client().say("LEASES")], ["other", "third"])
+        self.assertEqual(one.client().say("POSITION"), 0)
+
+    def played(self):
+        """The whole log of leases that are taken, kept, released and end, with what is asked at the end."""
+        one = self.daemon("--fsync", "always", "--reap").start()
+        client, other = one.client(), one.client()
+        for line in ("LEASE rig 60000", "FORK 1", "FORK 2", "EXIT 3 0", "WAIT 2 ANY", "LEASE rig 50000", "FORK 1 NEW"):
+            client.say(line)
+        for line in ("LEASE brief 0", "FORK 1", "FORK 1", "FORK 5"):
+            other.say(line)
+        other.close()
+        end = time.monotonic() + 5
+        while len(client.say("LEASES")) > 1:
+            self.assertLess(time.monotonic(), end)
+            time.sleep(0.02)
+        self.assertEqual(told_by(client), ([["rig", 50000, 1, [2, 4]]], {2, 4}))
+        client.say("FORK 1")
+        one.end()
+        return one, (one.kept / f"log-{0:020}").read_bytes()
+
+    def test_each_cut(self):
+        """Wherever the log ends, also within an entry, no task lives without its lease, and no lease has a task that is not there, or that another client forks
+        behind the next start."""
+        one, whole = self.played()
+        path, known = one.kept / f"log-{0:020}", set()
+        for size in [*range(48, len(whole), 24), len(whole)]:
+            path.write_bytes(whole[:size])
+            client = one.start().client()
+            leases, live = told_by(client)
+            other = client.say("FORK 1")[1]
             one.kill()
+            self.assertNotIn(other, [task for row in one.start().client().say("LEASES") for task in row[3]], f"at {size}")
+            one.kill()
+            bound = [task for row in leases for task in row[3]]
+            self.assertEqual(live - set(bound), set(), f"at {size} of {len(whole)}")
+            self.assertEqual(len(bound), len(set(bound)))
+            known |= {row[0] for row in leases}
+        self.assertEqual((known, leases), ({"rig", "brief"}, [["rig", 50000, 0, [2, 4, 8]]]))
 
     def test_the_power_is_lost(self):
         """By `always` each fork under a lease is bound that the log has; by `everysec` each that was answered two seconds before."""
@@ -473,32 +463,200 @@ class Leased(Case):
             for number in range(rounds):
                 client = one.start().client()
                 client.say("LEASE rig 3600000")
+                client.say(f"LEASE rig{number} 3600000")
+                client.say("LEASE rig 3600000")
                 forked |= {client.say("FORK 1")[1] for _ in range(dice.randrange(1, 60))}
                 time.sleep(wait)
                 client.socket.sendall(b"FORK 1\r\n" * 20)
                 one.kill()
                 lose_power(one.kept, synced, dice)
-                other = one.start().client()
-                self.assertEqual(forked - set(other.say("LEASES")[0][3]), set(), f"{mode}, round {number}")
-                live = {int(line.split()[1]) for line in other.say("LIST").splitlines() if line.startswith("task ")}
-                if mode == "always":
-                    self.assertEqual(live - set(other.say("LEASES")[0][3]), {1}, f"round {number}")
-                forked = set(other.say("LEASES")[0][3])
+                leases, live = told_by(one.start().client())
+                self.assertEqual({f"rig{it}" for it in range(number + 1)} - {row[0] for row in leases}, set())
+                self.assertEqual(forked - set(leases[0][3]), set(), f"{mode}, round {number}")
+                self.assertEqual(live - set(leases[0][3]), set(), f"round {number}")
+                forked = set(leases[0][3])
                 one.kill()
 
-    def test_everysec_syncs_it(self):
-        need(BUILT / "power.so")
-        synced = self.folder / "synced"
-        synced.touch()
-        one = self.daemon(variables={"LD_PRELOAD": str(BUILT / "power.so"), "SYNCED": str(synced)}).start()
+
+class Checked(Case):
+    """A directory that is read alone, and one that is copied of a service."""
+
+    def files(self, kept):
+        return {path.name: (path.read_bytes(), path.stat().st_mtime_ns, path.stat().st_ino) for path in kept.iterdir()}
+
+    def test_what_a_directory_has(self):
+        one = self.daemon().start()
         client = one.client()
-        client.say("LEASE rig 60000")
+        for line in ("LEASE rig 60000", "FORK 1", "FORK 1 NEW", "MK 0", "BGSAVE"):
+            client.say(line)
+        while "snapshot:3\r" not in client.say("INFO"):
+            time.sleep(0.02)
         client.say("FORK 1")
-        about = (one.kept / "leases").stat()
-        end = time.monotonic() + 3
-        while f"file {about.st_ino} {about.st_size} " not in synced.read_text(encoding="ascii"):
-            self.assertLess(time.monotonic(), end, "it was not synced")
-            time.sleep(0.05)
+        self.assertEqual(by_itself("--check", one.kept)[::2], (1, f"{one.kept}/lock: another pidtabd has this directory"))
+        one.kill()
+        last = max(path for path in one.kept.iterdir() if path.name.startswith("log-"))
+        with open(last, "ab") as file:
+            file.write(b"x" * 11)
+        before = self.files(one.kept)
+        identity = (one.kept / "identity").read_text(encoding="ascii").strip()
+        told = [f"identity:{identity}", "calls:4", "entries:5", "snapshot:3", "replayed:1", "left_out_bytes:11", "pid_max:32768", "tasks:4", "controls:1",
+                "leases:1", "leased_tasks:3"]
+        self.assertEqual(by_itself("--check", one.kept), (0, "".join(f"{line}\n" for line in told), ""))
+        self.assertEqual(self.files(one.kept), before)
+        self.assertEqual(one.start().client().say("POSITION"), 4)
+
+    def test_one_without_a_lock(self):
+        """Nothing is made in it, not even a lock; a file of leases of a former release counts."""
+        one = self.daemon().start()
+        one.client().say("FORK 1")
+        one.kill()
+        (one.kept / "lock").unlink()
+        (one.kept / "leases").write_bytes(former_file("at 1", "lease 0 rig 1 60000", "bind 1 2 1"))
+        before = self.files(one.kept)
+        status, told, _ = by_itself("--check", one.kept)
+        self.assertEqual((status, told.splitlines()[-2:]), (0, ["leases:1", "leased_tasks:1"]))
+        self.assertEqual(self.files(one.kept), before)
+
+    def test_what_is_none(self):
+        one = self.daemon()
+        self.assertEqual(by_itself("--check", one.kept), (0, "empty: a start begins a new table\n", ""))
+        (one.kept / "passwd").touch()
+        self.assertIn('has "passwd", which is no file of pidtabd', by_itself("--check", one.kept)[2])
+        self.assertEqual(by_itself("--check", one.folder / "none")[0], 1)
+        one.kept.chmod(0o770)
+        self.assertIn("may be written by others", by_itself("--check", one.kept)[2])
+
+    def test_a_copy(self):
+        """While another client forks: the copy has a front of the calls, with the leases of then, and goes on by itself."""
+        one = self.daemon().start()
+        client, other = one.client(), one.client()
+        client.say("LEASE rig 60000")
+        client.socket.sendall(b"FORK 1\r\n" * 300)
+        [client.answer() for _ in range(300)]
+        for number in range(5):
+            before = other.say("POSITION")
+            client.socket.sendall(b"FORK 1\r\n" * 2000)
+            two = self.daemon(name=f"copy{number}")
+            status, told, fault = by_itself("--copy", one.socket, two.kept)
+            [client.answer() for _ in range(2000)]
+            self.assertEqual((status, fault), (0, ""))
+            copied = two.start().client()
+            position = copied.say("POSITION")
+            self.assertTrue(before <= position <= before + 2000, position)
+            self.assertEqual(told, f"{two.kept}/snap-{position + 1:020}: {position} calls, 1 leases\n")
+            self.assertEqual(copied.say("LEASES"), [["rig", 60000, 0, list(range(2, position + 2))]])
+            self.assertEqual(copied.say("FORK 1"), [position + 2, position + 2])
+            two.kill()
+            self.assertEqual((two.kept / "identity").read_bytes(), (one.kept / "identity").read_bytes())
+        self.assertIn("has a table: name an empty directory", by_itself("--copy", one.socket, two.kept)[2])
+        three = self.daemon(name="three")
+        self.assertEqual(by_itself("--copy", three.socket, three.kept)[0], 1)
+        self.assertEqual([path.name for path in three.kept.iterdir()], ["lock"])
+
+
+POLYNOMIAL = 0xc96c5795d7870f42
+
+
+def crc(before, data):
+    """CRC-64/XZ, a bit at a time."""
+    register = before ^ (1 << 64) - 1
+    for byte in data:
+        register ^= byte
+        for _ in range(8):
+            register = register >> 1 ^ POLYNOMIAL * (register & 1)
+    return register ^ (1 << 64) - 1
+
+
+def former_file(*lines):
+    """The file `leases` of a former release: a line a fact, each with the checksum of all lines up to it."""
+    text = b"pidtab leases 1\n"
+    total = crc(0, text)
+    for line in lines:
+        total = crc(total, line.encode())
+        text += f"{line} {total:016x}\n".encode()
+    return text
+
+
+class Former(Case):
+    """A directory whose leases are beside the log, in the file `leases`: it is taken over."""
+
+    def setUp(self):
+        super().setUp()
+        self.assertEqual(crc(0, b"123456789"), 0x995dc9bbdf1939fa)
+
+    def forked(self, count=3, pid_max="32768"):
+        one = self.daemon("--fsync", "always", "--pid-max", pid_max).start()
+        client = one.client()
+        for _ in range(count):
+            client.say("FORK 1")
+        return one, client
+
+    def refused_by(self, one, why):
+        one.start(is_up=False)
+        self.assertEqual(one.process.wait(timeout=20), 3)
+        self.assertRegex(one.said(), why)
+
+    def test_it_is_taken_over(self):
+        one, _ = self.forked()
+        one.kill()
+        path = one.kept / "leases"
+        path.write_bytes(former_file("at 3", "lease 0 rig 1 60000", "bind 1 2 1", "bind 1 3 2", "bind 1 4 3", "free 1 4",
+                                     "lease 0 gone 2 1", "release 2", "lease 7 web 3 500000", "bind 3 9 1"))
+        for _ in range(2):
+            self.assertEqual(one.start().client().say("LEASES"), [["rig", 60000, 0, [2, 3]], ["web", 500000, 0, []]])
+            self.assertFalse(path.exists())
+            one.kill()
+        client = one.start().client()
+        client.say("LEASE new 60000")
+        client.say("FORK 1")
+        one.kill()
+        self.assertEqual(one.start().client().say("LEASES")[0], ["new", 60000, 0, [5]])
+
+    def test_it_ends_nobody_else_s_task(self):
+        """Another task has the number of one that was leased: its fork has another stamp."""
+        one, client = self.forked(299, "301")
+        client.say("EXIT 300 0")
+        client.say("WAIT 1 ANY")
+        # 299 calls, an exit and a wait: the next one has the stamp 302, and the number that is free again.
+        self.assertEqual(client.say("FORK 1"), [300, 300])
+        one.kill()
+        (one.kept / "leases").write_bytes(former_file("at 299", "lease 0 rig 1 100", "bind 1 300 299", "bind 1 299 298"))
+        client = one.start().client()
+        self.assertEqual(client.say("LEASES"), [["rig", 100, 0, [299]]])
+        time.sleep(0.5)
+        self.assertEqual((client.say("LEASES"), client.say("GETPID 300")), ([], 300))
+
+    def test_one_older_than_the_snapshot_is_refused(self):
+        one, client = self.forked()
+        client.say("BGSAVE")
+        while "snapshot:3\r" not in client.say("INFO"):
+            time.sleep(0.02)
+        one.kill()
+        (one.kept / "leases").write_bytes(former_file("at 2", "lease 0 rig 1 60000", "bind 1 2 1"))
+        self.refused_by(one, "leases: is that of call 2, and the snapshot that of call 3: restore both from one copy")
+        (one.kept / "leases").write_bytes(former_file("at 3", "lease 0 rig 1 60000", "bind 1 2 1", "bind 1 3 9"))
+        self.assertEqual(one.start().client().say("LEASES"), [["rig", 60000, 0, [2]]])
+
+    def test_damage(self):
+        """One that has another byte is refused by its name; a torn end is left out."""
+        one, _ = self.forked()
+        one.kill()
+        whole = former_file("at 3", "lease 0 rig 1 60000", "bind 1 2 1", "bind 1 3 2")
+        path = one.kept / "leases"
+        for place in range(0, len(whole) - 1, 7):
+            path.write_bytes(whole[:place] + bytes([whole[place] ^ 1]) + whole[place + 1:])
+            self.refused_by(one, "leases: line [1-5]: ")
+        for end in (whole[:-4], whole[:-9] + bytes(9)):
+            path.write_bytes(end)
+            self.assertEqual(one.start().client().say("LEASES"), [["rig", 60000, 0, [2]]])
+            one.kill()
+            path.unlink(missing_ok=True)
+            shutil.rmtree(one.kept)
+            one.kept.mkdir(mode=0o700)
+            client = one.start().client()
+            for _ in range(3):
+                client.say("FORK 1")
+            one.kill()
 
 
 class Full(Case):
@@ -597,31 +755,27 @@ class Full(Case):
         one.kill()
         self.assertEqual(one.start().client().say("POSITION"), answered + 2)
 
-    def test_leases_have_no_room_and_the_log_has(self):
-        """Another program fills the disk, and only the log has room left, its zeroes. Then there is room again: each call is in the log once."""
-        one = self.small_disk("8m")
-        client = one.client()
+    def test_forks_under_a_lease_wait_for_room(self):
+        """Each is in the log once, with its lease, and so is a lease that was taken meanwhile."""
+        one = self.small_disk()
+        client, other = one.client(), one.client()
         client.say("LEASE rig 3600000")
-        client.say("FORK 1")
-        filler = one.kept / "filler"
-        with contextlib.suppress(OSError), open(filler, "wb", buffering=0) as file:
-            while file.write(bytes(4096)):
-                pass
         client.socket.settimeout(1)
-        answered = 1
+        answered = 0
         with self.assertRaises(TimeoutError):
             while client.say("FORK 1"):
                 answered += 1
-        self.assertTrue(20 < answered < 1000, answered)
-        filler.unlink()
+        self.assertTrue(1000 < answered < 2500, answered)
+        other.send("LEASE", "late", "3600000")
+        self.grow(one)
         client.socket.settimeout(30)
-        self.assertEqual(client.answer(), [answered + 2, answered + 2])
+        self.assertEqual((client.answer(), other.answer()), ([answered + 2, answered + 2], "OK"))
         for _ in range(500):
             client.say("FORK 1")
         one.kill()
         other = one.start().client()
         self.assertEqual(other.say("POSITION"), answered + 501)
-        self.assertEqual(other.say("LEASES")[0][3], list(range(2, answered + 503)))
+        self.assertEqual(other.say("LEASES"), [["late", 3600000, 0, []], ["rig", 3600000, 0, list(range(2, answered + 503))]])
 
 
 if __name__ == "__main__":

@@ -70,6 +70,33 @@ class Follows(Case):
         self.assertEqual(other.say("LIST"), listed)
         self.assertEqual(other.say("FORK 1"), [103, 103])
 
+    def test_leases(self):
+        """A follower has its leader's, those from before it came too, and ends none. When it takes over each has its whole time."""
+        one, client, two, other = self.two()
+        holder = one.client()
+        for line in ("LEASE early 60000", "FORK 1", "LEASE rig 300", "FORK 1"):
+            holder.say(line)
+        two.kill()
+        other = two.start().client()
+        wait_for(other, 3)
+        holder.say("FORK 1")
+        wait_for(other, 4)
+        rows = [["early", 60000, 0, [3]], ["rig", 300, 0, [4, 5]]]
+        self.assertEqual(other.say("LEASES"), rows)
+        time.sleep(0.6)
+        self.assertEqual((other.say("LEASES"), other.say("GETPID 4")), (rows, 4))
+        client.say("EXIT 5 0")
+        client.say("WAIT 1 PID 5")
+        wait_for(other, 6)
+        self.assertEqual(other.say("LEASES")[1], ["rig", 300, 0, [4]])
+        one.kill()
+        self.assertEqual((other.say("TAKEOVER FORCE"), other.say("LEASES")[1]), ("OK", ["rig", 300, 0, [4]]))
+        self.assertEqual(other.say("WAITCHILD 1 ANY TIMEOUT 5000"), [4, 137])
+        self.assertEqual(other.say("LEASES"), rows[:1])
+        two.kill()
+        two.options = two.options[:2]
+        self.assertEqual(two.start().client().say("LEASES"), rows[:1])
+
     def test_the_leader_comes_again(self):
         one, client, _, other = self.two()
         client.say("FORK 1")

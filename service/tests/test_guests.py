@@ -48,9 +48,9 @@ class Guests(Case):
 
     def serve(self, *options, kept=False):
         """A daemon where the guest has the cgroup 1 and the task 2, and another may ask; root's client, and the guest's."""
-        one = self.daemon("--mode", "666", "--allow", f"0,{GUEST}:below=1,{OTHER}:ro", *options, kept=kept).start()
+        one = self.with_rights(f"{GUEST}:below=1", f"{OTHER}:ro", options=options, kept=kept)
         client = one.client()
-        for line in ("MK 0", "FORK 1", "MOVE 2 1"):
+        for line in ("FORK 1", "MOVE 2 1"):
             client.say(line)
         return one, client, Client.of(GUEST, one.socket)
 

@@ -51,10 +51,12 @@ class Slow(Case):
             other = one.client()
             other.socket.sendall(request(["FORK", "1"])[:dice.randrange(1, 24)] if dice.random() < 0.8 else b"FORK 1\r\nLIST\r\nWAITCHILD 1 ANY\r\n")
             other.close()
-        end = time.monotonic() + 10
-        while "connected_clients:1\r" not in client.say("INFO") and time.monotonic() < end:
+        # One has looked whether it is up, and this one asks; those that have not been accepted yet are not connected either.
+        accepted, end = f"accepted:{3000 * LONG + 2}\r", time.monotonic() + 10
+        while not ("connected_clients:1\r" in (told := client.say("INFO")) and accepted in told) and time.monotonic() < end:
             time.sleep(0.05)
-        self.assertIn("connected_clients:1\r", client.say("INFO"))
+        self.assertIn("connected_clients:1\r", told)
+        self.assertIn(accepted, told)
         self.assertLess(one.memory() - memory, 20_000)
 
     def test_a_client_that_calls_and_leaves(self):

@@ -1,6 +1,6 @@
 """Each operation on the disk fails once, in turn, or is the one that the process is killed before: the n-th write, sync, rename, truncation, removal or
-creation of a file, from the start on. Then the daemon is killed, and starts again: no directory is refused, no answered call is lost, and what was
-forked under a lease is bound to it."""
+creation of a file, from the start on. Then the daemon is killed, and starts again: no directory is refused, no answered call and no lease is lost, and what
+was forked under a lease is bound to it."""
 import collections
 import concurrent.futures
 import errno
@@ -10,6 +10,7 @@ import time
 import unittest
 
 from harness import BUILT, Case, Refused, need
+from test_disk import former_file, told_by
 
 # So many are enough to look at.
 MANY = 20
@@ -38,13 +39,18 @@ class Told:
     """What a daemon was asked, and has answered."""
 
     def __init__(self):
-        self.calls, self.leased, self.has_lease = 0, set(), False
+        self.calls, self.leased, self.leases, self.released = 0, set(), set(), set()
 
     def say(self, client, words):
-        answer = client.say(words)
         verb = words.split()[0]
+        if verb == "RELEASE":
+            self.leases.discard(words.split()[1])
+        answer = client.say(words)
         self.calls += verb in ("FORK", "EXIT", "WAIT", "MK")
-        self.has_lease |= verb == "LEASE"
+        if verb == "LEASE":
+            self.leases.add(words.split()[1])
+        if verb == "RELEASE":
+            self.released.add(words.split()[1])
         if verb == "FORK":
             self.leased.add(answer[1])
         if verb == "EXIT":
@@ -55,7 +61,8 @@ class Told:
         """A lease, calls, two snapshots, and another client whose lease ends."""
         client, other = one.client(), one.client()
         client.socket.settimeout(5)
-        for words in ("LEASE rig 60000", "FORK 1", "FORK 1", "FORK 1", "EXIT 2 1", "WAIT 1 ANY", "BGSAVE"):
+        for words in ("LEASE alone 60000", "LEASE spare 60000", "LEASE rig 60000", "FORK 1", "FORK 1", "FORK 1", "EXIT 2 1", "WAIT 1 ANY", "BGSAVE",
+                      "RELEASE spare"):
             self.say(client, words)
         for words in ("FORK 1", "FORK 1", "FORK 1", "FORK 1"):
             time.sleep(0.03)
@@ -107,14 +114,14 @@ class Sweep(Case):
         position = client.say("POSITION")
         if position < told.calls:
             return f"{told.calls - position} of {told.calls} answered calls are lost"
-        leases = {row[0]: row for row in client.say("LEASES")}
-        if told.has_lease and (gone := told.leased - set(leases["rig"][3])):
-            return f"{gone} are leased no more"
-        bound = {task for row in leases.values() for task in row[3]}
-        live = {int(line.split()[1]) for line in client.say("LIST").splitlines() if line.startswith("task ") and " live" in line}
-        return f"{live - bound - {1}} live on without a lease" if live - bound - {1} else ""
+        rows, live = told_by(client)
+        leases = {row[0]: set(row[3]) for row in rows}
+        bound = set().union(*leases.values())
+        wrong = {"leases are lost": told.leases - set(leases), "leases come again": told.released & set(leases),
+                 "tasks are leased no more": told.leased - leases.get("rig", set()), "tasks live on without a lease": live - bound}
+        return "; ".join(f"{what}: {those}" for what, those in wrong.items() if those)
 
-    def sweep(self, error, *options, play=None):
+    def sweep(self, error, *options, play=None, misses=()):
         need(BUILT / "flaky.so")
         play = play or self.serve
         tried, wrong, number = collections.Counter(), [], 1
@@ -125,9 +132,9 @@ class Sweep(Case):
                     tried[failed] += 1
                     wrong += [f"operation {place}, {failed}: {why}"] if why else []
                 number += 12
-        print(f"{options[-1] if options else 'follower'}, {errno.errorcode.get(error, 'killed')}: {dict(tried)}; {len(wrong)} wrong")
+        print(f"{options[-1] if options else play.__name__}, {errno.errorcode.get(error, 'killed')}: {dict(tried)}; {len(wrong)} wrong")
         self.assertEqual(wrong, [])
-        self.assertGreater(min(tried[kind] for kind in KINDS[1:] if kind != "truncate"), 0)
+        self.assertGreater(min(tried[kind] for kind in KINDS[1:] if kind not in ("truncate", *misses)), 0)
 
     def test_everysec(self):
         self.sweep(errno.EIO, "--fsync", "everysec")
@@ -138,6 +145,40 @@ class Sweep(Case):
     def test_killed_before_each(self):
         self.sweep(0, "--fsync", "everysec")
 
+    def take_over(self, number, error):
+        """The kind that has failed in a start that takes over the leases of a former release, and what is wrong behind the next one."""
+        one = self.daemon(name=f"former{number}").start()
+        client = one.client()
+        for words in ("FORK 1", "FORK 1", "BGSAVE"):
+            client.say(words)
+        while "snapshot:2\r" not in client.say("INFO"):
+            time.sleep(0.02)
+        client.say("FORK 1")
+        one.kill()
+        (one.kept / "leases").write_bytes(former_file("at 3", "lease 0 rig 1 60000", "bind 1 2 1", "bind 1 4 3", "lease 0 web 2 70000", "bind 2 3 2"))
+        plan = Plan(one.folder, number, error)
+        one.variables = plan.variables
+        try:
+            one.start().client().say("LEASES")
+        except (AssertionError, OSError, EOFError):
+            pass
+        one.kill()
+        failed = plan.failed()
+        plan.end()
+        try:
+            leases = one.start().client().say("LEASES")
+            wrong = "" if leases == [["rig", 60000, 0, [2, 4]], ["web", 70000, 0, [3]]] else f"leases are {leases}"
+        except (AssertionError, OSError, EOFError):
+            wrong = "refused: " + one.said().splitlines()[-1].replace(str(self.folder), "")
+        one.kill()
+        return failed, wrong
+
+    def test_a_former_directory(self):
+        self.sweep(errno.EIO, play=self.take_over, misses=("rename", "create"))
+
+    def test_a_former_directory_is_killed_before_each(self):
+        self.sweep(0, play=self.take_over, misses=("rename", "create"))
+
     def follow(self, number, error):
         """The kind that has failed in a follower, and what is wrong then: it takes the table twice, and takes over."""
         one = self.daemon(name=f"leader{number}").start()
@@ -147,7 +188,9 @@ class Sweep(Case):
         try:
             for _ in range(2):
                 client = one.client()
-                made += [client.say("FORK 1 NEW"), client.say("EXEC 1")].count("OK") + 1
+                for words in ("LEASE rig 60000", "FORK 1 NEW", "EXEC 1"):
+                    client.say(words)
+                made += 2
                 if not two.process:
                     two.start()
                 kept = self.wait_for(two, made)
@@ -167,9 +210,11 @@ class Sweep(Case):
             each.kill()
         two.options = two.options[:2]
         try:
-            position = two.start().client().say("POSITION")
+            client = two.start().client()
+            position, leases = client.say("POSITION"), client.say("LEASES")
             wrong = f"{kept - position} of {kept} calls are lost" if position < kept else ""
-        except (AssertionError, OSError, EOFError):
+            wrong = wrong or ("its leader's lease is lost" if kept and leases[0][:2] != ["rig", 60000] else "")
+        except (AssertionError, OSError, EOFError, IndexError):
             wrong = "refused: " + two.said().splitlines()[-1].replace(str(self.folder), "")
         two.kill()
         return failed, wrong

@@ -16,6 +16,7 @@ if TYPE_CHECKING:
     from pidtab.answers import Forked, Reaped, SpaceStat, Stat
     from pidtab.bounds import DEFAULT_PID_MAX, GREATEST_PID_MAX, LEAST_PID_MAX
     from pidtab.calls import Calls, Kind, Queries
+    from pidtab.connected import Connected, NotServed, connect
     from pidtab.effects import Adopted, Effect, Ended, Gone, GroupGone, SessionGone, SpaceFell, SpaceGone, Told
     from pidtab.faults import (
         BadHistory,
@@ -66,6 +67,7 @@ __all__ = [
     "Calls",
     "Changes",
     "Cluster",
+    "Connected",
     "Control",
     "Counts",
     "Diverged",
@@ -86,6 +88,7 @@ __all__ = [
     "MemoryLog",
     "NotKept",
     "NotKnown",
+    "NotServed",
     "OtherSettings",
     "Process",
     "ProgramEnded",
@@ -118,6 +121,7 @@ __all__ = [
     "Unsaved",
     "WaitingEnded",
     "Would",
+    "connect",
     "draw_list",
     "find_library",
     "find_program",
@@ -136,6 +140,7 @@ if not TYPE_CHECKING:
             "answers": "Forked Reaped SpaceStat Stat",
             "bounds": "DEFAULT_PID_MAX GREATEST_PID_MAX LEAST_PID_MAX",
             "calls": "Calls Kind Queries",
+            "connected": "Connected NotServed connect",
             "effects": "Adopted Effect Ended Gone GroupGone SessionGone SpaceFell SpaceGone Told",
             "faults": (
                 "BadHistory BadText Diverged LibraryFault LibraryMissing LogFault NotKept NotKnown OtherSettings ProgramEnded ProgramFault "

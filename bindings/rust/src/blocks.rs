@@ -51,6 +51,60 @@ pub struct Replayed {
     pub size: usize,
 }
 
+/// An entry that is no call: what a program writes down among its calls. No table makes it, and a load of a saved history refuses it.
+#[derive(Clone, Debug, Default, PartialEq, Eq, Hash)]
+pub struct Note {
+    /// What it says, by the program: [`Note::FIRST`] to 255, but for 137, with which a head begins.
+    pub kind: u8,
+    /// Numbers, by the program.
+    pub id: u64,
+    /// Two more.
+    pub numbers: [u32; 2],
+    /// Bytes, [`Note::LONGEST`] at most.
+    pub text: Vec<u8>,
+}
+
+impl Note {
+    /// No call has an operation with this number, or a greater one.
+    pub const FIRST: u8 = 128;
+
+    /// No text has more bytes.
+    pub const LONGEST: usize = 4 * raw::LEVELS_MAX;
+
+    /// Of the first four bytes of a text each number has them with the low one first, and so on; what is behind the end is 0.
+    fn levels(&self) -> [u32; raw::LEVELS_MAX] {
+        let mut levels = [0; raw::LEVELS_MAX];
+        for (level, part) in levels.iter_mut().zip(self.text.chunks(4)) {
+            let mut bytes = [0; 4];
+            bytes[..part.len()].copy_from_slice(part);
+            *level = u32::from_le_bytes(bytes);
+        }
+        levels
+    }
+
+    fn entry(&self) -> raw::Entry {
+        let mut entry = raw::Entry::blank();
+        (entry.call.operation, entry.call.choice) = (u32::from(self.kind), self.text.len() as u32);
+        (entry.call.caller, entry.call.number, entry.call.id) = (self.numbers[0], self.numbers[1], self.id);
+        if !self.text.is_empty() {
+            entry.reply.kind = raw::LEVELS;
+            entry.reply.count = self.text.len().div_ceil(4) as u32;
+            entry.reply.levels = self.levels();
+        }
+        entry
+    }
+
+    fn of(entry: &raw::Entry) -> Note {
+        let bytes = entry.reply.levels.iter().flat_map(|it| it.to_le_bytes());
+        Note {
+            kind: entry.call.operation as u8,
+            id: entry.call.id,
+            numbers: [entry.call.caller, entry.call.number],
+            text: bytes.take(entry.call.choice as usize).collect(),
+        }
+    }
+}
+
 /// A call that a table has made, with its reply, as the library has both: what [`Table::make`] fills and [`Blocks::put_made`] writes. It is
 /// used again and again, so that nothing is copied.
 #[derive(Clone, Debug, PartialEq)]
@@ -147,6 +201,46 @@ impl Blocks {
         Ok(())
     }
 
+    /// Writes a note behind the bytes.
+    ///
+    /// # Errors
+    /// `OutOfRange` for a kind or a text outside its range; then nothing is written.
+    pub fn put_note(&mut self, note: &Note, to: &mut Vec<u8>) -> Result<(), Error> {
+        if note.kind < Note::FIRST || note.text.len() > Note::LONGEST {
+            return Err(Error::OutOfRange);
+        }
+        let entry = note.entry();
+        self.put_made(&Made { entry }, to)
+    }
+
+    /// Reads the note at the front of the bytes: how many it has. None: there is a call, or nothing.
+    ///
+    /// # Errors
+    /// `Torn` where the bytes end within it; `WrongByte`, and [`Blocks::wrong`] says where.
+    pub fn take_note(&mut self, bytes: &[u8]) -> Result<Option<(Note, usize)>, SavedFault> {
+        match bytes.first() {
+            Some(first) if *first >= Note::FIRST => {}
+            _ => return Ok(None),
+        }
+        let (entry, size) = self.take(bytes)?;
+        Ok(Some((Note::of(&entry), size)))
+    }
+
+    /// The call at the front of the bytes, which is not made. None: there is none, or it is not whole.
+    pub fn next_call(&self, bytes: &[u8]) -> Option<Call> {
+        let is_call = bytes.first().is_some_and(|it| u32::from(*it) <= raw::SUBREAPER);
+        let (entry, _) = self.clone().take(bytes).ok().filter(|_| is_call)?;
+        Some(Call::of(&entry.call))
+    }
+
+    /// The entry at the front of the bytes, and how many it has.
+    fn take(&mut self, bytes: &[u8]) -> Result<(raw::Entry, usize), SavedFault> {
+        let mut size = 0;
+        let taken = raw::take_entry(bytes, &mut size, &mut self.sum);
+        self.wrong = usize::from(taken == Err(raw::WRONG_BYTE)) * size;
+        Ok((taken.map_err(SavedFault::of)?, size))
+    }
+
     /// The running checksum.
     pub fn sum(&self) -> u64 {
         self.sum
@@ -176,10 +270,7 @@ impl Table {
     /// were. `Table(Differs)`: the call was made, and has another reply. `Table(OutOfRange)` where there is no such call, `Table(NoMemory)`,
     /// `Table(Spent)`, `Table(Busy)`.
     pub fn replay(&mut self, blocks: &mut Blocks, bytes: &[u8]) -> Result<Replayed, SavedFault> {
-        let mut size = 0;
-        let taken = raw::take_entry(bytes, &mut size, &mut blocks.sum);
-        blocks.wrong = usize::from(taken == Err(raw::WRONG_BYTE)) * size;
-        let entry = taken.map_err(SavedFault::of)?;
+        let (entry, size) = blocks.take(bytes)?;
         let mut reply = raw::Reply::BLANK;
         Error::unless_done(self.raw.call(&entry.call, &mut reply))?;
         if reply != entry.reply {
@@ -278,6 +369,44 @@ mod tests {
             let wrong = table.replay(&mut blocks, &entry);
             assert!(matches!(wrong, Err(SavedFault::WrongByte)), "{place}");
             assert_eq!((blocks.wrong(), blocks.sum()), (0, begun.sum()));
+        }
+    }
+
+    /// Each length of a text, between calls: it is read as it was written, and no table makes it.
+    #[test]
+    fn notes_among_calls() {
+        for length in 0..=Note::LONGEST {
+            let text: Vec<u8> = (0..length).map(|it| 255 - it as u8).collect();
+            let note = Note { kind: 200, id: u64::MAX, numbers: [7, u32::MAX], text };
+            let (mut bytes, mut blocks) = (Vec::new(), Blocks::behind(5));
+            blocks.put_note(&note, &mut bytes).expect("room");
+            assert!(bytes.len() % Blocks::HEAD == 0 && bytes.len() <= Blocks::LONGEST);
+            let mut read = Blocks::behind(5);
+            assert!(matches!(read.take_note(&bytes[..bytes.len() - 1]), Err(SavedFault::Torn)));
+            let mut table = Table::open(32768).expect("a table");
+            let made = table.replay(&mut read.clone(), &bytes);
+            assert!(matches!(made, Err(SavedFault::Table(Error::OutOfRange))));
+            let size = bytes.len();
+            assert!(matches!(read.take_note(&bytes), Ok(Some((it, of))) if it == note && of == size));
+            assert_eq!(read.sum(), blocks.sum());
+        }
+        let (bytes, _) = example();
+        assert!(matches!(Blocks::behind(5).take_note(&bytes[48..]), Ok(None)));
+        assert!(matches!(Blocks::behind(5).take_note(b""), Ok(None)));
+        let (_, blocks) = Blocks::read_head(&bytes).expect("a head");
+        let call = Call::Fork { caller: 1, new_space: true };
+        assert_eq!(blocks.next_call(&bytes[48..]), Some(call));
+        assert_eq!((blocks.next_call(&bytes[48..95]), blocks.next_call(&bytes[..48])), (None, None));
+    }
+
+    #[test]
+    fn what_is_no_note() {
+        let wrong = [(127, 0), (200, Note::LONGEST + 1)];
+        for (kind, length) in wrong {
+            let note = Note { kind, text: vec![1; length], ..Note::default() };
+            let (mut bytes, mut blocks) = (Vec::new(), Blocks::behind(5));
+            assert_eq!(blocks.put_note(&note, &mut bytes), Err(Error::OutOfRange));
+            assert_eq!((bytes, blocks.sum()), (vec![], 5));
         }
     }
 

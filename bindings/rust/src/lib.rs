@@ -44,7 +44,7 @@ pub mod testing;
 mod texts;
 
 pub use argument::Argument;
-pub use blocks::{Blocks, Head, Made, Replayed};
+pub use blocks::{Blocks, Head, Made, Note, Replayed};
 pub use calls::{Call, Calls, Kind, Reply, Which};
 pub use effects::{Effect, Told};
 pub use fault::{Error, LineError, Refusal, ReplayError, TextError, TextFault};

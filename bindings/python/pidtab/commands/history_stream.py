@@ -19,8 +19,9 @@ from pidtab.table import Table
 BLOCK = 48
 ROOM = 1 << 16
 
-# A head is among the blocks where a service has begun another log.
+# A head is among the blocks where a service has begun another log. From that operation on an entry is none of a table, as what is recorded of leases.
 FIRST_OF_HEAD = 0x89
+FIRST_NOTE = 128
 
 
 class Blocks:
@@ -69,6 +70,8 @@ class Blocks:
             return 0, None
         if status != DONE:
             raise bad_history(self.ordinal, BAD_ENTRIES.get(status, f"status {status}"))
+        if entry.call.operation >= FIRST_NOTE:
+            return size.value, None
         self.ordinal += 1
         return size.value, read_entry(self.ordinal - 1, entry.worker, entry.call, entry.reply)
 
