@@ -131,7 +131,7 @@ class Connected(Calls):
                     self._socket.sendall(b"".join(map(encode, some)))
                     answers += [read_answer(self._reader.readline, self._reader.read) for _ in some]
             except BaseException:
-                # Behind this the next answer would be that of another request.
+                # After this the next answer would be that of another request.
                 self.close()
                 raise
         return answers

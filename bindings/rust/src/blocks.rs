@@ -54,7 +54,7 @@ pub struct Replayed {
 /// An entry that is no call: what a program writes down among its calls. No table makes it, and a load of a saved history refuses it.
 #[derive(Clone, Debug, Default, PartialEq, Eq, Hash)]
 pub struct Note {
-    /// What it says, by the program: [`Note::FIRST`] to 255, but for 137, with which a head begins.
+    /// What it says, by the program: [`Note::FIRST`] to 255, except 137, with which a head begins.
     pub kind: u8,
     /// Numbers, by the program.
     pub id: u64,
@@ -71,7 +71,7 @@ impl Note {
     /// No text has more bytes.
     pub const LONGEST: usize = 4 * raw::LEVELS_MAX;
 
-    /// Of the first four bytes of a text each number has them with the low one first, and so on; what is behind the end is 0.
+    /// Of the first four bytes of a text each number has them with the low one first, and so on; what is after the end is 0.
     fn levels(&self) -> [u32; raw::LEVELS_MAX] {
         let mut levels = [0; raw::LEVELS_MAX];
         for (level, part) in levels.iter_mut().zip(self.text.chunks(4)) {
@@ -201,7 +201,7 @@ impl Blocks {
         Ok(())
     }
 
-    /// Writes a note behind the bytes.
+    /// Writes a note after the bytes.
     ///
     /// # Errors
     /// `OutOfRange` for a kind or a text outside its range; then nothing is written.
