@@ -6,7 +6,7 @@ use Rattle.pid_types.specs.declared.call.Call.{Call}
 use Rattle.kept_table.specs.Calls.{after_recorded, entry_of, to_cut, FewerWait, IsWithoutFirst}
 use Rattle.kept_table.specs.Chronicle.{Chronicle}
 use Rattle.foreign_calls.specs.Records.{memoryless, IsRecorded, IsRecordedKeeping}
-use Rattle.kept_table.proofs.Waits.{fewer_behind}
+use Rattle.kept_table.proofs.Waits.{fewer_after}
 
 -- what memory there is beside is no matter
 without_memoryless : (n : ℕ) (c d : Chronicle) → IsWithoutFirst n c d → IsWithoutFirst n (memoryless c) d
@@ -24,6 +24,6 @@ recorded_keeping keep c m d worker call ordinal made cut bound waits =
         | inl few ↦ inl few
         | inr less ↦ inr (omega (arith, less, longer))
       ];
-      fewer = fewer_behind c.memory.waits m.memory.waits d.memory.waits made.moved waits;
+      fewer = fewer_after c.memory.waits m.memory.waits d.memory.waits made.moved waits;
       place = made.place;
     }

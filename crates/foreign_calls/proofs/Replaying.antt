@@ -5,7 +5,7 @@ use Rattle.kept_past.specs.Past.{IsCaughtUp}
 use Rattle.kept_table.specs.Chronicle.{Chronicle}
 use Rattle.kept_table.proofs.Waits.{fewer_by_call, fewer_then}
 use Rattle.saved_form.specs.declared.numbers.EntryNumbers.{EntryNumbers}
-use Rattle.foreign_calls.specs.Replays.{IsSameAgain, ReplaysSaved, WaitsBehind}
+use Rattle.foreign_calls.specs.Replays.{IsSameAgain, ReplaysSaved, WaitsAfter}
 
 pub replays_more : (c : Chronicle) (before : List EntryNumbers) (m d : Chronicle) (saved : EntryNumbers)
     → ReplaysSaved c before m → IsSameAgain m saved d → ReplaysSaved c (before ++ saved ∷ []) d
@@ -18,7 +18,7 @@ replays_next c saved m d i none within made again =
     subst (λ (xs : List EntryNumbers). ReplaysSaved c xs d) (sym (take_more saved i none within)) (replays_more c (take i saved) m d (get_or saved i none) made again)
 
 -- a call more was made, and with it some of those that wait
-pub waits_next : (i : ℕ) (c m d : Chronicle) → WaitsBehind i c m → IsCaughtUp 2 m.memory.waits d.memory.waits → WaitsBehind (i + 1) c d
+pub waits_next : (i : ℕ) (c m d : Chronicle) → WaitsAfter i c m → IsCaughtUp 2 m.memory.waits d.memory.waits → WaitsAfter (i + 1) c d
 waits_next i c m d before moved = record {
   none_more = omega (arith, before.none_more, moved.none_more);
   fewer = λ _. fewer_then c.memory.waits m.memory.waits d.memory.waits before.none_more (fewer_by_call m.memory.waits d.memory.waits moved);

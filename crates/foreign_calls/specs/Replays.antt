@@ -31,7 +31,7 @@ ReplaysSaved c [] d = d ≡ c
 ReplaysSaved c (saved ∷ rest) d = (m : Chronicle) × IsSameAgain c saved m × ReplaysSaved m rest d
 
 -- so many calls were made one after another, and with each some of the cut calls that wait for the opening
-pub record WaitsBehind (made : ℕ) (c d : Chronicle) : Type 0 where
+pub record WaitsAfter (made : ℕ) (c d : Chronicle) : Type 0 where
   pub none_more : d.memory.waits.many ≤ c.memory.waits.many
   pub fewer : 0 < made → FewerWait c.memory.waits d.memory.waits
 

@@ -8,7 +8,7 @@ use Rattle.saved_form.specs.declared.numbers.ReplyNumbers.{ReplyNumbers}
 use Rattle.saved_form.specs.declared.numbers.EntryNumbers.{EntryNumbers}
 use Rattle.foreign_numbers.specs.Numbers.{call_of}
 use Rattle.foreign_calls.specs.Records.{Has, memoryless}
-use Rattle.foreign_calls.specs.Replays.{ReplaysSaved, WaitsBehind}
+use Rattle.foreign_calls.specs.Replays.{ReplaysSaved, WaitsAfter}
 
 -- the worker's call with its reply, as an entry
 abbrev pub turn : ℕ → CallNumbers → ReplyNumbers → EntryNumbers
@@ -26,7 +26,7 @@ pub record AreMade
   pub few : made ≤ length calls
   pub room : made ≤ length replies
   pub left : ReplaysSaved (memoryless c) (take made (turns worker calls replies)) (memoryless d)
-  pub waits : WaitsBehind made c d
+  pub waits : WaitsAfter made c d
 
 -- each of them says a call, and there is such a worker
 pub record CanMakeAll (c : Chronicle) (worker : ℕ) (calls : List CallNumbers) : Type 0 where

@@ -5,7 +5,7 @@ ghost use Rattle.{
   kept_table.specs.Chronicle.{next_stamp},
   foreign_calls.specs.{Held.{IsDoneOr}, Records.{Has, memoryless, roomless}},
   foreign_calls.specs.Replays.{IsSameAgain, IsOtherNow, ReplaysSaved, CannotMake, MayNeedMemory, StopsBefore},
-  foreign_calls.specs.Replays.{StopsAt, WaitsBehind},
+  foreign_calls.specs.Replays.{StopsAt, WaitsAfter},
 };
 
 use crate::read::EntryNumbers;
@@ -61,7 +61,7 @@ pub fn replay_on(held: &mut Kept, saved: &[EntryNumbers], place: &mut usize) -> 
         ↔ Has (slice_get saved.now place.new) (λ n. CannotMake held.new n) }
     ensures spent { result ≢ DONE → result ≢ DIFFERS → result ≢ OUT_OF_RANGE
         → (result ≡ SPENT) ↔ (next_stamp held.new ≡ u64.MAX) }
-    ensures waits { WaitsBehind place.new held.old held.new }
+    ensures waits { WaitsAfter place.new held.old held.new }
     ensures no_memory { result ≡ NO_MEMORY → place.new < held.old.memory.room
         → Has (slice_get saved.now place.new) MayNeedMemory }
     ensures statuses { IsDoneOr result (DIFFERS ∷ OUT_OF_RANGE ∷ SPENT ∷ NO_MEMORY ∷ []) }

@@ -1,5 +1,5 @@
 -- How many calls wait after a cut, and after a call that keeps so many entries.
-use Rattle.std.proofs.Common.{◌≡◌, ◌⊎◌, ℕ, ◌+◌, ◌-◌, ◌<◌, ◌≤◌, true, ap, subst, sym, ◌∙◌, arith, inl, inr}
+use Rattle.std.proofs.Common.{◌≡◌, ◌⊎◌, ℕ, ◌+◌, ◌≤◌, ap, subst, sym, arith, inl, inr}
 use Rattle.std.proofs.lemmas.Bool.Decides.{leb_tells}
 use Rattle.kept_past.specs.Past.{IsCaughtUp, Waiting, nobody_waits, one_more}
 use Rattle.kept_table.specs.Calls.{FewerWait, NoneWait, WaitsByCut}
@@ -64,8 +64,8 @@ fewer_then old mid new most fewer = elim fewer [
 ]
 
 -- a call, and then cuts
-pub fewer_behind : (old mid new : Waiting) → IsCaughtUp 2 old mid → (new ≡ mid) ⊎ FewerWait mid new → FewerWait old new
-fewer_behind old mid new moved cuts = elim cuts [
+pub fewer_after : (old mid new : Waiting) → IsCaughtUp 2 old mid → (new ≡ mid) ⊎ FewerWait mid new → FewerWait old new
+fewer_after old mid new moved cuts = elim cuts [
   | inl same ↦ subst (λ (w : Waiting). FewerWait old w) (sym same) (fewer_by_call old mid moved)
   | inr fewer ↦ fewer_then old mid new moved.none_more fewer
 ]

@@ -395,8 +395,8 @@ impl Controls {
     }
 
     /// A live task goes to another control group, or to the one that it is in. No limit blocks it: the
-    /// cgroup-v2 document, "Organisational operations are not blocked by cgroup policies". It costs a step for each group
-    /// from both up to the nearest one that is above both.
+    /// cgroup-v2 document, "Organisational operations are not blocked by cgroup policies". It costs a step for each
+    /// group from both up to the nearest one that is above both.
     pub fn transfer(&mut self, from: ControlKey, to: ControlKey)
         requires some { 0 < live_at self.old from }
         requires stands { stands self.old to ≡ true }

@@ -3,7 +3,7 @@ ghost use Rattle.std.specs.Prelude.{◌≡◌, ◌≢◌, ◌<◌, ◌↔◌, �
 ghost use Rattle.{
   kept_table.specs.Chronicle.{next_stamp},
   foreign_calls.specs.{Held.{NeedsOpen}, Records.{Has, memoryless}},
-  foreign_calls.specs.Replays.{ReplaysSaved, CannotMake, MayNeedMemory, StopsBefore, StopsAt, WaitsBehind},
+  foreign_calls.specs.Replays.{ReplaysSaved, CannotMake, MayNeedMemory, StopsBefore, StopsAt, WaitsAfter},
 };
 
 use foreign_calls::read::EntryNumbers;
@@ -34,7 +34,7 @@ pub extern "C" fn pidtab_record_replay(
     ensures not_made { result ≢ DONE → result ≢ DIFFERS → result ≢ CLOSED → Has table.old.handle.held (λ c.
         Has table.new.handle.held (λ d. StopsBefore c saved.now place.new d)) }
     ensures waits { (result ≡ CLOSED) ⊎ Has table.old.handle.held (λ c.
-        Has table.new.handle.held (λ d. WaitsBehind place.new c d)) }
+        Has table.new.handle.held (λ d. WaitsAfter place.new c d)) }
     ensures not_open { result ≡ CLOSED → (table.new.handle.held ≡ None) × (place.new ≡ place.old) }
     ensures out_of_range { result ≢ DONE → result ≢ DIFFERS → (result ≡ OUT_OF_RANGE)
         ↔ Has table.new.handle.held (λ d. Has (slice_get saved.now place.new) (λ n. CannotMake d n)) }
