@@ -703,6 +703,8 @@ class Ends(Clusters):
                 with alarms(tell_hang, LONG):
                     ask = opened[-1].close if step == "close" else lambda: opened.append(self.open(cluster))
                     is_interrupted = CallInterrupter(places, FILES).run(ask)
+                    # The frames of an interrupt keep a host that nobody was given, until they are collected.
+                    gc.collect()
                     for it in opened:
                         it.close()
             self.assertGreater(places, 3)
