@@ -262,7 +262,7 @@ $(OUT)/proved.a: $(LIBRARY) bindings/c/renamed.syms
 
 # One object, of whose symbols only pidtab_.. are seen.
 AROUND = heap guard guard_record guard_replica shared saved_file
-$(OUT)/pidtab.o: $(OUT)/proved.a $(AROUND:%=bindings/c/%.c) $(HEADERS:%=bindings/c/%)
+$(OUT)/pidtab.o: $(OUT)/proved.a $(AROUND:%=bindings/c/%.c) bindings/c/proved.h $(HEADERS:%=bindings/c/%)
 	for it in $(AROUND); do $(CC) -std=c11 -O2 -Wall -Wextra -Werror -fPIC -pthread -c -o $(OUT)/$$it.o bindings/c/$$it.c || exit 1; done
 	$(LD) -r -o $@ --whole-archive $(OUT)/proved.a --no-whole-archive $(AROUND:%=$(OUT)/%.o)
 	$(OBJCOPY) -w --keep-global-symbol='pidtab_*' $@
@@ -354,7 +354,7 @@ bindings-c:
 		$(SAME_EVERYWHERE) && $(MAKE) -s $(OUT)/proved.a && \
 		$(CC) $(CHECKED) $(HELD) -c -o $(OUT)/test_heap.o bindings/c/heap.c && \
 		$(CC) $(CHECKED) -o $(OUT)/test bindings/c/test.c bindings/c/guard.c $(OUT)/test_heap.o $(OUT)/proved.a && $(RUN) $(OUT)/test && \
-		$(CC) $(TESTED) -o $(OUT)/test_fields bindings/c/test_fields.c bindings/c/heap.c $(LIBRARY) && $(RUN) $(OUT)/test_fields && \
+		$(CC) $(TESTED) -o $(OUT)/test_fields bindings/c/test_fields.c bindings/c/heap.c $(OUT)/proved.a && $(RUN) $(OUT)/test_fields && \
 		$(CC) $(CHECKED) -o $(OUT)/test_cases $(CASES_TEST:%=bindings/c/%.c) $(OUT)/proved.a && $(RUN) $(OUT)/test_cases interface/cases/*.cases && \
 		$(CC) $(CHECKED) -o $(OUT)/test_record $(RECORD_TEST:%=bindings/c/%.c) $(OUT)/test_heap.o $(OUT)/proved.a && $(RUN) $(OUT)/test_record && \
 		$(CC) $(CHECKED) -o $(OUT)/test_replica $(REPLICA_TEST:%=bindings/c/%.c) $(OUT)/test_heap.o $(OUT)/proved.a && $(RUN) $(OUT)/test_replica && \

@@ -1,30 +1,7 @@
 /* The functions of pidtab.h that work on a table. Each marks the table, calls the proved function, and takes the mark away. Queries are
  * counted, and work side by side. A call works alone: while its mark is there, every other function is PIDTAB_BUSY, and while queries
  * are counted, it is PIDTAB_BUSY itself. The proved functions have other names here, by renamed.syms. Written by tools/guard. */
-#include "pidtab.h"
-
-uint32_t proved_open(struct pidtab *table, uint32_t pid_max);
-void proved_close(struct pidtab *table);
-uint32_t proved_line(struct pidtab *table, const void *line, size_t length, void *answer, size_t room, size_t *size);
-uint32_t proved_list(struct pidtab *table, void *bytes, size_t room, size_t *size);
-uint32_t proved_dump(struct pidtab *table, void *bytes, size_t room, size_t *size);
-uint32_t proved_load(struct pidtab *table, const void *text, size_t length, struct pidtab_fault *fault);
-uint32_t proved_call(struct pidtab *table, const struct pidtab_call *call, struct pidtab_reply *reply);
-uint32_t proved_getpid_of(struct pidtab *table, uint32_t caller, uint64_t *number);
-uint32_t proved_getppid_of(struct pidtab *table, uint32_t caller, uint64_t *number);
-uint32_t proved_getpgid_of(struct pidtab *table, uint32_t caller, uint32_t pid, uint64_t *number);
-uint32_t proved_getsid_of(struct pidtab *table, uint32_t caller, uint32_t pid, uint64_t *number);
-uint32_t proved_next_of(struct pidtab *table, uint32_t caller, uint32_t kind, uint32_t from, uint64_t *number);
-uint32_t proved_count_of(struct pidtab *table, uint64_t id, uint64_t *number);
-uint32_t proved_ask(struct pidtab *table, const struct pidtab_call *call, struct pidtab_reply *reply);
-uint32_t proved_stat(struct pidtab *table, uint32_t caller, uint32_t number, struct pidtab_task *task);
-uint32_t proved_page(struct pidtab *table, uint32_t caller, uint32_t whom, uint32_t number, uint32_t from, uint32_t *numbers, size_t room, struct pidtab_reply *reply);
-uint32_t proved_space(struct pidtab *table, uint64_t id, struct pidtab_space *space);
-uint32_t proved_inside(struct pidtab *table, uint32_t tree, uint64_t id, uint64_t from, uint64_t *ids, size_t room, uint64_t *count);
-uint32_t proved_control_tasks(struct pidtab *table, uint32_t caller, uint64_t control, uint32_t from, uint32_t *numbers, size_t room, struct pidtab_reply *reply);
-uint32_t proved_would(struct pidtab *table, const struct pidtab_call *call, struct pidtab_reply *reply);
-uint32_t proved_fork_at(struct pidtab *table, uint32_t caller, uint32_t new_space, uint32_t child, uint32_t root, struct pidtab_reply *reply);
-uint32_t proved_call_told(struct pidtab *table, const struct pidtab_call *call, struct pidtab_reply *reply, struct pidtab_effect *effects, size_t room, uint64_t *count);
+#include "proved.h"
 
 /* The mark is ALONE in a call, and else the number of queries. One more than the most waits until one ends. */
 #define ALONE UINT8_MAX
@@ -104,9 +81,11 @@ uint32_t pidtab_close(struct pidtab *table)
 
 uint32_t pidtab_line(struct pidtab *table, const void *line, size_t length, void *answer, size_t room, size_t *size)
 {
+	uint64_t ordinal;
+
 	if (!enter(table))
 		return PIDTAB_BUSY;
-	return leave(table, proved_line(table, line, length, answer, room, size));
+	return leave(table, proved_line_by(table, 0, line, length, answer, room, size, &ordinal));
 }
 
 uint32_t pidtab_list(const struct pidtab *table, void *bytes, size_t room, size_t *size)
@@ -140,9 +119,11 @@ uint32_t pidtab_load(struct pidtab *table, const void *text, size_t length, stru
 
 uint32_t pidtab_call(struct pidtab *table, const struct pidtab_call *call, struct pidtab_reply *reply)
 {
+	uint64_t ordinal;
+
 	if (!enter(table))
 		return PIDTAB_BUSY;
-	return leave(table, proved_call(table, call, reply));
+	return leave(table, proved_call_by(table, 0, call, reply, &ordinal));
 }
 
 uint32_t pidtab_getpid_of(struct pidtab *table, uint32_t caller, uint64_t *number)
@@ -252,14 +233,18 @@ uint32_t pidtab_would(const struct pidtab *table, const struct pidtab_call *call
 
 uint32_t pidtab_fork_at(struct pidtab *table, uint32_t caller, uint32_t new_space, uint32_t child, uint32_t root, struct pidtab_reply *reply)
 {
+	uint64_t ordinal;
+
 	if (!enter(table))
 		return PIDTAB_BUSY;
-	return leave(table, proved_fork_at(table, caller, new_space, child, root, reply));
+	return leave(table, proved_fork_at_by(table, 0, caller, new_space, child, root, reply, &ordinal));
 }
 
 uint32_t pidtab_call_told(struct pidtab *table, const struct pidtab_call *call, struct pidtab_reply *reply, struct pidtab_effect *effects, size_t room, uint64_t *count)
 {
+	uint64_t ordinal;
+
 	if (!enter(table))
 		return PIDTAB_BUSY;
-	return leave(table, proved_call_told(table, call, reply, effects, room, count));
+	return leave(table, proved_call_told_by(table, 0, call, reply, &ordinal, effects, room, count));
 }

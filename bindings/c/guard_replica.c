@@ -1,15 +1,5 @@
 /* The functions of pidtab_replica.h, with the mark of guard.c around each. Written by tools/guard. */
-#include "pidtab_replica.h"
-
-uint32_t proved_replica_open(struct pidtab_replica *replica, uint64_t pid_max, uint64_t model);
-void proved_replica_close(struct pidtab_replica *replica);
-uint32_t proved_replica_apply(struct pidtab_replica *replica, struct pidtab *table, uint64_t position, const void *entry, size_t length, struct pidtab_applied *applied);
-uint32_t proved_replica_answers(struct pidtab_replica *replica, void *bytes, size_t room, size_t *size);
-uint32_t proved_replica_log(struct pidtab_replica *replica, struct pidtab_log *log);
-uint32_t proved_replica_digest(struct pidtab_replica *replica, uint64_t position, struct pidtab_digest *digest);
-uint32_t proved_replica_last(struct pidtab_replica *replica, uint64_t session, uint64_t *sequence);
-uint32_t proved_replica_write(struct pidtab_replica *replica, void *bytes, size_t room, size_t *size);
-uint32_t proved_replica_read(struct pidtab_replica *replica, const void *text, size_t length, size_t *used);
+#include "proved.h"
 
 /* The mark is ALONE in a call, and else the number of queries. One more than the most waits until one ends. */
 #define ALONE UINT8_MAX

@@ -56,8 +56,9 @@ enum pidtab_status {
 /* What the functions of a record answer besides. Any status but PIDTAB_DONE says that the record is as it was, but of
  * pidtab_record_replay, and of pidtab_record_calls as it says. */
 enum pidtab_record_status {
-	PIDTAB_NOT_KEPT = 2, /* ENOENT: the entry was cut away, or is not reached yet */
-	PIDTAB_AGAIN = 11    /* EAGAIN: another number of calls was recorded by now */
+	PIDTAB_NOT_KEPT = 2,   /* ENOENT: the entry was cut away, or is not reached yet */
+	PIDTAB_AGAIN = 11,     /* EAGAIN: another number of calls was recorded by now */
+	PIDTAB_NO_HISTORY = 95 /* EOPNOTSUPP: the table keeps no history */
 };
 
 /* What a status says, as a sentence. */
@@ -90,6 +91,8 @@ static inline const char *pidtab_text(uint32_t status)
 		return "no entry with the ordinal is kept";
 	case PIDTAB_AGAIN:
 		return "another number of calls was recorded by now";
+	case PIDTAB_NO_HISTORY:
+		return "the table keeps no history";
 	}
 	return "no such status";
 }

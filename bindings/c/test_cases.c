@@ -44,6 +44,7 @@ static const struct named statuses[] = {
 	{ PIDTAB_BAD_TEXT, "BAD_TEXT" },
 	{ PIDTAB_NOT_KEPT, "NOT_KEPT" },
 	{ PIDTAB_AGAIN, "AGAIN" },
+	{ PIDTAB_NO_HISTORY, "NO_HISTORY" },
 	{ 0, NULL }
 };
 

@@ -1,6 +1,6 @@
 /* Tests that the proved functions write nothing of the struct that they work on, but those that open, load or close. So a call's mark stays in it. The
- * structs are in memory that is read-only meanwhile, and the archive is linked without the guards. */
-#include "pidtab_replica.h"
+ * structs are in memory that is read-only meanwhile, and the proved functions are called without the guards. */
+#include "proved.h"
 
 #include "test.h"
 
@@ -14,8 +14,7 @@
 #define ENTRY "calls 4 1 2 4 a23d48e1e3a92dc8\nfork 1\ngetpid 2"
 
 struct held {
-	struct pidtab table, followed;
-	struct pidtab_record record, replayed;
+	struct pidtab table, followed, record, replayed;
 	struct pidtab_replica replica, late;
 };
 static struct held *held;
@@ -58,58 +57,51 @@ static struct pidtab_call random_call(void)
 
 static const struct pidtab_call a_fork = { .operation = PIDTAB_FORK, .caller = 1 };
 
-static void on_table(void)
+static void calls_by(struct pidtab *table, uint32_t worker)
 {
 	struct pidtab_effect effects[8];
 	struct pidtab_reply reply;
-	uint64_t number, count;
+	uint64_t number, count, ordinal;
 
 	for (int i = 0; i < ROUNDS; i++) {
 		struct pidtab_call call = random_call();
 		char line[PIDTAB_LONGEST_CALL], answer[PIDTAB_LONGEST_ANSWER];
 		size_t size;
 
-		TRY(0, pidtab_call(&held->table, &call, &reply));
-		TRY(1, pidtab_call_told(&held->table, &call, &reply, effects, 8, &count));
+		TRY(0, proved_call_by(table, worker, &call, &reply, &ordinal));
+		TRY(1, proved_call_told_by(table, worker, &call, &reply, &ordinal, effects, 8, &count));
 		if (pidtab_call_line(&call, line, sizeof line, &size) == PIDTAB_DONE)
-			TRY(2, pidtab_line(&held->table, line, size, answer, sizeof answer, &size));
-		TRY(3, pidtab_getpid_of(&held->table, call.caller, &number));
-		TRY(4, pidtab_getppid_of(&held->table, call.caller, &number));
-		TRY(5, pidtab_getpgid_of(&held->table, call.caller, call.number, &number));
-		TRY(6, pidtab_getsid_of(&held->table, call.caller, call.number, &number));
-		TRY(7, pidtab_next_of(&held->table, call.caller, call.choice, call.number, &number));
-		TRY(8, pidtab_count_of(&held->table, call.id, &number));
-		CHECK(pidtab_would(&held->table, &a_fork, &reply) == PIDTAB_DONE);
-		TRY(9, pidtab_fork_at(&held->table, 1, false, (uint32_t)reply.first, (uint32_t)reply.second, &reply));
+			TRY(2, proved_line_by(table, worker, line, size, answer, sizeof answer, &size, &ordinal));
+		TRY(3, proved_getpid_of(table, call.caller, &number));
+		TRY(4, proved_getppid_of(table, call.caller, &number));
+		TRY(5, proved_getpgid_of(table, call.caller, call.number, &number));
+		TRY(6, proved_getsid_of(table, call.caller, call.number, &number));
+		TRY(7, proved_next_of(table, call.caller, call.choice, call.number, &number));
+		TRY(8, proved_count_of(table, call.id, &number));
+		TRY(9, proved_call_keeping(table, worker, &call, 64, &reply, &ordinal));
+		CHECK(proved_would(table, &a_fork, &reply) == PIDTAB_DONE);
+		TRY(10, proved_fork_at_by(table, worker, 1, false, (uint32_t)reply.first, (uint32_t)reply.second, &reply, &ordinal));
 	}
-	each_was_done(10);
+	each_was_done(11);
+}
+
+static void on_table(void)
+{
+	calls_by(&held->table, 0);
 }
 
 static void on_record(void)
 {
-	struct pidtab_effect effects[8];
+	struct pidtab_call calls[2] = { random_call(), random_call() };
 	struct pidtab_reply reply, replies[2];
-	uint64_t ordinal, count;
+	uint64_t ordinal;
 	size_t made;
 
-	for (int i = 0; i < ROUNDS; i++) {
-		struct pidtab_call calls[2] = { random_call(), random_call() };
-		char line[PIDTAB_LONGEST_CALL], answer[PIDTAB_LONGEST_ANSWER];
-		size_t size;
-
-		TRY(0, pidtab_record_call(&held->record, 0, calls, &reply, &ordinal));
-		TRY(1, pidtab_record_call_keeping(&held->record, 1, calls, 64, &reply, &ordinal));
-		TRY(2, pidtab_record_calls(&held->record, 1, calls, 2, replies, 2, &made, &ordinal));
-		TRY(3, pidtab_record_call_told(&held->record, 0, calls, &reply, &ordinal, effects, 8, &count));
-		if (pidtab_call_line(calls, line, sizeof line, &size) == PIDTAB_DONE)
-			TRY(4, pidtab_record_line(&held->record, 0, line, size, answer, sizeof answer, &size, &ordinal));
-		CHECK(pidtab_record_would(&held->record, &a_fork, &reply) == PIDTAB_DONE);
-		TRY(5, pidtab_record_fork_at(&held->record, 0, 1, false, (uint32_t)reply.first, (uint32_t)reply.second, &reply, &ordinal));
-	}
-	each_was_done(6);
-	CHECK(pidtab_record_keep(&held->record, 5) == PIDTAB_DONE && pidtab_record_checkpoint(&held->record) == PIDTAB_DONE);
-	CHECK(pidtab_record_call(&held->record, 0, &(struct pidtab_call){ .operation = PIDTAB_GETPID, .caller = 1 }, &reply, &ordinal) == PIDTAB_DONE);
-	CHECK(pidtab_record_checkpoint_at(&held->record, ordinal + 1) == PIDTAB_DONE);
+	calls_by(&held->record, 1);
+	CHECK(proved_calls(&held->record, 1, calls, 2, replies, 2, &made, &ordinal) == PIDTAB_DONE);
+	CHECK(proved_keep(&held->record, 5) == PIDTAB_DONE && proved_checkpoint(&held->record) == PIDTAB_DONE);
+	CHECK(proved_call_by(&held->record, 0, &(struct pidtab_call){ .operation = PIDTAB_GETPID, .caller = 1 }, &reply, &ordinal) == PIDTAB_DONE);
+	CHECK(proved_checkpoint_at(&held->record, ordinal + 1) == PIDTAB_DONE);
 }
 
 static void on_replayed(void)
@@ -117,7 +109,7 @@ static void on_replayed(void)
 	struct pidtab_entry saved = { .worker = 0, .call = { .operation = PIDTAB_GETPID, .caller = 1 }, .reply = { .kind = PIDTAB_NUMBER, .first = 1 } };
 	size_t place;
 
-	CHECK(pidtab_record_replay(&held->replayed, &saved, 1, &place) == PIDTAB_DONE);
+	CHECK(proved_replay(&held->replayed, &saved, 1, &place) == PIDTAB_DONE);
 }
 
 static void on_replica(void)
@@ -126,11 +118,11 @@ static void on_replica(void)
 	struct pidtab_applied applied;
 	size_t size = 0, used = 0;
 
-	CHECK(pidtab_replica_apply(&held->replica, &held->followed, 3, SETTINGS, strlen(SETTINGS), &applied) == PIDTAB_DONE);
-	CHECK(pidtab_replica_apply(&held->replica, &held->followed, 4, "open", 4, &applied) == PIDTAB_DONE);
-	CHECK(pidtab_replica_apply(&held->replica, &held->followed, 6, ENTRY, strlen(ENTRY), &applied) == PIDTAB_DONE);
-	CHECK(pidtab_replica_write(&held->replica, text, sizeof text, &size) == PIDTAB_DONE);
-	CHECK(pidtab_replica_read(&held->late, text, size, &used) == PIDTAB_DONE);
+	CHECK(proved_replica_apply(&held->replica, &held->followed, 3, SETTINGS, strlen(SETTINGS), &applied) == PIDTAB_DONE);
+	CHECK(proved_replica_apply(&held->replica, &held->followed, 4, "open", 4, &applied) == PIDTAB_DONE);
+	CHECK(proved_replica_apply(&held->replica, &held->followed, 6, ENTRY, strlen(ENTRY), &applied) == PIDTAB_DONE);
+	CHECK(proved_replica_write(&held->replica, text, sizeof text, &size) == PIDTAB_DONE);
+	CHECK(proved_replica_read(&held->late, text, size, &used) == PIDTAB_DONE);
 }
 
 /* What closes writes the struct, so here it is stopped: else the memory would be no test. */
@@ -141,7 +133,7 @@ static void closing_is_stopped(void)
 
 	if (child == 0) {
 		signal(SIGSEGV, SIG_DFL);
-		pidtab_record_close(&held->record);
+		proved_close(&held->record);
 		_exit(0);
 	}
 	CHECK(child > 0 && waitpid(child, &status, 0) == child && WIFSIGNALED(status) && WTERMSIG(status) == SIGSEGV);
@@ -150,9 +142,9 @@ static void closing_is_stopped(void)
 int main(void)
 {
 	held = mmap(NULL, sizeof *held, PROT_READ | PROT_WRITE, MAP_PRIVATE | MAP_ANONYMOUS, -1, 0);
-	CHECK(held != MAP_FAILED && pidtab_open(&held->table, 32768) == PIDTAB_DONE && pidtab_open(&held->followed, 4194304) == PIDTAB_DONE);
-	CHECK(pidtab_record_open(&held->record, 32768, 1, 2) == PIDTAB_DONE && pidtab_record_open(&held->replayed, 32768, 1, 1) == PIDTAB_DONE);
-	CHECK(pidtab_replica_open(&held->replica, 4194304, 1) == PIDTAB_DONE && pidtab_replica_open(&held->late, 4194304, 1) == PIDTAB_DONE);
+	CHECK(held != MAP_FAILED && proved_open(&held->table, 32768) == PIDTAB_DONE && proved_open(&held->followed, 4194304) == PIDTAB_DONE);
+	CHECK(proved_open_with(&held->record, 32768, 1, 2) == PIDTAB_DONE && proved_open_with(&held->replayed, 32768, 1, 1) == PIDTAB_DONE);
+	CHECK(proved_replica_open(&held->replica, 4194304, 1) == PIDTAB_DONE && proved_replica_open(&held->late, 4194304, 1) == PIDTAB_DONE);
 	signal(SIGSEGV, tell);
 	protect(PROT_READ);
 	on_table();
@@ -161,8 +153,8 @@ int main(void)
 	on_replica();
 	closing_is_stopped();
 	protect(PROT_READ | PROT_WRITE);
-	pidtab_close(&held->table), pidtab_close(&held->followed);
-	pidtab_record_close(&held->record), pidtab_record_close(&held->replayed);
-	pidtab_replica_close(&held->replica), pidtab_replica_close(&held->late);
+	proved_close(&held->table), proved_close(&held->followed);
+	proved_close(&held->record), proved_close(&held->replayed);
+	proved_replica_close(&held->replica), proved_replica_close(&held->late);
 	return 0;
 }

@@ -300,6 +300,7 @@ var statusNames = map[error]string{
 	ErrDiffers:    "DIFFERS",
 	ErrNotKept:    "NOT_KEPT",
 	ErrAgain:      "AGAIN",
+	ErrNoHistory:  "NO_HISTORY",
 }
 
 var queryWords = []string{"getpid", "nspid", "getppid", "count", "getpgid", "getsid", "next"}

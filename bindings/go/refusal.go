@@ -213,6 +213,8 @@ func faultOf(status uint32) error {
 		return ErrNotKept
 	case C.PIDTAB_AGAIN:
 		return ErrAgain
+	case C.PIDTAB_NO_HISTORY:
+		return ErrNoHistory
 	case C.PIDTAB_NOT_SAVED:
 		return ErrNotSaved
 	case C.PIDTAB_ENDED:

@@ -19,7 +19,7 @@ FAULT_WORDS = "crates/table_load/src/fault.rt"
 FORM_WORDS = "crates/table_text/src/fault.rt"
 OF_CALLS = (REPLY, CALL, LAWS, LINE, SAVED_NUMBERS)
 OF_FAULTS = (FAULT_WORDS, FORM_WORDS)
-OF_BOUNDS = [f"crates/{path}.rt" for path in ("foreign_numbers/src/kinds", "foreign_calls/src/record", "pid_script/src/answer", "pid_script/src/call", "pid_types/src/config", "pid_types/src/plain",
+OF_BOUNDS = [f"crates/{path}.rt" for path in ("foreign_numbers/src/kinds", "foreign_calls/src/table", "pid_script/src/answer", "pid_script/src/call", "pid_types/src/config", "pid_types/src/plain",
                                               "pidtab_c/src/lib", "saved_form/src/block", "saved_form/src/layout")]  # fmt: skip
 PATHS = (*OF_CALLS, NUMBERS, EFFECT, *OF_FAULTS, *OF_BOUNDS)
 

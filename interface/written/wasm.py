@@ -1,11 +1,12 @@
-"""The functions that the module for JavaScript exports: those of C, whose memory is at fixed places."""
+"""The functions that the module for JavaScript exports: the proved ones, whose memory is at fixed places."""
 
 from names import TYPED
+from proved import BY_WORKER, proved_name
 
 AROUND = "bindings/js/wasm/around.c"
 
 # What is not called from there, and the structs at fixed places.
-BY_HAND = ("version", "close", "record_close", "record_calls", "record_read", "record_replay")
+BY_HAND = ("version", "close", "calls", "read", "replay")
 PLACES = ("call", "reply", "task", "space", "fault")
 LONGS = ("uint64_t", "uint64_t *", "const uint64_t *")
 
@@ -19,7 +20,7 @@ def passed(function):
         kind, name, _ = rest.pop(0)
         struct = kind.replace("const ", "").replace("struct pidtab_", "").strip(" *")
         if name in ("table", "record"):
-            given.append(f"&held.{name}")
+            given.append("&held")
         elif struct in PLACES:
             given.append(f"&at.{struct}")
         elif kind in LONGS and name != "ids":
@@ -41,14 +42,39 @@ def passed(function):
     return ", ".join(taken) or "void", ", ".join(given)
 
 
-def functions(tables):
-    """The functions of a table, and of a record."""
-    lines = []
+def proved_functions(tables):
+    """Each proved function once, with one of C that it is behind. One of a worker's call is behind that of a record."""
+    found = {}
     for it in tables["headers"].of("pidtab.h"):
-        if it.name not in BY_HAND and not it.name.endswith(TYPED):
-            taken, given = passed(it)
-            lines += ["", f"uint32_t EXPORTED({it.name})({taken})", "{", f"\treturn pidtab_{it.name}({given});", "}"]
+        if proved_name(it.name) not in BY_HAND and not it.name.endswith(TYPED) and it.name not in BY_WORKER:
+            found.setdefault(proved_name(it.name), it)
+    return found
+
+
+def declared(tables):
+    """The declarations of the proved functions that have other names in C."""
+    there = {it.name for it in tables["headers"].of("pidtab.h")}
+    return [
+        f"uint32_t pidtab_{name}({', '.join(f'{kind}{name}' for kind, name in spelled(it))});"
+        for name, it in proved_functions(tables).items()
+        if name not in there
+    ]
+
+
+def spelled(function):
+    """The type, with a space where none is before a star, and the name of each argument of a proved function."""
+    for kind, name, _ in function.arguments:
+        of_table = kind.replace("struct pidtab_record *", "struct pidtab *")
+        yield of_table if of_table.endswith("*") else f"{of_table} ", "table" if name == "record" else name
+
+
+def functions(tables):
+    """The functions of a table, with its history and without."""
+    lines = []
+    for name, it in proved_functions(tables).items():
+        taken, given = passed(it)
+        lines += ["", f"uint32_t EXPORTED({name})({taken})", "{", f"\treturn pidtab_{name}({given});", "}"]
     return lines[1:]
 
 
-PARTS = {(AROUND, "functions"): functions}
+PARTS = {(AROUND, "functions"): functions, (AROUND, "declarations"): declared}

@@ -47,8 +47,8 @@ def module_header(header):
 
 def around(text, kind):
     """A file of bindings/c, whose own functions get names of their own."""
-    text = re.sub(r'^#include "pidtab\.h"\n', "", text, flags=re.MULTILINE)
-    return re.sub(r"\b(enter|leave|enter_query|leave_query|held_by)\(", rf"\1_{kind}(", text)
+    text = re.sub(r'^#include "proved\.h"\n', "", text, flags=re.MULTILINE)
+    return re.sub(r"\b(enter|leave|enter_query|leave_query|held_by|put_back)\(", rf"\1_{kind}(", text)
 
 
 def join(code, header, portable, bindings):

@@ -226,15 +226,6 @@ uint32_t proved_load(struct pidtab *table, const void *text, size_t length, stru
 	return kept(&table->at, &table->is_open, it, status);
 }
 
-uint32_t proved_line(struct pidtab *table, const void *line, size_t length, void *answer, size_t room, size_t *size)
-{
-	instance *it = table->at;
-
-	if (!table->is_open)
-		return PIDTAB_CLOSED;
-	return answered(it, Z_pidtabZ_line(it, put_line(it, line, length), short_room(room)), answer, size);
-}
-
 uint32_t proved_list(struct pidtab *table, void *bytes, size_t room, size_t *size)
 {
 	return table->is_open ? written(table->at, Z_pidtabZ_list, bytes, room, size) : PIDTAB_CLOSED;
@@ -243,11 +234,6 @@ uint32_t proved_list(struct pidtab *table, void *bytes, size_t room, size_t *siz
 uint32_t proved_dump(struct pidtab *table, void *bytes, size_t room, size_t *size)
 {
 	return table->is_open ? written(table->at, Z_pidtabZ_dump, bytes, room, size) : PIDTAB_CLOSED;
-}
-
-uint32_t proved_call(struct pidtab *table, const struct pidtab_call *call, struct pidtab_reply *reply)
-{
-	return table->is_open ? replied(table->at, Z_pidtabZ_call, call, reply) : PIDTAB_CLOSED;
 }
 
 uint32_t proved_ask(struct pidtab *table, const struct pidtab_call *call, struct pidtab_reply *reply)
@@ -384,34 +370,23 @@ static uint32_t foretold(instance *it, uint32_t status, struct pidtab_reply *rep
 	return fetched(it, status, REPLY, reply, sizeof *reply);
 }
 
-uint32_t proved_fork_at(struct pidtab *table, uint32_t caller, uint32_t new_space, uint32_t child, uint32_t root, struct pidtab_reply *reply)
-{
-	instance *it = table->at;
-
-	return table->is_open ? foretold(it, Z_pidtabZ_fork_at(it, caller, new_space, child, root), reply) : PIDTAB_CLOSED;
-}
-
 /* What a call tells beside its reply: the ordinal of one that a worker made, and how many effects it had, or takes room for. */
 struct told {
 	uint64_t ordinal, count;
 };
 
-/* The call that the instance was given, of a worker or of none. */
-static uint32_t make_told(instance *it, const uint32_t *worker, uint32_t address, uint32_t room, struct told *told)
+/* The call that the instance was given. */
+static uint32_t make_told(instance *it, uint32_t worker, uint32_t address, uint32_t room, struct told *told)
 {
-	uint32_t status = worker ? Z_pidtabZ_record_call_told(it, *worker, address, room) : Z_pidtabZ_call_told(it, address, room);
+	uint32_t status = Z_pidtabZ_call_told_by(it, worker, address, room);
 
-	if (status != PIDTAB_DONE && status != PIDTAB_NO_ROOM)
-		return status;
-	if (worker)
+	if (status == PIDTAB_DONE || status == PIDTAB_NO_ROOM)
 		get(it, NUMBERS, told, sizeof *told);
-	else
-		get(it, NUMBERS, &told->count, sizeof told->count);
 	return status;
 }
 
 /* The effects in a room of the caller: first it is asked how many they may be. A call that has none is made by that. */
-static uint32_t told_effects(instance *it, const uint32_t *worker, const struct pidtab_call *call, struct pidtab_reply *reply, struct pidtab_effect *effects, size_t room, struct told *told)
+static uint32_t told_effects(instance *it, uint32_t worker, const struct pidtab_call *call, struct pidtab_reply *reply, struct pidtab_effect *effects, size_t room, struct told *told)
 {
 	uint32_t status, address, most;
 
@@ -430,43 +405,28 @@ static uint32_t told_effects(instance *it, const uint32_t *worker, const struct 
 	return fetched(it, status, REPLY, reply, sizeof *reply);
 }
 
-uint32_t proved_call_told(struct pidtab *table, const struct pidtab_call *call, struct pidtab_reply *reply, struct pidtab_effect *effects, size_t room, uint64_t *count)
-{
-	struct told told = { 0, 0 };
-	uint32_t status = table->is_open ? told_effects(table->at, NULL, call, reply, effects, room, &told) : PIDTAB_CLOSED;
-
-	if (status == PIDTAB_DONE || status == PIDTAB_NO_ROOM)
-		*count = told.count;
-	return status;
-}
-
-uint32_t proved_record_open(struct pidtab_record *record, uint32_t pid_max, uint64_t first_stamp, uint32_t workers)
+uint32_t proved_open_with(struct pidtab *table, uint32_t pid_max, uint64_t first_stamp, uint32_t workers)
 {
 	instance *it;
 
-	if (record->is_open)
+	if (table->is_open)
 		return PIDTAB_BUSY;
 	it = new_instance();
 	if (!it)
 		return PIDTAB_NO_MEMORY;
 	put(it, NUMBERS, &first_stamp, sizeof first_stamp);
-	return kept(&record->at, &record->is_open, it, Z_pidtabZ_record_open(it, pid_max, workers));
-}
-
-void proved_record_close(struct pidtab_record *record)
-{
-	closed(&record->at, &record->is_open);
+	return kept(&table->at, &table->is_open, it, Z_pidtabZ_open_with(it, pid_max, workers));
 }
 
 /* The counts have room for as many workers as there may be; more are out of range whatever they are. */
-uint32_t proved_record_load(struct pidtab_record *record, const void *text, size_t length, const uint64_t *counts, size_t workers, struct pidtab_fault *fault)
+uint32_t proved_load_with(struct pidtab *table, const void *text, size_t length, const uint64_t *counts, size_t workers, struct pidtab_fault *fault)
 {
 	size_t known = workers < PIDTAB_MOST_WORKERS ? workers : PIDTAB_MOST_WORKERS;
 	instance *it;
 	uint32_t address, status = PIDTAB_NO_MEMORY;
 
 	*fault = (struct pidtab_fault){ 0, 0 };
-	if (record->is_open)
+	if (table->is_open)
 		return PIDTAB_BUSY;
 	if (workers > known)
 		return PIDTAB_OUT_OF_RANGE;
@@ -476,102 +436,59 @@ uint32_t proved_record_load(struct pidtab_record *record, const void *text, size
 	address = copied(it, text, length);
 	if (address) {
 		put(it, NUMBERS, counts, known * sizeof *counts);
-		status = Z_pidtabZ_record_load(it, address, (uint32_t)length, (uint32_t)workers);
+		status = Z_pidtabZ_load_with(it, address, (uint32_t)length, (uint32_t)workers);
 		get(it, FAULT, fault, sizeof *fault);
 		Z_pidtabZ_give(it, address);
 	}
-	return kept(&record->at, &record->is_open, it, status);
+	return kept(&table->at, &table->is_open, it, status);
 }
 
-uint32_t proved_record_call(struct pidtab_record *record, uint32_t worker, const struct pidtab_call *call, struct pidtab_reply *reply, uint64_t *ordinal)
+uint32_t proved_call_by(struct pidtab *table, uint32_t worker, const struct pidtab_call *call, struct pidtab_reply *reply, uint64_t *ordinal)
 {
-	instance *it = record->at;
+	instance *it = table->at;
 
-	if (!record->is_open)
+	if (!table->is_open)
 		return PIDTAB_CLOSED;
 	put(it, CALL, call, sizeof *call);
-	return fetched(it, fetched(it, Z_pidtabZ_record_call(it, worker), REPLY, reply, sizeof *reply), NUMBERS, ordinal, sizeof *ordinal);
+	return fetched(it, fetched(it, Z_pidtabZ_call_by(it, worker), REPLY, reply, sizeof *reply), NUMBERS, ordinal, sizeof *ordinal);
 }
 
-uint32_t proved_record_call_keeping(struct pidtab_record *record, uint32_t worker, const struct pidtab_call *call, uint64_t keep, struct pidtab_reply *reply, uint64_t *ordinal)
+uint32_t proved_call_keeping(struct pidtab *table, uint32_t worker, const struct pidtab_call *call, uint64_t keep, struct pidtab_reply *reply, uint64_t *ordinal)
 {
-	instance *it = record->at;
+	instance *it = table->at;
 	const uint64_t numbers[2] = { 0, keep };
 
-	if (!record->is_open)
+	if (!table->is_open)
 		return PIDTAB_CLOSED;
 	put(it, CALL, call, sizeof *call);
 	put(it, NUMBERS, numbers, sizeof numbers);
-	return fetched(it, fetched(it, Z_pidtabZ_record_call_keeping(it, worker), REPLY, reply, sizeof *reply), NUMBERS, ordinal, sizeof *ordinal);
+	return fetched(it, fetched(it, Z_pidtabZ_call_keeping(it, worker), REPLY, reply, sizeof *reply), NUMBERS, ordinal, sizeof *ordinal);
 }
 
-uint32_t proved_record_line(struct pidtab_record *record, uint32_t worker, const void *line, size_t length, void *answer, size_t room, size_t *size, uint64_t *ordinal)
+uint32_t proved_line_by(struct pidtab *table, uint32_t worker, const void *line, size_t length, void *answer, size_t room, size_t *size, uint64_t *ordinal)
 {
-	instance *it = record->at;
+	instance *it = table->at;
 	uint32_t status;
 
-	if (!record->is_open)
+	if (!table->is_open)
 		return PIDTAB_CLOSED;
-	status = Z_pidtabZ_record_line(it, worker, put_line(it, line, length), short_room(room));
+	status = Z_pidtabZ_line_by(it, worker, put_line(it, line, length), short_room(room));
 	return fetched(it, answered(it, status, answer, size), NUMBERS, ordinal, sizeof *ordinal);
 }
 
-uint32_t proved_record_ask(struct pidtab_record *record, const struct pidtab_call *call, struct pidtab_reply *reply)
+uint32_t proved_fork_at_by(struct pidtab *table, uint32_t worker, uint32_t caller, uint32_t new_space, uint32_t child, uint32_t root, struct pidtab_reply *reply, uint64_t *ordinal)
 {
-	return record->is_open ? replied(record->at, Z_pidtabZ_record_ask, call, reply) : PIDTAB_CLOSED;
-}
+	instance *it = table->at;
 
-uint32_t proved_record_stat(struct pidtab_record *record, uint32_t caller, uint32_t number, struct pidtab_task *task)
-{
-	instance *it = record->at;
-
-	return record->is_open ? fetched(it, Z_pidtabZ_record_stat(it, caller, number), TASK, task, sizeof *task) : PIDTAB_CLOSED;
-}
-
-uint32_t proved_record_page(struct pidtab_record *record, uint32_t caller, uint32_t whom, uint32_t number, uint32_t from, uint32_t *numbers, size_t room, struct pidtab_reply *reply)
-{
-	const struct asked asked = { .page = Z_pidtabZ_record_page, .caller = caller, .whom = whom, .number = number, .from = from };
-
-	return record->is_open ? paged(record->at, &asked, numbers, room, reply) : PIDTAB_CLOSED;
-}
-
-uint32_t proved_record_control_tasks(struct pidtab_record *record, uint32_t caller, uint64_t control, uint32_t from, uint32_t *numbers, size_t room, struct pidtab_reply *reply)
-{
-	const struct asked asked = { .tasks = Z_pidtabZ_record_control_tasks, .control = control, .caller = caller, .from = from };
-
-	return record->is_open ? paged(record->at, &asked, numbers, room, reply) : PIDTAB_CLOSED;
-}
-
-uint32_t proved_record_space(struct pidtab_record *record, uint64_t id, struct pidtab_space *space)
-{
-	return record->is_open ? space_read(record->at, Z_pidtabZ_record_space, id, space) : PIDTAB_CLOSED;
-}
-
-uint32_t proved_record_inside(struct pidtab_record *record, uint32_t tree, uint64_t id, uint64_t from, uint64_t *ids, size_t room, uint64_t *count)
-{
-	uint64_t numbers[3] = { id, from };
-
-	return record->is_open ? told_inside(record->at, Z_pidtabZ_record_inside, tree, numbers, ids, room, count) : PIDTAB_CLOSED;
-}
-
-uint32_t proved_record_would(struct pidtab_record *record, const struct pidtab_call *call, struct pidtab_reply *reply)
-{
-	return record->is_open ? replied(record->at, Z_pidtabZ_record_would, call, reply) : PIDTAB_CLOSED;
-}
-
-uint32_t proved_record_fork_at(struct pidtab_record *record, uint32_t worker, uint32_t caller, uint32_t new_space, uint32_t child, uint32_t root, struct pidtab_reply *reply, uint64_t *ordinal)
-{
-	instance *it = record->at;
-
-	if (!record->is_open)
+	if (!table->is_open)
 		return PIDTAB_CLOSED;
-	return fetched(it, foretold(it, Z_pidtabZ_record_fork_at(it, worker, caller, new_space, child, root), reply), NUMBERS, ordinal, sizeof *ordinal);
+	return fetched(it, foretold(it, Z_pidtabZ_fork_at_by(it, worker, caller, new_space, child, root), reply), NUMBERS, ordinal, sizeof *ordinal);
 }
 
-uint32_t proved_record_call_told(struct pidtab_record *record, uint32_t worker, const struct pidtab_call *call, struct pidtab_reply *reply, uint64_t *ordinal, struct pidtab_effect *effects, size_t room, uint64_t *count)
+uint32_t proved_call_told_by(struct pidtab *table, uint32_t worker, const struct pidtab_call *call, struct pidtab_reply *reply, uint64_t *ordinal, struct pidtab_effect *effects, size_t room, uint64_t *count)
 {
 	struct told told = { 0, 0 };
-	uint32_t status = record->is_open ? told_effects(record->at, &worker, call, reply, effects, room, &told) : PIDTAB_CLOSED;
+	uint32_t status = table->is_open ? told_effects(table->at, worker, call, reply, effects, room, &told) : PIDTAB_CLOSED;
 
 	if (status == PIDTAB_DONE || status == PIDTAB_NO_ROOM)
 		*count = told.count;
@@ -580,11 +497,11 @@ uint32_t proved_record_call_told(struct pidtab_record *record, uint32_t worker, 
 	return status;
 }
 
-uint32_t proved_record_counts(struct pidtab_record *record, uint64_t *first_kept, uint64_t *recorded)
+uint32_t proved_counts(struct pidtab *table, uint64_t *first_kept, uint64_t *recorded)
 {
-	instance *it = record->at;
+	instance *it = table->at;
 	uint64_t counts[2] = { 0, 0 };
-	uint32_t status = record->is_open ? fetched(it, Z_pidtabZ_record_counts(it), NUMBERS, counts, sizeof counts) : PIDTAB_CLOSED;
+	uint32_t status = table->is_open ? fetched(it, Z_pidtabZ_counts(it), NUMBERS, counts, sizeof counts) : PIDTAB_CLOSED;
 
 	if (status == PIDTAB_DONE) {
 		*first_kept = counts[0];
@@ -593,59 +510,60 @@ uint32_t proved_record_counts(struct pidtab_record *record, uint64_t *first_kept
 	return status;
 }
 
-uint32_t proved_record_worker(struct pidtab_record *record, uint32_t worker, uint64_t *calls)
+uint32_t proved_worker(struct pidtab *table, uint32_t worker, uint64_t *calls)
 {
-	instance *it = record->at;
+	instance *it = table->at;
 
-	return record->is_open ? fetched(it, Z_pidtabZ_record_worker(it, worker), NUMBERS, calls, sizeof *calls) : PIDTAB_CLOSED;
+	return table->is_open ? fetched(it, Z_pidtabZ_worker(it, worker), NUMBERS, calls, sizeof *calls) : PIDTAB_CLOSED;
 }
 
-/* Whether each is a call, which has a line then, and there is such a worker. */
-static bool can_make(struct pidtab_record *record, uint32_t worker, const struct pidtab_call *calls, size_t count)
+/* Whether each is a call, which has a line then. */
+static bool are_calls(instance *it, const struct pidtab_call *calls, size_t count)
 {
-	uint64_t recorded;
-
 	for (size_t i = 0; i < count; i++) {
-		put(record->at, CALL, &calls[i], sizeof *calls);
-		if (Z_pidtabZ_call_line(record->at) != PIDTAB_DONE)
+		put(it, CALL, &calls[i], sizeof *calls);
+		if (Z_pidtabZ_call_line(it) != PIDTAB_DONE)
 			return false;
 	}
-	return proved_record_worker(record, worker, &recorded) == PIDTAB_DONE;
+	return true;
 }
 
-uint32_t proved_record_calls(struct pidtab_record *record, uint32_t worker, const struct pidtab_call *calls, size_t count, struct pidtab_reply *replies, size_t room, size_t *made, uint64_t *ordinal)
+uint32_t proved_calls(struct pidtab *table, uint32_t worker, const struct pidtab_call *calls, size_t count, struct pidtab_reply *replies, size_t room, size_t *made, uint64_t *ordinal)
 {
+	uint64_t recorded;
+	uint32_t known = proved_worker(table, worker, &recorded);
+
 	*made = 0;
-	if (!record->is_open)
-		return PIDTAB_CLOSED;
-	if (!can_make(record, worker, calls, count))
+	if (known != PIDTAB_DONE)
+		return known;
+	if (!are_calls(table->at, calls, count))
 		return PIDTAB_OUT_OF_RANGE;
 	if (room < count)
 		return PIDTAB_NO_ROOM;
 	for (; *made < count; ++*made) {
-		uint32_t status = proved_record_call(record, worker, &calls[*made], &replies[*made], ordinal);
+		uint32_t status = proved_call_by(table, worker, &calls[*made], &replies[*made], ordinal);
 		if (status != PIDTAB_DONE)
 			return status;
 	}
 	return PIDTAB_DONE;
 }
 
-uint32_t proved_record_entry(struct pidtab_record *record, uint64_t ordinal, uint64_t *worker, struct pidtab_call *call, struct pidtab_reply *reply)
+uint32_t proved_entry(struct pidtab *table, uint64_t ordinal, uint64_t *worker, struct pidtab_call *call, struct pidtab_reply *reply)
 {
-	instance *it = record->at;
+	instance *it = table->at;
 	uint32_t status;
 
-	if (!record->is_open)
+	if (!table->is_open)
 		return PIDTAB_CLOSED;
 	put(it, NUMBERS, &ordinal, sizeof ordinal);
-	status = fetched(it, Z_pidtabZ_record_entry(it), NUMBERS, worker, sizeof *worker);
+	status = fetched(it, Z_pidtabZ_entry(it), NUMBERS, worker, sizeof *worker);
 	return fetched(it, fetched(it, status, CALL, call, sizeof *call), REPLY, reply, sizeof *reply);
 }
 
-uint32_t proved_record_read(struct pidtab_record *record, uint64_t from, struct pidtab_entry *entries, size_t room, size_t *count)
+uint32_t proved_read(struct pidtab *table, uint64_t from, struct pidtab_entry *entries, size_t room, size_t *count)
 {
 	uint64_t first = 0, recorded = 0;
-	uint32_t status = proved_record_counts(record, &first, &recorded);
+	uint32_t status = proved_counts(table, &first, &recorded);
 
 	if (status != PIDTAB_DONE)
 		return status;
@@ -653,7 +571,7 @@ uint32_t proved_record_read(struct pidtab_record *record, uint64_t from, struct 
 		return PIDTAB_NOT_KEPT;
 	for (*count = 0; *count < room && from + *count < recorded; ++*count) {
 		struct pidtab_entry *it = &entries[*count];
-		status = proved_record_entry(record, from + *count, &it->worker, &it->call, &it->reply);
+		status = proved_entry(table, from + *count, &it->worker, &it->call, &it->reply);
 		if (status != PIDTAB_DONE)
 			return status;
 	}
@@ -666,15 +584,18 @@ static bool is_same(const struct pidtab_reply *one, const struct pidtab_reply *o
 		one->first == other->first && one->second == other->second && memcmp(one->levels, other->levels, sizeof one->levels) == 0;
 }
 
-uint32_t proved_record_replay(struct pidtab_record *record, const struct pidtab_entry *saved, size_t count, size_t *place)
+uint32_t proved_replay(struct pidtab *table, const struct pidtab_entry *saved, size_t count, size_t *place)
 {
-	if (!record->is_open)
-		return PIDTAB_CLOSED;
+	uint64_t first, recorded;
+	uint32_t known = proved_counts(table, &first, &recorded);
+
+	if (known != PIDTAB_DONE)
+		return known;
 	for (*place = 0; *place < count; ++*place) {
 		struct pidtab_reply reply;
 		uint64_t ordinal;
 		uint32_t worker = saved[*place].worker < PIDTAB_MOST_WORKERS ? (uint32_t)saved[*place].worker : PIDTAB_MOST_WORKERS;
-		uint32_t status = proved_record_call(record, worker, &saved[*place].call, &reply, &ordinal);
+		uint32_t status = proved_call_by(table, worker, &saved[*place].call, &reply, &ordinal);
 		if (status != PIDTAB_DONE)
 			return status;
 		if (!is_same(&reply, &saved[*place].reply))
@@ -683,42 +604,32 @@ uint32_t proved_record_replay(struct pidtab_record *record, const struct pidtab_
 	return PIDTAB_DONE;
 }
 
-uint32_t proved_record_keep(struct pidtab_record *record, uint64_t keep)
+uint32_t proved_keep(struct pidtab *table, uint64_t keep)
 {
-	instance *it = record->at;
+	instance *it = table->at;
 
-	if (!record->is_open)
+	if (!table->is_open)
 		return PIDTAB_CLOSED;
 	put(it, NUMBERS, &keep, sizeof keep);
-	return Z_pidtabZ_record_keep(it);
+	return Z_pidtabZ_keep(it);
 }
 
-uint32_t proved_record_checkpoint(struct pidtab_record *record)
+uint32_t proved_checkpoint(struct pidtab *table)
 {
-	return record->is_open ? Z_pidtabZ_record_checkpoint(record->at) : PIDTAB_CLOSED;
+	return table->is_open ? Z_pidtabZ_checkpoint(table->at) : PIDTAB_CLOSED;
 }
 
-uint32_t proved_record_checkpoint_at(struct pidtab_record *record, uint64_t seen)
+uint32_t proved_checkpoint_at(struct pidtab *table, uint64_t seen)
 {
-	instance *it = record->at;
+	instance *it = table->at;
 
-	if (!record->is_open)
+	if (!table->is_open)
 		return PIDTAB_CLOSED;
 	put(it, NUMBERS, &seen, sizeof seen);
-	return Z_pidtabZ_record_checkpoint_at(it);
+	return Z_pidtabZ_checkpoint_at(it);
 }
 
-uint32_t proved_record_list(struct pidtab_record *record, void *bytes, size_t room, size_t *size)
+uint32_t proved_opening(struct pidtab *table, void *bytes, size_t room, size_t *size)
 {
-	return record->is_open ? written(record->at, Z_pidtabZ_record_list, bytes, room, size) : PIDTAB_CLOSED;
-}
-
-uint32_t proved_record_opening(struct pidtab_record *record, void *bytes, size_t room, size_t *size)
-{
-	return record->is_open ? written(record->at, Z_pidtabZ_record_opening, bytes, room, size) : PIDTAB_CLOSED;
-}
-
-uint32_t proved_record_dump(struct pidtab_record *record, void *bytes, size_t room, size_t *size)
-{
-	return record->is_open ? written(record->at, Z_pidtabZ_record_dump, bytes, room, size) : PIDTAB_CLOSED;
+	return table->is_open ? written(table->at, Z_pidtabZ_opening, bytes, room, size) : PIDTAB_CLOSED;
 }

@@ -15,7 +15,7 @@ export const GREATEST_PID_MAX = 4194304;
 // Written by tools/interface: statuses.
 export const STATUS = {
   DONE: 0, CLOSED: 9, NO_MEMORY: 12, BUSY: 16, OUT_OF_RANGE: 22, NO_ROOM: 34, EMPTY_LINE: 61, BAD_LINE: 71, SPENT: 75, DIFFERS: 74,
-  BAD_TEXT: 117, NOT_KEPT: 2, AGAIN: 11,
+  BAD_TEXT: 117, NOT_KEPT: 2, AGAIN: 11, NO_HISTORY: 95,
 };
 // The end of statuses.
 

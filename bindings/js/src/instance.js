@@ -1,4 +1,4 @@
-// An instance of the module, which holds one table or one record: wasm/around.c says what its functions take, and where.
+// An instance of the module, which holds one table, with its history or without: wasm/around.c says what its functions take, and where.
 
 import { faultOf, NoMemory, TableClosed } from "./faults.js";
 import { CALL, STATUS } from "./header.js";
@@ -30,13 +30,12 @@ function placesOf(exports) {
 }
 
 export class Instance {
-  /** The functions on a record have names that begin with `record_`. */
-  constructor(prefix) {
+  constructor() {
     // A copy, as it is quicker to look up names in.
     this.exports = { ...new WebAssembly.Instance(compiled, {}).exports };
     this.memory = this.exports.memory;
     this.at = placesOf(this.exports);
-    for (const name of ["load", "ask", "stat", "page", "space", "inside", "control_tasks", "would", "list", "dump"]) this[name] = this.exports[`${prefix}${name}`];
+    for (const name of ["load", "ask", "stat", "page", "space", "inside", "control_tasks", "would", "list", "dump"]) this[name] = this.exports[name];
     this.look();
   }
 

@@ -7,7 +7,7 @@ import { Instance } from "./instance.js";
 export class Lines extends EachCall {
   constructor() {
     super();
-    this._instance = new Instance("");
+    this._instance = new Instance();
   }
 
   _open() {

@@ -37,15 +37,15 @@ class Seat extends Calls {
   }
 
   _call(instance) {
-    return this._recorded(instance, instance.exports.record_call(this.worker));
+    return this._recorded(instance, instance.exports.call_by(this.worker));
   }
 
   _forkAt(instance, numbers) {
-    return this._recorded(instance, instance.exports.record_fork_at(this.worker, ...numbers));
+    return this._recorded(instance, instance.exports.fork_at_by(this.worker, ...numbers));
   }
 
   _callTold(instance, address, room) {
-    const status = this._recorded(instance, instance.exports.record_call_told(this.worker, address, room));
+    const status = this._recorded(instance, instance.exports.call_told_by(this.worker, address, room));
     return [status, Number(instance.numberAt(1))];
   }
 
@@ -54,7 +54,7 @@ class Seat extends Calls {
   }
 
   _line(instance, length) {
-    return this._recorded(instance, instance.exports.record_line(this.worker, length, ANSWER_ROOM));
+    return this._recorded(instance, instance.exports.line_by(this.worker, length, ANSWER_ROOM));
   }
 
   close() {
@@ -66,9 +66,9 @@ export class Record {
   constructor(options = {}) {
     const { workers = 4, pidMax = DEFAULT_PID_MAX, firstStamp = 1n } = checkOptions(options, "workers", "pidMax", "firstStamp");
     const settings = { workers: checkWorkers(workers), pidMax: checkPidMax(pidMax), firstStamp: checkLong("firstStamp", firstStamp, 1n) };
-    const instance = new Instance("record_");
+    const instance = new Instance();
     instance.writeNumbers([settings.firstStamp]);
-    checkOpened(instance, instance.exports.record_open(pidMax, workers), "open");
+    checkOpened(instance, instance.exports.open_with(pidMax, workers), "open");
     this._begin(instance, settings);
   }
 
@@ -76,9 +76,9 @@ export class Record {
     const { workers = 4, recorded = Array(checkWorkers(workers)).fill(0n) } = checkOptions(options, "workers", "recorded");
     const before = Array.from(recorded, (count) => checkLong("recorded", count));
     const count = checkRange("the numbers of `recorded`", before.length, 1, MOST_WORKERS);
-    const instance = new Instance("record_");
+    const instance = new Instance();
     instance.writeNumbers(before);
-    const status = instance.given(text, (address, length) => instance.load(address, length, count));
+    const status = instance.given(text, (address, length) => instance.exports.load_with(address, length, count));
     if (status === STATUS.OUT_OF_RANGE) throw new RangeError("recorded: as many calls as the stamp of the text, or more");
     checkOpened(instance, status, "load");
     const { pidMax, stamp } = headOf(text);
@@ -105,7 +105,7 @@ export class Record {
   /** What a function of the record told, as so many numbers, where it was done. */
   _told(name, count, ...given) {
     const instance = this._open();
-    const status = instance.exports[`record_${name}`](...given);
+    const status = instance.exports[name](...given);
     if (status !== STATUS.DONE) throw faultOf(status, name);
     return Array.from({ length: count }, (_, place) => instance.numberAt(place));
   }
@@ -129,7 +129,7 @@ export class Record {
     const instance = this._open();
     const place = checkLong("ordinal", ordinal);
     instance.writeNumbers([place]);
-    const status = instance.exports.record_entry();
+    const status = instance.exports.entry();
     if (status !== STATUS.DONE) throw faultOf(status, `entry ${place}`);
     const [worker, answer] = [Number(instance.numberAt(0)), answerAt(instance, instance.at.reply.word)];
     return { ordinal: place, worker, line: instance.callLine(), answer };
@@ -160,7 +160,7 @@ export class Record {
   checkpointAt(seen) {
     const instance = this._open();
     instance.writeNumbers([checkLong("seen", seen)]);
-    const status = instance.exports.record_checkpoint_at();
+    const status = instance.exports.checkpoint_at();
     if (status !== STATUS.DONE && status !== STATUS.AGAIN) throw faultOf(status, "checkpoint");
     return status === STATUS.DONE;
   }

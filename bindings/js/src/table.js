@@ -34,13 +34,13 @@ export class Table extends Calls {
     super();
     const { pidMax = DEFAULT_PID_MAX } = checkOptions(options, "pidMax");
     const bound = checkPidMax(pidMax);
-    const instance = new Instance("");
+    const instance = new Instance();
     checkOpened(instance, instance.exports.open(bound), "open");
     this._begin(instance, bound);
   }
 
   static load(text) {
-    const instance = new Instance("");
+    const instance = new Instance();
     checkOpened(instance, instance.given(text, instance.load), "load");
     const table = Object.create(this.prototype);
     table._begin(instance, headOf(text).pidMax);
@@ -61,19 +61,19 @@ export class Table extends Calls {
   }
 
   _call(instance) {
-    return instance.exports.call();
+    return instance.exports.call_by(0);
   }
 
   _forkAt(instance, numbers) {
-    return instance.exports.fork_at(...numbers);
+    return instance.exports.fork_at_by(0, ...numbers);
   }
 
   _callTold(instance, address, room) {
-    return [instance.exports.call_told(address, room), Number(instance.numberAt(0))];
+    return [instance.exports.call_told_by(0, address, room), Number(instance.numberAt(1))];
   }
 
   _line(instance, length) {
-    return instance.exports.line(length, ANSWER_ROOM);
+    return instance.exports.line_by(0, length, ANSWER_ROOM);
   }
 
   _forked(root) {

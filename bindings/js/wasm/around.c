@@ -1,7 +1,7 @@
-/* One table, or one record, for callers in another memory. Each number that passes has 32 bits: one of 64 would be a BigInt in JavaScript, and each call
+/* One table, with its history or without, for callers in another memory. Each number that passes has 32 bits: one of 64 would be a BigInt in JavaScript, and each call
  * would make some.
  *
- * What is longer stands at fixed places of the memory, which `place_of` tells. The functions of pidtab.h are the proved ones, without the guard of
+ * What is longer stands at fixed places of the memory, which `place_of` tells. The functions are the proved ones, without the guard of
  * bindings/c, as an instance of the module has one thread. None is closed: all of it goes with its instance.
  */
 #include <pidtab.h>
@@ -15,10 +15,25 @@ void heap_free(void *at);
 /* A function that the build exports. By an attribute, the compiler would ask for a table of functions, which wasm-opt cannot lower. */
 #define EXPORTED(name) name
 
-static union {
-	struct pidtab table;
-	struct pidtab_record record;
-} held;
+/* The proved functions whose names pidtab.h has not. */
+/* Written by tools/interface: declarations. */
+uint32_t pidtab_open_with(struct pidtab *table, uint32_t pid_max, uint64_t first_stamp, uint32_t workers);
+uint32_t pidtab_call_by(struct pidtab *table, uint32_t worker, const struct pidtab_call *call, struct pidtab_reply *reply, uint64_t *ordinal);
+uint32_t pidtab_call_keeping(struct pidtab *table, uint32_t worker, const struct pidtab_call *call, uint64_t keep, struct pidtab_reply *reply, uint64_t *ordinal);
+uint32_t pidtab_line_by(struct pidtab *table, uint32_t worker, const void *line, size_t length, void *answer, size_t room, size_t *size, uint64_t *ordinal);
+uint32_t pidtab_fork_at_by(struct pidtab *table, uint32_t worker, uint32_t caller, uint32_t new_space, uint32_t child, uint32_t root, struct pidtab_reply *reply, uint64_t *ordinal);
+uint32_t pidtab_call_told_by(struct pidtab *table, uint32_t worker, const struct pidtab_call *call, struct pidtab_reply *reply, uint64_t *ordinal, struct pidtab_effect *effects, size_t room, uint64_t *count);
+uint32_t pidtab_counts(const struct pidtab *table, uint64_t *first_kept, uint64_t *recorded);
+uint32_t pidtab_worker(const struct pidtab *table, uint32_t worker, uint64_t *calls);
+uint32_t pidtab_entry(const struct pidtab *table, uint64_t ordinal, uint64_t *worker, struct pidtab_call *call, struct pidtab_reply *reply);
+uint32_t pidtab_keep(struct pidtab *table, uint64_t keep);
+uint32_t pidtab_checkpoint(struct pidtab *table);
+uint32_t pidtab_checkpoint_at(struct pidtab *table, uint64_t seen);
+uint32_t pidtab_opening(const struct pidtab *table, void *bytes, size_t room, size_t *size);
+uint32_t pidtab_load_with(struct pidtab *table, const void *text, size_t length, const uint64_t *counts, size_t workers, struct pidtab_fault *fault);
+/* The end of declarations. */
+
+static struct pidtab held;
 
 static struct {
 	struct pidtab_call call;
@@ -60,77 +75,57 @@ void EXPORTED(give)(uint32_t address)
 /* Written by tools/interface: functions. */
 uint32_t EXPORTED(open)(uint32_t pid_max)
 {
-	return pidtab_open(&held.table, pid_max);
-}
-
-uint32_t EXPORTED(line)(uint32_t length, uint32_t room)
-{
-	return pidtab_line(&held.table, at.line, length, at.answer, room < ANSWER_ROOM ? room : ANSWER_ROOM, &at.size);
+	return pidtab_open(&held, pid_max);
 }
 
 uint32_t EXPORTED(list)(uint32_t bytes, uint32_t room)
 {
-	return pidtab_list(&held.table, pointer(bytes), room, &at.size);
+	return pidtab_list(&held, pointer(bytes), room, &at.size);
 }
 
 uint32_t EXPORTED(dump)(uint32_t bytes, uint32_t room)
 {
-	return pidtab_dump(&held.table, pointer(bytes), room, &at.size);
+	return pidtab_dump(&held, pointer(bytes), room, &at.size);
 }
 
 uint32_t EXPORTED(load)(uint32_t text, uint32_t length)
 {
-	return pidtab_load(&held.table, pointer(text), length, &at.fault);
-}
-
-uint32_t EXPORTED(call)(void)
-{
-	return pidtab_call(&held.table, &at.call, &at.reply);
+	return pidtab_load(&held, pointer(text), length, &at.fault);
 }
 
 uint32_t EXPORTED(ask)(void)
 {
-	return pidtab_ask(&held.table, &at.call, &at.reply);
+	return pidtab_ask(&held, &at.call, &at.reply);
 }
 
 uint32_t EXPORTED(stat)(uint32_t caller, uint32_t number)
 {
-	return pidtab_stat(&held.table, caller, number, &at.task);
+	return pidtab_stat(&held, caller, number, &at.task);
 }
 
 uint32_t EXPORTED(page)(uint32_t caller, uint32_t whom, uint32_t number, uint32_t from, uint32_t numbers, uint32_t room)
 {
-	return pidtab_page(&held.table, caller, whom, number, from, pointer(numbers), room, &at.reply);
+	return pidtab_page(&held, caller, whom, number, from, pointer(numbers), room, &at.reply);
 }
 
 uint32_t EXPORTED(space)(void)
 {
-	return pidtab_space(&held.table, at.numbers[0], &at.space);
+	return pidtab_space(&held, at.numbers[0], &at.space);
 }
 
 uint32_t EXPORTED(inside)(uint32_t tree, uint32_t ids, uint32_t room)
 {
-	return pidtab_inside(&held.table, tree, at.numbers[0], at.numbers[1], pointer(ids), room, &at.numbers[2]);
+	return pidtab_inside(&held, tree, at.numbers[0], at.numbers[1], pointer(ids), room, &at.numbers[2]);
 }
 
 uint32_t EXPORTED(control_tasks)(uint32_t caller, uint32_t from, uint32_t numbers, uint32_t room)
 {
-	return pidtab_control_tasks(&held.table, caller, at.numbers[0], from, pointer(numbers), room, &at.reply);
+	return pidtab_control_tasks(&held, caller, at.numbers[0], from, pointer(numbers), room, &at.reply);
 }
 
 uint32_t EXPORTED(would)(void)
 {
-	return pidtab_would(&held.table, &at.call, &at.reply);
-}
-
-uint32_t EXPORTED(fork_at)(uint32_t caller, uint32_t new_space, uint32_t child, uint32_t root)
-{
-	return pidtab_fork_at(&held.table, caller, new_space, child, root, &at.reply);
-}
-
-uint32_t EXPORTED(call_told)(uint32_t effects, uint32_t room)
-{
-	return pidtab_call_told(&held.table, &at.call, &at.reply, pointer(effects), room, &at.numbers[0]);
+	return pidtab_would(&held, &at.call, &at.reply);
 }
 
 uint32_t EXPORTED(call_line)(void)
@@ -143,118 +138,73 @@ uint32_t EXPORTED(reply_line)(uint32_t room)
 	return pidtab_reply_line(&at.reply, at.answer, room < ANSWER_ROOM ? room : ANSWER_ROOM, &at.size);
 }
 
-uint32_t EXPORTED(record_open)(uint32_t pid_max, uint32_t workers)
+uint32_t EXPORTED(open_with)(uint32_t pid_max, uint32_t workers)
 {
-	return pidtab_record_open(&held.record, pid_max, at.numbers[0], workers);
+	return pidtab_open_with(&held, pid_max, at.numbers[0], workers);
 }
 
-uint32_t EXPORTED(record_call)(uint32_t worker)
+uint32_t EXPORTED(call_by)(uint32_t worker)
 {
-	return pidtab_record_call(&held.record, worker, &at.call, &at.reply, &at.numbers[0]);
+	return pidtab_call_by(&held, worker, &at.call, &at.reply, &at.numbers[0]);
 }
 
-uint32_t EXPORTED(record_call_keeping)(uint32_t worker)
+uint32_t EXPORTED(call_keeping)(uint32_t worker)
 {
-	return pidtab_record_call_keeping(&held.record, worker, &at.call, at.numbers[1], &at.reply, &at.numbers[0]);
+	return pidtab_call_keeping(&held, worker, &at.call, at.numbers[1], &at.reply, &at.numbers[0]);
 }
 
-uint32_t EXPORTED(record_line)(uint32_t worker, uint32_t length, uint32_t room)
+uint32_t EXPORTED(line_by)(uint32_t worker, uint32_t length, uint32_t room)
 {
-	return pidtab_record_line(&held.record, worker, at.line, length, at.answer, room < ANSWER_ROOM ? room : ANSWER_ROOM, &at.size, &at.numbers[0]);
+	return pidtab_line_by(&held, worker, at.line, length, at.answer, room < ANSWER_ROOM ? room : ANSWER_ROOM, &at.size, &at.numbers[0]);
 }
 
-uint32_t EXPORTED(record_ask)(void)
+uint32_t EXPORTED(fork_at_by)(uint32_t worker, uint32_t caller, uint32_t new_space, uint32_t child, uint32_t root)
 {
-	return pidtab_record_ask(&held.record, &at.call, &at.reply);
+	return pidtab_fork_at_by(&held, worker, caller, new_space, child, root, &at.reply, &at.numbers[0]);
 }
 
-uint32_t EXPORTED(record_stat)(uint32_t caller, uint32_t number)
+uint32_t EXPORTED(call_told_by)(uint32_t worker, uint32_t effects, uint32_t room)
 {
-	return pidtab_record_stat(&held.record, caller, number, &at.task);
+	return pidtab_call_told_by(&held, worker, &at.call, &at.reply, &at.numbers[0], pointer(effects), room, &at.numbers[1]);
 }
 
-uint32_t EXPORTED(record_page)(uint32_t caller, uint32_t whom, uint32_t number, uint32_t from, uint32_t numbers, uint32_t room)
+uint32_t EXPORTED(counts)(void)
 {
-	return pidtab_record_page(&held.record, caller, whom, number, from, pointer(numbers), room, &at.reply);
+	return pidtab_counts(&held, &at.numbers[0], &at.numbers[1]);
 }
 
-uint32_t EXPORTED(record_space)(void)
+uint32_t EXPORTED(worker)(uint32_t worker)
 {
-	return pidtab_record_space(&held.record, at.numbers[0], &at.space);
+	return pidtab_worker(&held, worker, &at.numbers[0]);
 }
 
-uint32_t EXPORTED(record_inside)(uint32_t tree, uint32_t ids, uint32_t room)
+uint32_t EXPORTED(entry)(void)
 {
-	return pidtab_record_inside(&held.record, tree, at.numbers[0], at.numbers[1], pointer(ids), room, &at.numbers[2]);
+	return pidtab_entry(&held, at.numbers[0], &at.numbers[0], &at.call, &at.reply);
 }
 
-uint32_t EXPORTED(record_control_tasks)(uint32_t caller, uint32_t from, uint32_t numbers, uint32_t room)
+uint32_t EXPORTED(keep)(void)
 {
-	return pidtab_record_control_tasks(&held.record, caller, at.numbers[0], from, pointer(numbers), room, &at.reply);
+	return pidtab_keep(&held, at.numbers[0]);
 }
 
-uint32_t EXPORTED(record_would)(void)
+uint32_t EXPORTED(checkpoint)(void)
 {
-	return pidtab_record_would(&held.record, &at.call, &at.reply);
+	return pidtab_checkpoint(&held);
 }
 
-uint32_t EXPORTED(record_fork_at)(uint32_t worker, uint32_t caller, uint32_t new_space, uint32_t child, uint32_t root)
+uint32_t EXPORTED(checkpoint_at)(void)
 {
-	return pidtab_record_fork_at(&held.record, worker, caller, new_space, child, root, &at.reply, &at.numbers[0]);
+	return pidtab_checkpoint_at(&held, at.numbers[0]);
 }
 
-uint32_t EXPORTED(record_call_told)(uint32_t worker, uint32_t effects, uint32_t room)
+uint32_t EXPORTED(opening)(uint32_t bytes, uint32_t room)
 {
-	return pidtab_record_call_told(&held.record, worker, &at.call, &at.reply, &at.numbers[0], pointer(effects), room, &at.numbers[1]);
+	return pidtab_opening(&held, pointer(bytes), room, &at.size);
 }
 
-uint32_t EXPORTED(record_counts)(void)
+uint32_t EXPORTED(load_with)(uint32_t text, uint32_t length, uint32_t workers)
 {
-	return pidtab_record_counts(&held.record, &at.numbers[0], &at.numbers[1]);
-}
-
-uint32_t EXPORTED(record_worker)(uint32_t worker)
-{
-	return pidtab_record_worker(&held.record, worker, &at.numbers[0]);
-}
-
-uint32_t EXPORTED(record_entry)(void)
-{
-	return pidtab_record_entry(&held.record, at.numbers[0], &at.numbers[0], &at.call, &at.reply);
-}
-
-uint32_t EXPORTED(record_keep)(void)
-{
-	return pidtab_record_keep(&held.record, at.numbers[0]);
-}
-
-uint32_t EXPORTED(record_checkpoint)(void)
-{
-	return pidtab_record_checkpoint(&held.record);
-}
-
-uint32_t EXPORTED(record_checkpoint_at)(void)
-{
-	return pidtab_record_checkpoint_at(&held.record, at.numbers[0]);
-}
-
-uint32_t EXPORTED(record_list)(uint32_t bytes, uint32_t room)
-{
-	return pidtab_record_list(&held.record, pointer(bytes), room, &at.size);
-}
-
-uint32_t EXPORTED(record_opening)(uint32_t bytes, uint32_t room)
-{
-	return pidtab_record_opening(&held.record, pointer(bytes), room, &at.size);
-}
-
-uint32_t EXPORTED(record_dump)(uint32_t bytes, uint32_t room)
-{
-	return pidtab_record_dump(&held.record, pointer(bytes), room, &at.size);
-}
-
-uint32_t EXPORTED(record_load)(uint32_t text, uint32_t length, uint32_t workers)
-{
-	return pidtab_record_load(&held.record, pointer(text), length, at.numbers, workers, &at.fault);
+	return pidtab_load_with(&held, pointer(text), length, at.numbers, workers, &at.fault);
 }
 /* The end of functions. */

@@ -19,6 +19,7 @@ BAD_TEXT = 117
 # Of a history besides.
 NOT_KEPT = 2
 AGAIN = 11
+NO_HISTORY = 95
 
 # Of a saved history besides.
 DEVICE = 5

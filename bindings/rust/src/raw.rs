@@ -26,6 +26,7 @@ mod statuses {
     pub(crate) const BAD_TEXT: u32 = 117;
     pub(crate) const NOT_KEPT: u32 = 2;
     pub(crate) const AGAIN: u32 = 11;
+    pub(crate) const NO_HISTORY: u32 = 95;
     pub(crate) const DEVICE: u32 = 5;
     pub(crate) const NOT_SAVED: u32 = 8;
     pub(crate) const NOT_EMPTY: u32 = 17;

@@ -1,5 +1,5 @@
 -- What is told where a function is done, or why it is not.
-use Rattle.std.proofs.Common.{◌≡◌, ◌<◌, ◌++◌, ◌∷◌, ◌↔◌, ◌∙◌, [], ℕ, List, length, take, Option, Some, None, Result, Err, IsTrue, option_map, refl, sym, ap, inl, inr, arith}
+use Rattle.std.proofs.Common.{◌≡◌, ◌<◌, ◌++◌, ◌∷◌, ◌↔◌, ◌∙◌, [], ℕ, List, length, take, Option, Some, None, Result, Err, IsTrue, option_map, refl, sym, ap, subst, inl, inr, arith}
 use Rattle.std.proofs.lemmas.Bool.Decides.{leb_tells}
 use Rattle.std.proofs.lemmas.Option.{none-some, same_Some}
 use Rattle.pid_types.specs.declared.call.Call.{Call}
@@ -16,7 +16,12 @@ use Rattle.foreign_numbers.specs.declared.status.TheConstants.{DONE, NOT_KEPT, N
 use Rattle.foreign_calls.specs.Asked.{TellsAnswer}
 use Rattle.foreign_calls.specs.Held.{IsDoneOr}
 use Rattle.foreign_calls.specs.Made.{IsSpent, TellsReply}
-use Rattle.foreign_calls.specs.Records.{RecordsCall, memoryless, roomless}
+use Rattle.foreign_calls.specs.Calls.{HasMade, MakesCall}
+use Rattle.foreign_calls.specs.Records.{memoryless, roomless}
+use Rattle.foreign_handles.specs.Held.{stamped}
+use Rattle.foreign_handles.specs.declared.held.Held.{Held}
+use Rattle.foreign_handles.specs.declared.held.Held.TheVariants.{Bare, Recorded}
+use Rattle.stamped_table.specs.Stamped.{Stamped, after_call}
 use Rattle.foreign_calls.specs.Replicas.{TellsFound}
 use Rattle.foreign_calls.specs.Rooms.{KeepsRoom, PutsLine}
 
@@ -66,11 +71,11 @@ tells_none found before none = record {
 roomless_same : (c d : Chronicle) → MakesRoom c d → roomless d ≡ roomless c
 roomless_same c d makes = ap roomless makes.same ∙ ap (λ (w : Waiting). record c { memory = record { room = 0; waits = w } }) makes.waits
 
--- the worker's call was made, or not
-pub records_call : (c d : Chronicle) (worker : ℕ) (call : Call) (before place : ℕ) → worker < length c.cut → (IsSpent (next_stamp c) → ⊥) → place ≡ total c
+-- the worker's call was made and recorded, or not
+pub makes_recorded : (c d : Chronicle) (worker : ℕ) (call : Call) (before place : ℕ) → worker < length c.cut → (IsSpent (next_stamp c) → ⊥) → place ≡ total c
     → d.entries ≡ c.entries ++ entry_of c worker call ∷ [] → d.present ≡ (outcome c call).state → d ≡ counted c d.entries d.present d.memory → IsCaughtUp 2 c.memory.waits d.memory.waits
-    → RecordsCall c worker call before place DONE d
-records_call c d worker call before place known unspent at history step others moved = record {
+    → MakesCall (Recorded c) worker call before place DONE (Recorded d)
+makes_recorded c d worker call before place known unspent at history step others moved = record {
   done = λ _. record { left = ap Some (ap memoryless others ∙ (λ i. counted c (history i) (step i) nothing_spare)); moved = moved; place = at };
   not_done = λ not. absurd (not refl);
   why = record {
@@ -81,14 +86,14 @@ records_call c d worker call before place known unspent at history step others m
   };
 }
 
-pub records_none : {A : Type 0} (r : Result A CallFault) (fault : CallFault) (c d : Chronicle) (worker : ℕ) (call : Call) (ordinal status : ℕ) → r ≡ Err fault
+pub makes_none : {A : Type 0} (r : Result A CallFault) (fault : CallFault) (c d : Chronicle) (worker : ℕ) (call : Call) (ordinal status : ℕ) → r ≡ Err fault
     → worker < length c.cut → MakesRoom c d → ((r ≡ Err Spent) ↔ IsSpent (next_stamp c))
     → (r ≡ Err NoMemory → 0 < c.memory.room → IsTrue (may_grow call)) → (fault ≡ NoMemory → status ≡ NO_MEMORY) → (fault ≡ Spent → status ≡ SPENT)
-    → RecordsCall c worker call ordinal ordinal status d
-records_none r NoMemory c d worker call ordinal status err known makes spent grows none spends =
+    → MakesCall (Recorded c) worker call ordinal ordinal status (Recorded d)
+makes_none r NoMemory c d worker call ordinal status err known makes spent grows none spends =
     let is : status ≡ NO_MEMORY = none refl in record {
       done = λ done. let z : NO_MEMORY ≡ DONE = sym is ∙ done in absurd (omega (arith, z));
-      not_done = λ _. (roomless_same c d makes, refl);
+      not_done = λ _. (ap Recorded (roomless_same c d makes), refl);
       why = record {
         out_of_range = (λ out. let z : NO_MEMORY ≡ OUT_OF_RANGE = sym is ∙ out in absurd (omega (arith, z)), λ past. absurd (omega (arith, past, known)));
         spent = (λ gone. let z : NO_MEMORY ≡ SPENT = sym is ∙ gone in absurd (omega (arith, z)), λ p. let never = sym err ∙ spent.1 p.1 in cc never);
@@ -96,10 +101,10 @@ records_none r NoMemory c d worker call ordinal status err known makes spent gro
         statuses = inr (inr (inr is));
       };
     }
-records_none r Spent c d worker call ordinal status err known makes spent grows none spends =
+makes_none r Spent c d worker call ordinal status err known makes spent grows none spends =
     let is : status ≡ SPENT = spends refl in record {
       done = λ done. let z : SPENT ≡ DONE = sym is ∙ done in absurd (omega (arith, z));
-      not_done = λ _. (roomless_same c d makes, refl);
+      not_done = λ _. (ap Recorded (roomless_same c d makes), refl);
       why = record {
         out_of_range = (λ out. let z : SPENT ≡ OUT_OF_RANGE = sym is ∙ out in absurd (omega (arith, z)), λ past. absurd (omega (arith, past, known)));
         spent = (λ _. (known, spent.0 err), λ _. is);
@@ -109,12 +114,27 @@ records_none r Spent c d worker call ordinal status err known makes spent grows 
     }
 
 -- whose call was made is a worker
-pub is_known : (c : Chronicle) (worker : ℕ) (call : Call) (before ordinal status : ℕ) (d : Chronicle) → status ≡ DONE → RecordsCall c worker call before ordinal status d → worker < length c.cut
-is_known c worker call before ordinal status d done records =
+pub is_known : (c : Chronicle) (worker : ℕ) (call : Call) (before ordinal status : ℕ) (d : Chronicle) → status ≡ DONE
+    → MakesCall (Recorded c) worker call before ordinal status (Recorded d) → worker < length c.cut
+is_known c worker call before ordinal status d done makes =
     elim (leb_tells (length c.cut) worker) [
-      | inl past ↦ let z : DONE ≡ OUT_OF_RANGE = sym done ∙ records.why.out_of_range.1 past.1 in absurd (omega (arith, z))
+      | inl past ↦ let z : DONE ≡ OUT_OF_RANGE = sym done ∙ makes.why.out_of_range.1 past.1 in absurd (omega (arith, z))
       | inr within ↦ within.1
     ]
+
+-- what was made leaves the model's state, whether it is recorded or not
+pub state_made : (h new : Held) (worker : ℕ) (call : Call) (before ordinal : ℕ) → HasMade h worker call before ordinal new
+    → (stamped new).state ≡ (after_call (stamped h) call).state
+state_made (Bare s) new worker call before ordinal made = ap (λ (n : Held). (stamped n).state) made.0
+state_made (Recorded c) (Bare t) worker call before ordinal made = absurd made.moved
+state_made (Recorded c) (Recorded d) worker call before ordinal made = ap (λ (e : Chronicle). e.present) (same_Some (memoryless d) _ made.left)
+
+-- worker 0 of a table without a history makes a call
+pub by_worker_0 : (h : Held) (s : Stamped) (worker : ℕ) (call : Call) (place status : ℕ) (new : Held) → h ≡ Bare s → worker ≡ 0
+    → MakesCall (Bare s) 0 call place place status new → MakesCall h worker call place place status new
+by_worker_0 h s worker call place status new is zero makes =
+    subst (λ (g : Held). MakesCall g worker call place place status new) (sym is)
+    (subst (λ (w : ℕ). MakesCall (Bare s) w call place place status new) (sym zero) makes)
 
 -- a line is put, or there is no room for it
 within_range : (status : ℕ) → IsDoneOr status (NO_ROOM ∷ []) → status ≡ OUT_OF_RANGE → ⊥

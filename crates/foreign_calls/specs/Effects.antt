@@ -1,10 +1,9 @@
 -- What a call did to others, as numbers.
-use Rattle.std.specs.Prelude.{◌≡◌, ◌≢◌, ◌↔◌, ◌<◌, ◌≤◌, ◌⊎◌, [], ◌∷◌, ℕ, IsTrue, List, length, map, Some}
+use Rattle.std.specs.Prelude.{◌≡◌, ◌≢◌, ◌↔◌, ◌<◌, ◌≤◌, ◌⊎◌, [], ◌∷◌, ℕ, IsTrue, List, length, map}
 use Rattle.pid_types.specs.declared.call.Call.{Call}
 use Rattle.pid_types.specs.State.{State}
 use Rattle.pid_types.specs.Step.{may_grow}
 use Rattle.translate.specs.Pages.{with_front}
-use Rattle.kept_table.specs.Chronicle.{Chronicle, next_stamp}
 use Rattle.call_effects.specs.Effects.{AreEffects}
 use Rattle.call_effects.specs.Reckoned.{Reckons}
 use Rattle.call_effects.specs.Touched.{is_touching, most_in, most_of, Watching}
@@ -14,7 +13,9 @@ use Rattle.foreign_numbers.specs.declared.effects.EffectNumbers.{EffectNumbers}
 use Rattle.foreign_numbers.specs.declared.status.TheConstants.{DONE, OUT_OF_RANGE, SPENT, NO_MEMORY, NO_ROOM}
 use Rattle.foreign_calls.specs.Held.{IsDoneOr}
 use Rattle.foreign_calls.specs.Made.{IsSpent}
-use Rattle.foreign_calls.specs.Records.{roomless, IsRecorded}
+use Rattle.foreign_calls.specs.Calls.{visible, HasEntryRoom, HasMade}
+use Rattle.foreign_handles.specs.Held.{stamped, workers}
+use Rattle.foreign_handles.specs.declared.held.Held.{Held}
 
 -- what the way from the one state to the other did is at the front of the room, all of it, and how much it is is told
 pub record PutsEffects (old new : State) (before after : List EffectNumbers) (count : ℕ) : Type 0 where
@@ -45,14 +46,14 @@ abbrev pub MayWant : Call → Type 0
 MayWant call = IsTrue (may_grow call) ⊎ IsTrue (is_touching call)
 
 -- a worker's call is made, unless there is no such worker, no stamp, no memory for what it makes, its entry or its effects, or no room
-pub record IsToldStatus (c : Chronicle) (worker : ℕ) (call : Call) (status : ℕ) : Type 0 where
-  pub out_of_range : (status ≡ OUT_OF_RANGE) ↔ (length c.cut ≤ worker)
-  pub spent : (status ≡ SPENT) ↔ (worker < length c.cut) × IsSpent (next_stamp c)
-  pub no_memory : status ≡ NO_MEMORY → 0 < c.memory.room → MayWant call
+pub record IsToldStatus (h : Held) (worker : ℕ) (call : Call) (status : ℕ) : Type 0 where
+  pub out_of_range : (status ≡ OUT_OF_RANGE) ↔ (workers h ≤ worker)
+  pub spent : (status ≡ SPENT) ↔ (worker < workers h) × IsSpent (stamped h).stamp
+  pub no_memory : status ≡ NO_MEMORY → HasEntryRoom h → MayWant call
   pub statuses : IsDoneOr status (OUT_OF_RANGE ∷ SPENT ∷ NO_MEMORY ∷ NO_ROOM ∷ [])
 
--- the worker's call was made and recorded, or the status says why not, and nothing shows of it
-pub record RecordsTold (c : Chronicle) (worker : ℕ) (call : Call) (before ordinal status : ℕ) (d : Chronicle) : Type 0 where
-  pub done : status ≡ DONE → IsRecorded c worker call ordinal (Some d)
-  pub not_done : status ≢ DONE → (roomless d ≡ roomless c) × (ordinal ≡ before)
-  pub why : IsToldStatus c worker call status
+-- the worker's call was made, or the status says why not, and nothing shows of it
+pub record MakesTold (h : Held) (worker : ℕ) (call : Call) (before ordinal status : ℕ) (new : Held) : Type 0 where
+  pub done : status ≡ DONE → HasMade h worker call before ordinal new
+  pub not_done : status ≢ DONE → (visible new ≡ visible h) × (ordinal ≡ before)
+  pub why : IsToldStatus h worker call status

@@ -2,6 +2,8 @@ pub mod Held
 pub mod Made
 pub mod Lines
 pub mod Records
+pub mod Calls
+pub mod Numbered
 pub mod Rooms
 pub mod Entries
 pub mod Asked

@@ -1,16 +1,11 @@
--- What C's functions find and leave of a record.
-use Rattle.std.specs.Prelude.{◌≡◌, ◌≢◌, ◌↔◌, ◌<◌, ◌≤◌, ◌⊎◌, ℕ, [], ◌∷◌, length, Option, Some, None, IsSome, IsTrue, option_map, false}
+-- What C's functions find and leave of a table with its history.
+use Rattle.std.specs.Prelude.{◌≡◌, ◌≢◌, ◌<◌, ◌≤◌, ◌⊎◌, ℕ, length, Option, Some, None, option_map, false}
 use Rattle.pid_types.specs.declared.call.Call.{Call}
 use Rattle.pid_types.specs.Settings.{HasGoodPidMax}
-use Rattle.pid_types.specs.Step.{may_grow}
-use Rattle.saved_form.specs.declared.numbers.ReplyNumbers.{ReplyNumbers}
-use Rattle.kept_table.specs.Calls.{after_recorded, begun, cut_at, nothing_spare, outcome, to_cut, FewerWait, IsWithoutFirst, NoneWait}
+use Rattle.kept_table.specs.Calls.{after_recorded, begun, cut_at, nothing_spare, to_cut, FewerWait, IsWithoutFirst, NoneWait}
 use Rattle.kept_past.specs.Past.{IsCaughtUp}
-use Rattle.kept_table.specs.Chronicle.{Chronicle, total, recorded, next_stamp}
-use Rattle.foreign_numbers.specs.Numbers.{numbers_of}
-use Rattle.foreign_numbers.specs.declared.status.TheConstants.{DONE, OUT_OF_RANGE, SPENT, NO_MEMORY}
-use Rattle.foreign_calls.specs.Held.{IsDoneOr, NeedsOpen}
-use Rattle.foreign_calls.specs.Made.{IsSpent}
+use Rattle.kept_table.specs.Chronicle.{Chronicle, total, recorded}
+use Rattle.foreign_numbers.specs.declared.status.TheConstants.{DONE, NO_MEMORY}
 
 -- there is a value, and this is true of it
 abbrev pub Has : {X : Type 0} → Option X → (X → Type 0) → Type 0
@@ -25,10 +20,6 @@ roomless c = record c { memory = record { room = 0; waits = c.memory.waits } }
 abbrev pub memoryless : Chronicle → Chronicle
 memoryless c = record c { memory = nothing_spare }
 
--- what is held, without that number
-abbrev pub without_room : Option Chronicle → Option Chronicle
-without_room held = option_map roomless held
-
 abbrev pub without_memory : Option Chronicle → Option Chronicle
 without_memory held = option_map memoryless held
 
@@ -39,7 +30,7 @@ pub record CanOpen (pid_max first_stamp workers : ℕ) : Type 0 where
   pub some : 0 < workers
   pub few : workers ≤ 16
 
--- a record with the root init alone, and no call of any worker
+-- a table with a history, with the root init alone, and no call of any worker
 abbrev pub opened : ℕ → ℕ → ℕ → Chronicle
 opened pid_max first_stamp workers = begun (record { pid_max = pid_max; first_stamp = first_stamp }) workers 0
 
@@ -59,34 +50,6 @@ pub record IsRecordedKeeping (keep : ℕ) (c : Chronicle) (worker : ℕ) (call :
   pub bound : IsBounded keep c d
   pub fewer : FewerWait c.memory.waits d.memory.waits
   pub place : ordinal ≡ total c
-
--- a worker's call is made, unless there is no such worker, no stamp is left for it, or no memory for what it makes or for its entry
-pub record IsWorkerStatus (c : Chronicle) (worker : ℕ) (call : Call) (status : ℕ) : Type 0 where
-  pub out_of_range : (status ≡ OUT_OF_RANGE) ↔ (length c.cut ≤ worker)
-  pub spent : (status ≡ SPENT) ↔ (worker < length c.cut) × IsSpent (next_stamp c)
-  pub no_memory : status ≡ NO_MEMORY → 0 < c.memory.room → IsTrue (may_grow call)
-  pub statuses : IsDoneOr status (OUT_OF_RANGE ∷ SPENT ∷ NO_MEMORY ∷ [])
-
--- the worker's call was made and recorded, or the status says why not, and nothing shows of it
-pub record RecordsCall (c : Chronicle) (worker : ℕ) (call : Call) (before ordinal status : ℕ) (d : Chronicle) : Type 0 where
-  pub done : status ≡ DONE → IsRecorded c worker call ordinal (Some d)
-  pub not_done : status ≢ DONE → (roomless d ≡ roomless c) × (ordinal ≡ before)
-  pub why : IsWorkerStatus c worker call status
-
--- a call that numbers say is made on what is held, unless nothing is held, they say none, or a worker's call is not made
-pub record IsSaidStatus (held : Option Chronicle) (worker : ℕ) (said : Option Call) (status : ℕ) : Type 0 where
-  pub out_of_range : (status ≡ OUT_OF_RANGE) ↔ Has held (λ c. (said ≡ None) ⊎ (length c.cut ≤ worker))
-  pub spent : (status ≡ SPENT) ↔ IsSome said × Has held (λ c. (worker < length c.cut) × IsSpent (next_stamp c))
-  pub no_memory : status ≡ NO_MEMORY → (made : Call) × (said ≡ Some made) × Has held (λ c. 0 < c.memory.room → IsTrue (may_grow made))
-  pub needs_open : NeedsOpen held status (OUT_OF_RANGE ∷ SPENT ∷ NO_MEMORY ∷ [])
-
--- the worker's call that numbers say was made and recorded, and its reply is told; or the status says why not, and nothing shows of it
-pub record RecordsSaid (c : Chronicle) (worker : ℕ) (said : Option Call) (old new : ReplyNumbers)
-    (before ordinal status : ℕ) (d : Chronicle) : Type 0 where
-  pub done : status ≡ DONE → (made : Call) × (said ≡ Some made)
-      × IsRecorded c worker made ordinal (Some d) × (new ≡ numbers_of (outcome c made).reply)
-  pub not_done : status ≢ DONE → (roomless d ≡ roomless c) × (new ≡ old) × (ordinal ≡ before)
-  pub why : IsSaidStatus (Some c) worker said status
 
 -- the history was cut away: the present state is the opening, ordinals go on, and each worker's calls stay counted
 pub record IsCut (c d : Chronicle) : Type 0 where

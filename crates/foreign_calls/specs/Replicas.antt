@@ -1,5 +1,5 @@
 -- What C's functions find and leave of a replica and its table.
-use Rattle.std.specs.Prelude.{◌≡◌, ◌≢◌, ◌↔◌, ◌⊎◌, ◌==◌, ℕ, List, [], ◌∷◌, length, Option, Some, None}
+use Rattle.std.specs.Prelude.{◌≡◌, ◌≢◌, ◌↔◌, ◌⊎◌, ◌==◌, ℕ, List, [], ◌∷◌, length, Option, Some, None, IsSome}
 use Rattle.std.specs.Map.{lookup}
 use Rattle.replica.specs.Applied.{Refuses}
 use Rattle.replica.specs.Laws.{Applies}
@@ -12,8 +12,9 @@ use Rattle.replica.specs.declared.snapshot.HeadFault.{HeadFault}
 use Rattle.stamped_table.specs.Stamped.{Stamped}
 use Rattle.foreign_numbers.specs.Replicas.{applied_numbers, fault_status, head_status}
 use Rattle.foreign_numbers.specs.declared.replicas.AppliedNumbers.{AppliedNumbers}
-use Rattle.foreign_numbers.specs.declared.status.TheConstants.{DONE, CLOSED, BAD_TEXT, NOT_RISING, NO_ENTRY, OTHER_SETTINGS, MISSING, DIVERGED, NO_MEMORY, NOT_RECOVERABLE}
-use Rattle.foreign_calls.specs.Held.{IsDoneOr}
+use Rattle.foreign_numbers.specs.declared.status.TheConstants.{DONE, CLOSED, OUT_OF_RANGE, BAD_TEXT, NOT_RISING, NO_ENTRY, OTHER_SETTINGS, MISSING, DIVERGED, NO_MEMORY, NOT_RECOVERABLE}
+use Rattle.foreign_handles.specs.declared.held.Held.{Held}
+use Rattle.foreign_calls.specs.Held.{table_alone, history, IsDoneOr}
 use Rattle.foreign_calls.specs.Records.{Has}
 
 -- the entry was applied, and is told so
@@ -36,15 +37,17 @@ pub record AppliesEntry (position : ℕ) (bytes : List ℕ) (h : Hosted) (t : St
   pub refused : status ≢ DONE → IsRefused position bytes h t h' t' status
   pub not_done : status ≢ DONE → after ≡ before
 
--- the same of what is held
-pub record AppliesHeld (position : ℕ) (bytes : List ℕ) (host : Option Hosted) (table : Option Stamped)
-    (host' : Option Hosted) (table' : Option Stamped) (before after : AppliedNumbers) (status : ℕ) : Type 0 where
-  pub applies : status ≢ CLOSED → Has host (λ h. Has table (λ t. Has host' (λ h'. Has table' (λ t'.
+-- the same of what is held; a table with a history is no replica's
+pub record AppliesHeld (position : ℕ) (bytes : List ℕ) (host : Option Hosted) (table : Option Held)
+    (host' : Option Hosted) (table' : Option Held) (before after : AppliedNumbers) (status : ℕ) : Type 0 where
+  pub applies : status ≢ CLOSED → status ≢ OUT_OF_RANGE
+      → Has host (λ h. Has (table_alone table) (λ t. Has host' (λ h'. Has (table_alone table') (λ t'.
       AppliesEntry position bytes h t h' t' before after status))))
   pub closed : (status ≡ CLOSED) ↔ (host ≡ None) ⊎ (table ≡ None)
-  pub same : status ≡ CLOSED → (host' ≡ host) × (table' ≡ table) × (after ≡ before)
-  pub statuses :
-      IsDoneOr status (CLOSED ∷ NOT_RECOVERABLE ∷ NOT_RISING ∷ NO_ENTRY ∷ OTHER_SETTINGS ∷ MISSING ∷ DIVERGED ∷ NO_MEMORY ∷ [])
+  pub kept : (status ≡ OUT_OF_RANGE) ↔ IsSome host × IsSome (history table)
+  pub same : (status ≡ CLOSED) ⊎ (status ≡ OUT_OF_RANGE) → (host' ≡ host) × (table' ≡ table) × (after ≡ before)
+  pub statuses : IsDoneOr status (CLOSED ∷ OUT_OF_RANGE ∷ NOT_RECOVERABLE ∷ NOT_RISING ∷ NO_ENTRY ∷ OTHER_SETTINGS ∷ MISSING ∷ DIVERGED
+      ∷ NO_MEMORY ∷ [])
 
 -- the digest behind the entry at a position, if it is kept; and the last number of a session, if it is open
 abbrev pub digest_at : ℕ → Log → Option (List ℕ)

@@ -1,4 +1,4 @@
-//! The history of a record: its kept entries, cutting them away, and the lists of its states.
+//! The history of a table: its kept entries, cutting them away, and the list of the state that it begins in.
 ghost use Rattle.std.specs.Prelude.{◌≡◌, ◌≢◌, ◌↔◌, [], ◌∷◌, None, IfOk};
 ghost use Rattle.{
   kept_table.specs.Chronicle.{total, kept_entry},
@@ -12,7 +12,6 @@ use foreign_numbers::status::{AGAIN, DONE, NO_MEMORY, NOT_KEPT};
 use kept_table::Kept;
 use pid_script::list::list_text;
 use std::alloc::{AllocError, Global};
-use table_lines::list::list_table;
 
 /// Tells the kept entry with the ordinal. The result is the status.
 pub fn tell_entry(
@@ -37,7 +36,7 @@ pub fn tell_entry(
     DONE
 }
 
-/// Cuts the record's history. The result is the status.
+/// Cuts the history. The result is the status.
 pub fn cut_on(held: &mut Kept) -> u32
     ensures cuts { CutsIfDone held.old held.new result }
     ensures statuses { IsDoneOr result (NO_MEMORY ∷ []) }
@@ -48,7 +47,7 @@ pub fn cut_on(held: &mut Kept) -> u32
     }
 }
 
-/// Cuts the record's history, but only where exactly so many calls were recorded. The result is the status.
+/// Cuts the history, but only where exactly so many calls were recorded. The result is the status.
 pub fn cut_at(held: &mut Kept, seen: u64) -> u32
     ensures cuts { CutsIfDone held.old held.new result }
     ensures seen { result ≡ DONE → total held.old ≡ seen }
@@ -59,13 +58,6 @@ pub fn cut_at(held: &mut Kept, seen: u64) -> u32
         return AGAIN;
     }
     cut_on(held)
-}
-
-/// The text of the present state's list. The error is want of memory.
-pub fn present_text(alloc: Global, held: &Kept) -> Result<Vec<u8>, AllocError>
-    ensures { IfOk result (λ text. text.items ≡ list_of_state held.now.present) }
-{
-    list_table(alloc, held.present())
 }
 
 /// The text of the list of the state that the kept history begins in. The error is want of memory.

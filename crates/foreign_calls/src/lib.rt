@@ -5,23 +5,23 @@
 #![tactic(auto)]
 
 pub mod ask;
+pub mod bare_calls;
+pub mod calls;
 pub mod effects;
 pub mod history;
 pub mod inside;
+pub mod kept_calls;
 pub mod laws;
 pub mod many_calls;
 pub mod number_calls;
 pub mod page;
 pub mod read;
-pub mod record;
-pub mod record_calls;
 pub mod replay;
 pub mod replicas;
 pub mod residents;
-pub mod saved_record;
+pub mod saved_history;
 pub mod saved_table;
 pub mod table;
-pub mod table_calls;
 pub mod table_texts;
 pub mod texts;
 pub mod would;

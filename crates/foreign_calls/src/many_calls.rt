@@ -1,4 +1,4 @@
-//! Many calls of one worker on a record, in one turn.
+//! Many calls of one worker on a table with its history, in one turn.
 ghost use Rattle.std.specs.Prelude.{◌≡◌, ◌≢◌, ◌<◌, ◌≤◌, ◌↔◌, ◌⊎◌, ◌+◌, [], ◌∷◌, All, IsSome, IsTrue, length, drop};
 ghost use Rattle.{
   pid_types.specs.Step.{may_grow},
@@ -9,7 +9,7 @@ ghost use Rattle.{
   foreign_calls.specs.Turns.{turn, AreMade, CanMakeAll, MayGrowAt},
 };
 
-use crate::record_calls::{make_on, put_last};
+use crate::kept_calls::{make_kept, put_last};
 use foreign_numbers::numbers::{CallNumbers, ReplyNumbers, read_call};
 use foreign_numbers::status::{DONE, NO_MEMORY, NO_ROOM, OUT_OF_RANGE, SPENT};
 use kept_table::Kept;
@@ -48,7 +48,7 @@ fn turn_on(
         unreachable!()
     };
     let mut told = None;
-    let status = make_on(held, worker, made, &mut told, ordinal);
+    let status = make_kept(held, worker, made, &mut told, ordinal);
     if status != DONE {
         return status;
     }

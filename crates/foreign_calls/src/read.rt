@@ -1,4 +1,4 @@
-//! Many kept entries of a record at once.
+//! Many kept entries of a history at once.
 ghost use Rattle.std.specs.Prelude.{◌≡◌, ◌+◌, ◌-◌, ◌<◌, ◌≤◌, ℕ, Some, length, min, slice_get};
 ghost use Rattle.kept_table.specs.Chronicle.{total};
 ghost use Rattle.foreign_calls.specs.Entries.{TellsEntry};

@@ -1,4 +1,4 @@
-//! Saved entries on a record: their calls are made again, and their replies compared.
+//! Saved entries on a table with its history: their calls are made again, and their replies compared.
 ghost use Rattle.std.specs.Prelude.{◌≡◌, ◌≢◌, ◌+◌, ◌<◌, ◌≤◌, ◌↔◌, ◌⊎◌, [], ◌∷◌, IsTrue, length, slice_get};
 ghost use Rattle.{
   kept_past.specs.Past.{IsCaughtUp},
@@ -8,8 +8,8 @@ ghost use Rattle.{
   foreign_calls.specs.Replays.{StopsAt, WaitsAfter},
 };
 
+use crate::kept_calls::make_kept;
 use crate::read::EntryNumbers;
-use crate::record_calls::make_on;
 use foreign_numbers::numbers::{ReplyNumbers, read_call, tell_reply};
 use foreign_numbers::status::{DIFFERS, DONE, NO_MEMORY, OUT_OF_RANGE, SPENT};
 use kept_table::Kept;
@@ -39,7 +39,7 @@ fn replay_one(held: &mut Kept, saved: &EntryNumbers) -> u32
     };
     let mut ordinal = 0u64;
     let mut told = None;
-    let step = make_on(held, saved.worker as usize, made, &mut told, &mut ordinal);
+    let step = make_kept(held, saved.worker as usize, made, &mut told, &mut ordinal);
     if step != DONE {
         return step;
     }

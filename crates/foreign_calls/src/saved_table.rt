@@ -1,16 +1,16 @@
 //! A table that is opened as a text says, and why one is not.
-ghost use Rattle.std.specs.Prelude.{◌≡◌, ◌≢◌, ◌≤◌, ◌↔◌, ◌⊎◌, [], ◌∷◌, IfOk, IfErr};
+ghost use Rattle.std.specs.Prelude.{◌≡◌, ◌≢◌, ◌≤◌, ◌↔◌, ◌⊎◌, [], ◌∷◌, Some, IfOk, IfErr};
 ghost use Rattle.{
   table_load.specs.{declared.fault.RestoreFault.TheVariants.{NoMemory}, Faults.{IsOfForm}, Texts.{IsTextOfNoTable}},
   table_text.specs.{Ranges.{IsWord, IsStateOfWords}, Reading.{IsNoText}, Texts.{text_of}},
-  foreign_calls.specs.{Held.{Opens}, Records.{Has}, Saved.{no_fault, fault_numbers, TellsFault}},
+  foreign_calls.specs.{Held.{table_alone, Opens}, Records.{Has}, Saved.{no_fault, fault_numbers, TellsFault}},
   stamped_table.specs.Stamped.{IsInOrder},
 };
 
-use crate::table::Pidtab;
+use crate::table::{Pidtab, boxed};
 use crate::table_texts::of_loaded;
+use foreign_handles::held::Held;
 use foreign_numbers::status::{BAD_TEXT, BUSY, DONE, NO_MEMORY};
-use stamped_table::StampedTable;
 use std::alloc::Global;
 use table_load::fault::RestoreFault;
 use table_load::load::load;
@@ -62,15 +62,16 @@ pub fn put_fault(found: RestoreFault, fault: &mut FaultNumbers) -> u32
 }
 
 /// The table on the heap that the text says.
-fn boxed_load(alloc: Global, text: &[u8]) -> Result<Box<StampedTable>, RestoreFault>
-    ensures text { IfOk result (λ held. text.now ≡ text_of held.value.stamp held.value.state) }
-    ensures words { IfOk result (λ held. IsWord held.value.stamp × IsStateOfWords held.value.state) }
-    ensures sound { IfOk result (λ held. IsInOrder held.value) }
+fn boxed_load(alloc: Global, text: &[u8]) -> Result<Box<Held>, RestoreFault>
+    ensures text { IfOk result (λ held. Has (table_alone (Some held.value)) (λ s. text.now ≡ text_of s.stamp s.state)) }
+    ensures words { IfOk result (λ held.
+        Has (table_alone (Some held.value)) (λ s. IsWord s.stamp × IsStateOfWords s.state)) }
+    ensures sound { IfOk result (λ held. Has (table_alone (Some held.value)) (λ s. IsInOrder s)) }
     ensures form { IfErr result (λ fault. IsOfForm fault → IsNoText text.now) }
     ensures refused { IfErr result (λ fault. fault ≢ RestoreFault.NoMemory → IsTextOfNoTable text.now) }
 {
     let held = of_loaded(load(alloc, text)?);
-    match Box::new(alloc, held) {
+    match boxed(alloc, Held::Bare(held)) {
         Ok(held) => Ok(held),
         Err(_) => Err(RestoreFault::NoMemory),
     }
@@ -80,9 +81,11 @@ impl Pidtab {
     /// Opens a table as the text says. The result is the status: `BUSY`; `BAD_TEXT`, and `fault` says why; `NO_MEMORY`.
     pub fn load(&mut self, alloc: Global, text: &[u8], fault: &mut FaultNumbers) -> u32
         ensures opens { Opens self.old.handle.held self.new.handle.held result (BAD_TEXT ∷ NO_MEMORY ∷ []) }
-        ensures done { result ≡ DONE → Has self.new.handle.held (λ s. text.now ≡ text_of s.stamp s.state) }
-        ensures words { result ≡ DONE → Has self.new.handle.held (λ s. IsWord s.stamp × IsStateOfWords s.state) }
-        ensures sound { result ≡ DONE → Has self.new.handle.held (λ s. IsInOrder s) }
+        ensures done { result ≡ DONE
+            → Has (table_alone self.new.handle.held) (λ s. text.now ≡ text_of s.stamp s.state) }
+        ensures words { result ≡ DONE
+            → Has (table_alone self.new.handle.held) (λ s. IsWord s.stamp × IsStateOfWords s.state) }
+        ensures sound { result ≡ DONE → Has (table_alone self.new.handle.held) (λ s. IsInOrder s) }
         ensures fault { TellsFault text.now fault.new result }
     {
         *fault = FaultNumbers { line: 0, kind: 0 };

@@ -1,13 +1,15 @@
-//! The texts of a table without a history, and the table that was loaded from one.
+//! The texts of a table, and the table that was loaded from one.
 ghost use Rattle.std.specs.Prelude.{◌≡◌, IfOk, OnOk};
 ghost use Rattle.{
   pid_types.specs.Sound.{IsSound, IsBelow},
+  foreign_handles.specs.Held.{stamped},
   stamped_table.specs.Stamped.{IsInOrder},
   table_lines.specs.Listed.{list_of_state},
   table_text.specs.Texts.{text_of},
   foreign_calls.specs.Saved.{IsLoadable},
 };
 
+use foreign_handles::held::Held;
 use stamped_table::StampedTable;
 use std::alloc::{AllocError, Global};
 use table_lines::dump::dump_table;
@@ -16,18 +18,18 @@ use table_load::load::Loaded;
 
 /// The text of the list. The error is want of memory. Its contract tells what is true of a table between any two
 /// calls.
-pub fn list_of(alloc: Global, held: &StampedTable) -> Result<Vec<u8>, AllocError>
-    ensures text { IfOk result (λ text. text.items ≡ list_of_state held.now.state) }
-    ensures sound { IsInOrder held.now }
+pub fn list_of(alloc: Global, held: &Held) -> Result<Vec<u8>, AllocError>
+    ensures text { IfOk result (λ text. text.items ≡ list_of_state (stamped held.now).state) }
+    ensures sound { IsInOrder (stamped held.now) }
 {
     held.laws();
     list_table(alloc, held.table())
 }
 
 /// The text of the table, with the stamp of its next call. The error is want of memory.
-pub fn dump_of(alloc: Global, held: &StampedTable) -> Result<Vec<u8>, AllocError>
-    ensures text { IfOk result (λ text. text.items ≡ text_of held.now.stamp held.now.state) }
-    ensures loadable { OnOk result (IsLoadable held.now.stamp held.now.state) }
+pub fn dump_of(alloc: Global, held: &Held) -> Result<Vec<u8>, AllocError>
+    ensures text { IfOk result (λ text. text.items ≡ text_of (stamped held.now).stamp (stamped held.now).state) }
+    ensures loadable { OnOk result (IsLoadable (stamped held.now).stamp (stamped held.now).state) }
 {
     held.laws();
     // What this says of the bound is a part of what can be loaded.

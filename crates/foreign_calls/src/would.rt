@@ -1,22 +1,19 @@
 //! The reply that a call would get, and forks that are made only as they were foretold.
-ghost use Rattle.std.specs.Prelude.{◌≡◌, ◌≢◌, ◌<◌, ◌≤◌, ◌↔◌, ◌⊎◌, [], ◌∷◌, Some, true, length};
+ghost use Rattle.std.specs.Prelude.{◌≡◌, ◌≢◌, ◌<◌, ◌≤◌, ◌↔◌, [], ◌∷◌, true};
 ghost use Rattle.{
-  kept_table.specs.{Calls.{outcome}, Chronicle.{next_stamp}},
-  stamped_table.specs.Stamped.{after_call, reply_to},
-  foreign_numbers.specs.Numbers.{numbers_of},
-  foreign_calls.specs.{Held.{IsDoneOr}, Made.{IsSpent, TellsReply}, Records.{roomless, IsRecorded}},
+  foreign_handles.specs.Held.{stamped, workers},
+  stamped_table.specs.Stamped.{reply_to},
+  foreign_calls.specs.{Calls.{visible, HasMade}, Held.{IsDoneOr}, Made.{IsSpent, TellsReply}},
   foreign_calls.specs.Would.{wanted_call, wanted_reply, TellsFork},
 };
 
-use crate::record_calls::call_on;
-use crate::table_calls::call_table;
+use crate::calls::call;
+use foreign_handles::held::Held;
 use foreign_numbers::numbers::{ReplyNumbers, put_reply};
 use foreign_numbers::status::{DIFFERS, DONE, NO_MEMORY, OUT_OF_RANGE, SPENT, status_of};
-use kept_table::Kept;
 use pid_types::call::Call;
 use pid_types::keys::Pid;
 use pid_types::reply::Reply;
-use stamped_table::StampedTable;
 
 /// A fork, and the numbers that its child is to have.
 #[derive(Clone, Copy)]
@@ -54,9 +51,9 @@ impl Wanted {
 }
 
 /// Tells the reply that the call would get as numbers. The result is the status.
-pub fn would_table(held: &StampedTable, asked: Call, reply: &mut ReplyNumbers) -> u32
-    ensures reply { TellsReply (reply_to held.now asked) reply.old reply.new result }
-    ensures spent { (result ≡ SPENT) ↔ IsSpent held.now.stamp }
+pub fn would(held: &Held, asked: Call, reply: &mut ReplyNumbers) -> u32
+    ensures reply { TellsReply (reply_to (stamped held.now) asked) reply.old reply.new result }
+    ensures spent { (result ≡ SPENT) ↔ IsSpent (stamped held.now).stamp }
     ensures statuses { IsDoneOr result (SPENT ∷ []) }
 {
     let mut told = Reply::Done;
@@ -67,59 +64,24 @@ pub fn would_table(held: &StampedTable, asked: Call, reply: &mut ReplyNumbers) -
     DONE
 }
 
-/// The same of a record, in which it is not recorded.
-pub fn would_record(held: &Kept, asked: Call, reply: &mut ReplyNumbers) -> u32
-    ensures reply { TellsReply (outcome held.now asked).reply reply.old reply.new result }
-    ensures spent { (result ≡ SPENT) ↔ IsSpent (next_stamp held.now) }
-    ensures statuses { IsDoneOr result (SPENT ∷ []) }
-{
-    let mut told = Reply::Done;
-    if let Err(fault) = held.would(asked, &mut told) {
-        return status_of(fault);
-    }
-    put_reply(&told, reply);
-    DONE
-}
-
-/// Makes the fork, if its child gets the wanted numbers. The reply is the fork's, or what it would have been. The
-/// result is the status.
-pub fn fork_at_table(held: &mut StampedTable, wanted: &Wanted, reply: &mut ReplyNumbers) -> u32
-    ensures done { result ≡ DONE → held.new ≡ after_call held.old (wanted_call wanted.now) }
-    ensures not_done { result ≢ DONE → held.new ≡ held.old }
-    ensures tells { TellsFork (reply_to held.old (wanted_call wanted.now)) (wanted_reply wanted.now)
-        reply.old reply.new result }
-    ensures spent { (result ≡ SPENT) ↔ IsSpent held.old.stamp }
-    ensures differs { (result ≡ DIFFERS) ↔ (held.old.stamp ≢ u64.MAX)
-        × (reply_to held.old (wanted_call wanted.now) ≢ wanted_reply wanted.now) }
-    ensures statuses { IsDoneOr result (SPENT ∷ DIFFERS ∷ NO_MEMORY ∷ []) }
-{
-    let mut told = Reply::Done;
-    if let Err(fault) = held.would(wanted.call(), &mut told) {
-        return status_of(fault);
-    }
-    if !wanted.is_met_by(&told) {
-        put_reply(&told, reply);
-        return DIFFERS;
-    }
-    call_table(held, wanted.call(), reply)
-}
-
-/// The same of a record: the worker makes the fork, and its place in the history is told.
-pub fn fork_at_record(
-    held: &mut Kept,
+/// Makes the worker's fork, if its child gets the wanted numbers. The reply is the fork's, or what it would have been.
+/// The result is the status.
+pub fn fork_at(
+    held: &mut Held,
     worker: u32,
     wanted: &Wanted,
     reply: &mut ReplyNumbers,
     ordinal: &mut u64,
 ) -> u32
-    ensures done { result ≡ DONE → IsRecorded held.old worker (wanted_call wanted.now) ordinal.new (Some held.new) }
-    ensures not_done { result ≢ DONE → (roomless held.new ≡ roomless held.old) × (ordinal.new ≡ ordinal.old) }
-    ensures tells { TellsFork (outcome held.old (wanted_call wanted.now)).reply (wanted_reply wanted.now)
+    ensures done { result ≡ DONE
+        → HasMade held.old worker (wanted_call wanted.now) ordinal.old ordinal.new held.new }
+    ensures not_done { result ≢ DONE → (visible held.new ≡ visible held.old) × (ordinal.new ≡ ordinal.old) }
+    ensures tells { TellsFork (reply_to (stamped held.old) (wanted_call wanted.now)) (wanted_reply wanted.now)
         reply.old reply.new result }
-    ensures out_of_range { (result ≡ OUT_OF_RANGE) ↔ (length held.old.cut ≤ worker) }
-    ensures spent { (result ≡ SPENT) ↔ (worker < length held.old.cut) × IsSpent (next_stamp held.old) }
-    ensures differs { (result ≡ DIFFERS) ↔ (worker < length held.old.cut) × (next_stamp held.old ≢ u64.MAX)
-        × ((outcome held.old (wanted_call wanted.now)).reply ≢ wanted_reply wanted.now) }
+    ensures out_of_range { (result ≡ OUT_OF_RANGE) ↔ (workers held.old ≤ worker) }
+    ensures spent { (result ≡ SPENT) ↔ (worker < workers held.old) × IsSpent (stamped held.old).stamp }
+    ensures differs { (result ≡ DIFFERS) ↔ (worker < workers held.old) × ((stamped held.old).stamp ≢ u64.MAX)
+        × (reply_to (stamped held.old) (wanted_call wanted.now) ≢ wanted_reply wanted.now) }
     ensures statuses { IsDoneOr result (OUT_OF_RANGE ∷ SPENT ∷ DIFFERS ∷ NO_MEMORY ∷ []) }
 {
     if worker as usize >= held.workers() {
@@ -133,5 +95,5 @@ pub fn fork_at_record(
         put_reply(&told, reply);
         return DIFFERS;
     }
-    call_on(held, worker, wanted.call(), reply, ordinal)
+    call(held, worker, wanted.call(), reply, ordinal)
 }

@@ -27,7 +27,7 @@ use Rattle.std.proofs.ResultValues.{and_tt}
 use Rattle.foreign_handles.specs.Owned.{IfHeld}
 use Rattle.foreign_handles.specs.contracts.handle.Handle as handle
 use Rattle.foreign_handles.specs.contracts.loose.Loose as loose
-use Rattle.stamped_table.specs.contracts.StampedTable as table
+use Rattle.foreign_handles.specs.contracts.held.Held as table
 use Rattle.std.specs.contracts.alloc.Global as heap
 use Rattle.std.specs.contracts.impls.GlobalAllocator.TheImpl.{ghosts}
 

@@ -3,18 +3,18 @@ use Rattle.std.specs.Prelude.{◌≡◌, ⊤, Some}
 use mathlib.Core.Option.{none}
 use denote.Follow.{follows_so}
 use Rattle.std.specs.Borrow.{Lends, MutBor, Fml}
-use Rattle.stamped_table.specs.contracts.StampedTable as table
-use Rattle.stamped_table.specs.Stamped.{Stamped}
+use Rattle.foreign_handles.specs.contracts.held.Held as held
+use Rattle.foreign_handles.specs.declared.held.Held.{Held}
 use Rattle.foreign_handles.specs.declared.handle.Handle.{Handle}
 use Rattle.foreign_handles.specs.contracts.handle.Handle.{the_row}
 
 -- the handle with another table at its address
-abbrev pub with_table : Handle → Stamped → Handle
-with_table h x = record h { held = Some x }
+abbrev pub with_held : Handle → Held → Handle
+with_held h x = record h { held = Some x }
 
 -- the handle ends with the last value of the table
-abbrev pub LendsTable : MutBor Handle → MutBor Stamped → Fml
-LendsTable h r = Lends the_row table.the_row h r (with_table h.now)
+abbrev pub LendsHeld : MutBor Handle → MutBor Held → Fml
+LendsHeld h r = Lends the_row held.the_row h r (with_held h.now)
 
 -- the handle ends as it was
 abbrev pub RestsHandle : MutBor Handle → Fml

@@ -1,9 +1,9 @@
 //! The handle that crosses to C.
 ghost use Rattle.std.specs.{Prelude.{◌≡◌, Option, Some, None, IsSome}, Global.{Global}};
-ghost use Rattle.stamped_table.specs.Stamped.{Stamped};
+ghost use Rattle.foreign_handles.specs.declared.held.Held.{Held};
 
+use crate::held::Held;
 use crate::loose::Loose;
-use stamped_table::StampedTable;
 use std::alloc::{Allocator, Global};
 use std::marker::Model;
 use std::ptr;
@@ -13,13 +13,13 @@ use std::ptr;
 #[derive(Drop)]
 pub struct Handle {
     at: *mut u8,
-    pub ghost held: { Option Stamped },
+    pub ghost held: { Option Held },
     pub ghost heap: { Global },
 }
 
 impl Model for Handle {
     ghost use Rattle.std.specs.Box.Ownership.{box_owns};
-    ghost use Rattle.stamped_table.specs.contracts.StampedTable.{the_row};
+    ghost use Rattle.foreign_handles.specs.contracts.held.Held.{the_row};
     ghost use Rattle.foreign_handles.specs.Owned.{IfHeld};
 
     ghost also_owns = { λ h. IfHeld h.held (box_owns (⟦<Global as Allocator>⟧.dealloc_token h.heap) the_row h.at) };
@@ -27,7 +27,7 @@ impl Model for Handle {
 
 impl Handle {
     ghost use Rattle.std.specs.Borrow.{sem};
-    ghost use Rattle.foreign_handles.specs.Lending.{LendsTable, RestsHandle};
+    ghost use Rattle.foreign_handles.specs.Lending.{LendsHeld, RestsHandle};
 
     /// No table.
     pub fn empty(_alloc: Global, at: *mut u8) -> Handle
@@ -37,7 +37,7 @@ impl Handle {
     }
 
     /// The handle of what the box holds.
-    pub fn of(loose: Loose<StampedTable, Global>) -> Handle
+    pub fn of(loose: Loose<Held, Global>) -> Handle
         ensures { result.held ≡ Some loose.value }
     {
         let Loose { at, alloc: _ } = loose;
@@ -45,16 +45,16 @@ impl Handle {
     }
 
     /// The table, in place: the handle ends with the table's last value. It costs one read.
-    pub fn lend(&mut self) -> &mut StampedTable
+    pub fn lend(&mut self) -> &mut Held
         requires { IsSome self.old.held }
-        ensures* writes_back { sem 𝓛 (LendsTable self.entry result) }
+        ensures* writes_back { sem 𝓛 (LendsHeld self.entry result) }
         ensures value { Some result.now ≡ self.old.held }
     {
-        unsafe { &mut *(self.at as *mut StampedTable) }
+        unsafe { &mut *(self.at as *mut Held) }
     }
 
     /// The table, to be read in place: nothing is taken out, and the handle ends as it was.
-    pub fn look(&mut self) -> &StampedTable
+    pub fn look(&mut self) -> &Held
         requires { IsSome self.old.held }
         ensures* rests { sem 𝓛 (RestsHandle self.entry) }
         ensures value { Some result.now ≡ self.old.held }
@@ -63,13 +63,13 @@ impl Handle {
     }
 
     /// The box of what is held.
-    pub fn into_loose(self, alloc: Global) -> Loose<StampedTable, Global>
+    pub fn into_loose(self, alloc: Global) -> Loose<Held, Global>
         requires { IsSome self.held }
         ensures { Some result.value ≡ self.held }
     {
         let Handle { at } = self;
         Loose {
-            at: at as *mut StampedTable,
+            at: at as *mut Held,
             alloc,
         }
     }

@@ -68,6 +68,9 @@ pub const OTHER_SETTINGS: u32 = 92;
 /// `EPROTONOSUPPORT`: the form is of a version that this library does not know.
 pub const OTHER_VERSION: u32 = 93;
 
+/// `EOPNOTSUPP`: the table keeps no history.
+pub const NO_HISTORY: u32 = 95;
+
 /// `ESTALE`: the position is not behind that of the last entry.
 pub const NOT_RISING: u32 = 116;
 

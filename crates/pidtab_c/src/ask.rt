@@ -3,13 +3,12 @@
 //! A query is a getpid, getppid, getpgid, getsid, nspid, next or count.
 ghost use Rattle.std.specs.Prelude.{[], ◌∷◌};
 ghost use Rattle.{
-  kept_table.specs.Calls.{outcome},
+  foreign_handles.specs.Held.{stamped},
   foreign_calls.specs.{Asked.{query_of, TellsAnswer}, Held.{OnlyReads}},
   stamped_table.specs.Stamped.{reply_to},
 };
 
-use foreign_calls::ask::{ask_record, ask_table};
-use foreign_calls::record::PidtabRecord;
+use foreign_calls::ask::ask;
 use foreign_calls::table::Pidtab;
 use foreign_numbers::numbers::{CallNumbers, ReplyNumbers};
 use foreign_numbers::status::{CLOSED, OUT_OF_RANGE};
@@ -27,30 +26,11 @@ pub extern "C" fn pidtab_ask(
     reply: &mut ReplyNumbers,
 ) -> u32
     ensures reads { OnlyReads table.old.handle.held table.new.handle.held result (OUT_OF_RANGE ∷ []) }
-    ensures answers { TellsAnswer table.old.handle.held reply_to (query_of call.now) reply.old reply.new result }
-{
-    if !table.is_open {
-        return CLOSED;
-    }
-    ask_table(table.handle.look(), call, reply)
-}
-
-/// Answers the query that the numbers say, as [`pidtab_ask`] does, on a record: it is neither recorded nor counted for
-/// any worker.
-///
-/// `CLOSED` where there is no open record; then `OUT_OF_RANGE` as [`pidtab_ask`] has it.
-#[unsafe(no_mangle)]
-pub extern "C" fn pidtab_record_ask(
-    table: &mut PidtabRecord,
-    call: &CallNumbers,
-    reply: &mut ReplyNumbers,
-) -> u32
-    ensures reads { OnlyReads table.old.handle.held table.new.handle.held result (OUT_OF_RANGE ∷ []) }
-    ensures answers { TellsAnswer table.old.handle.held (λ c asked. (outcome c asked).reply)
+    ensures answers { TellsAnswer table.old.handle.held (λ h. reply_to (stamped h))
         (query_of call.now) reply.old reply.new result }
 {
     if !table.is_open {
         return CLOSED;
     }
-    ask_record(table.handle.look(), call, reply)
+    ask(table.handle.look(), call, reply)
 }

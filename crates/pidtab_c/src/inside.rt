@@ -2,10 +2,10 @@
 //!
 //! A page is no call: it uses no stamp, and changes nothing.
 ghost use Rattle.std.specs.Prelude.{[], ◌∷◌};
+ghost use Rattle.foreign_handles.specs.Held.{stamped};
 ghost use Rattle.foreign_calls.specs.{Held.{OnlyReads}, Inside.{inside_by, AnswersInside}};
 
 use foreign_calls::inside::{read_inside, tell_inside};
-use foreign_calls::record::PidtabRecord;
 use foreign_calls::table::Pidtab;
 use foreign_numbers::status::{CLOSED, NO_MEMORY, OUT_OF_RANGE};
 
@@ -26,7 +26,7 @@ pub extern "C" fn pidtab_inside(
     count: &mut u64,
 ) -> u32
     ensures reads { OnlyReads table.old.handle.held table.new.handle.held result (OUT_OF_RANGE ∷ NO_MEMORY ∷ []) }
-    ensures answers { AnswersInside table.old.handle.held (λ s. s.state) (inside_by tree id from)
+    ensures answers { AnswersInside table.old.handle.held (λ h. (stamped h).state) (inside_by tree id from)
         ids.old ids.new count.old count.new result }
 {
     if !table.is_open {
@@ -36,28 +36,4 @@ pub extern "C" fn pidtab_inside(
         return OUT_OF_RANGE;
     };
     tell_inside(table.handle.look().table(), &inside, ids, count)
-}
-
-/// Writes such ids, as [`pidtab_inside`] does, of a record: it is neither recorded nor counted for any worker. The
-/// statuses are those of [`pidtab_inside`].
-#[unsafe(no_mangle)]
-pub extern "C" fn pidtab_record_inside(
-    table: &mut PidtabRecord,
-    tree: u32,
-    id: u64,
-    from: u64,
-    ids: &mut [u64],
-    count: &mut u64,
-) -> u32
-    ensures reads { OnlyReads table.old.handle.held table.new.handle.held result (OUT_OF_RANGE ∷ NO_MEMORY ∷ []) }
-    ensures answers { AnswersInside table.old.handle.held (λ c. c.present) (inside_by tree id from)
-        ids.old ids.new count.old count.new result }
-{
-    if !table.is_open {
-        return CLOSED;
-    }
-    let Some(inside) = read_inside(tree, id, from) else {
-        return OUT_OF_RANGE;
-    };
-    tell_inside(table.handle.look().present(), &inside, ids, count)
 }

@@ -10,7 +10,7 @@ ghost use Rattle.{
   pid_table.specs.Lists.{answers_list},
   pid_types.specs.declared.call.{Call.TheVariants.{GetPid, GetPpid, GetPgid, GetSid, Next, Count}, Kind.{Kind}},
   foreign_numbers.specs.Numbers.{kind_of},
-  foreign_calls.specs.Made.{TellsNumberOf, RefusesKind},
+  foreign_calls.specs.Numbered.{TellsNumberOf, RefusesKind},
 };
 
 use foreign_calls::number_calls::tell_number;

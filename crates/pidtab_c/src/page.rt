@@ -3,10 +3,10 @@
 //!
 //! A page is no call: it uses no stamp, and changes nothing.
 ghost use Rattle.std.specs.Prelude.{[], ◌∷◌};
+ghost use Rattle.foreign_handles.specs.Held.{stamped};
 ghost use Rattle.foreign_calls.specs.{Held.{OnlyReads}, Paged.{page_by, AnswersPage}};
 
 use foreign_calls::page::{read_page, tell_page};
-use foreign_calls::record::PidtabRecord;
 use foreign_calls::table::Pidtab;
 use foreign_numbers::numbers::ReplyNumbers;
 use foreign_numbers::status::{CLOSED, NO_MEMORY, OUT_OF_RANGE};
@@ -35,7 +35,7 @@ pub extern "C" fn pidtab_page(
     reply: &mut ReplyNumbers,
 ) -> u32
     ensures reads { OnlyReads table.old.handle.held table.new.handle.held result (OUT_OF_RANGE ∷ NO_MEMORY ∷ []) }
-    ensures answers { AnswersPage table.old.handle.held (λ s. s.state) (page_by caller whom number from)
+    ensures answers { AnswersPage table.old.handle.held (λ h. (stamped h).state) (page_by caller whom number from)
         numbers.old numbers.new reply.old reply.new result }
 {
     if !table.is_open {
@@ -45,29 +45,4 @@ pub extern "C" fn pidtab_page(
         return OUT_OF_RANGE;
     };
     tell_page(table.handle.look().table(), &page, numbers, reply)
-}
-
-/// Writes the numbers of a page, as [`pidtab_page`] does, on a record: it is neither recorded nor counted for any
-/// worker. The statuses are those of [`pidtab_page`].
-#[unsafe(no_mangle)]
-pub extern "C" fn pidtab_record_page(
-    table: &mut PidtabRecord,
-    caller: u32,
-    whom: u32,
-    number: u32,
-    from: u32,
-    numbers: &mut [u32],
-    reply: &mut ReplyNumbers,
-) -> u32
-    ensures reads { OnlyReads table.old.handle.held table.new.handle.held result (OUT_OF_RANGE ∷ NO_MEMORY ∷ []) }
-    ensures answers { AnswersPage table.old.handle.held (λ c. c.present) (page_by caller whom number from)
-        numbers.old numbers.new reply.old reply.new result }
-{
-    if !table.is_open {
-        return CLOSED;
-    }
-    let Some(page) = read_page(caller, whom, number, from) else {
-        return OUT_OF_RANGE;
-    };
-    tell_page(table.handle.look().present(), &page, numbers, reply)
 }

@@ -15,9 +15,10 @@ use foreign_calls::replicas::{
 };
 use foreign_calls::table::Pidtab;
 use foreign_calls::texts::write_text;
+use foreign_handles::held::Held;
 use foreign_numbers::replicas::{AppliedNumbers, DigestBytes, LogNumbers, tell_log};
 use foreign_numbers::status::{
-    BUSY, CLOSED, DONE, NO_MEMORY, NO_ROOM, NO_SESSION, NOT_KEPT, OTHER_SETTINGS,
+    BUSY, CLOSED, DONE, NO_MEMORY, NO_ROOM, NO_SESSION, NOT_KEPT, OTHER_SETTINGS, OUT_OF_RANGE,
 };
 use std::alloc::Global;
 
@@ -59,7 +60,8 @@ pub extern "C" fn pidtab_replica_close(alloc: Global, replica: &mut PidtabReplic
 /// Applies the next entry of the log to the replica and its table, and tells what became of it:
 /// [`replica::replica::Replica::apply`].
 ///
-/// `CLOSED` where there is no open replica or no open table; then `NOT_RECOVERABLE` behind one; `NOT_RISING`;
+/// `CLOSED` where there is no open replica or no open table; then `OUT_OF_RANGE` where the table keeps a history, which
+/// a replica's does not; then `NOT_RECOVERABLE` behind one; `NOT_RISING`;
 /// `NO_ENTRY`; `OTHER_SETTINGS`; `MISSING`; `DIVERGED`; `NO_MEMORY` where there is none for a session; and
 /// `NOT_RECOVERABLE` where there is none amid the calls or for the digest. Behind that the replica and the table have
 /// to be made anew from the log. Of each other status but `DONE` both are as they were.
@@ -77,13 +79,10 @@ pub extern "C" fn pidtab_replica_apply(
     if !replica.is_open || !table.is_open {
         return CLOSED;
     }
-    apply_entry(
-        replica.handle.lend(),
-        table.handle.lend(),
-        position,
-        entry,
-        applied,
-    )
+    let Held::Bare(bare) = table.handle.lend() else {
+        return OUT_OF_RANGE;
+    };
+    apply_entry(replica.handle.lend(), bare, position, entry, applied)
 }
 
 /// Puts the answers to the entry that was applied last at the front of the room, each with its newline; `size` is their

@@ -2,9 +2,9 @@
 //!
 //! A page is no call: it uses no stamp, and changes nothing.
 ghost use Rattle.std.specs.Prelude.{[], ◌∷◌};
+ghost use Rattle.foreign_handles.specs.Held.{stamped};
 ghost use Rattle.foreign_calls.specs.{Held.{OnlyReads}, Residents.{AnswersControlTasks}};
 
-use foreign_calls::record::PidtabRecord;
 use foreign_calls::residents::{ControlPage, tell_control_tasks};
 use foreign_calls::table::Pidtab;
 use foreign_numbers::numbers::ReplyNumbers;
@@ -29,7 +29,7 @@ pub extern "C" fn pidtab_control_tasks(
     reply: &mut ReplyNumbers,
 ) -> u32
     ensures reads { OnlyReads table.old.handle.held table.new.handle.held result (NO_MEMORY ∷ []) }
-    ensures answers { AnswersControlTasks table.old.handle.held (λ s. s.state)
+    ensures answers { AnswersControlTasks table.old.handle.held (λ h. (stamped h).state)
         (record { caller = caller; control = control; from = from })
         numbers.old numbers.new reply.old reply.new result }
 {
@@ -42,31 +42,4 @@ pub extern "C" fn pidtab_control_tasks(
         from,
     };
     tell_control_tasks(table.handle.look().table(), &asked, numbers, reply)
-}
-
-/// Writes such numbers, as [`pidtab_control_tasks`] does, of a record: it is neither recorded nor counted for any
-/// worker. The statuses are those of [`pidtab_control_tasks`].
-#[unsafe(no_mangle)]
-pub extern "C" fn pidtab_record_control_tasks(
-    table: &mut PidtabRecord,
-    caller: u32,
-    control: u64,
-    from: u32,
-    numbers: &mut [u32],
-    reply: &mut ReplyNumbers,
-) -> u32
-    ensures reads { OnlyReads table.old.handle.held table.new.handle.held result (NO_MEMORY ∷ []) }
-    ensures answers { AnswersControlTasks table.old.handle.held (λ c. c.present)
-        (record { caller = caller; control = control; from = from })
-        numbers.old numbers.new reply.old reply.new result }
-{
-    if !table.is_open {
-        return CLOSED;
-    }
-    let asked = ControlPage {
-        caller,
-        control,
-        from,
-    };
-    tell_control_tasks(table.handle.look().present(), &asked, numbers, reply)
 }

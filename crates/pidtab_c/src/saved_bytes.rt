@@ -12,7 +12,7 @@ ghost use Rattle.{
   foreign_calls.specs.{Held.{IsDoneOr}, Records.{CanOpen}, SavedBytes.{CanOpenBy}},
 };
 
-use foreign_calls::record::MOST_WORKERS;
+use foreign_calls::table::MOST_WORKERS;
 use foreign_numbers::status::{
     DONE, NO_ROOM, NOT_SAVED, OTHER_VERSION, OUT_OF_RANGE, TORN, WRONG_BYTE,
 };

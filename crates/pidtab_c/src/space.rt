@@ -1,8 +1,8 @@
 //! One read of a namespace for C, in one struct. It is no call: it uses no stamp, and changes nothing.
 ghost use Rattle.std.specs.Prelude.{[], ◌∷◌};
+ghost use Rattle.foreign_handles.specs.Held.{stamped};
 ghost use Rattle.foreign_calls.specs.{Held.{OnlyReads}, Spaces.{ReadsSpace}};
 
-use foreign_calls::record::PidtabRecord;
 use foreign_calls::table::Pidtab;
 use foreign_numbers::space::{SpaceNumbers, tell_space};
 use foreign_numbers::status::{CLOSED, DONE, OUT_OF_RANGE};
@@ -15,33 +15,12 @@ use foreign_numbers::status::{CLOSED, DONE, OUT_OF_RANGE};
 #[unsafe(no_mangle)]
 pub extern "C" fn pidtab_space(table: &mut Pidtab, id: u64, space: &mut SpaceNumbers) -> u32
     ensures reads { OnlyReads table.old.handle.held table.new.handle.held result (OUT_OF_RANGE ∷ []) }
-    ensures told { ReadsSpace table.old.handle.held (λ s. s.state) id space.old space.new result }
+    ensures told { ReadsSpace table.old.handle.held (λ h. (stamped h).state) id space.old space.new result }
 {
     if !table.is_open {
         return CLOSED;
     }
     let Some(read) = table.handle.look().table().space(id) else {
-        return OUT_OF_RANGE;
-    };
-    *space = tell_space(&read);
-    DONE
-}
-
-/// Reads a namespace, as [`pidtab_space`] does, of a record: it is neither recorded nor counted for any worker. The
-/// statuses are those of [`pidtab_space`].
-#[unsafe(no_mangle)]
-pub extern "C" fn pidtab_record_space(
-    table: &mut PidtabRecord,
-    id: u64,
-    space: &mut SpaceNumbers,
-) -> u32
-    ensures reads { OnlyReads table.old.handle.held table.new.handle.held result (OUT_OF_RANGE ∷ []) }
-    ensures told { ReadsSpace table.old.handle.held (λ c. c.present) id space.old space.new result }
-{
-    if !table.is_open {
-        return CLOSED;
-    }
-    let Some(read) = table.handle.look().present().space(id) else {
         return OUT_OF_RANGE;
     };
     *space = tell_space(&read);

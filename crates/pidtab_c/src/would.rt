@@ -1,17 +1,16 @@
 //! What a call would get, and forks that are made only as they were foretold, for C.
-ghost use Rattle.std.specs.Prelude.{◌≡◌, ◌≢◌, ◌<◌, ◌≤◌, ◌↔◌, ◌⊎◌, [], ◌∷◌, IsSome, length};
+ghost use Rattle.std.specs.Prelude.{◌≡◌, ◌≢◌, ◌<◌, ◌≤◌, ◌↔◌, ◌⊎◌, [], ◌∷◌, IsSome};
 ghost use Rattle.{
   pid_types.specs.declared.reply.Reply.TheVariants.{Forked},
-  kept_table.specs.{Calls.{outcome}, Chronicle.{next_stamp}},
   stamped_table.specs.Stamped.{reply_to},
+  foreign_handles.specs.Held.{stamped, workers},
   foreign_numbers.specs.Numbers.{call_of},
-  foreign_calls.specs.{Asked.{TellsAnswer}, Held.{OnlyReads, ChangesIfDone, NeedsOpen}, Made.{IsSpent, Makes}},
-  foreign_calls.specs.{Records.{Has, without_room, IsRecorded}, Would.{fork_by, TellsFork}},
+  foreign_calls.specs.{Asked.{TellsAnswer}, Calls.{visible_held, HasMade}, Held.{NeedsOpen, OnlyReads}},
+  foreign_calls.specs.{Made.{IsSpent}, Records.{Has}, Would.{fork_by, TellsFork}},
 };
 
-use foreign_calls::record::PidtabRecord;
 use foreign_calls::table::Pidtab;
-use foreign_calls::would::{Wanted, fork_at_record, fork_at_table, would_record, would_table};
+use foreign_calls::would::{Wanted, fork_at, would};
 use foreign_numbers::numbers::{CallNumbers, ReplyNumbers, read_call};
 use foreign_numbers::status::{CLOSED, DIFFERS, DONE, NO_MEMORY, OUT_OF_RANGE, SPENT};
 
@@ -28,32 +27,10 @@ pub extern "C" fn pidtab_would(
     reply: &mut ReplyNumbers,
 ) -> u32
     ensures reads { OnlyReads table.old.handle.held table.new.handle.held result (OUT_OF_RANGE ∷ SPENT ∷ []) }
-    ensures answers { TellsAnswer table.old.handle.held reply_to (call_of call.now) reply.old reply.new result }
-    ensures spent { (result ≡ SPENT)
-        ↔ Has table.old.handle.held (λ s. IsSpent s.stamp) × IsSome (call_of call.now) }
-{
-    if !table.is_open {
-        return CLOSED;
-    }
-    let Some(asked) = read_call(call) else {
-        return OUT_OF_RANGE;
-    };
-    would_table(table.handle.look(), asked, reply)
-}
-
-/// Tells the reply that the call would get, as [`pidtab_would`] does, on a record: it is neither recorded nor counted
-/// for any worker. The statuses are those of [`pidtab_would`].
-#[unsafe(no_mangle)]
-pub extern "C" fn pidtab_record_would(
-    table: &mut PidtabRecord,
-    call: &CallNumbers,
-    reply: &mut ReplyNumbers,
-) -> u32
-    ensures reads { OnlyReads table.old.handle.held table.new.handle.held result (OUT_OF_RANGE ∷ SPENT ∷ []) }
-    ensures answers { TellsAnswer table.old.handle.held (λ c asked. (outcome c asked).reply)
+    ensures answers { TellsAnswer table.old.handle.held (λ h. reply_to (stamped h))
         (call_of call.now) reply.old reply.new result }
     ensures spent { (result ≡ SPENT)
-        ↔ Has table.old.handle.held (λ c. IsSpent (next_stamp c)) × IsSome (call_of call.now) }
+        ↔ Has table.old.handle.held (λ h. IsSpent (stamped h).stamp) × IsSome (call_of call.now) }
 {
     if !table.is_open {
         return CLOSED;
@@ -61,59 +38,20 @@ pub extern "C" fn pidtab_record_would(
     let Some(asked) = read_call(call) else {
         return OUT_OF_RANGE;
     };
-    would_record(table.handle.look(), asked, reply)
+    would(table.handle.look(), asked, reply)
 }
 
-/// Makes the fork of the caller, into a new namespace where `new_space` is 1, if the child's number to the caller and
-/// its root number are the given ones. Else nothing has changed. A fork that [`pidtab_would`] foretold is so made with
-/// the numbers that were told, or not at all.
+/// Makes the fork of the caller for the worker, into a new namespace if `new_space` is 1, if the child's number to the
+/// caller and its root number are the given ones. Else nothing has changed. A fork that [`pidtab_would`] foretold is so
+/// made with the numbers that were told, or not at all. Where there is a history it is recorded, and `ordinal` is its
+/// place there; else `ordinal` stays.
 ///
-/// `CLOSED` where there is no open table; then `OUT_OF_RANGE` for another `new_space` than 0 and 1; then `SPENT` where
-/// the stamp of the call would be `u64::MAX`; then `DIFFERS` where the reply would be another one, a refusal too, which
-/// `reply` then is; `NO_MEMORY`.
+/// `CLOSED` where there is no open table; then `OUT_OF_RANGE` for another `new_space` than 0 and 1, or where there is
+/// no such worker; then `SPENT` where the stamp of the call would be `u64::MAX`; then `DIFFERS` where the reply would
+/// be another one, a refusal too, which `reply` then is; `NO_MEMORY`.
 #[unsafe(no_mangle)]
-pub extern "C" fn pidtab_fork_at(
+pub extern "C" fn pidtab_fork_at_by(
     table: &mut Pidtab,
-    caller: u32,
-    new_space: u32,
-    child: u32,
-    root: u32,
-    reply: &mut ReplyNumbers,
-) -> u32
-    ensures changes { ChangesIfDone table.old.handle.held table.new.handle.held result
-        (OUT_OF_RANGE ∷ SPENT ∷ DIFFERS ∷ NO_MEMORY ∷ []) }
-    ensures done { result ≡ DONE
-        → Makes table.old.handle.held (fork_by caller new_space) (Forked child root) table.new.handle.held }
-    ensures tells { result ≢ CLOSED → Has table.old.handle.held (λ s.
-        TellsFork (reply_to s (fork_by caller new_space)) (Forked child root) reply.old reply.new result) }
-    ensures untold { result ≡ CLOSED → reply.new ≡ reply.old }
-    ensures out_of_range { (result ≡ OUT_OF_RANGE) ↔ IsSome table.old.handle.held × (1 < new_space) }
-    ensures spent { (result ≡ SPENT) ↔ (new_space ≤ 1) × Has table.old.handle.held (λ s. IsSpent s.stamp) }
-    ensures differs { (result ≡ DIFFERS) ↔ (new_space ≤ 1) × Has table.old.handle.held (λ s. (s.stamp ≢ u64.MAX)
-        × (reply_to s (fork_by caller new_space) ≢ Forked child root)) }
-{
-    if !table.is_open {
-        return CLOSED;
-    }
-    if new_space > 1 {
-        return OUT_OF_RANGE;
-    }
-    let wanted = Wanted {
-        caller,
-        new_space: new_space == 1,
-        child,
-        root,
-    };
-    fork_at_table(table.handle.lend(), &wanted, reply)
-}
-
-/// Makes the fork as [`pidtab_fork_at`] does, for the worker, and records it; `ordinal` is its place in the history.
-///
-/// `CLOSED` where there is no open record; then `OUT_OF_RANGE` for another `new_space` than 0 and 1, or where there is
-/// no such worker; then `SPENT`, `DIFFERS` and `NO_MEMORY` as [`pidtab_fork_at`] has them.
-#[unsafe(no_mangle)]
-pub extern "C" fn pidtab_record_fork_at(
-    table: &mut PidtabRecord,
     worker: u32,
     caller: u32,
     new_space: u32,
@@ -124,20 +62,20 @@ pub extern "C" fn pidtab_record_fork_at(
 ) -> u32
     ensures needs_open { NeedsOpen table.old.handle.held result
         (OUT_OF_RANGE ∷ SPENT ∷ DIFFERS ∷ NO_MEMORY ∷ []) }
-    ensures done { result ≡ DONE → Has table.old.handle.held (λ c.
-        IsRecorded c worker (fork_by caller new_space) ordinal.new table.new.handle.held) }
+    ensures done { result ≡ DONE → Has table.old.handle.held (λ h. Has table.new.handle.held (λ h'.
+        HasMade h worker (fork_by caller new_space) ordinal.old ordinal.new h')) }
     ensures not_done { result ≢ DONE
-        → (without_room table.new.handle.held ≡ without_room table.old.handle.held) × (ordinal.new ≡ ordinal.old) }
-    ensures tells { result ≢ CLOSED → Has table.old.handle.held (λ c.
-        TellsFork (outcome c (fork_by caller new_space)).reply (Forked child root) reply.old reply.new result) }
+        → (visible_held table.new.handle.held ≡ visible_held table.old.handle.held) × (ordinal.new ≡ ordinal.old) }
+    ensures tells { result ≢ CLOSED → Has table.old.handle.held (λ h.
+        TellsFork (reply_to (stamped h) (fork_by caller new_space)) (Forked child root) reply.old reply.new result) }
     ensures untold { result ≡ CLOSED → reply.new ≡ reply.old }
     ensures out_of_range { (result ≡ OUT_OF_RANGE)
-        ↔ Has table.old.handle.held (λ c. (1 < new_space) ⊎ (length c.cut ≤ worker)) }
+        ↔ Has table.old.handle.held (λ h. (1 < new_space) ⊎ (workers h ≤ worker)) }
     ensures spent { (result ≡ SPENT) ↔ (new_space ≤ 1)
-        × Has table.old.handle.held (λ c. (worker < length c.cut) × IsSpent (next_stamp c)) }
+        × Has table.old.handle.held (λ h. (worker < workers h) × IsSpent (stamped h).stamp) }
     ensures differs { (result ≡ DIFFERS) ↔ (new_space ≤ 1)
-        × Has table.old.handle.held (λ c. (worker < length c.cut) × (next_stamp c ≢ u64.MAX)
-        × ((outcome c (fork_by caller new_space)).reply ≢ Forked child root)) }
+        × Has table.old.handle.held (λ h. (worker < workers h) × ((stamped h).stamp ≢ u64.MAX)
+        × (reply_to (stamped h) (fork_by caller new_space) ≢ Forked child root)) }
 {
     if !table.is_open {
         return CLOSED;
@@ -151,5 +89,5 @@ pub extern "C" fn pidtab_record_fork_at(
         child,
         root,
     };
-    fork_at_record(table.handle.lend(), worker, &wanted, reply, ordinal)
+    fork_at(table.handle.lend(), worker, &wanted, reply, ordinal)
 }

@@ -5,10 +5,10 @@ use Rattle.foreign_calls.proofs.many_calls.turn_on.Goals as goal
 
 pub returns-clause-done : goal.returns-clause-done
 returns-clause-done c = λ _.
-    let made = c.make_on-status.ensures.records.done c.if-status-ne-DONE.false in record {
+    let made = c.make_kept-status.ensures.makes.done c.if-status-ne-DONE.false in record {
       call = c.in-Some.made;
       read = sym c.read_call.ensures ∙ c.in-Some.is;
       known = c.requires.known;
       left = same_Some _ _ made.left;
-      answer = last_told _ _ _ (c.make_on-status.ensures.reply c.if-status-ne-DONE.false) assumption;
+      answer = last_told _ _ _ (c.make_kept-status.ensures.reply c.if-status-ne-DONE.false) assumption;
     }

@@ -14,8 +14,8 @@ use denote.Struct.Owning.{shape, fields, to}
 use Rattle.std.specs.Prelude.{Option, Some, None}
 use Rattle.std.proofs.Crossing.{frees}
 use Rattle.foreign_handles.specs.Owned.{IfHeld}
-use Rattle.stamped_table.specs.contracts.StampedTable as table
-use Rattle.stamped_table.proofs.StampedTable.TheSendSync as table_may
+use Rattle.foreign_handles.specs.contracts.held.Held as table
+use Rattle.foreign_handles.proofs.held.Held.TheSendSync as table_may
 use Rattle.foreign_handles.specs.contracts.handle.Handle.{the_row, the_type}
 
 still_quiet : {D X : Type 0} (to : D → X) (e : Exit X) → Quiet e → Quiet (hidden (under to e))

@@ -24,7 +24,7 @@ use Rattle.std.proofs.raw_atomic.Walks.{proved_at, leaves}
 use Rattle.std.proofs.ResultValues.{and_tt}
 use Rattle.std.specs.contracts.alloc.Global as heap
 use Rattle.std.specs.contracts.impls.GlobalAllocator.TheImpl.{ghosts}
-use Rattle.stamped_table.specs.contracts.StampedTable as table
+use Rattle.foreign_handles.specs.contracts.held.Held as table
 use Rattle.foreign_handles.proofs.Words.{allocator, handle_of_none}
 use Rattle.foreign_handles.specs.contracts.handle.Handle.empty as f
 use Rattle.foreign_handles.proofs.handle.Handle.empty.Statement.{statement}

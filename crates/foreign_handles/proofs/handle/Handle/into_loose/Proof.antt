@@ -24,7 +24,7 @@ use Rattle.std.specs.contracts.alloc.Global as heap
 use Rattle.std.specs.contracts.impls.GlobalAllocator.TheImpl.{ghosts}
 use Rattle.pid_types.proofs.General.{held}
 use Rattle.foreign_handles.specs.contracts.handle.Handle as handle
-use Rattle.stamped_table.specs.contracts.StampedTable as table
+use Rattle.foreign_handles.specs.contracts.held.Held as table
 use Rattle.foreign_handles.proofs.Words.{allocator, beside, beside_fits, loose_closes, alone, handle_opens}
 use Rattle.foreign_handles.specs.contracts.handle.Handle.into_loose as f
 use Rattle.foreign_handles.proofs.handle.Handle.into_loose.Statement.{statement}

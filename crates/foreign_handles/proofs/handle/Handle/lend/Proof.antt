@@ -29,8 +29,8 @@ use Rattle.std.proofs.raw_atomic.Walks.{proved}
 use Rattle.std.specs.contracts.impls.GlobalAllocator.TheImpl.{ghosts}
 use Rattle.pid_types.proofs.General.{held}
 use Rattle.foreign_handles.proofs.Words.{alone, handle_opens, handle_closes}
-use Rattle.foreign_handles.specs.Lending.{with_table}
-use Rattle.stamped_table.specs.contracts.StampedTable as table
+use Rattle.foreign_handles.specs.Lending.{with_held}
+use Rattle.foreign_handles.specs.contracts.held.Held as table
 use Rattle.foreign_handles.specs.contracts.handle.Handle as handle
 use Rattle.foreign_handles.specs.contracts.handle.Handle.lend as f
 use Rattle.foreign_handles.proofs.handle.Handle.lend.Statement.{statement}
@@ -50,14 +50,14 @@ module _ {M : Type 1} {𝓤 : Ura M} (𝓛 : Logic 𝓤) (d : handle.the_row.Den
   abbrev Rest : Fml
   Rest = fsep (ghosts.dealloc_token d.heap (bare (lone T.mir)) (block_ptr b' o')) (cell_at full_share handle.the_row.mir (alone b' o' ∷ []) b o)
 
-  back : d.at ≡ block_ptr b' o' → (w : T.Denot) → ent 𝓤 (sep 𝓤 (sem 𝓛 ((mem T).own_at w b' o')) (sem 𝓛 Rest)) (sem 𝓛 ((mem handle.the_row).own_at (with_table d w) b o))
+  back : d.at ≡ block_ptr b' o' → (w : T.Denot) → ent 𝓤 (sep 𝓤 (sem 𝓛 ((mem T).own_at w b' o')) (sem 𝓛 Rest)) (sem 𝓛 ((mem handle.the_row).own_at (with_held d w) b o))
   unfolding part_of
   back here w =
       qed 𝓛 (‵ (part_at T full_share w b' o') ∷ ‵ Rest ∷ []) ∵ move ! (1 ∷ []) $ fsplit ! $ move ! (2 ∷ 0 ∷ []) $ fjoin ! $
       handle_closes ! b' o' w d.heap $
       rewrite ! 0 (λ (p : Ptr). ‵ (handle.the_row.own_val (record { at = p; held = Some w; heap = d.heap }) (alone b' o' ∷ []))) (sym here) refl $
       move ! (1 ∷ 0 ∷ []) $ fjoin ! $
-      fpack ! (List Val) (λ us. fsep (cell_at full_share handle.the_row.mir us b o) (handle.the_row.own_val (with_table d w) us)) (alone b' o' ∷ []) $ done !
+      fpack ! (List Val) (λ us. fsep (cell_at full_share handle.the_row.mir us b o) (handle.the_row.own_val (with_held d w) us)) (alone b' o' ∷ []) $ done !
 
 pub lend_spec : {M : Type 1} → statement M
 lend_spec 𝓤 𝓛 𝓜 𝓡 wired =
@@ -77,9 +77,9 @@ lend_spec 𝓤 𝓛 𝓜 𝓡 wired =
     first ! $ blocks ! $ sets ! (of_opd ! (load ! (through ! refl (fld ! refl (stop !))) (look_in ! 2 (sub ! 0 refl (whole !))))) refl (tt, tt) $ sets ! (of_opd ! (get ! refl)) refl (tt, tt) $
     sets_last ! (addr ! (through ! refl (stop !))) refl (tt, tt) $ exec ! 𝓣.C 𝓣.Λ Ev rest (at_ret Ev Post) $ sets ! (of_opd ! (get ! refl)) refl (tt, tt) $
     move ! (1 ∷ 2 ∷ []) $ fjoin ! $ move ! (2 ∷ 3 ∷ 4 ∷ 1 ∷ 0 ∷ []) $ group ! 5 $
-    use1 𝓛 (later (some (λ (γ' : GName). raw (Part 𝓛 R T (with_table d) (named 0) κ q b o b' o' γ (sem 𝓛 (Rest 𝓛 d b o b' o')) (back 𝓛 d b o b' o' here) x γ'))))
-    (lends_Part 𝓛 R T (with_table d) (named 0) κ q b o b' o' γ (sem 𝓛 (Rest 𝓛 d b o b' o')) (back 𝓛 d b o b' o' here) c' c' x) $ await ! tt $ pick ! (λ γ'.
-    use1 𝓛 (‵ ((MutRef (named 0) κ T).own_val (record { ref_ptr = (b', o'); ghost_name = γ'; now = x }) (vptr b' o' ∷ [])) ⊛ ‵ (flft κ q) ⊛ ‵ (follows R T γ γ' (with_table d))) (id⊢ 𝓤 _) $ split3 ! $
+    use1 𝓛 (later (some (λ (γ' : GName). raw (Part 𝓛 R T (with_held d) (named 0) κ q b o b' o' γ (sem 𝓛 (Rest 𝓛 d b o b' o')) (back 𝓛 d b o b' o' here) x γ'))))
+    (lends_Part 𝓛 R T (with_held d) (named 0) κ q b o b' o' γ (sem 𝓛 (Rest 𝓛 d b o b' o')) (back 𝓛 d b o b' o' here) c' c' x) $ await ! tt $ pick ! (λ γ'.
+    use1 𝓛 (‵ ((MutRef (named 0) κ T).own_val (record { ref_ptr = (b', o'); ghost_name = γ'; now = x }) (vptr b' o' ∷ [])) ⊛ ‵ (flft κ q) ⊛ ‵ (follows R T γ γ' (with_held d))) (id⊢ 𝓤 _) $ split3 ! $
     returns ! (look_at ! 0 refl) $ free_all ! refl $ keep ! (0 ∷ 1 ∷ 4 ∷ 2 ∷ []) $
     move ! (1 ∷ 2 ∷ []) $ join ! $
     suffices ! _ (ends_at 𝓛 En stayed c y (vptr b' o') (record { ref_ptr = (b', o'); ghost_name = γ'; now = x }) (tt, tt) (tt, tt)) $

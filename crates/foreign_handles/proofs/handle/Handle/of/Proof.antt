@@ -22,7 +22,7 @@ use Rattle.std.proofs.alloc.Global.TheLaws as heap_laws
 use Rattle.std.proofs.raw_atomic.Walks.{proved_at, leaves}
 use Rattle.std.specs.contracts.alloc.Global as heap
 use Rattle.std.specs.contracts.impls.GlobalAllocator.TheImpl.{ghosts}
-use Rattle.stamped_table.specs.contracts.StampedTable as table
+use Rattle.foreign_handles.specs.contracts.held.Held as table
 use Rattle.foreign_handles.proofs.Words.{Loose, beside, beside_fits, loose_opens, alone, handle_closes}
 use Rattle.foreign_handles.specs.contracts.handle.Handle.of as f
 use Rattle.foreign_handles.proofs.handle.Handle.of.Statement.{statement}
