@@ -1,8 +1,8 @@
-"""The proved functions behind those of C: a record is a table that keeps its history, and one proved function serves both."""
+"""The proved functions that those of C call: a record is a table that keeps its history, and one proved function serves both."""
 
-# Whose proved function makes a worker's call, and tells its place in the history, if there is one.
+# The proved function of these makes a worker's call, and tells its place in the history, if there is one.
 BY_WORKER = ("call", "line", "fork_at", "call_told")
-# Whose proved function is another one with a history than without.
+# The proved function of these is another one with a history than without.
 WITH_HISTORY = ("open", "load")
 
 

@@ -85,9 +85,22 @@ static void calls_by(struct pidtab *table, uint32_t worker)
 	each_was_done(11);
 }
 
+/* A table without a history has worker 0 alone, and no history to tell or to cut. No function of the headers asks for that. */
 static void on_table(void)
 {
+	struct pidtab_call call = { .operation = PIDTAB_GETPID, .caller = 1 };
+	struct pidtab_entry entry;
+	struct pidtab_reply reply;
+	uint64_t first, recorded;
+	size_t count;
+
 	calls_by(&held->table, 0);
+	CHECK(proved_call_by(&held->table, 1, &call, &reply, &recorded) == PIDTAB_OUT_OF_RANGE);
+	CHECK(proved_counts(&held->table, &first, &recorded) == PIDTAB_NO_HISTORY && proved_worker(&held->table, 0, &first) == PIDTAB_NO_HISTORY);
+	CHECK(proved_entry(&held->table, 0, &first, &call, &reply) == PIDTAB_NO_HISTORY && proved_read(&held->table, 0, &entry, 1, &count) == PIDTAB_NO_HISTORY);
+	CHECK(proved_keep(&held->table, 1) == PIDTAB_NO_HISTORY && proved_checkpoint(&held->table) == PIDTAB_NO_HISTORY);
+	CHECK(proved_checkpoint_at(&held->table, 0) == PIDTAB_NO_HISTORY && proved_opening(&held->table, NULL, 0, &count) == PIDTAB_NO_HISTORY);
+	CHECK(proved_replay(&held->table, &entry, 1, &count) == PIDTAB_NO_HISTORY && proved_calls(&held->table, 0, &call, 1, &reply, 1, &count, &first) == PIDTAB_NO_HISTORY);
 }
 
 static void on_record(void)
@@ -118,6 +131,7 @@ static void on_replica(void)
 	struct pidtab_applied applied;
 	size_t size = 0, used = 0;
 
+	CHECK(proved_replica_apply(&held->replica, &held->record, 3, SETTINGS, strlen(SETTINGS), &applied) == PIDTAB_OUT_OF_RANGE);
 	CHECK(proved_replica_apply(&held->replica, &held->followed, 3, SETTINGS, strlen(SETTINGS), &applied) == PIDTAB_DONE);
 	CHECK(proved_replica_apply(&held->replica, &held->followed, 4, "open", 4, &applied) == PIDTAB_DONE);
 	CHECK(proved_replica_apply(&held->replica, &held->followed, 6, ENTRY, strlen(ENTRY), &applied) == PIDTAB_DONE);

@@ -26,6 +26,7 @@ var (
 	ErrBusy        = errors.New("pidtab: busy: a thread that is not here is in a call, as in the forked child of a process with threads")
 	ErrNotKept     = errors.New("pidtab: no entry with the ordinal is kept: it was cut away, or is not reached yet")
 	ErrAgain       = errors.New("pidtab: another number of calls was recorded by now")
+	ErrNoHistory   = errors.New("pidtab: the table keeps no history")
 	ErrDiffers     = errors.New("pidtab: a reply is not the saved one")
 	ErrUnsaved     = errors.New("pidtab: too many calls are not saved, and the saver has failed or ended")
 )

@@ -115,7 +115,7 @@ def errnos(tables):
 
 
 # The statuses that a function of an open table may have, and those of a line.
-OF_TABLES = ("NO_MEMORY", "BUSY", "OUT_OF_RANGE", "SPENT", "NOT_KEPT", "AGAIN", "DIFFERS")
+OF_TABLES = ("NO_MEMORY", "BUSY", "OUT_OF_RANGE", "SPENT", "NOT_KEPT", "AGAIN", "NO_HISTORY", "DIFFERS")
 OF_LINES = {"NO_MEMORY": "NoMemory", "BUSY": "Busy", "EMPTY_LINE": "Empty", "BAD_LINE": "Bad", "SPENT": "Spent"}
 
 

@@ -43,7 +43,7 @@ def passed(function):
 
 
 def proved_functions(tables):
-    """Each proved function once, with one of C that it is behind. One of a worker's call is behind that of a record."""
+    """Each proved function once, with one of C that calls it. A record's has the worker."""
     found = {}
     for it in tables["headers"].of("pidtab.h"):
         if proved_name(it.name) not in BY_HAND and not it.name.endswith(TYPED) and it.name not in BY_WORKER:

@@ -185,6 +185,8 @@ pub enum Error {
     NotKept,
     /// Another number of calls was recorded by now.
     Again,
+    /// The table keeps no history. No function of this package asks such a table for it.
+    NoHistory,
     /// A reply is not the saved one.
     Differs,
     /// As many calls are recorded and not saved as the bound lets there be, and the saver has failed or ended:
@@ -208,6 +210,7 @@ impl Error {
             raw::DIFFERS => Error::Differs,
             raw::NOT_KEPT => Error::NotKept,
             raw::AGAIN => Error::Again,
+            raw::NO_HISTORY => Error::NoHistory,
             // The end of errors.
             _ => unreachable!("the library answers the status {status}"),
         }
@@ -250,6 +253,7 @@ impl Error {
             Error::Busy => raw::BUSY,
             Error::NotKept => raw::NOT_KEPT,
             Error::Again => raw::AGAIN,
+            Error::NoHistory => raw::NO_HISTORY,
             Error::Differs => raw::DIFFERS,
             Error::Unsaved | Error::Ended => raw::ENDED,
         };
@@ -301,6 +305,7 @@ impl fmt::Display for Error {
             Error::Busy => to.write_str("busy"),
             Error::NotKept => to.write_str("no entry with the ordinal is kept"),
             Error::Again => to.write_str("another number of calls was recorded by now"),
+            Error::NoHistory => to.write_str("the table keeps no history"),
             Error::Differs => to.write_str("a reply is not the saved one"),
             Error::Unsaved => {
                 to.write_str("too many calls are not saved, and the saver has failed or ended")
@@ -325,6 +330,7 @@ impl From<Error> for io::Error {
             Error::Busy => kind_of(raw::BUSY as i32),
             Error::NotKept => kind_of(raw::NOT_KEPT as i32),
             Error::Again => kind_of(raw::AGAIN as i32),
+            Error::NoHistory => io::ErrorKind::Unsupported,
             Error::Differs => io::ErrorKind::InvalidData,
             Error::Unsaved | Error::Ended => io::ErrorKind::BrokenPipe,
             Error::Spent => io::ErrorKind::Other,
@@ -604,6 +610,7 @@ mod tests {
             (Error::Busy, 16),
             (Error::NotKept, 2),
             (Error::Again, 11),
+            (Error::NoHistory, 95),
             (Error::Differs, 74),
             (Error::Unsaved, 32),
             (Error::Ended, 32),

@@ -90,8 +90,8 @@ pub struct Reaped {
 /// use pidtab::Error::*;
 /// fn all(it: pidtab::Error) {
 ///     match it {
-///         Refused { .. } | NoMemory | Spent | Argument(_) | NoQuery | NoSeat | OutOfRange | Busy | NotKept | Again | Differs |
-///         Unsaved | Ended | BadLabel => {}
+///         Refused { .. } | NoMemory | Spent | Argument(_) | NoQuery | NoSeat | OutOfRange | Busy | NotKept | Again | NoHistory |
+///         Differs | Unsaved | Ended | BadLabel => {}
 ///     }
 /// }
 /// ```

@@ -21,7 +21,8 @@ HasMade (Recorded c) worker call before ordinal new = IsRecorded c worker call o
 -- the same, and then first entries of the history were cut away, where more than so many are kept
 abbrev pub HasMadeKeeping : ℕ → Held → ℕ → Call → ℕ → ℕ → Held → Type 0
 HasMadeKeeping keep (Bare s) worker call before ordinal new = HasMade (Bare s) worker call before ordinal new
-HasMadeKeeping keep (Recorded c) worker call before ordinal new = Has (history (Some new)) (λ d. IsRecordedKeeping keep c worker call ordinal d)
+HasMadeKeeping keep (Recorded c) worker call before ordinal new =
+    Has (history (Some new)) (λ d. IsRecordedKeeping keep c worker call ordinal d)
 
 -- what shows: all but the room for entries
 abbrev pub visible : Held → Held
