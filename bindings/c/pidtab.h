@@ -440,21 +440,19 @@ uint32_t pidtab_reply_line(const struct pidtab_reply *reply, void *answer, size_
  *
  * A switch, as new_space, is 0 or 1; so is limited, which says whether there is a limit. pidtab_fork and pidtab_wait answer the child's
  * number to the caller; where root and status are not null, they have its root number, and its status, 0 to 255 or PIDTAB_KILLED. A wait
- * answers 0 where none of those that match has ended, and a next where no number follows. A mk whose id is above INT64_MAX answers
- * -PIDTAB_SPENT, and removes its group again: such ids come only after a text with such a stamp was loaded. */
+ * answers 0 where none of those that match has ended, and a next where no number follows. A mk whose id would be above INT64_MAX is
+ * not made, and answers -PIDTAB_SPENT: such ids come only after a text with such a stamp was loaded. */
 
 static inline int64_t pidtab_value(struct pidtab *table, const struct pidtab_call *call, struct pidtab_reply *reply)
 {
-	uint32_t status = pidtab_call(table, call, reply);
+	uint32_t status;
+	if (call->operation == PIDTAB_MK && pidtab_would(table, call, reply) == PIDTAB_DONE && reply->kind == PIDTAB_CONTROL && reply->first > INT64_MAX)
+		return -(int64_t)PIDTAB_SPENT;
+	status = pidtab_call(table, call, reply);
 	if (status != PIDTAB_DONE)
 		return -(int64_t)status;
 	if (reply->kind == PIDTAB_REFUSED)
 		return -(int64_t)reply->error;
-	if (reply->kind == PIDTAB_CONTROL && reply->first > INT64_MAX) {
-		struct pidtab_call undo = { PIDTAB_RM, 0, reply->first, 0, 0, 0, 0 };
-		pidtab_call(table, &undo, reply);
-		return -(int64_t)PIDTAB_SPENT;
-	}
 	return reply->kind == PIDTAB_LEVELS ? (int64_t)reply->count : (int64_t)reply->first;
 }
 

@@ -68,7 +68,7 @@ static void great_ids(void)
 	CHECK(pidtab_mk(&table, 0) == -PIDTAB_SPENT);
 	CHECK(pidtab_inside(&table, PIDTAB_CONTROLS, 0, 0, ids, 2, &count) == PIDTAB_DONE && count == 0);
 	CHECK(pidtab_count(&table, 0) == 1 && pidtab_fork(&table, 1, 0, NULL) == 2);
-	CHECK(answers(&table, "mk 0", "control 9223372036854775812"));
+	CHECK(answers(&table, "mk 0", "control 9223372036854775810"));
 	CHECK(pidtab_close(&table) == PIDTAB_DONE);
 }
 
