@@ -91,6 +91,22 @@ DIFFERENCES = [
     ("docs/SCRIPT.md", "    space 2 parent 0 cursor 2 fallen\n", "    space 2 parent 0 fallen cursor 2\n", "the line is not one of interface/list.tbl"),
     ("bindings/example.list", " limit 0 count 2", " count 2 limit 0", "the line is not one of interface/list.tbl"),
     ("docs/list.schema.json", '"EPERM", "EACCES"', '"EPERM", "EBADF"', "the errors of refusals is"),
+    ("service/src/commands.rs", "A::Call(Verb::Getsid), &[Caller, Process]", "A::Call(Verb::Getsid), &[Caller]", "no row of COMMANDS is GETSID with Verb::Getsid and &[Caller, Process]"),
+    ("service/src/rights.rs", "            | Call::Getsid { caller, .. }\n", "", "nobody says who may make `getsid`"),
+    ("service/tests/test_calls.py", 'f"setsid {caller}", ', "", "no random line is `setsid`"),
+    ("linux/world.c", '{"nspid", order_nspid}, ', "", "no order is `nspid`, and linux/harness/world.py has no `do_nspid`"),
+    ("linux/harness/world.py", "def do_mk(", "def make_group(", "no order is `mk`, and linux/harness/world.py has no `do_mk`"),
+    ("linux/harness/chooser.py", "['getpgid', 'getsid', 'nspid']", "['getpgid', 'getsid']", "no random line is `nspid`"),
+    ("linux/README.md", "| `next` | no call", "| others | no call", "no row says how Linux is asked for `next`"),
+    ("linux/gvisor/calls.go", '\t"getsid":  ', '\t"sid":  ', "no form is `getsid`, and linux/README.md does not say that it is answered `n/a`"),
+    ("page/index.html", "getpgid C P, getsid C P</dt>", "getpgid C P</dt>", "none of the lines is `getsid C P`"),
+    ("box/src/calls.c", "QUERY(PIDTAB_GETSID)", "QUERY(PIDTAB_GETPID)", "the box makes no `getsid`"),
+    ("box/src/controls.c", "PIDTAB_COUNT", "PIDTAB_MK", "the box makes no `count`"),
+    ("box/src/forks.c", "PIDTAB_JOIN", "PIDTAB_FORK", "the box makes no `join`"),
+    ("box/src/groups.c", "PIDTAB_SETSID", "PIDTAB_FORK", "the box makes no `setsid`"),
+    ("box/src/main.c", "PIDTAB_NEXT", "PIDTAB_MK", "the box makes no `next`"),
+    ("box/src/table.c", "pidtab_stat(", "pidtab_task(", "the box makes no `nspid`"),
+    ("box/src/tracer.c", "PIDTAB_EXEC", "PIDTAB_FORK", "the box makes no `exec`"),
 ]  # fmt: skip
 
 # A table: what is changed in it, and what is said of that.
@@ -202,7 +218,7 @@ class Interface(unittest.TestCase):
             self.assertEqual(status, 1)
             for path, _, new, wanted in rows:
                 with self.subTest(path, new=new):
-                    self.assertRegex(said, rf"(?m)^tools/interface: (?:{path}|interface/functions.tbl):\d+: ")
+                    self.assertRegex(said, rf"(?m)^tools/interface: (?:{path}|interface/(?:functions|calls).tbl):\d+: ")
                     self.assertIn(wanted, said)
 
     def test_the_line_of_a_difference(self):
