@@ -273,6 +273,21 @@ class Interface(unittest.TestCase):
             self.restore(path, text)
             self.assertIn(f"tools/interface: {path}: {form!r} stands there {count} times, not once\n", said)
 
+    def test_a_call_of_a_new_length(self):
+        row = ("19", "telltale", "TellTale", "yes", "no", "no", "caller, number=number/number", "NUMBER", "{caller}", "no-caller", "-", "whom the caller tells")
+        for path, cells in (("calls", row), ("lines", ("telltale", "whom the caller tells", "the number", "Whom the caller tells."))):
+            with (self.top / f"interface/{path}.tbl").open("a", encoding="utf-8") as table:
+                table.write(" | ".join(cells) + "\n")
+        self.say("write")
+        self.assertNotIn("run tools/interface write", self.say()[1])
+        lines = (self.top / "crates/pid_script/src/line.rt").read_text(encoding="utf-8")
+        self.assertIn('{\n    match command {\n        b"telltale" => read_tell_tale(words),\n        _ => None,\n    }\n}\n', lines)
+        self.assertIn("        7 => read_seven_letters(command, words),\n        8 => read_eight_letters(command, words),\n", lines)
+        proof = (self.top / "crates/pid_script/proofs/line/read_eight_letters/Answers.antt").read_text(encoding="utf-8")
+        self.assertIn("\npub returns-in-telltale : goal.returns-in-telltale\n", proof)
+        for path in ("model_laws/specs/Refusals.antt", "model_laws/proofs/Words.antt", "call_effects/proofs/Reckoning.antt"):
+            self.assertIn(", SetSubreaper, TellTale}\n", (self.top / "crates" / path).read_text(encoding="utf-8"))
+
     def test_a_section_of_a_manual_page(self):
         path = "interface/record.mdoc"
         self.plant(path, "== keep\n", "== keeps\n")
