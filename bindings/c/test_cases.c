@@ -258,6 +258,11 @@ static void make_again(const struct pidtab_call *call, const struct pidtab_reply
 
 	CHECK(pidtab_ask(&tables[1], call, &reply) == asked && (asked != PIDTAB_DONE || same_reply(&reply, wanted)));
 	make_as_told(&tables[1], call, wanted);
+	if (wanted->kind == PIDTAB_CONTROL && wanted->first > INT64_MAX) {
+		/* Its method answers no such id. */
+		CHECK(pidtab_call(&tables[2], call, &reply) == PIDTAB_DONE && same_reply(&reply, wanted));
+		return;
+	}
 	int64_t number = wanted->kind == PIDTAB_REFUSED ? -(int64_t)wanted->error : wanted->kind == PIDTAB_LEVELS ? (int64_t)wanted->count : (int64_t)wanted->first;
 	CHECK(by_its_method(&tables[2], call, &second, levels) == number);
 	CHECK(second == (wanted->kind == PIDTAB_FORKED || wanted->kind == PIDTAB_REAPED ? wanted->second : 0));

@@ -162,6 +162,16 @@ def numbers_beside_a_writer(test: unittest.TestCase, ask: Callable[[Shared], Seq
     read_beside_a_writer(test, read)
 
 
+class Answered:
+    """A table whose library answers a question by this function: it takes the name of the question's own, what is asked, and where the answer goes."""
+
+    def __init__(self, read: Callable[..., int]) -> None:
+        self._question = read
+
+    def _check_owner(self) -> None:
+        """It is open."""
+
+
 class OnEachTable(unittest.TestCase):
     """On a table of this process, on one for threads, and at a seat of that."""
 
