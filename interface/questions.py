@@ -40,7 +40,7 @@ def arguments_of(row):
 
 
 def shown(row):
-    """The arguments that name what is asked: all but the one that a list goes on from."""
+    """The arguments that name what is asked: all except the one that a list goes on from."""
     return [it for it in arguments_of(row) if it.name != "from"]
 
 
