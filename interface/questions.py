@@ -98,7 +98,7 @@ def functions_of(rows):
         for owner, functions in (("", table), ("record_", ", ".join(others))):
             if functions:
                 cells = {"functions": functions, "since": row.since, **packages_of(row, owner), "statuses": row.statuses, "sentence": row.sentence}
-                told.append(Row(row.at, {**cells, "question": row.question}))
+                told.append(Row(row.at, {**cells, "table": "questions"}))
     return told
 
 

@@ -310,12 +310,14 @@ uint32_t pidtab_call(struct pidtab *table, const struct pidtab_call *call, struc
  * there is no number: CLOSED; OUT_OF_RANGE for a kind that is no enum pidtab_use; SPENT; and none of these makes a call. Or the errno of the refusal,
  * which is ESRCH, and of a count ENOENT: that query was made, and has used a stamp. In all of them number is as it was. A next that finds none is DONE,
  * and 0. */
+/* Written by tools/interface: numbers. */
 uint32_t pidtab_getpid_of(struct pidtab *table, uint32_t caller, uint64_t *number);
 uint32_t pidtab_getppid_of(struct pidtab *table, uint32_t caller, uint64_t *number);
 uint32_t pidtab_getpgid_of(struct pidtab *table, uint32_t caller, uint32_t pid, uint64_t *number);
 uint32_t pidtab_getsid_of(struct pidtab *table, uint32_t caller, uint32_t pid, uint64_t *number);
 uint32_t pidtab_next_of(struct pidtab *table, uint32_t caller, uint32_t kind, uint32_t from, uint64_t *number);
 uint32_t pidtab_count_of(struct pidtab *table, uint64_t id, uint64_t *number);
+/* The end of numbers. */
 
 /* A task as the caller's namespace sees it. The numbers of processes but root are those there, 0 where there is none. */
 struct pidtab_task {

@@ -59,7 +59,7 @@ def compare_headers(rows, top):
 
 def table_of(row):
     """The table that the row stands in."""
-    return "questions" if hasattr(row, "question") else "functions"
+    return getattr(row, "table", "functions")
 
 
 def differences(tables, top):
@@ -70,7 +70,7 @@ def differences(tables, top):
         text = "\n".join(pathlib.Path(top, path).read_text(encoding="utf-8") for path in paths)
         for it in rows:
             name = it.cell(language)
-            # The methods of questions are written.
+            # The others are written.
             if name != "-" and table_of(it) == "functions" and not is_there(language, text, name):
                 faults.append(f"interface/functions.tbl:{it.at}: the package for {language} has no {name}")
     return faults
