@@ -25,7 +25,7 @@ def documented(row, tables):
     """What the question asks: its sentences, what it raises, and why it is refused."""
     names = {it.name: f"`{name_of(it)}`" for it in arguments_of(row)}
     first, _, others = sentences(row, lambda word: names.get(word, f"`{word}`")).replace("takes memory for a list", "takes memory for a list: where there is none, it is a MemoryError").partition(". ")
-    first = f"{first.removesuffix('.')}." if row.of == "-" else f"{first.removesuffix('.')}; LookupError where no {row.of} has it, or it is gone."
+    first = f"{first.rstrip('.')}." if row.of == "-" else f"{first.rstrip('.')}; LookupError where no {row.of} has it, or it is gone."
     refused = "" if row.refusals == "-" else f"{row.refusals}."
     whole = f'        """{" ".join(filter(None, (first, others, refused)))}"""'
     if len(whole) <= 150:

@@ -78,7 +78,7 @@ def ends(tables, row):
 def printed(tables, row):
     """What prints the words of a call after its name."""
     found = [(it, FORMATS[it.kind]) for it in arguments_of(row) if it.kind in FORMATS]
-    form = f'"{" ".join(told for _, (told, _) in found)}"'.removesuffix(' ""')
+    form = f'"{" ".join(told for _, (told, _) in found)}"'.replace(' ""', "")
     taken = [told.format(field=it.field, words=words(tables, it.kind)) for it, (_, told) in found]
     return (f"printf({', '.join([form, *taken])});", *ends(tables, row))
 
