@@ -293,9 +293,10 @@ class Interface(unittest.TestCase):
                "CLOSED, NO_MEMORY, DONE", "the residents of a namespace", "The residents of the namespace {space}, as {children} has those of a task.")  # fmt: skip
         with (self.top / "interface/questions.tbl").open("a", encoding="utf-8") as table:
             table.write(" | ".join(row) + "\n")
-        # What is by hand of it: its section of the manual pages.
-        self.assertEqual(self.say("write"), (1, "tools/interface: interface/record.mdoc: there is no section `== residents`\n"))
-        self.assertEqual(self.say(), (1, "tools/interface: interface/record.mdoc: there is no section `== residents`\n"))
+        # What is by hand of it: its section of the manual pages, and a step of the cases.
+        lacking = "tools/interface: interface/record.mdoc: there is no section `== residents`\ntools/interface: interface/cases: no step asks residents\n"
+        self.assertEqual(self.say("write"), (1, lacking))
+        self.assertEqual(self.say(), (1, lacking))
         for path, wanted in (
             ("bindings/c/pidtab.h", "uint32_t pidtab_record_residents(const struct pidtab_record *record, uint32_t caller, uint64_t space, uint32_t from, uint32_t *numbers, size_t room,"),
             ("bindings/c/pidtab_shared.h", "uint32_t pidtab_shared_residents("),
@@ -306,7 +307,9 @@ class Interface(unittest.TestCase):
             ("bindings/python/pidtab/native.py", "    def residents(self, caller: int, space: int = 0, start: int = 0) -> tuple[int, ...]:\n"),
             ("bindings/python/pidtab/raw.py", '    "pidtab_shared_residents": (U32, [SHARED, U32, U64, U32, NUMBER_32, SIZE_T, REPLY]),\n'),
             ("bindings/js/src/calls.js", "  residents(caller, space = 0n, start = 0) {\n"), ("bindings/js/pidtab.d.ts", "  residents(caller: number, space?: Long, start?: number): number[];\n"),
-            ("bindings/js/wasm/around.c", "uint32_t EXPORTED(record_residents)("), ("docs/LIBRARY.md", "| the residents of a namespace | `pidtab_residents` | `Ask.residents` |"),
+            ("bindings/js/wasm/around.c", "uint32_t EXPORTED(record_residents)("), ("bindings/c/test_cases.c", "ASKED(residents, (uint32_t)n[0], n[1], (uint32_t)n[2], to->numbers, room, &to->reply);"),
+            ("bindings/rust/src/cases.rs", '"residents" => say_page($it.residents($n[0] as u32, $n[1], $n[2] as u32)),'),
+            ("bindings/go/cases_test.go", "\t\treturn of(it.Residents(uint32(n[0]), n[1], uint32(n[2]))), true\n"), ("docs/LIBRARY.md", "| the residents of a namespace | `pidtab_residents` | `Ask.residents` |"),
         ):  # fmt: skip
             with self.subTest(path):
                 self.assertIn(wanted, (self.top / path).read_text(encoding="utf-8"))
