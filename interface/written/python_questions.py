@@ -13,7 +13,7 @@ FROM = {"from": NAMES["from"]}
 
 # What reads the answer of each kind, and its type.
 ANSWERS = {"numbers": ("read_numbers", "tuple[int, ...]"), "ids": ("read_ids", "tuple[int, ...]"), "task": ("read_task", "Stat"), "space": ("read_space", "SpaceStat")}
-CHECKS = {"number": "number", "id": "an_id"}
+GREATEST = {"number": "GREATEST_PID", "id": "GREATEST_ID"}
 
 
 def name_of(argument):
@@ -44,12 +44,12 @@ def method(row, tables):
     reads, answer = ANSWERS[row.tells]
     found = arguments_of(row)
     taken = ", ".join(f"{name_of(it)}: int{' = 0' if it.is_optional else ''}" for it in found)
-    checked = ", ".join(f'{CHECKS[it.kind]}("{name_of(it)}", {name_of(it)})' for it in found)
-    passed = ", ".join([f'"{words_of(row.exports)[0]}"', *[f"raw.{it.choice}" if it.choice else name_of(it) for it in all_arguments(row)]])
+    checked = ", ".join(f'check_range("{name_of(it)}", {name_of(it)}, 0, {GREATEST[it.kind]})' for it in found)
+    passed = ", ".join(f"raw.{it.choice}" if it.choice else name_of(it) for it in all_arguments(row))
     asked = " ".join([row.question, *[f"{{{name_of(it)}}}" for it in shown(row)]])
-    told = ", ".join([f'f"{asked}"', *([f'"{row.of}"'] if row.of != "-" else []), f"self._reads({passed})"])
+    told = ", ".join([f'f"{asked}"', *([f'"{row.of}"'] if row.of != "-" else []), f'partial(self._table._question("{words_of(row.exports)[0]}"), {passed})'])
     return [
-        f"    def {row.question}(self, {taken}) -> {answer}:", *documented(row, tables), "        self._begin()",
+        f"    def {row.question}(self, {taken}) -> {answer}:", *documented(row, tables), "        self._table._check_owner()",
         f"        {', '.join(name_of(it) for it in found)} = {checked}", f"        return {reads}({told})", "",
     ]  # fmt: skip
 

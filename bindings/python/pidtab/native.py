@@ -143,16 +143,6 @@ def make_call(call: Call, form: Form[T], make: Callable[[bytes, PidtabReply], in
     return told
 
 
-def number(name: str, given: SupportsIndex) -> int:
-    """A number of a process, if it is one."""
-    return check_range(name, given, 0, GREATEST_PID)
-
-
-def an_id(name: str, given: SupportsIndex) -> int:
-    """The id of a namespace or a control group, if it is one."""
-    return check_range(name, given, 0, GREATEST_ID)
-
-
 def read_task(asked: str, read: Callable[[PidtabTask], int]) -> Stat:
     """What is read of a task by a function that answers a status."""
     task = PidtabTask()
@@ -217,8 +207,8 @@ class Asked(Protocol):
 
     def _check_owner(self) -> None: ...
 
-    def _question(self, name: str, *taken: object) -> int:
-        """The status of the function of the library that answers a question, which `name` is after the kind of the table."""
+    def _question(self, name: str) -> Callable[..., int]:
+        """The function of the library that answers a question, which has this name after the kind of the table. It answers a status."""
 
 
 class OfTable:
@@ -240,7 +230,7 @@ class Would(OfTable, EachCall):
 
     def _make(self, call: Call, form: Form[T]) -> T:
         self._table._check_owner()
-        return make_call(call, form, partial(self._table._question, "would"))
+        return make_call(call, form, self._table._question("would"))
 
 
 class Teller(EachCall):
@@ -309,16 +299,8 @@ class Ask(OfTable, Queries):
     """
 
     def _make(self, call: Call, form: Form[T]) -> T:
-        self._begin()
-        return make_call(call, form, self._reads("ask"))
-
-    def _begin(self) -> None:
-        """Begins a question: the table is this process's, and open."""
         self._table._check_owner()
-
-    def _reads(self, name: str, *taken: int) -> Callable[..., int]:
-        """The function of the library that answers a question, with what is asked. It takes where the answer goes."""
-        return partial(self._table._question, name, *taken)
+        return make_call(call, form, self._table._question("ask"))
 
     # Written by tools/interface: questions.
     def stat(self, caller: int, pid: int = 0) -> Stat:
@@ -326,9 +308,9 @@ class Ask(OfTable, Queries):
 
         It costs what a getpgid costs. no-caller, no-task.
         """
-        self._begin()
-        caller, pid = number("caller", caller), number("pid", pid)
-        return read_task(f"stat {caller} {pid}", self._reads("stat", caller, pid))
+        self._table._check_owner()
+        caller, pid = check_range("caller", caller, 0, GREATEST_PID), check_range("pid", pid, 0, GREATEST_PID)
+        return read_task(f"stat {caller} {pid}", partial(self._table._question("stat"), caller, pid))
 
     def children(self, caller: int, pid: int = 0, start: int = 0) -> tuple[int, ...]:
         """The children of the task `pid`, where 0 is the caller, zombies too: their numbers in the caller's namespace, in rising order and not below
@@ -337,27 +319,27 @@ class Ask(OfTable, Queries):
         Who is not visible there is left out, and a number that is nobody's has none. It costs what is read of each of them. It takes memory for a
         list: where there is none, it is a MemoryError. no-caller.
         """
-        self._begin()
-        caller, pid, start = number("caller", caller), number("pid", pid), number("start", start)
-        return read_numbers(f"children {caller} {pid}", self._reads("page", caller, raw.CHILDREN, pid, start))
+        self._table._check_owner()
+        caller, pid, start = check_range("caller", caller, 0, GREATEST_PID), check_range("pid", pid, 0, GREATEST_PID), check_range("start", start, 0, GREATEST_PID)
+        return read_numbers(f"children {caller} {pid}", partial(self._table._question("page"), caller, raw.CHILDREN, pid, start))
 
     def group_members(self, caller: int, group: int = 0, start: int = 0) -> tuple[int, ...]:
         """The members of the process group with the number `group`, where 0 is the caller's own, as `children` has those of a task.
 
         It takes memory for a list: where there is none, it is a MemoryError. no-caller.
         """
-        self._begin()
-        caller, group, start = number("caller", caller), number("group", group), number("start", start)
-        return read_numbers(f"group_members {caller} {group}", self._reads("page", caller, raw.GROUP_MEMBERS, group, start))
+        self._table._check_owner()
+        caller, group, start = check_range("caller", caller, 0, GREATEST_PID), check_range("group", group, 0, GREATEST_PID), check_range("start", start, 0, GREATEST_PID)
+        return read_numbers(f"group_members {caller} {group}", partial(self._table._question("page"), caller, raw.GROUP_MEMBERS, group, start))
 
     def session_members(self, caller: int, session: int = 0, start: int = 0) -> tuple[int, ...]:
         """The members of the session with the number `session`, where 0 is the caller's own, as `children` has those of a task.
 
         It takes memory for a list: where there is none, it is a MemoryError. no-caller.
         """
-        self._begin()
-        caller, session, start = number("caller", caller), number("session", session), number("start", start)
-        return read_numbers(f"session_members {caller} {session}", self._reads("page", caller, raw.SESSION_MEMBERS, session, start))
+        self._table._check_owner()
+        caller, session, start = check_range("caller", caller, 0, GREATEST_PID), check_range("session", session, 0, GREATEST_PID), check_range("start", start, 0, GREATEST_PID)
+        return read_numbers(f"session_members {caller} {session}", partial(self._table._question("page"), caller, raw.SESSION_MEMBERS, session, start))
 
     def namespace_members(self, caller: int, pid: int = 0, start: int = 0) -> tuple[int, ...]:
         """The tasks of the namespace that the task `pid` is in, where 0 is the caller, those in namespaces inside it too, as `children` has those of
@@ -366,27 +348,27 @@ class Ask(OfTable, Queries):
         Of the caller's own namespace these are all that it sees: whom kill(2) of -1 reaches. It takes memory for a list: where there is none, it is a
         MemoryError. no-caller.
         """
-        self._begin()
-        caller, pid, start = number("caller", caller), number("pid", pid), number("start", start)
-        return read_numbers(f"namespace_members {caller} {pid}", self._reads("page", caller, raw.NAMESPACE_MEMBERS, pid, start))
+        self._table._check_owner()
+        caller, pid, start = check_range("caller", caller, 0, GREATEST_PID), check_range("pid", pid, 0, GREATEST_PID), check_range("start", start, 0, GREATEST_PID)
+        return read_numbers(f"namespace_members {caller} {pid}", partial(self._table._question("page"), caller, raw.NAMESPACE_MEMBERS, pid, start))
 
     def namespace_own(self, caller: int, pid: int = 0, start: int = 0) -> tuple[int, ...]:
         """Of `namespace_members` those that are in no namespace inside it.
 
         It takes memory for a list: where there is none, it is a MemoryError. no-caller.
         """
-        self._begin()
-        caller, pid, start = number("caller", caller), number("pid", pid), number("start", start)
-        return read_numbers(f"namespace_own {caller} {pid}", self._reads("page", caller, raw.NAMESPACE_OWN, pid, start))
+        self._table._check_owner()
+        caller, pid, start = check_range("caller", caller, 0, GREATEST_PID), check_range("pid", pid, 0, GREATEST_PID), check_range("start", start, 0, GREATEST_PID)
+        return read_numbers(f"namespace_own {caller} {pid}", partial(self._table._question("page"), caller, raw.NAMESPACE_OWN, pid, start))
 
     def space(self, id: int) -> SpaceStat:
         """Reads the namespace `id`, where 0 is the root namespace; LookupError where no namespace has it, or it is gone.
 
         It takes no memory, and costs two searches and a few reads.
         """
-        self._begin()
-        id = an_id("id", id)
-        return read_space(f"space {id}", "namespace", self._reads("space", id))
+        self._table._check_owner()
+        id = check_range("id", id, 0, GREATEST_ID)
+        return read_space(f"space {id}", "namespace", partial(self._table._question("space"), id))
 
     def spaces_inside(self, id: int = 0, start: int = 0) -> tuple[int, ...]:
         """The ids of the namespaces directly in the namespace `id`, where 0 is the root, in rising order and not below `start`; LookupError where no
@@ -395,9 +377,9 @@ class Ask(OfTable, Queries):
         One that has fallen is among them as long as `space` reads it. It costs what is read of each of them. It takes memory for a list: where there
         is none, it is a MemoryError.
         """
-        self._begin()
-        id, start = an_id("id", id), an_id("start", start)
-        return read_ids(f"spaces_inside {id}", "namespace", self._reads("inside", raw.SPACES, id, start))
+        self._table._check_owner()
+        id, start = check_range("id", id, 0, GREATEST_ID), check_range("start", start, 0, GREATEST_ID)
+        return read_ids(f"spaces_inside {id}", "namespace", partial(self._table._question("inside"), raw.SPACES, id, start))
 
     def controls_inside(self, id: int = 0, start: int = 0) -> tuple[int, ...]:
         """The ids of the control groups directly in the control group `id`, where 0 is the root, as `spaces_inside` has those of a namespace;
@@ -405,9 +387,9 @@ class Ask(OfTable, Queries):
 
         It takes memory for a list: where there is none, it is a MemoryError.
         """
-        self._begin()
-        id, start = an_id("id", id), an_id("start", start)
-        return read_ids(f"controls_inside {id}", "control group", self._reads("inside", raw.CONTROLS, id, start))
+        self._table._check_owner()
+        id, start = check_range("id", id, 0, GREATEST_ID), check_range("start", start, 0, GREATEST_ID)
+        return read_ids(f"controls_inside {id}", "control group", partial(self._table._question("inside"), raw.CONTROLS, id, start))
 
     def control_tasks(self, caller: int, control: int = 0, start: int = 0) -> tuple[int, ...]:
         """The live tasks directly in the control group with the id `control`, where 0 is the root, as `children` has those of a task: cgroup.procs,
@@ -415,9 +397,9 @@ class Ask(OfTable, Queries):
 
         It takes memory for a list: where there is none, it is a MemoryError. no-caller, no-control.
         """
-        self._begin()
-        caller, control, start = number("caller", caller), an_id("control", control), number("start", start)
-        return read_numbers(f"control_tasks {caller} {control}", self._reads("control_tasks", caller, control, start))
+        self._table._check_owner()
+        caller, control, start = check_range("caller", caller, 0, GREATEST_PID), check_range("control", control, 0, GREATEST_ID), check_range("start", start, 0, GREATEST_PID)
+        return read_numbers(f"control_tasks {caller} {control}", partial(self._table._question("control_tasks"), caller, control, start))
     # The end of questions.
 
     # Not for a checker of types, which then finds a call that is no query.

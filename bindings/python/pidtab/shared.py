@@ -6,6 +6,7 @@ import threading
 import warnings
 import weakref
 from collections.abc import Callable, Iterator, Sequence
+from functools import partial
 from itertools import groupby, islice
 from operator import index
 
@@ -154,8 +155,8 @@ class Seat(NumberCalls):
     def _forked(self, root: int) -> None:
         self.shared._labels.fork(root, self._ordinal.value)
 
-    def _question(self, name: str, *taken: object) -> int:
-        return self.shared._question(name, *taken)
+    def _question(self, name: str) -> Callable[..., int]:
+        return self.shared._question(name)
 
     def _fork_at(self, caller: int, new: bool, child: int, root: int, reply: PidtabReply) -> int:
         return self.shared._bounded("pidtab_shared_fork_at", self.worker, caller, new, child, root, reply, self._ordinal)
@@ -680,8 +681,8 @@ class Shared(Labelled, Owner):
         hold = self._check_open()
         return int(getattr(hold.functions, name)(hold.at, *arguments))
 
-    def _question(self, name: str, *taken: object) -> int:
-        return self._status(f"pidtab_shared_{name}", *taken)
+    def _question(self, name: str) -> Callable[..., int]:
+        return partial(self._status, f"pidtab_shared_{name}")
 
     def _list(self, room: "ctypes.Array[ctypes.c_char]", size: ctypes.c_size_t) -> int:
         return self._status("pidtab_shared_list", room, len(room), size)

@@ -2,6 +2,7 @@
 
 import ctypes
 import os
+from collections.abc import Callable
 from functools import partial
 
 from pidtab.bounds import DEFAULT_PID_MAX, check_pid_max
@@ -81,8 +82,8 @@ class Table(NumberCalls):
     def _forked(self, root: int) -> None:
         self._labels.fork(root)
 
-    def _question(self, name: str, *taken: object) -> int:
-        return self._later(f"pidtab_{name}", *taken)
+    def _question(self, name: str) -> Callable[..., int]:
+        return partial(self._later, f"pidtab_{name}")
 
     def _fork_at(self, caller: int, new: bool, child: int, root: int, reply: PidtabReply) -> int:
         return self._later("pidtab_fork_at", caller, new, child, root, reply)

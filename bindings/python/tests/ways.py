@@ -5,6 +5,7 @@ import importlib.util
 import threading
 import unittest
 from collections.abc import Callable, Sequence
+from functools import partial
 from types import SimpleNamespace
 from typing import TYPE_CHECKING
 from unittest import mock
@@ -166,7 +167,10 @@ class Answered:
     """A table whose library answers a question by this function: it takes the name of the question's own, what is asked, and where the answer goes."""
 
     def __init__(self, read: Callable[..., int]) -> None:
-        self._question = read
+        self._read = read
+
+    def _question(self, name: str) -> Callable[..., int]:
+        return partial(self._read, name)
 
     def _check_owner(self) -> None:
         """It is open."""

@@ -25,26 +25,33 @@ PATIENCE = 60.0
 T = TypeVar("T")
 
 
+class Fresh:
+    """A table on many hosts each of whose questions first waits until this host is not behind the log."""
+
+    def __init__(self, table: "Replicated") -> None:
+        self._table = table
+        self._question = table._question
+
+    def __repr__(self) -> str:
+        return repr(self._table)
+
+    def _check_owner(self) -> None:
+        self._table.catch_up()
+
+
 class ReplicaAsk(Ask):
     """Queries of this host's own table, which may be behind the log; by `ask(now=True)` those that are not behind it.
 
     They are no calls: nothing goes into the log, and no later id is shifted.
     """
 
-    _table: "Replicated"
-
     def __init__(self, table: "Replicated", now: bool = False) -> None:
-        super().__init__(table)
-        self._now = now
+        super().__init__(Fresh(table) if now else table)
+        self._host = table
 
     def __call__(self, *, now: bool = False) -> "ReplicaAsk":
         """The same queries; with `now`, each first waits until this host has all that the log has: it asks the log for its end."""
-        return ReplicaAsk(self._table, now)
-
-    def _begin(self) -> None:
-        if self._now:
-            self._table.catch_up()
-        super()._begin()
+        return ReplicaAsk(self._host, now)
 
 
 class Replicated(Labelled, AskableCalls):
@@ -242,9 +249,9 @@ class Replicated(Labelled, AskableCalls):
         pack(call)
         return form.read(self.line(call.line))
 
-    def _question(self, name: str, *taken: object) -> int:
+    def _question(self, name: str) -> Callable[..., int]:
         super()._check_owner()
-        return self._replica.read(lambda table: as_table(table)._question(name, *taken))
+        return lambda *taken: self._replica.read(lambda table: as_table(table)._question(name)(*taken))
 
     def _place(self) -> int:
         self._check_owner()
