@@ -3,8 +3,8 @@
 import re
 from typing import NamedTuple
 
-from names import camel
-from tables import words_of
+from names import TYPED, camel
+from tables import Row, words_of
 
 # The fields of `struct pidtab_call` after the operation, in their order.
 FIELDS = ("caller", "id", "number", "choice", "pid", "pgid")
@@ -44,3 +44,27 @@ def queries(tables):
 def tells(row):
     """The kinds of its replies."""
     return words_of(row.tells)
+
+
+# The release in which the first functions of C for such queries came.
+SINCE = "0.2.0"
+
+# The replies that are one number, or none.
+ONE_NUMBER = ("NUMBER", "COUNTED", "CONTROL", "END")
+
+
+def with_numbers(tables):
+    """The queries that tell one number, each of which has a function of its own in the library. Those with a caller come first."""
+    found = [row for row in tables["calls"] if row.query == "yes" and all(kind in ONE_NUMBER for kind in tells(row))]
+    return sorted(found, key=lambda it: arguments_of(it)[0].field != "caller")
+
+
+def functions_of(tables):
+    """These functions, as rows of functions.tbl."""
+    packages = dict.fromkeys(("python", "rust", "go", "javascript"), "-")
+    rows = []
+    for row in with_numbers(tables):
+        bound = "OUT_OF_RANGE, " if any(it.field == "choice" for it in arguments_of(row)) else ""
+        cells = {"functions": f"{row.call}{TYPED}", "since": SINCE, **packages, "statuses": f"CLOSED, {bound}SPENT, DONE", "sentence": f"makes a {row.call}, and tells its number alone"}
+        rows.append(Row(row.at, {**cells, "table": "calls"}))
+    return rows

@@ -27,6 +27,18 @@ class Place(NamedTuple):
         return [first, next_line(path, lines, first + 1, self.ends, indent_of(lines[first]))]
 
 
+class Block(NamedTuple):
+    """The rows are whole definitions, from the first line of a form up to the next one of another."""
+
+    begins: str
+    ends: str
+
+    def find(self, path, lines):
+        """The lines before and after the rows, by their places."""
+        first = next_line(path, lines, 0, self.begins)
+        return [first - 1, next_line(path, lines, first, self.ends)]
+
+
 def indent_of(line):
     """The spaces in front of a line."""
     return line[: len(line) - len(line.lstrip())]
@@ -48,6 +60,12 @@ def definition(name):
 def imports(name):
     """The lines that import all variants of an enum. They follow the one that imports the enum."""
     return Place(rf"use .*\.{name}\.\{{{name}\}}$", "", rf"(?!use .*\.{name}\.TheVariants\.).*")
+
+
+def handed_on(path):
+    """The lines that import all variants of an enum for those who use the module."""
+    line = rf"pub use Rattle\.{re.escape(path)}\.TheVariants\..*"
+    return Block(line, f"(?!{line}).*")
 
 
 def arms(function):

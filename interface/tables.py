@@ -13,6 +13,11 @@ KINDS = {
     "yes or no": r"yes|no",
     "made": r"yes|new|no",
     "arguments": r"[a-z_]+(=[a-z]+/[a-z]+\??)?(, [a-z_]+=[a-z]+/[a-z]+\??)*",
+    "question": r"[a-z]+(_[a-z]+)*",
+    "question arguments": r"[a-z_]+(=[a-z]+/[a-z]+\??|=[A-Z_]+)?(, [a-z_]+(=[a-z]+/[a-z]+\??|=[A-Z_]+)?)*",
+    "told": r"[a-z]+(_[a-z]+)*",
+    "words or -": r"[a-z]+( [a-z]+)*|-",
+    "list or -": r"[a-z][a-z-]*(, [a-z][a-z-]*)*|-",
     "sentence": r"[^\s.].*[^\s.]",
     "sentence or -": r"[^\s.].*[^\s.]|-",
     "lines": r"[a-z]+( [a-z]+)*(, [a-z]+( [a-z]+)*)*",
@@ -52,6 +57,10 @@ COLUMNS = {
         "functions": "functions", "since": "release", "python": "method or -", "rust": "method or -", "go": "method or -",
         "javascript": "method or -", "statuses": "statuses or -", "sentence": "sentence",
     },
+    "questions": {
+        "question": "question", "exports": "functions", "since": "release", "arguments": "question arguments", "tells": "told", "of": "words or -", "refusals": "list or -",
+        "statuses": "statuses or -", "sentence": "sentence", "says": "sentences",
+    },
     "lines": {"calls": "lines", "asks": "sentence", "answer": "sentence", "manual": "sentences"},
     "results": {"status": "capitals", "functions": "functions or -", "sentence": "sentences"},
     "list": {
@@ -67,13 +76,14 @@ COLUMNS = {
 UNIQUE = {
     "errnos": ("name", "value"), "refusals": ("number", "word"), "calls": ("number", "call", "model"), "statuses": ("name", "error", "sentence"),
     "faults": ("number", "name", "rust", "words"), "kinds": ("name",), "bounds": ("name", "sentence"),
-    "functions": ("functions", "sentence"), "lines": ("calls", "asks", "manual"), "results": ("sentence",), "list": (),
+    "functions": ("functions", "sentence"), "questions": ("question", "sentence", "says"), "lines": ("calls", "asks", "manual"), "results": ("sentence",), "list": (),
 }  # fmt: skip
 FIRST = {"refusals": 1, "calls": 0, "faults": 1, "kinds": 0}
 
 # A column whose cells stand in a column of another table.
 KNOWN = {("refusals", "error"): ("errnos", "name"), ("calls", "refusals"): ("refusals", "word"), ("statuses", "error"): ("errnos", "name"),
-         ("calls", "tells"): ("kinds", "name"), ("results", "status"): ("statuses", "name"), ("functions", "statuses"): ("statuses", "name")}  # fmt: skip
+         ("calls", "tells"): ("kinds", "name"), ("results", "status"): ("statuses", "name"), ("functions", "statuses"): ("statuses", "name"),
+         ("questions", "refusals"): ("refusals", "word"), ("questions", "statuses"): ("statuses", "name")}  # fmt: skip
 
 
 class TableFault(Exception):

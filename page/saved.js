@@ -14,6 +14,7 @@ const MORE_LEVELS = 10;
 
 // The line of each call by the fields of its entry. An operation that has a later number is not known here.
 const CALL_LINES = new Map([
+  // Written by tools/interface: calls.
   [OPERATION.FORK, (it) => `fork ${it.caller}${it.choice ? " new" : ""}`],
   [OPERATION.GETPID, (it) => `getpid ${it.caller}`],
   [OPERATION.NSPID, (it) => `nspid ${it.caller} ${it.number}`],
@@ -33,6 +34,7 @@ const CALL_LINES = new Map([
   [OPERATION.NEXT, (it) => `next ${it.caller} ${USES[it.choice]} ${it.number}`],
   [OPERATION.JOIN, (it) => `join ${it.caller} ${it.number}`],
   [OPERATION.SUBREAPER, (it) => `subreaper ${it.caller} ${it.choice ? "on" : "off"}`],
+  // The end of calls.
 ]);
 
 function waited({ choice, number }) {

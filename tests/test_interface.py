@@ -63,27 +63,21 @@ DIFFERENCES = [
     ("bindings/c/pidtab_shared.h", "uint32_t pidtab_shared_ask(", "uint32_t pidtab_shared_query(", "pidtab_shared_query is not in interface/functions.tbl"),
     ("bindings/c/pidtab_saved.h", "void pidtab_saved_end(struct", "void pidtab_saved_stop(struct", "pidtab_saved_end is in no header"),
     ("bindings/c/pidtab_replica.h", "uint32_t pidtab_replica_last(const", "uint32_t pidtab_replica_latest(const", "pidtab_replica_latest is not in interface/functions.tbl"),
-    ("bindings/python/pidtab/native.py", "    def stat(self, caller", "    def status(self, caller", "the package for python has no Ask.stat"),
+    ("bindings/python/pidtab/native.py", "    def fork_at(self", "    def fork_as(self", "the package for python has no NumberCalls.fork_at"),
     ("bindings/python/pidtab/shared.py", "    def checkpoint_at(self", "    def cut_at(self", "the package for python has no Shared.checkpoint_at"),
     ("bindings/python/pidtab/table.py", "    def dump(self)", "    def text(self)", "the package for python has no Table.dump"),
     ("bindings/rust/src/blocks.rs", "    pub fn put(", "    pub fn append(", "the package for rust has no Blocks::put"),
     ("bindings/rust/src/calls.rs", "    pub fn line(self)", "    pub fn text(self)", "the package for rust has no Call::line"),
     ("bindings/rust/src/lib.rs", "    pub fn dump(&self)", "    pub fn text(&self)", "the package for rust has no Table::dump"),
-    ("bindings/rust/src/page.rs", "    pub fn children(", "    pub fn offspring(", "the package for rust has no Table::children"),
     ("bindings/rust/src/saved.rs", "    pub fn trim(", "    pub fn cut(", "the package for rust has no Saved::trim"),
     ("bindings/rust/src/shared.rs", "    pub fn seat(&self)", "    pub fn sit(&self)", "the package for rust has no Shared::seat"),
     ("bindings/rust/src/shared.rs", "    pub fn follow(&self", "    pub fn pursue(&self", "the package for rust has no Shared::follow"),
-    ("bindings/rust/src/space.rs", "    pub fn space(", "    pub fn namespace(", "the package for rust has no Table::space"),
-    ("bindings/rust/src/stat.rs", "    pub fn stat(", "    pub fn status(", "the package for rust has no Table::stat"),
     ("bindings/go/calls.go", "func (it calls) Call(", "func (it calls) Make(", "the package for go has no Table.Call"),
     ("bindings/go/dump.go", "func (table *Table) Dump()", "func (table *Table) Text()", "the package for go has no Table.Dump"),
-    ("bindings/go/page.go", "func (shared *Shared) Children(", "func (shared *Shared) Offspring(", "the package for go has no Shared.Children"),
     ("bindings/go/replica.go", "func (replica *Replica) Last(", "func (replica *Replica) Latest(", "the package for go has no Replica.Last"),
-    ("bindings/go/space.go", "func (table *Table) Space(", "func (table *Table) Namespace(", "the package for go has no Table.Space"),
     ("bindings/go/saved.go", "func (saved *Saved) Trim(", "func (saved *Saved) Cut(", "the package for go has no Saved.Trim"),
     ("bindings/go/saver.go", "func (shared *Shared) Serve(", "func (shared *Shared) Saver(", "the package for go has no Shared.Serve"),
     ("bindings/go/shared.go", "func OpenShared(", "func NewShared(", "the package for go has no OpenShared"),
-    ("bindings/go/stat.go", "func (shared *Shared) Stat(", "func (shared *Shared) Read(", "the package for go has no Shared.Stat"),
     ("bindings/go/table.go", "func (table *Table) List()", "func (table *Table) Lists()", "the package for go has no Table.List"),
     ("bindings/go/values.go", "func (call Call) Line(", "func (call Call) Text(", "the package for go has no Call.Line"),
     ("docs/list.schema.json", '"is-leader", "no-group"', '"no-group", "is-leader"', "the words of refusals is"),
@@ -91,6 +85,22 @@ DIFFERENCES = [
     ("docs/SCRIPT.md", "    space 2 parent 0 cursor 2 fallen\n", "    space 2 parent 0 fallen cursor 2\n", "the line is not one of interface/list.tbl"),
     ("bindings/example.list", " limit 0 count 2", " count 2 limit 0", "the line is not one of interface/list.tbl"),
     ("docs/list.schema.json", '"EPERM", "EACCES"', '"EPERM", "EBADF"', "the errors of refusals is"),
+    ("service/src/commands.rs", "A::Call(Verb::Getsid), &[Caller, Process]", "A::Call(Verb::Getsid), &[Caller]", "no row of COMMANDS is GETSID with Verb::Getsid and &[Caller, Process]"),
+    ("service/src/rights.rs", "            | Call::Getsid { caller, .. }\n", "", "nobody says who may make `getsid`"),
+    ("service/tests/test_calls.py", 'f"setsid {caller}", ', "", "no random line is `setsid`"),
+    ("linux/world.c", '{"nspid", order_nspid}, ', "", "no order is `nspid`, and linux/harness/world.py has no `do_nspid`"),
+    ("linux/harness/world.py", "def do_mk(", "def make_group(", "no order is `mk`, and linux/harness/world.py has no `do_mk`"),
+    ("linux/harness/chooser.py", "['getpgid', 'getsid', 'nspid']", "['getpgid', 'getsid']", "no random line is `nspid`"),
+    ("linux/README.md", "| `next` | no call", "| others | no call", "no row says how Linux is asked for `next`"),
+    ("linux/gvisor/calls.go", '\t"getsid":  ', '\t"sid":  ', "no form is `getsid`, and linux/README.md does not say that it is answered `n/a`"),
+    ("page/index.html", "getpgid C P, getsid C P</dt>", "getpgid C P</dt>", "none of the lines is `getsid C P`"),
+    ("box/src/calls.c", "QUERY(PIDTAB_GETSID)", "QUERY(PIDTAB_GETPID)", "the box makes no `getsid`"),
+    ("box/src/controls.c", "PIDTAB_COUNT", "PIDTAB_MK", "the box makes no `count`"),
+    ("box/src/forks.c", "PIDTAB_JOIN", "PIDTAB_FORK", "the box makes no `join`"),
+    ("box/src/groups.c", "PIDTAB_SETSID", "PIDTAB_FORK", "the box makes no `setsid`"),
+    ("box/src/main.c", "PIDTAB_NEXT", "PIDTAB_MK", "the box makes no `next`"),
+    ("box/src/table.c", "pidtab_stat(", "pidtab_task(", "the box makes no `nspid`"),
+    ("box/src/tracer.c", "PIDTAB_EXEC", "PIDTAB_FORK", "the box makes no `exec`"),
 ]  # fmt: skip
 
 # A table: what is changed in it, and what is said of that.
@@ -123,6 +133,12 @@ FAULTS = [
     ("functions", "saved_end                 ", "saved-end                 ", "functions 'saved-end' is no functions"),
     ("functions", "saved_trim                                 | 0.2.0", "saved_trim                                 | 0.2", "since '0.2' is no release"),
     ("functions", "CLOSED, AGAIN, NO_MEMORY, DONE", "CLOSED, LATER, NO_MEMORY, DONE", "statuses 'LATER' is not in interface/statuses.tbl"),
+    ("questions", "no-caller, no-control |", "no-caller, no-control-group |", "refusals 'no-control-group' is not in interface/refusals.tbl"),
+    ("questions", "whom=NAMESPACE_OWN", "whom=NamespaceOwn", "is no question arguments"),
+    ("questions", "whom=NAMESPACE_OWN", "whom=OFFSPRING", "whom OFFSPRING is not in interface/kinds.tbl"),
+    ("questions", "| numbers | -             | no-caller, no-control", "| numbers | control group | no-caller, no-control", "numbers of a control group that may not be there"),
+    ("questions", "Reads the namespace {id}", "Reads the namespace {number}", "{number} is no argument and no question"),
+    ("questions", "CLOSED, OUT_OF_RANGE, SPENT, DONE", "CLOSED, OUT_OF_RANGE, LATE, DONE", "statuses 'LATE' is not in interface/statuses.tbl"),
     ("results", "AGAIN           | -", "LATER           | -", "status 'LATER' is not in interface/statuses.tbl"),
     ("results", "by now.", "by now", "sentence 'More calls, or fewer, were recorded by now' is no sentences"),
     ("lines", "fork new ", "fork New ", "calls 'fork New' is no lines"),
@@ -202,7 +218,7 @@ class Interface(unittest.TestCase):
             self.assertEqual(status, 1)
             for path, _, new, wanted in rows:
                 with self.subTest(path, new=new):
-                    self.assertRegex(said, rf"(?m)^tools/interface: (?:{path}|interface/functions.tbl):\d+: ")
+                    self.assertRegex(said, rf"(?m)^tools/interface: (?:{path}|interface/(?:functions|calls).tbl):\d+: ")
                     self.assertIn(wanted, said)
 
     def test_the_line_of_a_difference(self):
@@ -256,6 +272,47 @@ class Interface(unittest.TestCase):
             said = self.say()[1]
             self.restore(path, text)
             self.assertIn(f"tools/interface: {path}: {form!r} stands there {count} times, not once\n", said)
+
+    def test_a_call_of_a_new_length(self):
+        row = ("19", "telltale", "TellTale", "yes", "no", "no", "caller, number=number/number", "NUMBER", "{caller}", "no-caller", "-", "whom the caller tells")
+        for path, cells in (("calls", row), ("lines", ("telltale", "whom the caller tells", "the number", "Whom the caller tells."))):
+            with (self.top / f"interface/{path}.tbl").open("a", encoding="utf-8") as table:
+                table.write(" | ".join(cells) + "\n")
+        self.say("write")
+        self.assertNotIn("run tools/interface write", self.say()[1])
+        lines = (self.top / "crates/pid_script/src/line.rt").read_text(encoding="utf-8")
+        self.assertIn('{\n    match command {\n        b"telltale" => read_tell_tale(words),\n        _ => None,\n    }\n}\n', lines)
+        self.assertIn("        7 => read_seven_letters(command, words),\n        8 => read_eight_letters(command, words),\n", lines)
+        proof = (self.top / "crates/pid_script/proofs/line/read_eight_letters/Answers.antt").read_text(encoding="utf-8")
+        self.assertIn("\npub returns-in-telltale : goal.returns-in-telltale\n", proof)
+        for path in ("model_laws/specs/Refusals.antt", "model_laws/proofs/Words.antt", "call_effects/proofs/Reckoning.antt"):
+            self.assertIn(", SetSubreaper, TellTale}\n", (self.top / "crates" / path).read_text(encoding="utf-8"))
+
+    def test_a_question_costs_a_row(self):
+        row = ("residents", "residents, record_residents, shared_residents", "0.2.0", "caller, space=space/id?, from=from/number?", "numbers", "-", "no-caller",
+               "CLOSED, NO_MEMORY, DONE", "the residents of a namespace", "The residents of the namespace {space}, as {children} has those of a task.")  # fmt: skip
+        with (self.top / "interface/questions.tbl").open("a", encoding="utf-8") as table:
+            table.write(" | ".join(row) + "\n")
+        # What is by hand of it: its section of the manual pages, and a step of the cases.
+        lacking = "tools/interface: interface/record.mdoc: there is no section `== residents`\ntools/interface: interface/cases: no step asks residents\n"
+        self.assertEqual(self.say("write"), (1, lacking))
+        self.assertEqual(self.say(), (1, lacking))
+        for path, wanted in (
+            ("bindings/c/pidtab.h", "uint32_t pidtab_record_residents(const struct pidtab_record *record, uint32_t caller, uint64_t space, uint32_t from, uint32_t *numbers, size_t room,"),
+            ("bindings/c/pidtab_shared.h", "uint32_t pidtab_shared_residents("),
+            ("bindings/c/shared.c", "\tshare_as_call(shared);\n\treturn answered(shared, pidtab_record_residents(&shared->record, caller, space, from, numbers, room, reply));"),
+            ("bindings/go/questions.go", "\nfunc (shared *Shared) Residents(caller uint32, space uint64, from uint32) ([]uint32, error) {\n"),
+            ("bindings/go/cluster/queries.go", "\nfunc (table *Replicated) Residents("),
+            ("bindings/rust/src/questions.rs", "        self.look().residents(caller, space, from)\n"),
+            ("bindings/python/pidtab/native.py", "    def residents(self, caller: int, space: int = 0, start: int = 0) -> tuple[int, ...]:\n"),
+            ("bindings/python/pidtab/raw.py", '    "pidtab_shared_residents": (U32, [SHARED, U32, U64, U32, NUMBER_32, SIZE_T, REPLY]),\n'),
+            ("bindings/js/src/calls.js", "  residents(caller, space = 0n, start = 0) {\n"), ("bindings/js/pidtab.d.ts", "  residents(caller: number, space?: Long, start?: number): number[];\n"),
+            ("bindings/js/wasm/around.c", "uint32_t EXPORTED(record_residents)("), ("bindings/c/test_cases.c", "ASKED(residents, (uint32_t)n[0], n[1], (uint32_t)n[2], to->numbers, room, &to->reply);"),
+            ("bindings/rust/src/cases.rs", '"residents" => say_page($it.residents($n[0] as u32, $n[1], $n[2] as u32)),'),
+            ("bindings/go/cases_test.go", "\t\treturn of(it.Residents(uint32(n[0]), n[1], uint32(n[2]))), true\n"), ("docs/LIBRARY.md", "| the residents of a namespace | `pidtab_residents` | `Ask.residents` |"),
+        ):  # fmt: skip
+            with self.subTest(path):
+                self.assertIn(wanted, (self.top / path).read_text(encoding="utf-8"))
 
     def test_a_section_of_a_manual_page(self):
         path = "interface/record.mdoc"

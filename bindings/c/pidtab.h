@@ -313,16 +313,14 @@ uint32_t pidtab_call(struct pidtab *table, const struct pidtab_call *call, struc
  * there is no number: CLOSED; OUT_OF_RANGE for a kind that is no enum pidtab_use; SPENT; and none of these makes a call. Or the errno of the refusal,
  * which is ESRCH, and of a count ENOENT: that query was made, and has used a stamp. In all of them number is as it was. A next that finds none is DONE,
  * and 0. */
+/* Written by tools/interface: numbers. */
 uint32_t pidtab_getpid_of(struct pidtab *table, uint32_t caller, uint64_t *number);
 uint32_t pidtab_getppid_of(struct pidtab *table, uint32_t caller, uint64_t *number);
 uint32_t pidtab_getpgid_of(struct pidtab *table, uint32_t caller, uint32_t pid, uint64_t *number);
 uint32_t pidtab_getsid_of(struct pidtab *table, uint32_t caller, uint32_t pid, uint64_t *number);
 uint32_t pidtab_next_of(struct pidtab *table, uint32_t caller, uint32_t kind, uint32_t from, uint64_t *number);
 uint32_t pidtab_count_of(struct pidtab *table, uint64_t id, uint64_t *number);
-
-/* Answers a query, as the operations have it, as a call would be answered, and is none: it uses no stamp, and nothing changes.
- * DONE, CLOSED, and OUT_OF_RANGE for each other operation too. */
-uint32_t pidtab_ask(const struct pidtab *table, const struct pidtab_call *call, struct pidtab_reply *reply);
+/* The end of numbers. */
 
 /* A task as the caller's namespace sees it. The numbers of processes but root are those there, 0 where there is none. */
 struct pidtab_task {
@@ -342,22 +340,6 @@ struct pidtab_task {
 	uint32_t levels[PIDTAB_LEVELS_MAX]; /* its numbers from the caller's namespace inwards */
 };
 
-/* Reads the task with the number in the caller's namespace, where 0 is the caller, and a zombie too: as getpgid finds it. It is no
- * call, as pidtab_ask is none. What the table refuses is PIDTAB_DONE: the task says so. DONE, CLOSED. */
-uint32_t pidtab_stat(const struct pidtab *table, uint32_t caller, uint32_t number, struct pidtab_task *task);
-
-/* Tells the children of a task, the members of a process group or of a session, or the tasks of a namespace. whom is an enum pidtab_whom. number
- * is that of the task, the group or the session in the caller's namespace, or 0 for the caller, its own group or its own session; one that is
- * nobody's has none. Zombies are among them, and who is not visible in that namespace is left out.
- *
- * numbers has their numbers there from `from` on, in rising order, as many as there is room for; what is after stays. reply is of the kind
- * PIDTAB_COUNTED, with how many there are in all from there on, or a refusal, PIDTAB_NO_CALLER. So the next page begins at the last number + 1, and
- * a room of 0 only counts.
- *
- * It is no call, as pidtab_ask makes none, but it takes memory for a list while it works. DONE; CLOSED; OUT_OF_RANGE for another whom; NO_MEMORY,
- * and then numbers and reply are as they were. */
-uint32_t pidtab_page(const struct pidtab *table, uint32_t caller, uint32_t whom, uint32_t number, uint32_t from, uint32_t *numbers, size_t room, struct pidtab_reply *reply);
-
 /* A namespace. Its id and its parent's are those of the list. */
 struct pidtab_space {
 	uint64_t id;
@@ -367,35 +349,58 @@ struct pidtab_space {
 	uint32_t fallen; /* 0; or 1 where its init has ended: it takes no task any more, and is gone with the last number in it */
 };
 
-/* Reads the namespace with the id, where 0 is the root namespace. It is no call, as pidtab_ask is none, and needs no memory. DONE; CLOSED;
- * OUT_OF_RANGE where no namespace has the id, or it is gone, and then space is as it was. */
+/* Questions. None is a call: it uses no stamp, and nothing changes. What the table refuses is PIDTAB_DONE: the answer says so. Of each other status, what
+ * is told stays as it is.
+ *
+ * A list is told in pages: from `from` on, as many as there is room for; what is after stays. count, or a reply of the kind PIDTAB_COUNTED, says how many
+ * there are in all from there on. So the next page begins at the last one + 1, and a room of 0 only counts. */
+
+/* Written by tools/interface: questions of a table. */
+/* Answers a query as its call would be answered, refusals too. Nothing changes, and it is not counted. It takes no memory. DONE; CLOSED; OUT_OF_RANGE
+ * for a call that is no query. */
+uint32_t pidtab_ask(const struct pidtab *table, const struct pidtab_call *call, struct pidtab_reply *reply);
+
+/* Reads the task `number` of the caller's namespace, where 0 is the caller, and a zombie too, as getpgid finds it. It costs what a getpgid costs.
+ * DONE; CLOSED. */
+uint32_t pidtab_stat(const struct pidtab *table, uint32_t caller, uint32_t number, struct pidtab_task *task);
+
+/* What whom says, an enum pidtab_whom.
+ *
+ * PIDTAB_CHILDREN: The children of the task `number`, where 0 is the caller, zombies too: their numbers in the caller's namespace, in rising order
+ * and not below `from`. Who is not visible there is left out, and a number that is nobody's has none. It costs what is read of each of them.
+ * PIDTAB_GROUP_MEMBERS: The members of the process group with the number `number`, where 0 is the caller's own, as PIDTAB_CHILDREN has those of a
+ * task.
+ * PIDTAB_SESSION_MEMBERS: The members of the session with the number `number`, where 0 is the caller's own, as PIDTAB_CHILDREN has those of a task.
+ * PIDTAB_NAMESPACE_MEMBERS: The tasks of the namespace that the task `number` is in, where 0 is the caller, those in namespaces inside it too, as
+ * PIDTAB_CHILDREN has those of a task. Of the caller's own namespace these are all that it sees: whom kill(2) of -1 reaches.
+ * PIDTAB_NAMESPACE_OWN: Of PIDTAB_NAMESPACE_MEMBERS those that are in no namespace inside it.
+ *
+ * It takes memory for a list. DONE; CLOSED; OUT_OF_RANGE for another whom; NO_MEMORY. */
+uint32_t pidtab_page(const struct pidtab *table, uint32_t caller, uint32_t whom, uint32_t number, uint32_t from, uint32_t *numbers, size_t room, struct pidtab_reply *reply);
+
+/* Reads the namespace `id`, where 0 is the root namespace. It takes no memory, and costs two searches and a few reads. DONE; CLOSED; OUT_OF_RANGE
+ * where no namespace has the id, or it is gone. */
 uint32_t pidtab_space(const struct pidtab *table, uint64_t id, struct pidtab_space *space);
 
-/* Tells what is directly inside a namespace, or a control group: the ids from `from` on of the namespaces directly in the one with the id, or of the
- * control groups directly in the one with the id, as tree says, an enum pidtab_tree. 0 is the root of both. A namespace that has fallen is among them
- * as long as pidtab_space reads it.
+/* What tree says, an enum pidtab_tree.
  *
- * ids has them in rising order, as many as there is room for; what is after stays. count is how many there are in all from there on, so the next page
- * begins at the last id + 1, and a room of 0 only counts.
+ * PIDTAB_SPACES: The ids of the namespaces directly in the namespace `id`, where 0 is the root, in rising order and not below `from`. One that has
+ * fallen is among them as long as pidtab_space reads it. It costs what is read of each of them.
+ * PIDTAB_CONTROLS: The ids of the control groups directly in the control group `id`, where 0 is the root, as PIDTAB_SPACES has those of a namespace.
  *
- * It is no call, as pidtab_ask makes none, but it takes memory for a list while it works. DONE; CLOSED; OUT_OF_RANGE for another tree, and where it
- * has no such id; NO_MEMORY; and then ids and count are as they were. */
+ * It takes memory for a list. DONE; CLOSED; OUT_OF_RANGE for another tree, and where no namespace or no control group has the id, or it is gone;
+ * NO_MEMORY. */
 uint32_t pidtab_inside(const struct pidtab *table, uint32_t tree, uint64_t id, uint64_t from, uint64_t *ids, size_t room, uint64_t *count);
 
-/* Tells the live tasks that are directly in the control group with the id `control`, where 0 is the root: cgroup.procs of cgroup-v2.rst, in which no
- * zombie appears. numbers has their numbers in the caller's namespace from `from` on, in rising order, as many as there is room for; what is after
- * stays. Who is not visible there is left out, and so is who is in a control group below this one.
- *
- * reply is of the kind PIDTAB_COUNTED, with how many there are in all from there on, or a refusal: PIDTAB_NO_CALLER, or else PIDTAB_NO_CONTROL. So the
- * next page begins at the last number + 1, and a room of 0 only counts.
- *
- * It is no call, as pidtab_ask makes none, but it takes memory for a list while it works. DONE; CLOSED; NO_MEMORY, and then numbers and reply are as
- * they were. */
+/* The live tasks directly in the control group with the id `control`, where 0 is the root, as PIDTAB_CHILDREN has those of a task: cgroup.procs, in
+ * which no zombie appears. It takes memory for a list. DONE; CLOSED; NO_MEMORY. */
 uint32_t pidtab_control_tasks(const struct pidtab *table, uint32_t caller, uint64_t control, uint32_t from, uint32_t *numbers, size_t room, struct pidtab_reply *reply);
 
-/* Tells the reply that the call would get now, and changes nothing: the numbers of a fork, and whom a wait would reap (waitid(2) with WNOWAIT).
- * Whether there is memory for the call it does not say. DONE, CLOSED, OUT_OF_RANGE, SPENT. */
+/* The reply that the call would get now, refusals too: the numbers of a fork, and whom a wait would reap, as waitid(2) with WNOWAIT. Nothing changes,
+ * and it is not counted. It takes no memory, and does not tell whether the call would find some. DONE; CLOSED; OUT_OF_RANGE for what is no call;
+ * SPENT. */
 uint32_t pidtab_would(const struct pidtab *table, const struct pidtab_call *call, struct pidtab_reply *reply);
+/* The end of questions of a table. */
 
 /* Makes a fork if the child's number to the caller is child, and its root number root; else nothing changes. What pidtab_would has told is so made
  * as it was told, or not at all. DONE; CLOSED; OUT_OF_RANGE for a new_space that is neither 0 nor 1; SPENT; DIFFERS where the fork would get another
@@ -660,26 +665,30 @@ uint32_t pidtab_record_calls(struct pidtab_record *record, uint32_t worker, cons
  * NO_MEMORY. */
 uint32_t pidtab_record_line(struct pidtab_record *record, uint32_t worker, const void *line, size_t length, void *answer, size_t room, size_t *size, uint64_t *ordinal);
 
-/* Answers a query, as pidtab_ask does; it is not recorded. DONE, CLOSED, OUT_OF_RANGE. */
+/* Questions, which are not recorded. */
+
+/* Written by tools/interface: questions of a record. */
+/* As pidtab_ask. DONE; CLOSED; OUT_OF_RANGE for a call that is no query. */
 uint32_t pidtab_record_ask(const struct pidtab_record *record, const struct pidtab_call *call, struct pidtab_reply *reply);
 
-/* Reads a task, as pidtab_stat does; it is not recorded. DONE, CLOSED. */
+/* As pidtab_stat. DONE; CLOSED. */
 uint32_t pidtab_record_stat(const struct pidtab_record *record, uint32_t caller, uint32_t number, struct pidtab_task *task);
 
-/* Tells children or members, as pidtab_page does; it is not recorded. DONE, CLOSED, OUT_OF_RANGE, NO_MEMORY. */
+/* As pidtab_page. DONE; CLOSED; OUT_OF_RANGE for another whom; NO_MEMORY. */
 uint32_t pidtab_record_page(const struct pidtab_record *record, uint32_t caller, uint32_t whom, uint32_t number, uint32_t from, uint32_t *numbers, size_t room, struct pidtab_reply *reply);
 
-/* Reads a namespace, as pidtab_space does; it is not recorded. DONE, CLOSED, OUT_OF_RANGE. */
+/* As pidtab_space. DONE; CLOSED; OUT_OF_RANGE where no namespace has the id, or it is gone. */
 uint32_t pidtab_record_space(const struct pidtab_record *record, uint64_t id, struct pidtab_space *space);
 
-/* Tells what is directly inside, as pidtab_inside does; it is not recorded. DONE, CLOSED, OUT_OF_RANGE, NO_MEMORY. */
+/* As pidtab_inside. DONE; CLOSED; OUT_OF_RANGE for another tree, and where no namespace or no control group has the id, or it is gone; NO_MEMORY. */
 uint32_t pidtab_record_inside(const struct pidtab_record *record, uint32_t tree, uint64_t id, uint64_t from, uint64_t *ids, size_t room, uint64_t *count);
 
-/* Tells the live tasks directly in a control group, as pidtab_control_tasks does; it is not recorded. DONE, CLOSED, NO_MEMORY. */
+/* As pidtab_control_tasks. DONE; CLOSED; NO_MEMORY. */
 uint32_t pidtab_record_control_tasks(const struct pidtab_record *record, uint32_t caller, uint64_t control, uint32_t from, uint32_t *numbers, size_t room, struct pidtab_reply *reply);
 
-/* Tells the reply that the call would get now, as pidtab_would does; it is not recorded. DONE, CLOSED, OUT_OF_RANGE, SPENT. */
+/* As pidtab_would. DONE; CLOSED; OUT_OF_RANGE for what is no call; SPENT. */
 uint32_t pidtab_record_would(const struct pidtab_record *record, const struct pidtab_call *call, struct pidtab_reply *reply);
+/* The end of questions of a record. */
 
 /* Makes a fork as pidtab_fork_at does, for the worker, and records it. DONE, CLOSED, OUT_OF_RANGE, SPENT, DIFFERS, NO_MEMORY. */
 uint32_t pidtab_record_fork_at(struct pidtab_record *record, uint32_t worker, uint32_t caller, uint32_t new_space, uint32_t child, uint32_t root, struct pidtab_reply *reply, uint64_t *ordinal);

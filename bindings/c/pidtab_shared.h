@@ -72,6 +72,7 @@ uint32_t pidtab_shared_call(struct pidtab_shared *shared, uint32_t worker, const
  * all that was recorded is saved. Entries are cut after the last call. */
 uint32_t pidtab_shared_calls(struct pidtab_shared *shared, uint32_t worker, const struct pidtab_call *calls, size_t count, struct pidtab_reply *replies, size_t room, size_t *made, uint64_t *ordinal);
 uint32_t pidtab_shared_line(struct pidtab_shared *shared, uint32_t worker, const void *line, size_t length, void *answer, size_t room, size_t *size, uint64_t *ordinal);
+/* Written by tools/interface: questions. */
 uint32_t pidtab_shared_ask(struct pidtab_shared *shared, const struct pidtab_call *call, struct pidtab_reply *reply);
 uint32_t pidtab_shared_stat(struct pidtab_shared *shared, uint32_t caller, uint32_t number, struct pidtab_task *task);
 uint32_t pidtab_shared_page(struct pidtab_shared *shared, uint32_t caller, uint32_t whom, uint32_t number, uint32_t from, uint32_t *numbers, size_t room, struct pidtab_reply *reply);
@@ -79,6 +80,7 @@ uint32_t pidtab_shared_space(struct pidtab_shared *shared, uint64_t id, struct p
 uint32_t pidtab_shared_inside(struct pidtab_shared *shared, uint32_t tree, uint64_t id, uint64_t from, uint64_t *ids, size_t room, uint64_t *count);
 uint32_t pidtab_shared_control_tasks(struct pidtab_shared *shared, uint32_t caller, uint64_t control, uint32_t from, uint32_t *numbers, size_t room, struct pidtab_reply *reply);
 uint32_t pidtab_shared_would(struct pidtab_shared *shared, const struct pidtab_call *call, struct pidtab_reply *reply);
+/* The end of questions. */
 uint32_t pidtab_shared_fork_at(struct pidtab_shared *shared, uint32_t worker, uint32_t caller, uint32_t new_space, uint32_t child, uint32_t root, struct pidtab_reply *reply, uint64_t *ordinal);
 uint32_t pidtab_shared_call_told(struct pidtab_shared *shared, uint32_t worker, const struct pidtab_call *call, struct pidtab_reply *reply, uint64_t *ordinal, struct pidtab_effect *effects, size_t room, uint64_t *count);
 uint32_t pidtab_shared_counts(struct pidtab_shared *shared, uint64_t *first_kept, uint64_t *recorded);

@@ -368,54 +368,80 @@ static void make_each(uint64_t from, uint64_t to, const char *form)
 	told[0] = 0;
 }
 
-static void read_task(uint32_t caller, uint32_t number)
-{
-	struct pidtab_task it, other;
-	char levels[512], end[32] = "live";
+/* What a question tells. A list has room for so many. */
+enum { TELLS_TASK, TELLS_SPACE, TELLS_NUMBERS, TELLS_IDS, LISTED = 64 };
 
-	CHECK(pidtab_shared_stat(&shared, caller, number, &it) == PIDTAB_DONE);
-	for (int i = 0; i < 3 && has_tables; i++)
-		CHECK(pidtab_stat(&tables[i], caller, number, &other) == PIDTAB_DONE && memcmp(&it, &other, offsetof(struct pidtab_task, levels)) == 0
-			&& memcmp(it.levels, other.levels, sizeof it.levels) == 0);
-	if (it.error != 0) {
-		sprintf(told, "%s %s", name_of(errnos, it.error), pidtab_word(it.refusal));
-		return;
+struct answered {
+	uint32_t tells, status;
+	struct pidtab_task task;
+	struct pidtab_space space;
+	struct pidtab_reply reply;
+	uint32_t numbers[LISTED];
+	uint64_t ids[LISTED], count;
+};
+
+#define ASKED(name, ...) (table ? pidtab_##name(table, __VA_ARGS__) : pidtab_shared_##name(&shared, __VA_ARGS__))
+
+/* Written by tools/interface: questions. */
+static bool ask_question(const char *word, const struct pidtab *table, const uint64_t *n, size_t room, struct answered *to)
+{
+	if (strcmp(word, "stat") == 0) {
+		to->tells = TELLS_TASK;
+		to->status = ASKED(stat, (uint32_t)n[0], (uint32_t)n[1], &to->task);
+		return true;
 	}
-	say_levels(levels, it.levels, it.count, ',');
-	if (it.ended)
-		say_end(end, it.status);
-	sprintf(told, "%s root %u space %" PRIu64 " parent %u group %u session %u control %" PRIu64 " %s%s%s", levels, it.root, it.space, it.parent,
-		it.group, it.session, it.control, end, it.executed ? " executed" : "", it.subreaper ? " subreaper" : "");
-}
-
-/* A page of the shared table, or of one without a history, for the numbers of the step: of a control group, or of whom a page lists. */
-static uint32_t page_of(bool of_control, const struct pidtab *table, const uint64_t *numbers, uint32_t *found, size_t room, struct pidtab_reply *reply)
-{
-	uint32_t first = (uint32_t)numbers[0], second = (uint32_t)numbers[1], third = (uint32_t)numbers[2], from = (uint32_t)numbers[3];
-
-	if (of_control)
-		return table ? pidtab_control_tasks(table, first, numbers[1], third, found, room, reply) : pidtab_shared_control_tasks(&shared, first, numbers[1], third, found, room, reply);
-	return table ? pidtab_page(table, second, first, third, from, found, room, reply) : pidtab_shared_page(&shared, second, first, third, from, found, room, reply);
-}
-
-/* Whom a page has. One that is cut short has the first of them. */
-static void read_page(bool of_control, const uint64_t *numbers)
-{
-	uint32_t found[64] = { 0 }, others[64] = { 0 };
-	struct pidtab_reply reply, other;
-
-	CHECK(page_of(of_control, NULL, numbers, found, 64, &reply) == PIDTAB_DONE);
-	for (int i = 0; i < 3 && has_tables; i++)
-		CHECK(page_of(of_control, &tables[i], numbers, others, 64, &other) == PIDTAB_DONE && same_reply(&reply, &other) && memcmp(found, others, sizeof found) == 0);
-	if (reply.kind == PIDTAB_REFUSED) {
-		say(told, &reply);
-		return;
+	if (strcmp(word, "children") == 0) {
+		to->tells = TELLS_NUMBERS;
+		to->status = ASKED(page, (uint32_t)n[0], PIDTAB_CHILDREN, (uint32_t)n[1], (uint32_t)n[2], to->numbers, room, &to->reply);
+		return true;
 	}
-	CHECK(reply.kind == PIDTAB_COUNTED && reply.first <= 64);
-	CHECK(page_of(of_control, NULL, numbers, others, 1, &other) == PIDTAB_DONE && same_reply(&reply, &other) && others[0] == found[0]);
-	strcpy(told, "none");
-	if (reply.first != 0)
-		say_levels(told, found, (uint32_t)reply.first, ' ');
+	if (strcmp(word, "group_members") == 0) {
+		to->tells = TELLS_NUMBERS;
+		to->status = ASKED(page, (uint32_t)n[0], PIDTAB_GROUP_MEMBERS, (uint32_t)n[1], (uint32_t)n[2], to->numbers, room, &to->reply);
+		return true;
+	}
+	if (strcmp(word, "session_members") == 0) {
+		to->tells = TELLS_NUMBERS;
+		to->status = ASKED(page, (uint32_t)n[0], PIDTAB_SESSION_MEMBERS, (uint32_t)n[1], (uint32_t)n[2], to->numbers, room, &to->reply);
+		return true;
+	}
+	if (strcmp(word, "namespace_members") == 0) {
+		to->tells = TELLS_NUMBERS;
+		to->status = ASKED(page, (uint32_t)n[0], PIDTAB_NAMESPACE_MEMBERS, (uint32_t)n[1], (uint32_t)n[2], to->numbers, room, &to->reply);
+		return true;
+	}
+	if (strcmp(word, "namespace_own") == 0) {
+		to->tells = TELLS_NUMBERS;
+		to->status = ASKED(page, (uint32_t)n[0], PIDTAB_NAMESPACE_OWN, (uint32_t)n[1], (uint32_t)n[2], to->numbers, room, &to->reply);
+		return true;
+	}
+	if (strcmp(word, "space") == 0) {
+		to->tells = TELLS_SPACE;
+		to->status = ASKED(space, n[0], &to->space);
+		return true;
+	}
+	if (strcmp(word, "spaces_inside") == 0) {
+		to->tells = TELLS_IDS;
+		to->status = ASKED(inside, PIDTAB_SPACES, n[0], n[1], to->ids, room, &to->count);
+		return true;
+	}
+	if (strcmp(word, "controls_inside") == 0) {
+		to->tells = TELLS_IDS;
+		to->status = ASKED(inside, PIDTAB_CONTROLS, n[0], n[1], to->ids, room, &to->count);
+		return true;
+	}
+	if (strcmp(word, "control_tasks") == 0) {
+		to->tells = TELLS_NUMBERS;
+		to->status = ASKED(control_tasks, (uint32_t)n[0], n[1], (uint32_t)n[2], to->numbers, room, &to->reply);
+		return true;
+	}
+	return false;
+}
+/* The end of questions. */
+
+static bool same_task(const struct pidtab_task *a, const struct pidtab_task *b)
+{
+	return memcmp(a, b, offsetof(struct pidtab_task, levels)) == 0 && memcmp(a->levels, b->levels, sizeof a->levels) == 0;
 }
 
 static bool same_space(const struct pidtab_space *a, const struct pidtab_space *b)
@@ -423,37 +449,80 @@ static bool same_space(const struct pidtab_space *a, const struct pidtab_space *
 	return a->id == b->id && a->parent == b->parent && a->level == b->level && a->init == b->init && a->fallen == b->fallen;
 }
 
-static void read_space(uint64_t id)
+static bool same_answer(const struct answered *a, const struct answered *b)
 {
-	struct pidtab_space it = { 0 }, other = { 0 };
-	char parent[32] = "-", init[32] = "-";
-	uint32_t status = pidtab_shared_space(&shared, id, &it);
-
-	for (int i = 0; i < 3 && has_tables; i++)
-		CHECK(pidtab_space(&tables[i], id, &other) == status && same_space(&it, &other));
-	if (!done(status))
-		return;
-	if (it.level != 0)
-		sprintf(parent, "%" PRIu64, it.parent);
-	if (it.init != 0)
-		sprintf(init, "%" PRIu32, it.init);
-	sprintf(told, "space %" PRIu64 " parent %s level %" PRIu32 " init %s%s", it.id, parent, it.level, init, it.fallen ? " fallen" : "");
+	return a->status == b->status && same_task(&a->task, &b->task) && same_space(&a->space, &b->space) && same_reply(&a->reply, &b->reply)
+		&& a->count == b->count && memcmp(a->numbers, b->numbers, sizeof a->numbers) == 0 && memcmp(a->ids, b->ids, sizeof a->ids) == 0;
 }
 
-/* What is directly inside. A page that is cut short has the first of the ids. */
-static void read_inside(const uint64_t *numbers)
+static void say_task(const struct pidtab_task *it)
 {
-	uint64_t found[64] = { 0 }, others[64] = { 0 }, count = 0, other = 0;
-	uint32_t tree = (uint32_t)numbers[0], status = pidtab_shared_inside(&shared, tree, numbers[1], numbers[2], found, 64, &count);
+	char levels[512], end[32] = "live";
 
-	for (int i = 0; i < 3 && has_tables; i++)
-		CHECK(pidtab_inside(&tables[i], tree, numbers[1], numbers[2], others, 64, &other) == status && other == count && memcmp(found, others, sizeof found) == 0);
-	if (!done(status))
+	if (it->error != 0) {
+		sprintf(told, "%s %s", name_of(errnos, it->error), pidtab_word(it->refusal));
 		return;
-	CHECK(count <= 64 && pidtab_shared_inside(&shared, tree, numbers[1], numbers[2], others, 1, &other) == PIDTAB_DONE && other == count && others[0] == found[0]);
-	strcpy(told, count == 0 ? "none" : "");
-	for (uint64_t i = 0; i < count; i++)
-		sprintf(told + strlen(told), "%s%" PRIu64, i == 0 ? "" : " ", found[i]);
+	}
+	say_levels(levels, it->levels, it->count, ',');
+	if (it->ended)
+		say_end(end, it->status);
+	sprintf(told, "%s root %u space %" PRIu64 " parent %u group %u session %u control %" PRIu64 " %s%s%s", levels, it->root, it->space, it->parent,
+		it->group, it->session, it->control, end, it->executed ? " executed" : "", it->subreaper ? " subreaper" : "");
+}
+
+static void say_space(const struct pidtab_space *it)
+{
+	char parent[32] = "-", init[32] = "-";
+
+	if (it->level != 0)
+		sprintf(parent, "%" PRIu64, it->parent);
+	if (it->init != 0)
+		sprintf(init, "%" PRIu32, it->init);
+	sprintf(told, "space %" PRIu64 " parent %s level %" PRIu32 " init %s%s", it->id, parent, it->level, init, it->fallen ? " fallen" : "");
+}
+
+static void say_numbers(const struct answered *it)
+{
+	if (it->reply.kind == PIDTAB_REFUSED) {
+		say(told, &it->reply);
+		return;
+	}
+	CHECK(it->reply.kind == PIDTAB_COUNTED && it->reply.first <= LISTED);
+	strcpy(told, "none");
+	if (it->reply.first != 0)
+		say_levels(told, it->numbers, (uint32_t)it->reply.first, ' ');
+}
+
+static void say_ids(const struct answered *it)
+{
+	CHECK(it->count <= LISTED);
+	strcpy(told, it->count == 0 ? "none" : "");
+	for (uint64_t i = 0; i < it->count; i++)
+		sprintf(told + strlen(told), "%s%" PRIu64, i == 0 ? "" : " ", it->ids[i]);
+}
+
+/* Whether the step is a question. Each table answers it alike, and a list that is cut short has the first of all. */
+static bool read_question(const char *word, const uint64_t *numbers)
+{
+	struct answered it = { 0 }, other = { 0 }, cut = { 0 };
+
+	if (!ask_question(word, NULL, numbers, LISTED, &it))
+		return false;
+	for (int i = 0; i < 3 && has_tables; i++) {
+		other = (struct answered){ 0 };
+		CHECK(ask_question(word, &tables[i], numbers, LISTED, &other) && same_answer(&it, &other));
+	}
+	CHECK(ask_question(word, NULL, numbers, 1, &cut) && cut.status == it.status && same_reply(&cut.reply, &it.reply) && cut.count == it.count);
+	CHECK(cut.numbers[0] == it.numbers[0] && cut.ids[0] == it.ids[0] && cut.numbers[1] == 0 && cut.ids[1] == 0);
+	if (!done(it.status))
+		return true;
+	switch (it.tells) {
+	case TELLS_TASK: say_task(&it.task); break;
+	case TELLS_SPACE: say_space(&it.space); break;
+	case TELLS_NUMBERS: say_numbers(&it); break;
+	default: say_ids(&it);
+	}
+	return true;
 }
 
 static struct pidtab_entry entries[ENTRIES];
@@ -594,14 +663,6 @@ static bool make(const char *step, const char *wanted)
 		make_each(numbers[0], numbers[1], strchr(strchr(strchr(step, ' ') + 1, ' ') + 1, ' ') + 1);
 	else if (strcmp(word, "told") == 0)
 		make_told(step + strlen("told "));
-	else if (strcmp(word, "stat") == 0)
-		read_task((uint32_t)numbers[0], (uint32_t)numbers[1]);
-	else if (strcmp(word, "page") == 0 || strcmp(word, "control_tasks") == 0)
-		read_page(word[0] == 'c', numbers);
-	else if (strcmp(word, "inside") == 0)
-		read_inside(numbers);
-	else if (strcmp(word, "space") == 0)
-		read_space(numbers[0]);
 	else if (strcmp(word, "list") == 0 || strcmp(word, "dump") == 0 || strcmp(word, "opening") == 0)
 		return same_text(word);
 	else if (strcmp(word, "differs") == 0 || strcmp(word, "stranger") == 0)
@@ -610,7 +671,7 @@ static bool make(const char *step, const char *wanted)
 		damage();
 	else if (strcmp(word, "numbers") == 0)
 		line_of_numbers(step);
-	else if (!read_history(word, numbers))
+	else if (!read_question(word, numbers) && !read_history(word, numbers))
 		make_call(step);
 	return strcmp(told, wanted) == 0;
 }

@@ -342,15 +342,41 @@ func sayReply(reply Reply) string {
 	return fmt.Sprint(reply.First)
 }
 
-// stat is a task that is read at once.
-func (it *caseWorld) stat(caller, pid uint32) string {
-	found, err := it.shared.Stat(caller, pid)
+// question is what a question tells, which is the same of each table; not one where the step is no question.
+func (it *caseWorld) question(word string, numbers []uint64) (string, bool) {
+	found, isOne := byQuestion(it.shared, word, numbers)
+	if !isOne {
+		return "", false
+	}
 	for _, table := range it.tables {
-		it.same(of(table.Stat(caller, pid)), told{found, err})
+		other, _ := byQuestion(table, word, numbers)
+		it.same(other, found)
 	}
-	if err != nil {
-		return status(err)
+	return sayFound(found), true
+}
+
+// sayFound is what a question tells, in words.
+func sayFound(found told) string {
+	switch {
+	case errors.Is(found.err, ErrOutOfRange):
+		return "OUT_OF_RANGE"
+	case found.err != nil:
+		return status(found.err)
 	}
+	switch value := found.answer.(type) {
+	case Stat:
+		return sayStat(value)
+	case SpaceStat:
+		return saySpaceStat(value)
+	}
+	if listed := strings.Trim(fmt.Sprint(found.answer), "[]"); listed != "" {
+		return listed
+	}
+	return "none"
+}
+
+// sayStat is a task that was read.
+func sayStat(found Stat) string {
 	end := "live"
 	if !found.Live {
 		end = sayEnd(found.Status, found.Killed)
@@ -365,46 +391,8 @@ func (it *caseWorld) stat(caller, pid uint32) string {
 		found.Group, found.Session, found.Control, end)
 }
 
-// page is whom a page lists.
-func (it *caseWorld) page(numbers []uint64) string {
-	caller, number, from := uint32(numbers[1]), uint32(numbers[2]), uint32(numbers[3])
-	return it.numbersOf(func(of lister) ([]uint32, error) { return listsOf(of)[numbers[0]](caller, number, from) })
-}
-
-// controlTasks are the live tasks of a control group.
-func (it *caseWorld) controlTasks(numbers []uint64) string {
-	return it.numbersOf(func(of lister) ([]uint32, error) {
-		return of.ControlTasks(uint32(numbers[0]), numbers[1], uint32(numbers[2]))
-	})
-}
-
-// numbersOf are the numbers that are asked for, which are the same of each table.
-func (it *caseWorld) numbersOf(ask func(of lister) ([]uint32, error)) string {
-	found, err := ask(it.shared)
-	for _, table := range it.tables {
-		it.same(of(ask(table)), told{found, err})
-	}
-	if err != nil {
-		return status(err)
-	}
-	if len(found) == 0 {
-		return "none"
-	}
-	return joined(found, " ")
-}
-
-// space is a namespace that is read at once.
-func (it *caseWorld) space(id uint64) string {
-	found, err := it.shared.Space(id)
-	for _, table := range it.tables {
-		it.same(of(table.Space(id)), told{found, err})
-	}
-	if errors.Is(err, ErrOutOfRange) {
-		return "OUT_OF_RANGE"
-	}
-	if err != nil {
-		return status(err)
-	}
+// saySpaceStat is a namespace that was read.
+func saySpaceStat(found SpaceStat) string {
 	root, fallen := "-", ""
 	if found.Init != 0 {
 		root = fmt.Sprint(found.Init)
@@ -415,25 +403,50 @@ func (it *caseWorld) space(id uint64) string {
 	return fmt.Sprintf("space %d parent %s level %d init %s%s", found.ID, or(found.Parent, "-"), found.Level, root, fallen)
 }
 
-// inside is what is directly inside.
-func (it *caseWorld) inside(numbers []uint64) string {
-	ask := func(of nest) ([]uint64, error) {
-		return [...]func(id, from uint64) ([]uint64, error){of.SpacesInside, of.ControlsInside}[numbers[0]](numbers[1], numbers[2])
-	}
-	found, err := ask(it.shared)
-	for _, table := range it.tables {
-		it.same(of(ask(table)), told{found, err})
-	}
-	switch {
-	case errors.Is(err, ErrOutOfRange):
-		return "OUT_OF_RANGE"
-	case err != nil:
-		return status(err)
-	case len(found) == 0:
-		return "none"
-	}
-	return joined(found, " ")
+// Written by tools/interface: questions.
+
+// questions are what a table answers that is no call.
+type questions interface {
+	Stat(caller, pid uint32) (Stat, error)
+	Children(caller, pid, from uint32) ([]uint32, error)
+	GroupMembers(caller, group, from uint32) ([]uint32, error)
+	SessionMembers(caller, session, from uint32) ([]uint32, error)
+	NamespaceMembers(caller, pid, from uint32) ([]uint32, error)
+	NamespaceOwn(caller, pid, from uint32) ([]uint32, error)
+	Space(id uint64) (SpaceStat, error)
+	SpacesInside(id, from uint64) ([]uint64, error)
+	ControlsInside(id, from uint64) ([]uint64, error)
+	ControlTasks(caller uint32, control uint64, from uint32) ([]uint32, error)
 }
+
+// byQuestion is what the question of this name tells, and whether there is one.
+func byQuestion(it questions, word string, n []uint64) (told, bool) {
+	switch word {
+	case "stat":
+		return of(it.Stat(uint32(n[0]), uint32(n[1]))), true
+	case "children":
+		return of(it.Children(uint32(n[0]), uint32(n[1]), uint32(n[2]))), true
+	case "group_members":
+		return of(it.GroupMembers(uint32(n[0]), uint32(n[1]), uint32(n[2]))), true
+	case "session_members":
+		return of(it.SessionMembers(uint32(n[0]), uint32(n[1]), uint32(n[2]))), true
+	case "namespace_members":
+		return of(it.NamespaceMembers(uint32(n[0]), uint32(n[1]), uint32(n[2]))), true
+	case "namespace_own":
+		return of(it.NamespaceOwn(uint32(n[0]), uint32(n[1]), uint32(n[2]))), true
+	case "space":
+		return of(it.Space(n[0])), true
+	case "spaces_inside":
+		return of(it.SpacesInside(n[0], n[1])), true
+	case "controls_inside":
+		return of(it.ControlsInside(n[0], n[1])), true
+	case "control_tasks":
+		return of(it.ControlTasks(uint32(n[0]), n[1], uint32(n[2]))), true
+	}
+	return told{}, false
+}
+
+// The end of questions.
 
 // read is what a step of a history tells.
 func (it *caseWorld) read(word string, numbers []uint64) (found string, err error) {
@@ -561,16 +574,6 @@ func (it *caseWorld) step(step, text string) (found string, err error) {
 		return asJSON(it.T, it.told), nil
 	case "told":
 		return it.callTold(strings.Join(words[1:], " ")), nil
-	case "stat":
-		return it.stat(uint32(numbers[0]), uint32(numbers[1])), nil
-	case "page":
-		return it.page(numbers), nil
-	case "control_tasks":
-		return it.controlTasks(numbers), nil
-	case "inside":
-		return it.inside(numbers), nil
-	case "space":
-		return it.space(numbers[0]), nil
 	case "list", "dump", "opening":
 		it.sameText(words[0], text)
 	case "differs", "stranger":
@@ -585,6 +588,9 @@ func (it *caseWorld) step(step, text string) (found string, err error) {
 	case "counts", "worker", "entry", "read", "checkpoint", "checkpoint_at":
 		return it.read(words[0], numbers)
 	default:
+		if told, isQuestion := it.question(words[0], numbers); isQuestion {
+			return told, nil
+		}
 		return it.call(strings.NewReplacer(`\r`, "\r", `\0`, "\x00").Replace(step)), nil
 	}
 	return "", nil

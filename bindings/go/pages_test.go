@@ -4,6 +4,7 @@ import (
 	"os"
 	"os/exec"
 	"path/filepath"
+	"regexp"
 	"strconv"
 	"strings"
 	"testing"
@@ -60,9 +61,36 @@ func played(t *testing.T, script string) string {
 	return told + list
 }
 
+// storedRun is a line of a stored file that stands for so many, and rising a number in it that rises by one from each to the next.
+var (
+	storedRun = regexp.MustCompile(`^([0-9]+)\* (.*)$`)
+	rising    = regexp.MustCompile(`([0-9]+)\.\.`)
+)
+
+// readStored is a stored file, each line written out.
+func readStored(t *testing.T, name string) string {
+	t.Helper()
+	var lines []string
+	for _, line := range strings.Split(read(t, name), "\n") {
+		run := storedRun.FindStringSubmatch(line)
+		if run == nil {
+			lines = append(lines, line)
+			continue
+		}
+		count, _ := strconv.Atoi(run[1])
+		for step := 0; step < count; step++ {
+			lines = append(lines, rising.ReplaceAllStringFunc(run[2], func(word string) string {
+				number, _ := strconv.Atoi(strings.TrimSuffix(word, ".."))
+				return strconv.Itoa(number + step)
+			}))
+		}
+	}
+	return strings.Join(lines, "\n")
+}
+
 func TestTheStoredScripts(t *testing.T) {
-	scripts := strings.Split(read(t, "stored/scripts"), "# ")[1:]
-	answers := strings.Split(read(t, "stored/answers"), "# ")[1:]
+	scripts := strings.Split(readStored(t, "stored/scripts"), "# ")[1:]
+	answers := strings.Split(readStored(t, "stored/answers"), "# ")[1:]
 	if len(scripts) < 30 || len(scripts) != len(answers) {
 		t.Fatal(len(scripts), len(answers))
 	}

@@ -98,30 +98,6 @@ func (shared *Shared) Seat() (*Seat, error) {
 	return own.seat(context.Background()), nil
 }
 
-// Ask answers a query as its call would be answered, refusals too. It is no call: nothing changes, and it is not recorded. The operations say
-// which are queries; ErrOutOfRange for each other call.
-func (shared *Shared) Ask(query Call) (Reply, error) {
-	numbers, reply, held := query.numbers(), new(C.struct_pidtab_reply), shared.held()
-	held.lock.RLock()
-	defer held.lock.RUnlock()
-	if err := named(C.pidtab_record_ask(held.raw, &numbers, reply), query.queryFault); err != nil {
-		return Reply{}, err
-	}
-	return replyOf(reply), nil
-}
-
-// Would is the reply that the call would get now, refusals too, as Would of a Table has it. It is not recorded.
-// ErrOutOfRange, ErrClosed, ErrSpent, ErrBusy.
-func (shared *Shared) Would(call Call) (Reply, error) {
-	numbers, reply, held := call.numbers(), new(C.struct_pidtab_reply), shared.held()
-	held.lock.RLock()
-	defer held.lock.RUnlock()
-	if err := named(C.pidtab_record_would(held.raw, &numbers, reply), call.rangeFault); err != nil {
-		return Reply{}, err
-	}
-	return replyOf(reply), nil
-}
-
 // Counts is how far a history goes. The ordinals of the kept entries are those from FirstKept on, below Recorded.
 type Counts struct {
 	FirstKept uint64 // the ordinal of the first kept entry, or of the next call where none is kept

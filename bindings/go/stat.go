@@ -21,25 +21,6 @@ type Stat struct {
 	Subreaper bool     // it takes orphans of its namespace
 }
 
-// Stat reads the task pid, where 0 is the caller, and a zombie too. It is no call, as Ask makes none, and costs what a Getpgid costs.
-// Refused as no-caller, no-task; ErrClosed, ErrBusy.
-func (table *Table) Stat(caller, pid uint32) (Stat, error) {
-	held, task := table.held(), new(C.struct_pidtab_task)
-	held.lock.RLock()
-	defer held.lock.RUnlock()
-	stat, err := statOf(C.pidtab_stat(&held.raw, C.uint32_t(caller), C.uint32_t(pid), task), task)
-	return stat, withCall(err, "stat", uint64(caller), uint64(pid))
-}
-
-// Stat reads the task pid, as that of a Table does; it is not recorded. Refused as no-caller, no-task.
-func (shared *Shared) Stat(caller, pid uint32) (Stat, error) {
-	held, task := shared.held(), new(C.struct_pidtab_task)
-	held.lock.RLock()
-	defer held.lock.RUnlock()
-	stat, err := statOf(C.pidtab_record_stat(held.raw, C.uint32_t(caller), C.uint32_t(pid), task), task)
-	return stat, withCall(err, "stat", uint64(caller), uint64(pid))
-}
-
 // foundIn is why there is no such task; nothing where the library has read it.
 func foundIn(status C.uint32_t, task *C.struct_pidtab_task) error {
 	if err := faultOf(uint32(status)); err != nil {

@@ -59,30 +59,6 @@ func (table *Table) Close() {
 	table.held().close()
 }
 
-// Ask answers a query as its call would be answered, refusals too. It is no call: nothing changes, and it is not counted. The operations say
-// which are queries; ErrOutOfRange for each other call. ErrClosed, ErrBusy.
-func (table *Table) Ask(query Call) (Reply, error) {
-	held, numbers, reply := table.held(), query.numbers(), new(C.struct_pidtab_reply)
-	held.lock.RLock()
-	defer held.lock.RUnlock()
-	if err := named(C.pidtab_ask(&held.raw, &numbers, reply), query.queryFault); err != nil {
-		return Reply{}, err
-	}
-	return replyOf(reply), nil
-}
-
-// Would is the reply that the call would get now, refusals too: the numbers of a fork, and whom a wait would reap, as waitid(2) with WNOWAIT.
-// Nothing changes, and it is not counted. Whether there is memory for the call it does not tell. ErrOutOfRange, ErrClosed, ErrSpent, ErrBusy.
-func (table *Table) Would(call Call) (Reply, error) {
-	held, numbers, reply := table.held(), call.numbers(), new(C.struct_pidtab_reply)
-	held.lock.RLock()
-	defer held.lock.RUnlock()
-	if err := named(C.pidtab_would(&held.raw, &numbers, reply), call.rangeFault); err != nil {
-		return Reply{}, err
-	}
-	return replyOf(reply), nil
-}
-
 // ForkAt makes a fork, if its child gets exactly these numbers, as Would has told them. Else nothing changes, and it is false. So who prepares for
 // a child before it is there has the one that he has prepared for, or none. ErrClosed, ErrSpent, ErrBusy, ErrNoMemory.
 func (table *Table) ForkAt(caller uint32, newSpace bool, child Child) (bool, error) {

@@ -171,28 +171,28 @@ export interface Queries {
 
 /** Queries as what is no call: they use no stamp, and are not recorded. */
 export interface Ask extends Queries {
-  /** Reads the task with the number in the caller's namespace, where 0 is the caller, and a zombie too. no-caller, no-task. */
+  // Written by tools/interface: questions.
+  /** Reads the task `pid` of the caller's namespace, where 0 is the caller, and a zombie too, as getpgid finds it. It costs what a getpgid costs. no-caller, no-task. */
   stat(caller: number, pid?: number): Stat;
-  /** The children of the task, where 0 is the caller, zombies too: their numbers in the caller's namespace from `start` on, in rising order. Whom that
-   * namespace does not see is left out, and a number that is nobody's has none. no-caller, NoMemory. */
+  /** The children of the task `pid`, where 0 is the caller, zombies too: their numbers in the caller's namespace, in rising order and not below `start`. Who is not visible there is left out, and a number that is nobody's has none. It costs what is read of each of them. It takes memory for a list. no-caller, NoMemory. */
   children(caller: number, pid?: number, start?: number): number[];
-  /** The members of the process group, where 0 is the caller's own, in the same way. no-caller, NoMemory. */
+  /** The members of the process group with the number `group`, where 0 is the caller's own, as `children` has those of a task. It takes memory for a list. no-caller, NoMemory. */
   groupMembers(caller: number, group?: number, start?: number): number[];
-  /** The members of the session, where 0 is the caller's own, in the same way. no-caller, NoMemory. */
+  /** The members of the session with the number `session`, where 0 is the caller's own, as `children` has those of a task. It takes memory for a list. no-caller, NoMemory. */
   sessionMembers(caller: number, session?: number, start?: number): number[];
-  /** The tasks of the namespace that the task is in, where 0 is the caller, those in namespaces inside it too, in the same way. no-caller, NoMemory. */
+  /** The tasks of the namespace that the task `pid` is in, where 0 is the caller, those in namespaces inside it too, as `children` has those of a task. Of the caller's own namespace these are all that it sees: whom kill(2) of -1 reaches. It takes memory for a list. no-caller, NoMemory. */
   namespaceMembers(caller: number, pid?: number, start?: number): number[];
-  /** Of these those that are in no namespace inside it. no-caller, NoMemory. */
+  /** Of `namespaceMembers` those that are in no namespace inside it. It takes memory for a list. no-caller, NoMemory. */
   namespaceOwn(caller: number, pid?: number, start?: number): number[];
-  /** Reads the namespace with the id, where 0 is the root namespace. A RangeError where no namespace has it, or it is gone. */
+  /** Reads the namespace `id`, where 0 is the root namespace. It takes no memory, and costs two searches and a few reads. A RangeError where no namespace has the id, or it is gone. */
   space(id: Long): SpaceStat;
-  /** The ids of the namespaces directly in the one with the id, from `start` on, in rising order. A RangeError where no namespace has it; NoMemory. */
+  /** The ids of the namespaces directly in the namespace `id`, where 0 is the root, in rising order and not below `start`. One that has fallen is among them as long as `space` reads it. It costs what is read of each of them. It takes memory for a list. A RangeError where no namespace has the id, or it is gone. NoMemory. */
   spacesInside(id?: Long, start?: Long): bigint[];
-  /** The ids of the control groups directly in the one with the id, in the same way. */
+  /** The ids of the control groups directly in the control group `id`, where 0 is the root, as `spacesInside` has those of a namespace. It takes memory for a list. A RangeError where no control group has the id, or it is gone. NoMemory. */
   controlsInside(id?: Long, start?: Long): bigint[];
-  /** The live tasks directly in the control group with the id, as `children` has those of a task: as cgroup.procs has them, in which no zombie appears.
-   * no-caller, no-control, NoMemory. */
+  /** The live tasks directly in the control group with the id `control`, where 0 is the root, as `children` has those of a task: cgroup.procs, in which no zombie appears. It takes memory for a list. no-caller, no-control, NoMemory. */
   controlTasks(caller: number, control?: Long, start?: number): number[];
+  // The end of questions.
 }
 
 /** A method for each call. */

@@ -1,7 +1,8 @@
-"""That interface/cases meets each call, refusal and fault, and each form of a line."""
+"""That interface/cases meets each call, question, refusal and fault, and each form of a line."""
 
 import re
 
+from questions import REPLY
 from written.lines import all_forms
 
 FOLDER = "interface/cases"
@@ -20,6 +21,7 @@ def differences(tables, top):
     made = {line.split(" ")[0] for line in steps}
     numbered = [line.partition(" -> ")[2] for line in steps if line.startswith("numbers ")]
     faults = [f"{FOLDER}: no step is a {it.call}" for it in tables["calls"] if it.call not in made]
+    faults += [f"{FOLDER}: no step asks {it.question}" for it in tables["questions"] if it.tells != REPLY and it.question not in made]
     faults += [f"{FOLDER}: no step is refused as {it.error} {it.word}" for it in tables["refusals"]
                if not any(re.fullmatch(rf"{it.error} {it.word}(?: \d+)?", answer) for answer in answers)]  # fmt: skip
     faults += [f"{FOLDER}: no text has the fault `{it.words}`" for it in tables["faults"]

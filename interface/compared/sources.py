@@ -48,4 +48,4 @@ class Source:
         if start < 0:
             self.say(1, f"there is no `{begin.strip()}`")
             return "", 1
-        return self.text[start + len(begin) : self.text.find(end, start)], self.line_at(start)
+        return self.text[start + len(begin) : self.text.find(end, start + len(begin) - 1)], self.line_at(start)

@@ -1,6 +1,7 @@
 """The headers of C."""
 
 from names import TYPED, capitals, columns, strings, takes, with_id, wrapped
+from questions import by_function
 
 HEADER = "bindings/c/pidtab.h"
 SAVED = "bindings/c/pidtab_saved.h"
@@ -128,15 +129,13 @@ def operations(tables):
     return ["/* A call as numbers. What an operation does not take is not looked at; pidtab_ask answers a query too. */", *enum("pidtab_operation", rows)]
 
 
-# What waits for its turn as a call does; all other functions go before the calls.
-AS_CALLS = ("ask", "stat", "page", "space", "inside", "control_tasks", "would")
 # What is more than the function of a record behind the lock.
 BY_HAND = ("open", "load", "close", "call", "calls", "line", "fork_at", "call_told")
 
 
 def forwards(tables):
-    """The functions of a shared table that do with its lock what the function of a record does."""
-    of = tables["headers"]
+    """The functions of a shared table that do with its lock what the function of a record does. Questions wait for their turn as calls do; all others go first."""
+    of, questions = tables["headers"], by_function(tables, "record_")
     known, lines = {it.name for it in of.functions}, []
     for it in of.of("pidtab_shared.h", "shared_"):
         ending = it.name[len("shared_") :]
@@ -146,7 +145,7 @@ def forwards(tables):
         is_query = of.function(f"record_{ending}").arguments[0].kind.startswith("const ")
         lines += [
             "", f"uint32_t pidtab_{it.name}({', '.join(str(argument) for argument in it.arguments)})", "{",
-            *([f"\tshare_{'as_call' if ending in AS_CALLS else 'before_calls'}(shared);"] if is_query else ["\tlock_before_calls(shared);", "\tbegin_change(shared);"]),
+            *([f"\tshare_{'as_call' if f'record_{ending}' in questions else 'before_calls'}(shared);"] if is_query else ["\tlock_before_calls(shared);", "\tbegin_change(shared);"]),
             f"\treturn {'answered' if is_query else 'changed'}(shared, pidtab_record_{ending}(&shared->record{passed}));", "}",
         ]  # fmt: skip
     return lines

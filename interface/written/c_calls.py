@@ -1,6 +1,6 @@
 """The calls as functions of C, and the test that makes them."""
 
-from arguments import FIELDS, arguments_of, queries, said, tells
+from arguments import FIELDS, arguments_of, queries, said, tells, with_numbers
 from names import TYPED, capitals, strings
 
 HEADER = "bindings/c/pidtab.h"
@@ -39,11 +39,6 @@ def prototype(row):
     return f"int64_t pidtab_{row.call}(struct pidtab *table, {', '.join(taken)})"
 
 
-def tells_a_number(row):
-    """Whether the call is a query that tells one number, which has a function of its own in the library."""
-    return row.query == "yes" and not any(kind in BESIDES for kind in tells(row))
-
-
 def by_number(row):
     """Such a query as a function."""
     taken = "".join(f"{it.name}, " for it in arguments_of(row))
@@ -53,9 +48,9 @@ def by_number(row):
     ]  # fmt: skip
 
 
-def function(row):
-    """A call as a function."""
-    if tells_a_number(row):
+def function(row, with_numbers):
+    """A call as a function; some queries have one of their own in the library."""
+    if row in with_numbers:
         return by_number(row)
     _, read = BESIDES.get(tells(row)[0], (None, []))
     made = ["\tint64_t told = pidtab_value(table, &call, &reply);", *[f"\t{line}" for line in read], "\treturn told;"]
@@ -68,7 +63,16 @@ def function(row):
 
 def functions(tables):
     """Each call as a function."""
-    return [line for row in tables["calls"] for line in ["", *function(row)]][1:]
+    return [line for row in tables["calls"] for line in ["", *function(row, with_numbers(tables))]][1:]
+
+
+def numbers(tables):
+    """The functions of the library for queries that tell one number. A choice is a number there."""
+    lines = []
+    for row in with_numbers(tables):
+        taken = [form.format(it.name).replace("enum pidtab_use", "uint32_t") for it in arguments_of(row) for form in KINDS[it.kind]]
+        lines.append(f"uint32_t pidtab_{row.call}{TYPED}(struct pidtab *table, {', '.join(taken)}, uint64_t *number);")
+    return lines
 
 
 def passed(argument):
@@ -99,5 +103,6 @@ def names(tables):
 
 
 PARTS = {
+    (HEADER, "numbers"): numbers,
     (TEST, "names"): names,
     (HEADER, "calls"): functions, (TEST, "calls"): by_methods}

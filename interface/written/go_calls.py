@@ -24,10 +24,14 @@ def lower(name):
     return word[0].lower() + word[1:]
 
 
-def taken(row):
-    """What the method takes: names of one type have it together."""
-    found = [(lower(it.name), TYPES[it.kind]) for it in arguments_of(row)]
+def typed(found):
+    """Names with their types: names of one type have it together."""
     return ", ".join(name if place + 1 < len(found) and found[place + 1][1] == kind else f"{name} {kind}" for place, (name, kind) in enumerate(found))
+
+
+def taken(row):
+    """What the method takes."""
+    return typed([(lower(it.name), TYPES[it.kind]) for it in arguments_of(row)])
 
 
 def put(row):

@@ -3,7 +3,7 @@
 from arguments import arguments_of
 from model import call, code, imported, in_lines, is_numbered, named, of
 from names import snake
-from places import arms, definition, imports
+from places import Block, arms, definition, imports
 from tables import TableFault
 
 LINES = "crates/pid_script/specs/Lines.antt"
@@ -31,9 +31,11 @@ BEHIND = {"number": "push_one", "number number": "push_two", "number byte": "pus
 ITSELF = {"number new": "push_fork", "number which": "push_wait", "number signed signed": "push_set_pgid", "number use number": "push_next", "id most": "push_limit",
           "number id": "push_move", "number on": "push_subreaper"}  # fmt: skip
 
-# How long the commands are, in words; and the arguments of a call of which a function of its own reads the numbers.
-LENGTHS = {2: "two", 4: "four", 5: "five", 6: "six", 7: "seven", 9: "nine"}
+# The arguments of a call of which a function of its own reads the numbers.
 PLAIN = ("number", "id", "number number")
+
+# How long a command is, in words.
+LENGTHS = ("one", "two", "three", "four", "five", "six", "seven", "eight", "nine", "ten", "eleven", "twelve", "thirteen", "fourteen", "fifteen", "sixteen")
 
 
 def kinds_of(row):
@@ -113,17 +115,50 @@ def reads(row):
     return f"{ITSELF.get(kinds, f'read_{row.call}').replace('push', 'read')}(words)"
 
 
-def of_length(length):
-    """What reads the commands of a length."""
-    return lambda tables: [*[f'        b"{it.call}" => {reads(it)},' for it in in_lines(tables) if len(it.call) == length], "        _ => None,"]
-
-
 def by_length(tables):
+    """The calls by the length of their commands: each length with its word."""
+    found = {}
+    for row in in_lines(tables):
+        found.setdefault(len(row.call), []).append(row)
+    if max(found) > len(LENGTHS):
+        raise TableFault(f"interface/calls.tbl: a call has {max(found)} letters, and {len(LENGTHS)} are the most")
+    return [(length, LENGTHS[length - 1], found[length]) for length in sorted(found)]
+
+
+def readers(tables):
+    """The functions that read the commands, each those of one length."""
+    lines = []
+    for length, word, rows in by_length(tables):
+        lines += [
+            f"/// The call of a command of {word} letters and the words behind it.", "#[tactic(auto, unfolding(crate::specs::Reading::command_of))]",
+            f"fn read_{word}_letters(command: &[u8], words: &[u8]) -> Option<Call>",
+            f"    ensures {{ length command.now ≡ {length} → result ≡ command_of command.now words.now }}", "{", "    match command {",
+            *[f'        b"{it.call}" => {reads(it)},' for it in rows], "        _ => None,", "    }", "}", "",
+        ]  # fmt: skip
+    return lines
+
+
+def reads_by_length(tables):
     """What reads a command, by its length."""
-    known = sorted({len(it.call) for it in tables["calls"]})
-    if set(known) != set(LENGTHS):
-        raise TableFault(f"{READER}: commands of {known} letters, and {list(LENGTHS)} are read")
-    return [*[f"        {length} => read_{LENGTHS[length]}_letters(command, words)," for length in known], "        _ => None,"]
+    return [*[f"        {length} => read_{word}_letters(command, words)," for length, word, _ in by_length(tables)], "        _ => None,"]
+
+
+def answers_of(word, rows):
+    """The proof of a function that reads commands: each has its row of the table of commands."""
+    lines = [
+        "use Rattle.std.proofs.Common.{codes, arith}", "use Rattle.std.proofs.lemmas.Slice.Eq.{text_from_reads}",
+        f"use Rattle.pid_script.proofs.Commands.{{{', '.join(f'row_{it.call}' for it in rows)}}}", f"use Rattle.pid_script.proofs.line.read_{word}_letters.Goals as goal",
+    ]  # fmt: skip
+    for it in rows:
+        word, reader = it.call, reads(it).partition("(")[0]
+        lines += ["", f"pub returns-in-{word} : goal.returns-in-{word}",
+                  f'returns-in-{word} c = λ _. rw (text_from_reads c.args.command.now (codes "{word}") (omega arith) assumption, row_{word}) c.{reader}.ensures']  # fmt: skip
+    return lines
+
+
+def files_of(tables):
+    """The proofs of these functions, by their paths."""
+    return {f"crates/pid_script/proofs/line/read_{word}_letters/Answers.antt": answers_of(word, rows) for _, word, rows in by_length(tables)}
 
 
 def all_calls(tables):
@@ -141,6 +176,6 @@ ROWS = {
     (READING, "kind_read"): (definition("kind_read"), uses),
     (READING, "commands"): (definition("commands"), commands),
     (WRITER, "line_text"): (arms("line_text("), writes),
-    (READER, "read_command"): (arms("read_command("), by_length),
-    **{(READER, f"read_{word}_letters"): (arms(f"read_{word}_letters("), of_length(length)) for length, word in LENGTHS.items()},
+    (READER, "read_letters"): (Block(r"/// The call of a command of \w+ letters and the words behind it\.", r"/// The call of a command and the words behind it\..*"), readers),
+    (READER, "read_command"): (arms("read_command("), reads_by_length),
 }

@@ -1,10 +1,14 @@
-"""The crates: which calls ask, which may need memory and which make an id."""
+"""The crates: which calls ask, which may need memory and which make an id; and the imports of all calls beside these rows."""
 
 from model import call
-from places import definition
+from places import definition, handed_on, imports
+from written.rattle import all_refusals
+from written.rattle_lines import all_calls
 
 STEP = "crates/pid_types/specs/Step.antt"
 LAWS = "crates/model_laws/specs/Refusals.antt"
+WORDS = "crates/model_laws/proofs/Words.antt"
+RECKONING = "crates/call_effects/proofs/Reckoning.antt"
 
 
 def asks(tables):
@@ -23,7 +27,16 @@ def makes(tables):
     return [*told, "makes_id _ = false"]
 
 
+def for_users(lines):
+    """The import of all variants for those who use the module."""
+    return lambda tables: [f"pub {it}" for it in lines(tables)]
+
+
 ROWS = {
+    **{(path, "imports of Call"): (imports("Call"), all_calls) for path in (LAWS, RECKONING)},
+    (LAWS, "imports of Refusal"): (imports("Refusal"), all_refusals),
+    (WORDS, "imports of Call"): (handed_on("pid_types.specs.declared.call.Call"), for_users(all_calls)),
+    (WORDS, "imports of Refusal"): (handed_on("pid_types.specs.declared.reply.Refusal"), for_users(all_refusals)),
     (STEP, "may_grow"): (definition("may_grow"), grows),
     (STEP, "makes_id"): (definition("makes_id"), makes),
     (LAWS, "is_query"): (definition("is_query"), asks),

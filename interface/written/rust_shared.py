@@ -1,11 +1,8 @@
-"""The functions of a shared table in Rust that lock a record, and do what its function of that name does."""
+"""The functions of a shared table in Rust that lock a record, and do what its function of that name does. They go before the calls."""
 
 import re
 
 PATH = "bindings/rust/src/shared.rs"
-
-# What waits for its turn as a call does; all other functions go before the calls.
-AS_CALLS = ("ask", "stat", "children", "group_members", "session_members", "namespace_members", "namespace_own", "space", "spaces_inside", "controls_inside", "would")
 
 
 def methods_of(text):
@@ -20,7 +17,7 @@ def forwards(tables):
     lines = []
     for errors, name, is_query, taken, answer in methods_of((tables["top"] / PATH).read_text(encoding="utf-8")):
         passed = ", ".join(it.split(":")[0] for it in taken.split(", ") if it)
-        lock = "lock" if not is_query else "look" if name in AS_CALLS else "look_first"
+        lock = "look_first" if is_query else "lock"
         arguments = f"&self, {taken}" if taken else "&self"
         lines += ["", f"    /// As [`Record::{name}`].", "    ///", "    /// # Errors", *errors.splitlines(), f"    pub fn {name}({arguments}) -> {answer} {{"]
         lines += [f"        self.{lock}().{name}({passed})", "    }"]

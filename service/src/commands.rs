@@ -9,6 +9,7 @@ pub const PREFIX: &[u8] = b"PIDTAB.";
 /// The calls of a table.
 #[derive(Clone, Copy, Debug, PartialEq)]
 pub enum Verb {
+    // Written by tools/interface: verbs.
     Fork,
     Getpid,
     Nspid,
@@ -28,6 +29,7 @@ pub enum Verb {
     Next,
     Join,
     Subreaper,
+    // The end of verbs.
 }
 
 /// What a command does: a call, or what a service needs besides.
@@ -258,13 +260,16 @@ impl Verb {
     /// Whether it is a query.
     pub fn asks(self) -> bool {
         use Verb::*;
+        // Written by tools/interface: queries.
         matches!(self, Getpid | Nspid | Getppid | Count | Getpgid | Getsid | Next)
+        // The end of queries.
     }
 
     /// The call with these values.
     pub fn call(self, values: &Values) -> Call {
         let Values { caller, number, id, .. } = *values;
         match self {
+            // Written by tools/interface: calls.
             Verb::Fork => Call::Fork { caller, new_space: values.choice },
             Verb::Getpid => Call::Getpid { caller },
             Verb::Nspid => Call::Nspid { caller, number },
@@ -284,6 +289,7 @@ impl Verb {
             Verb::Next => Call::Next { caller, kind: values.kind, from: number },
             Verb::Join => Call::Join { caller, number },
             Verb::Subreaper => Call::Subreaper { caller, on: values.choice },
+            // The end of calls.
         }
     }
 }

@@ -13,8 +13,12 @@
 #include <sys/stat.h>
 #include <unistd.h>
 
-static const char *const names[] = { "FORK", "GETPID", "NSPID", "EXEC", "EXIT", "WAIT", "GETPPID", "SETPGID", "SETSID", "MK", "RM", "LIMIT", "MOVE", "COUNT", "GETPGID",
-	"GETSID", "NEXT", "JOIN", "SUBREAPER" };
+/* Written by tools/interface: names. */
+static const char *const names[] = {
+	"FORK", "GETPID", "NSPID", "EXEC", "EXIT", "WAIT", "GETPPID", "SETPGID", "SETSID", "MK", "RM", "LIMIT", "MOVE", "COUNT",
+	"GETPGID", "GETSID", "NEXT", "JOIN", "SUBREAPER",
+};
+/* The end of names. */
 
 /* From this operation on an entry is no call; one with the other is a part of the fork behind it. */
 enum { FIRST_NOTE = 128, FORKS = 200 };
@@ -22,21 +26,57 @@ enum { FIRST_NOTE = 128, FORKS = 200 };
 static void print_call(const struct pidtab_call *c)
 {
 	printf("%s ", names[c->operation]);
+	/* Written by tools/interface: words of calls. */
 	switch (c->operation) {
-	case PIDTAB_FORK: printf("%u%s", c->caller, c->choice ? " NEW" : ""); break;
-	case PIDTAB_EXIT: case PIDTAB_NSPID: case PIDTAB_GETPGID: case PIDTAB_GETSID: case PIDTAB_JOIN: printf("%u %u", c->caller, c->number); break;
+	case PIDTAB_FORK:
+		printf("%u", c->caller);
+		if (c->choice)
+			printf(" NEW");
+		break;
+	case PIDTAB_GETPID:
+	case PIDTAB_EXEC:
+	case PIDTAB_GETPPID:
+	case PIDTAB_SETSID:
+		printf("%u", c->caller);
+		break;
+	case PIDTAB_NSPID:
+	case PIDTAB_EXIT:
+	case PIDTAB_GETPGID:
+	case PIDTAB_GETSID:
+	case PIDTAB_JOIN:
+		printf("%u %u", c->caller, c->number);
+		break;
 	case PIDTAB_WAIT:
 		printf("%u %s", c->caller, (const char *[]){ "ANY", "PID", "OWN", "GROUP" }[c->choice]);
-		if (c->choice & 1) printf(" %u", c->number);
+		if (c->choice == PIDTAB_CHILD || c->choice == PIDTAB_GROUP)
+			printf(" %u", c->number);
 		break;
-	case PIDTAB_SETPGID: printf("%u %d %d", c->caller, c->pid, c->pgid); break;
-	case PIDTAB_MK: case PIDTAB_RM: case PIDTAB_COUNT: printf("%" PRIu64, c->id); break;
-	case PIDTAB_LIMIT: printf("%" PRIu64 " ", c->id); if (c->choice) printf("%u", c->number); else printf("MAX"); break;
-	case PIDTAB_MOVE: printf("%u %" PRIu64, c->caller, c->id); break;
-	case PIDTAB_NEXT: printf("%u %s %u", c->caller, (const char *[]){ "TASK", "GROUP", "SESSION" }[c->choice], c->number); break;
-	case PIDTAB_SUBREAPER: printf("%u %s", c->caller, c->choice ? "ON" : "OFF"); break;
-	default: printf("%u", c->caller);
+	case PIDTAB_SETPGID:
+		printf("%u %d %d", c->caller, c->pid, c->pgid);
+		break;
+	case PIDTAB_MK:
+	case PIDTAB_RM:
+	case PIDTAB_COUNT:
+		printf("%" PRIu64, c->id);
+		break;
+	case PIDTAB_LIMIT:
+		printf("%" PRIu64, c->id);
+		if (c->choice)
+			printf(" %u", c->number);
+		else
+			printf(" MAX");
+		break;
+	case PIDTAB_MOVE:
+		printf("%u %" PRIu64, c->caller, c->id);
+		break;
+	case PIDTAB_NEXT:
+		printf("%u %s %u", c->caller, (const char *[]){ "TASK", "GROUP", "SESSION" }[c->choice], c->number);
+		break;
+	case PIDTAB_SUBREAPER:
+		printf("%u %s", c->caller, c->choice ? "ON" : "OFF");
+		break;
 	}
+	/* The end of words of calls. */
 }
 
 static void print_reply(const struct pidtab_reply *r)

@@ -127,90 +127,90 @@ export class Ask extends onOwner(Queries) {
     return instance.ask();
   }
 
+  // Written by tools/interface: questions.
   stat(caller, pid = 0) {
-    const instance = this._open();
-    const status = instance.stat(checkNumber("caller", caller), checkNumber("pid", pid));
-    if (status !== STATUS.DONE) throw faultOf(status, `stat ${caller} ${pid}`);
-    instance.refresh();
-    const at = instance.at.task.word;
-    if (instance.words[at + TASK.error] === 0) return aTask(instance, at);
-    throw new Refusal(instance.words[at + TASK.error], instance.words[at + TASK.refusal] === 1 ? "no-caller" : "no-task", null, `stat ${caller} ${pid}`);
+    return this._task("stat", [checkNumber("caller", caller), checkNumber("pid", pid)], [], `stat ${caller} ${pid}`);
   }
 
   children(caller, pid = 0, start = 0) {
-    return this._page("children", WHOM.CHILDREN, caller, checkNumber("pid", pid), start);
+    return this._numbers("page", [checkNumber("caller", caller), WHOM.CHILDREN, checkNumber("pid", pid), checkNumber("start", start)], [], `children ${caller} ${pid}`);
   }
 
   groupMembers(caller, group = 0, start = 0) {
-    return this._page("groupMembers", WHOM.GROUP_MEMBERS, caller, checkNumber("group", group), start);
+    return this._numbers("page", [checkNumber("caller", caller), WHOM.GROUP_MEMBERS, checkNumber("group", group), checkNumber("start", start)], [], `groupMembers ${caller} ${group}`);
   }
 
   sessionMembers(caller, session = 0, start = 0) {
-    return this._page("sessionMembers", WHOM.SESSION_MEMBERS, caller, checkNumber("session", session), start);
+    return this._numbers("page", [checkNumber("caller", caller), WHOM.SESSION_MEMBERS, checkNumber("session", session), checkNumber("start", start)], [], `sessionMembers ${caller} ${session}`);
   }
 
   namespaceMembers(caller, pid = 0, start = 0) {
-    return this._page("namespaceMembers", WHOM.NAMESPACE_MEMBERS, caller, checkNumber("pid", pid), start);
+    return this._numbers("page", [checkNumber("caller", caller), WHOM.NAMESPACE_MEMBERS, checkNumber("pid", pid), checkNumber("start", start)], [], `namespaceMembers ${caller} ${pid}`);
   }
 
   namespaceOwn(caller, pid = 0, start = 0) {
-    return this._page("namespaceOwn", WHOM.NAMESPACE_OWN, caller, checkNumber("pid", pid), start);
+    return this._numbers("page", [checkNumber("caller", caller), WHOM.NAMESPACE_OWN, checkNumber("pid", pid), checkNumber("start", start)], [], `namespaceOwn ${caller} ${pid}`);
   }
 
   space(id) {
+    return this._space("space", [], [checkLong("id", id)], `space ${id}`, "namespace");
+  }
+
+  spacesInside(id = 0n, start = 0n) {
+    return this._ids("inside", [TREE.SPACES], [checkLong("id", id), checkLong("start", start)], `spacesInside ${id}`, "namespace");
+  }
+
+  controlsInside(id = 0n, start = 0n) {
+    return this._ids("inside", [TREE.CONTROLS], [checkLong("id", id), checkLong("start", start)], `controlsInside ${id}`, "control group");
+  }
+
+  controlTasks(caller, control = 0n, start = 0) {
+    return this._numbers("control_tasks", [checkNumber("caller", caller), checkNumber("start", start)], [checkLong("control", control)], `controlTasks ${caller} ${control}`);
+  }
+  // The end of questions.
+
+  /** The instance, and what a function answers that is given these numbers, and those of 64 bits beside; `asked` is told where it fails. */
+  _status(name, numbers, longs, asked) {
     const instance = this._open();
-    const asked = checkLong("id", id);
-    instance.writeNumbers([asked]);
-    const status = instance.space();
-    if (status === STATUS.OUT_OF_RANGE) throw new RangeError(`no namespace has the id ${asked}: it is gone, or there was none`);
-    if (status !== STATUS.DONE) throw faultOf(status, `space ${asked}`);
+    instance.writeNumbers(longs);
+    const status = instance[name](...numbers);
+    if (status !== STATUS.DONE && status !== STATUS.OUT_OF_RANGE) throw faultOf(status, asked);
+    return [instance, status];
+  }
+
+  /** A task that is read at once. */
+  _task(name, numbers, longs, asked) {
+    const [instance] = this._status(name, numbers, longs, asked);
+    instance.refresh();
+    const at = instance.at.task.word;
+    if (instance.words[at + TASK.error] === 0) return aTask(instance, at);
+    throw new Refusal(instance.words[at + TASK.error], instance.words[at + TASK.refusal] === 1 ? "no-caller" : "no-task", null, asked);
+  }
+
+  /** A namespace that is read at once, which may not be there. */
+  _space(name, numbers, longs, asked, what) {
+    const [instance, status] = this._status(name, numbers, longs, asked);
+    if (status === STATUS.OUT_OF_RANGE) throw absent(what, longs[0]);
     instance.refresh();
     return aSpace(instance, instance.at.space.word);
   }
 
-  spacesInside(id = 0n, start = 0n) {
-    return this._inside("spacesInside", TREE.SPACES, "namespace", checkLong("id", id), checkLong("start", start));
-  }
-
-  controlsInside(id = 0n, start = 0n) {
-    return this._inside("controlsInside", TREE.CONTROLS, "control group", checkLong("id", id), checkLong("start", start));
-  }
-
-  controlTasks(caller, control = 0n, start = 0) {
-    const [who, id, from] = [checkNumber("caller", caller), checkLong("control", control), checkNumber("start", start)];
-    return this._numbers(`controlTasks ${who} ${id}`, (instance, address, room) => {
-      instance.writeNumbers([id]);
-      return instance.control_tasks(who, from, address, room);
-    });
-  }
-
-  /** All ids that are directly inside, as `_numbers` has all numbers. */
-  _inside(name, tree, what, id, start, room = SHORT_PAGE) {
-    const instance = this._open();
-    const asked = `${name} ${id}`;
-    const [count, ids] = instance.withRoom(8 * room, asked, (address) => {
-      instance.writeNumbers([id, start]);
-      const status = instance.inside(tree, address, room);
-      if (status === STATUS.OUT_OF_RANGE) throw new RangeError(`no ${what} has the id ${id}: it is gone, or there was none`);
-      if (status !== STATUS.DONE) throw faultOf(status, asked);
+  /** All ids of something that may not be there, as `_numbers` has all numbers. How many there are is told after those that are given. */
+  _ids(name, numbers, longs, asked, what, room = SHORT_PAGE) {
+    const [count, ids] = this._open().withRoom(8 * room, asked, (address) => {
+      const [instance, status] = this._status(name, [...numbers, address, room], longs, asked);
+      if (status === STATUS.OUT_OF_RANGE) throw absent(what, longs[0]);
       instance.refresh();
-      const told = Number(instance.numberAt(2));
+      const told = Number(instance.numberAt(longs.length));
       return [told, Array.from(instance.longs.subarray(address / 8, address / 8 + Math.min(told, room)))];
     });
-    return count > room ? this._inside(name, tree, what, id, start, count) : ids;
-  }
-
-  /** All whom the page lists, from one number on. */
-  _page(name, whom, caller, number, start) {
-    const taken = [checkNumber("caller", caller), whom, number, checkNumber("start", start)];
-    return this._numbers(`${name} ${caller} ${number}`, (instance, address, room) => instance.page(...taken, address, room));
+    return count > room ? this._ids(name, numbers, longs, asked, what, count) : ids;
   }
 
   /** All numbers that are written into a room. Where that is too short, it is taken anew for as many as there are: none comes meanwhile. */
-  _numbers(asked, write, room = SHORT_PAGE) {
-    const instance = this._open();
-    const [count, numbers] = instance.withRoom(4 * room, asked, (address) => {
-      const status = write(instance, address, room);
+  _numbers(name, numbers, longs, asked, room = SHORT_PAGE) {
+    const [count, found] = this._open().withRoom(4 * room, asked, (address) => {
+      const [instance, status] = this._status(name, [...numbers, address, room], longs, asked);
       if (status !== STATUS.DONE) throw faultOf(status, asked);
       instance.refresh();
       const { words } = instance;
@@ -219,9 +219,12 @@ export class Ask extends onOwner(Queries) {
       const told = words[at + REPLY.first];
       return [told, numbersAt(words, address / 4, Math.min(told, room))];
     });
-    return count > room ? this._numbers(asked, write, count) : numbers;
+    return count > room ? this._numbers(name, numbers, longs, asked, count) : found;
   }
 }
+
+/** That nothing has the id that was asked for. */
+const absent = (what, id) => new RangeError(`no ${what} has the id ${id}: it is gone, or there was none`);
 
 /** A method for each call. */
 export class EachCall extends Queries {

@@ -5,6 +5,11 @@ import { CALL, STATUS } from "./header.js";
 
 const PLACES = ["call", "reply", "task", "space", "fault", "numbers", "size", "line", "answer"];
 const LINE_ROOM = 208;
+
+// What answers questions, of a table or of a record.
+// Written by tools/interface: questions.
+const QUESTIONS = ["ask", "stat", "page", "space", "inside", "control_tasks", "would"];
+// The end of questions.
 const MOST_ASCII = 127;
 
 /** No answer is longer. */
@@ -35,7 +40,7 @@ export class Instance {
     this.exports = { ...new WebAssembly.Instance(compiled, {}).exports };
     this.memory = this.exports.memory;
     this.at = placesOf(this.exports);
-    for (const name of ["load", "ask", "stat", "page", "space", "inside", "control_tasks", "would", "list", "dump"]) this[name] = this.exports[name];
+    for (const name of ["load", "list", "dump", ...QUESTIONS]) this[name] = this.exports[name];
     this.look();
   }
 

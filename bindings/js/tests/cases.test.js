@@ -84,6 +84,15 @@ function sayTask(it) {
   return `${it.numbers.join(",")} ${family} ${it.live ? "live" : sayEnd(it)}${marks}`;
 }
 
+/** What a question tells, in words. */
+function sayAnswer(found) {
+  if (Array.isArray(found)) return found.join(" ") || "none";
+  return "numbers" in found ? sayTask(found) : saySpace(found);
+}
+
+/** A number of a step as a method takes it: one of 64 bits stays a BigInt. */
+const short = (number) => (number <= 0xffffffffn ? Number(number) : number);
+
 /** What a case has open. */
 class World {
   tables = [];
@@ -155,28 +164,11 @@ class World {
     return found;
   }
 
-  stat(caller, pid) {
-    const [task, ...others] = [this.record, ...this.tables].map(({ ask }) => told(() => sayTask(ask.stat(Number(caller), Number(pid)))));
-    for (const other of others) assert.equal(other, task);
-    return task;
-  }
-
-  /** Whom a page lists. */
-  page(whom, ...numbers) {
-    return this.listed(["children", "groupMembers", "sessionMembers", "namespaceMembers", "namespaceOwn"][whom], numbers.map(Number));
-  }
-
-  /** What a method lists, which is the same of each table. */
-  listed(name, numbers) {
-    const [found, ...others] = [this.record, ...this.tables].map(({ ask }) => told(() => ask[name](...numbers).join(" ") || "none"));
+  /** What a question tells, which is the same of each table. */
+  question(name, numbers) {
+    const [found, ...others] = [this.record, ...this.tables].map(({ ask }) => told(() => sayAnswer(ask[name](...numbers))));
     for (const other of others) assert.equal(other, found);
     return found;
-  }
-
-  space(id) {
-    const [space, ...others] = [this.record, ...this.tables].map(({ ask }) => told(() => saySpace(ask.space(id))));
-    for (const other of others) assert.equal(other, space);
-    return space;
   }
 
   /** The history on a second record: the same replies, counts and list; or it stops at an entry with another answer, or of a worker that is none. */
@@ -221,11 +213,8 @@ class World {
     if (word === "load") return this.load(text, numbers);
     if (["counts", "worker", "entry", "read", "checkpoint", "checkpoint_at"].includes(word)) return this.read(word, numbers);
     if (word === "told") return this.callTold(words.join(" "));
-    if (word === "stat") return this.stat(...numbers);
-    if (word === "page") return this.page(...numbers);
-    if (word === "control_tasks") return this.listed("controlTasks", [Number(numbers[0]), numbers[1], Number(numbers[2])]);
-    if (word === "inside") return this.listed(["spacesInside", "controlsInside"][numbers[0]], numbers.slice(1));
-    if (word === "space") return this.space(...numbers);
+    const question = word.replace(/_(.)/g, (_, letter) => letter.toUpperCase());
+    if (!QUERIES.includes(word) && typeof this.record?.ask[question] === "function") return this.question(question, numbers.map(short));
     if (word === "json") return this.call(words.join(" ")) && toJson(this.told);
     if (word === "parse") return lineOfFault(text);
     const steps = {

@@ -8,6 +8,7 @@ from functools import partial, wraps
 from inspect import signature
 from typing import TYPE_CHECKING, Concatenate, NoReturn, ParamSpec, Protocol, SupportsIndex, TypeVar
 
+from pidtab import raw
 from pidtab.answers import Forked, Form, SpaceStat, Stat, tell_space, tell_stat
 from pidtab.bounds import check_range
 from pidtab.calls import Call, Calls, EachCall, Queries
@@ -19,20 +20,13 @@ from pidtab.raw import (
     BAD_LINE,
     BAD_TEXT,
     CALL_FIELDS,
-    CHILDREN,
     CLOSED,
-    CONTROLS,
     DIFFERS,
     DONE,
-    GROUP_MEMBERS,
-    NAMESPACE_MEMBERS,
-    NAMESPACE_OWN,
     NO_MEMORY,
     NO_ROOM,
     OUT_OF_RANGE,
     REFUSED,
-    SESSION_MEMBERS,
-    SPACES,
     SPENT,
     Answer,
     PidtabCall,
@@ -47,18 +41,6 @@ SHORT_TEXT = 4096
 
 # The same of a page, in numbers.
 SHORT_PAGE = 64
-
-# Whom a page lists: the method that asks for them, and what the number is.
-LISTED = {
-    CHILDREN: ("children", "pid"),
-    GROUP_MEMBERS: ("group_members", "group"),
-    SESSION_MEMBERS: ("session_members", "session"),
-    NAMESPACE_MEMBERS: ("namespace_members", "pid"),
-    NAMESPACE_OWN: ("namespace_own", "pid"),
-}
-
-# What is directly inside: the method that asks for it, and what has the id.
-INSIDE = {SPACES: ("spaces_inside", "namespace"), CONTROLS: ("controls_inside", "control group")}
 
 GREATEST_PID = 2**32 - 1
 GREATEST_ID = 2**64 - 1
@@ -161,11 +143,10 @@ def make_call(call: Call, form: Form[T], make: Callable[[bytes, PidtabReply], in
     return told
 
 
-def read_task(caller: SupportsIndex, pid: SupportsIndex, read: Callable[[int, int, PidtabTask], int]) -> Stat:
-    """What is read of a task by a function that takes the numbers, and answers a status."""
-    numbers = check_range("caller", caller, 0, GREATEST_PID), check_range("pid", pid, 0, GREATEST_PID)
-    task, asked = PidtabTask(), "stat {} {}".format(*numbers)
-    status = read(*numbers, task)
+def read_task(asked: str, read: Callable[[PidtabTask], int]) -> Stat:
+    """What is read of a task by a function that answers a status."""
+    task = PidtabTask()
+    status = read(task)
     if status != DONE:
         raise fault_of(status, asked)
     if task.error:
@@ -173,60 +154,51 @@ def read_task(caller: SupportsIndex, pid: SupportsIndex, read: Callable[[int, in
     return tell_stat(task)
 
 
-def read_page(whom: int, asked: Sequence[SupportsIndex], read: Callable[..., int]) -> tuple[int, ...]:
-    """All whom a page lists, by a function that writes a page of them into a room, and answers a status."""
-    method, name = LISTED[whom]
-    caller, number, start = (check_range(it, given, 0, GREATEST_PID) for it, given in zip(("caller", name, "start"), asked))
-    return read_numbers(f"{method} {caller} {number}", partial(read, caller, whom, number, start))
-
-
-def read_control_tasks(caller: SupportsIndex, control: SupportsIndex, start: SupportsIndex, read: Callable[..., int]) -> tuple[int, ...]:
-    """The live tasks directly in a control group, by such a function."""
-    numbers = check_range("caller", caller, 0, GREATEST_PID), check_range("control", control, 0, GREATEST_ID)
-    return read_numbers("control_tasks {} {}".format(*numbers), partial(read, *numbers, check_range("start", start, 0, GREATEST_PID)))
-
-
-def read_numbers(line: str, read: Callable[..., int]) -> tuple[int, ...]:
+def read_numbers(asked: str, read: Callable[..., int]) -> tuple[int, ...]:
     """All numbers that are asked for, by a function that writes as many as there is room for, and tells in a reply how many there are."""
     reply, there = PidtabReply(), SHORT_PAGE
     while True:
         room = (ctypes.c_uint32 * there)()
         status = read(room, there, reply)
         if status != DONE:
-            raise fault_of(status, line)
+            raise fault_of(status, asked)
         if reply.kind == REFUSED:
-            raise refusal_of(reply.error, line, say_why(reply.refusal, reply.first))
+            raise refusal_of(reply.error, asked, say_why(reply.refusal, reply.first))
         if reply.first <= there:
             return tuple(room[: reply.first])
         # Until the next try, other threads may make more. Each room is larger than the last, and no table has more tasks than numbers.
         there = reply.first + reply.first // 8
 
 
-def read_inside(tree: int, id: SupportsIndex, start: SupportsIndex, read: Callable[..., int]) -> tuple[int, ...]:
-    """All ids that are directly inside, by a function that writes a page of them into a room, and answers a status."""
-    (method, what), count, there = INSIDE[tree], ctypes.c_uint64(), SHORT_PAGE
-    number, first = check_range("id", id, 0, GREATEST_ID), check_range("start", start, 0, GREATEST_ID)
+def absent(asked: str, what: str) -> LookupError:
+    """That nothing has the id that was asked for."""
+    return LookupError(f"no {what} has the id {asked.split(' ')[1]}: it is gone, or there was none")
+
+
+def read_ids(asked: str, what: str, read: Callable[..., int]) -> tuple[int, ...]:
+    """All ids that are asked for, by a function that writes as many as there is room for, and counts all; of something that may not be there."""
+    count, there = ctypes.c_uint64(), SHORT_PAGE
     while True:
         room = (ctypes.c_uint64 * there)()
-        status = read(tree, number, first, room, there, count)
+        status = read(room, there, count)
         if status == OUT_OF_RANGE:
-            raise LookupError(f"no {what} has the id {number}: it is gone, or there was none")
+            raise absent(asked, what)
         if status != DONE:
-            raise fault_of(status, f"{method} {number}")
+            raise fault_of(status, asked)
         if count.value <= there:
             return tuple(room[: count.value])
         # Until the next try, other threads may make more.
         there = count.value + count.value // 8
 
 
-def read_space(id: SupportsIndex, read: Callable[[int, PidtabSpace], int]) -> SpaceStat:
-    """What is read of a namespace by a function that takes its id, and answers a status."""
-    number, space = check_range("id", id, 0, GREATEST_ID), PidtabSpace()
-    status = read(number, space)
+def read_space(asked: str, what: str, read: Callable[[PidtabSpace], int]) -> SpaceStat:
+    """What is read of a namespace, which may not be there, by a function that answers a status."""
+    space = PidtabSpace()
+    status = read(space)
     if status == OUT_OF_RANGE:
-        raise LookupError(f"no namespace has the id {number}: it is gone, or there was none")
+        raise absent(asked, what)
     if status != DONE:
-        raise fault_of(status, f"space {number}")
+        raise fault_of(status, asked)
     return tell_space(space)
 
 
@@ -235,19 +207,8 @@ class Asked(Protocol):
 
     def _check_owner(self) -> None: ...
 
-    def _ask(self, call: bytes, reply: PidtabReply) -> int: ...
-
-    def _would(self, call: bytes, reply: PidtabReply) -> int: ...
-
-    def _stat(self, caller: int, pid: int, task: PidtabTask) -> int: ...
-
-    def _page(self, *taken: object) -> int: ...
-
-    def _space(self, id: int, space: PidtabSpace) -> int: ...
-
-    def _inside(self, *taken: object) -> int: ...
-
-    def _control_tasks(self, *taken: object) -> int: ...
+    def _question(self, name: str) -> Callable[..., int]:
+        """The function of the library that answers a question, which has this name after the kind of the table. It answers a status."""
 
 
 class OfTable:
@@ -269,7 +230,7 @@ class Would(OfTable, EachCall):
 
     def _make(self, call: Call, form: Form[T]) -> T:
         self._table._check_owner()
-        return make_call(call, form, self._table._would)
+        return make_call(call, form, self._table._question("would"))
 
 
 class Teller(EachCall):
@@ -334,76 +295,112 @@ class ToldCalls(OfTable):
 class Ask(OfTable, Queries):
     """Queries that are no calls, as the `ask` of a table: they are neither counted nor recorded, and shift no later id.
 
-    It has the queries, `stat`, `space`, and the lists of children and of members, and no other call. As long as somebody has it, the table is not dropped.
+    It has the queries, and what is read at once, as `stat`, `space` and `children`, and no other call. As long as somebody has it, the table is not dropped.
     """
 
     def _make(self, call: Call, form: Form[T]) -> T:
         self._table._check_owner()
-        return make_call(call, form, self._table._ask)
+        return make_call(call, form, self._table._question("ask"))
 
+    # Written by tools/interface: questions.
     def stat(self, caller: int, pid: int = 0) -> Stat:
-        """The task with the number, where 0 is the caller, in one read: a zombie too, as `getpgid` finds it. no-caller, no-task."""
+        """Reads the task `pid` of the caller's namespace, where 0 is the caller, and a zombie too, as getpgid finds it.
+
+        It costs what a getpgid costs. no-caller, no-task.
+        """
         self._table._check_owner()
-        return read_task(caller, pid, self._table._stat)
+        caller, pid = check_range("caller", caller, 0, GREATEST_PID), check_range("pid", pid, 0, GREATEST_PID)
+        return read_task(f"stat {caller} {pid}", partial(self._table._question("stat"), caller, pid))
 
     def children(self, caller: int, pid: int = 0, start: int = 0) -> tuple[int, ...]:
-        """The children of the task, where 0 is the caller, zombies too: their numbers from `start` on, in rising order. no-caller.
+        """The children of the task `pid`, where 0 is the caller, zombies too: their numbers in the caller's namespace, in rising order and not below
+        `start`.
 
-        Who is not visible in the caller's namespace is left out, and to a number that is nobody's nobody belongs. It costs what is read of each of
-        them, and takes memory for a list: where there is none, it is a MemoryError.
+        Who is not visible there is left out, and a number that is nobody's has none. It costs what is read of each of them. It takes memory for a
+        list: where there is none, it is a MemoryError. no-caller.
         """
-        return self._page(CHILDREN, caller, pid, start)
+        self._table._check_owner()
+        caller, pid, start = check_range("caller", caller, 0, GREATEST_PID), check_range("pid", pid, 0, GREATEST_PID), check_range("start", start, 0, GREATEST_PID)
+        return read_numbers(f"children {caller} {pid}", partial(self._table._question("page"), caller, raw.CHILDREN, pid, start))
 
     def group_members(self, caller: int, group: int = 0, start: int = 0) -> tuple[int, ...]:
-        """The members of the process group, where 0 is the caller's own, as `children` has those of a task. no-caller."""
-        return self._page(GROUP_MEMBERS, caller, group, start)
+        """The members of the process group with the number `group`, where 0 is the caller's own, as `children` has those of a task.
+
+        It takes memory for a list: where there is none, it is a MemoryError. no-caller.
+        """
+        self._table._check_owner()
+        caller, group, start = check_range("caller", caller, 0, GREATEST_PID), check_range("group", group, 0, GREATEST_PID), check_range("start", start, 0, GREATEST_PID)
+        return read_numbers(f"group_members {caller} {group}", partial(self._table._question("page"), caller, raw.GROUP_MEMBERS, group, start))
 
     def session_members(self, caller: int, session: int = 0, start: int = 0) -> tuple[int, ...]:
-        """The members of the session, where 0 is the caller's own, as `children` has those of a task. no-caller."""
-        return self._page(SESSION_MEMBERS, caller, session, start)
+        """The members of the session with the number `session`, where 0 is the caller's own, as `children` has those of a task.
+
+        It takes memory for a list: where there is none, it is a MemoryError. no-caller.
+        """
+        self._table._check_owner()
+        caller, session, start = check_range("caller", caller, 0, GREATEST_PID), check_range("session", session, 0, GREATEST_PID), check_range("start", start, 0, GREATEST_PID)
+        return read_numbers(f"session_members {caller} {session}", partial(self._table._question("page"), caller, raw.SESSION_MEMBERS, session, start))
 
     def namespace_members(self, caller: int, pid: int = 0, start: int = 0) -> tuple[int, ...]:
-        """The tasks of the namespace that the task is in, those in namespaces inside it too, as `children` has those of a task. no-caller.
+        """The tasks of the namespace that the task `pid` is in, where 0 is the caller, those in namespaces inside it too, as `children` has those of
+        a task.
 
-        Of the caller's own namespace these are all that it sees: whom `kill` of -1 reaches.
+        Of the caller's own namespace these are all that it sees: whom kill(2) of -1 reaches. It takes memory for a list: where there is none, it is a
+        MemoryError. no-caller.
         """
-        return self._page(NAMESPACE_MEMBERS, caller, pid, start)
+        self._table._check_owner()
+        caller, pid, start = check_range("caller", caller, 0, GREATEST_PID), check_range("pid", pid, 0, GREATEST_PID), check_range("start", start, 0, GREATEST_PID)
+        return read_numbers(f"namespace_members {caller} {pid}", partial(self._table._question("page"), caller, raw.NAMESPACE_MEMBERS, pid, start))
 
     def namespace_own(self, caller: int, pid: int = 0, start: int = 0) -> tuple[int, ...]:
-        """Of `namespace_members` those that are in no namespace inside it. no-caller."""
-        return self._page(NAMESPACE_OWN, caller, pid, start)
+        """Of `namespace_members` those that are in no namespace inside it.
+
+        It takes memory for a list: where there is none, it is a MemoryError. no-caller.
+        """
+        self._table._check_owner()
+        caller, pid, start = check_range("caller", caller, 0, GREATEST_PID), check_range("pid", pid, 0, GREATEST_PID), check_range("start", start, 0, GREATEST_PID)
+        return read_numbers(f"namespace_own {caller} {pid}", partial(self._table._question("page"), caller, raw.NAMESPACE_OWN, pid, start))
 
     def space(self, id: int) -> SpaceStat:
-        """The namespace with the id, where 0 is the root namespace, in one read; LookupError where there is none, or it is gone."""
+        """Reads the namespace `id`, where 0 is the root namespace; LookupError where no namespace has it, or it is gone.
+
+        It takes no memory, and costs two searches and a few reads.
+        """
         self._table._check_owner()
-        return read_space(id, self._table._space)
+        id = check_range("id", id, 0, GREATEST_ID)
+        return read_space(f"space {id}", "namespace", partial(self._table._question("space"), id))
 
     def spaces_inside(self, id: int = 0, start: int = 0) -> tuple[int, ...]:
-        """The ids of the namespaces directly in the one with the id, from `start` on, in rising order; LookupError where there is no such.
+        """The ids of the namespaces directly in the namespace `id`, where 0 is the root, in rising order and not below `start`; LookupError where no
+        namespace has it, or it is gone.
 
-        It costs what is read of each of them, and takes memory for a list: where there is none, it is a MemoryError.
+        One that has fallen is among them as long as `space` reads it. It costs what is read of each of them. It takes memory for a list: where there
+        is none, it is a MemoryError.
         """
-        return self._inside(SPACES, id, start)
+        self._table._check_owner()
+        id, start = check_range("id", id, 0, GREATEST_ID), check_range("start", start, 0, GREATEST_ID)
+        return read_ids(f"spaces_inside {id}", "namespace", partial(self._table._question("inside"), raw.SPACES, id, start))
 
     def controls_inside(self, id: int = 0, start: int = 0) -> tuple[int, ...]:
-        """The ids of the control groups directly in the one with the id, as `spaces_inside` has those of a namespace."""
-        return self._inside(CONTROLS, id, start)
+        """The ids of the control groups directly in the control group `id`, where 0 is the root, as `spaces_inside` has those of a namespace;
+        LookupError where no control group has it, or it is gone.
 
-    def control_tasks(self, caller: int, control: int = 0, start: int = 0) -> tuple[int, ...]:
-        """The live tasks directly in the control group with the id, as `children` has those of a task: cgroup.procs, in which no zombie appears.
-
-        no-caller, no-control.
+        It takes memory for a list: where there is none, it is a MemoryError.
         """
         self._table._check_owner()
-        return read_control_tasks(caller, control, start, self._table._control_tasks)
+        id, start = check_range("id", id, 0, GREATEST_ID), check_range("start", start, 0, GREATEST_ID)
+        return read_ids(f"controls_inside {id}", "control group", partial(self._table._question("inside"), raw.CONTROLS, id, start))
 
-    def _inside(self, tree: int, id: int, start: int) -> tuple[int, ...]:
-        self._table._check_owner()
-        return read_inside(tree, id, start, self._table._inside)
+    def control_tasks(self, caller: int, control: int = 0, start: int = 0) -> tuple[int, ...]:
+        """The live tasks directly in the control group with the id `control`, where 0 is the root, as `children` has those of a task: cgroup.procs,
+        in which no zombie appears.
 
-    def _page(self, whom: int, *asked: int) -> tuple[int, ...]:
+        It takes memory for a list: where there is none, it is a MemoryError. no-caller, no-control.
+        """
         self._table._check_owner()
-        return read_page(whom, asked, self._table._page)
+        caller, control, start = check_range("caller", caller, 0, GREATEST_PID), check_range("control", control, 0, GREATEST_ID), check_range("start", start, 0, GREATEST_PID)
+        return read_numbers(f"control_tasks {caller} {control}", partial(self._table._question("control_tasks"), caller, control, start))
+    # The end of questions.
 
     # Not for a checker of types, which then finds a call that is no query.
     if not TYPE_CHECKING:

@@ -6,6 +6,7 @@ import threading
 import warnings
 import weakref
 from collections.abc import Callable, Iterator, Sequence
+from functools import partial
 from itertools import groupby, islice
 from operator import index
 
@@ -36,8 +37,6 @@ from pidtab.raw import (
     PidtabReply,
     PidtabSavedHead,
     PidtabShared,
-    PidtabSpace,
-    PidtabTask,
 )
 from pidtab.saved import FilePath, Saved, SavedFile
 from pidtab.table import Table
@@ -156,26 +155,8 @@ class Seat(NumberCalls):
     def _forked(self, root: int) -> None:
         self.shared._labels.fork(root, self._ordinal.value)
 
-    def _ask(self, call: bytes, reply: PidtabReply) -> int:
-        return self.shared._ask(call, reply)
-
-    def _stat(self, caller: int, pid: int, task: PidtabTask) -> int:
-        return self.shared._stat(caller, pid, task)
-
-    def _page(self, *taken: object) -> int:
-        return self.shared._page(*taken)
-
-    def _space(self, id: int, space: PidtabSpace) -> int:
-        return self.shared._space(id, space)
-
-    def _inside(self, *taken: object) -> int:
-        return self.shared._inside(*taken)
-
-    def _control_tasks(self, *taken: object) -> int:
-        return self.shared._control_tasks(*taken)
-
-    def _would(self, call: bytes, reply: PidtabReply) -> int:
-        return self.shared._would(call, reply)
+    def _question(self, name: str) -> Callable[..., int]:
+        return self.shared._question(name)
 
     def _fork_at(self, caller: int, new: bool, child: int, root: int, reply: PidtabReply) -> int:
         return self.shared._bounded("pidtab_shared_fork_at", self.worker, caller, new, child, root, reply, self._ordinal)
@@ -700,26 +681,8 @@ class Shared(Labelled, Owner):
         hold = self._check_open()
         return int(getattr(hold.functions, name)(hold.at, *arguments))
 
-    def _ask(self, call: bytes, reply: PidtabReply) -> int:
-        return self._status("pidtab_shared_ask", call, reply)
-
-    def _stat(self, caller: int, pid: int, task: PidtabTask) -> int:
-        return self._status("pidtab_shared_stat", caller, pid, task)
-
-    def _page(self, *taken: object) -> int:
-        return self._status("pidtab_shared_page", *taken)
-
-    def _space(self, id: int, space: PidtabSpace) -> int:
-        return self._status("pidtab_shared_space", id, space)
-
-    def _inside(self, *taken: object) -> int:
-        return self._status("pidtab_shared_inside", *taken)
-
-    def _control_tasks(self, *taken: object) -> int:
-        return self._status("pidtab_shared_control_tasks", *taken)
-
-    def _would(self, call: bytes, reply: PidtabReply) -> int:
-        return self._status("pidtab_shared_would", call, reply)
+    def _question(self, name: str) -> Callable[..., int]:
+        return partial(self._status, f"pidtab_shared_{name}")
 
     def _list(self, room: "ctypes.Array[ctypes.c_char]", size: ctypes.c_size_t) -> int:
         return self._status("pidtab_shared_list", room, len(room), size)

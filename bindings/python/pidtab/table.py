@@ -2,13 +2,14 @@
 
 import ctypes
 import os
+from collections.abc import Callable
 from functools import partial
 
 from pidtab.bounds import DEFAULT_PID_MAX, check_pid_max
 from pidtab.labels import Labels
 from pidtab.library import call_later, find_library, load_library
 from pidtab.native import Ask, NumberCalls, check_loaded, fault_of, head_of, read_written, text_bytes
-from pidtab.raw import DONE, Pidtab, PidtabFault, PidtabReply, PidtabSpace, PidtabTask
+from pidtab.raw import DONE, Pidtab, PidtabFault, PidtabReply
 
 
 class Table(NumberCalls):
@@ -81,26 +82,8 @@ class Table(NumberCalls):
     def _forked(self, root: int) -> None:
         self._labels.fork(root)
 
-    def _ask(self, call: bytes, reply: PidtabReply) -> int:
-        return self._later("pidtab_ask", call, reply)
-
-    def _stat(self, caller: int, pid: int, task: PidtabTask) -> int:
-        return self._later("pidtab_stat", caller, pid, task)
-
-    def _page(self, *taken: object) -> int:
-        return self._later("pidtab_page", *taken)
-
-    def _space(self, id: int, space: PidtabSpace) -> int:
-        return self._later("pidtab_space", id, space)
-
-    def _inside(self, *taken: object) -> int:
-        return self._later("pidtab_inside", *taken)
-
-    def _control_tasks(self, *taken: object) -> int:
-        return self._later("pidtab_control_tasks", *taken)
-
-    def _would(self, call: bytes, reply: PidtabReply) -> int:
-        return self._later("pidtab_would", call, reply)
+    def _question(self, name: str) -> Callable[..., int]:
+        return partial(self._later, f"pidtab_{name}")
 
     def _fork_at(self, caller: int, new: bool, child: int, root: int, reply: PidtabReply) -> int:
         return self._later("pidtab_fork_at", caller, new, child, root, reply)

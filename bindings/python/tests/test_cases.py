@@ -12,7 +12,6 @@ from pidtab.calls import Call
 from pidtab.forms import QUERIES, say_answer
 from pidtab.history import Entry
 from tests.pages import REPOSITORY
-from tests.test_page import lists_of
 from tests.ways import ask, make_call, need_library, need_shared
 
 FILES = sorted((REPOSITORY / "interface" / "cases").glob("*.cases"))
@@ -59,6 +58,13 @@ def say_space(space: SpaceStat) -> str:
 def say_numbers(numbers: tuple[int, ...]) -> str:
     """Numbers, or ids, or `none`."""
     return " ".join(map(str, numbers)) or "none"
+
+
+def say_answer_of(found: Stat | SpaceStat | tuple[int, ...]) -> str:
+    """What a question tells."""
+    if isinstance(found, Stat):
+        return say_task(found)
+    return say_space(found) if isinstance(found, SpaceStat) else say_numbers(found)
 
 
 def say_effect(effect: Effect) -> str:
@@ -221,18 +227,9 @@ class World:
         (found,) = told
         return found
 
-    def look(self, word: str, numbers: list[int]) -> str:
-        """What a step reads that is no call."""
-        if word == "stat":
-            return self.asked(lambda it: say_task(it.stat(*numbers)))
-        if word == "space":
-            return self.asked(lambda it: say_space(it.space(*numbers)))
-        if word == "control_tasks":
-            return self.asked(lambda it: say_numbers(it.control_tasks(*numbers)))
-        choice, *rest = numbers
-        if word == "page":
-            return self.asked(lambda it: say_numbers(lists_of(it)[choice](*rest)))
-        return self.asked(lambda it: say_numbers((it.spaces_inside, it.controls_inside)[choice](*rest)))
+    def look(self, question: str, numbers: list[int]) -> str:
+        """What a step asks that is no call."""
+        return self.asked(lambda it: say_answer_of(getattr(it, question)(*numbers)))
 
     def read(self, word: str, numbers: list[int]) -> str:
         """What a step of a history tells."""
@@ -282,7 +279,7 @@ class World:
             return json.dumps(self.told.to_object() if hasattr(self.told, "to_object") else self.told, separators=(",", ":"))
         elif word == "told":
             return self.call_told(" ".join(words))
-        elif word in ("stat", "page", "control_tasks", "inside", "space"):
+        elif hasattr(Ask, word) and word not in QUERIES:
             return self.look(word, numbers)
         elif word in ("list", "dump"):
             assert self.shared is not None

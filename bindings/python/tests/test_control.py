@@ -7,11 +7,11 @@ import pidtab.native
 import pidtab.shared
 import pidtab.table
 from pidtab import Ask, LibraryFault, MemoryLog, Refusal, Replicated, Seat, Shared, Table, TableClosed
-from pidtab.native import SHORT_PAGE, read_control_tasks
+from pidtab.native import SHORT_PAGE
 from pidtab.raw import CLOSED, COUNTED, DONE, NO_MEMORY, PidtabReply
 from tests.test_ends import OTHERS, in_child
 from tests.test_interrupts import CallInterrupter
-from tests.ways import OnEachTable, need_library, numbers_beside_a_writer
+from tests.ways import Answered, OnEachTable, need_library, numbers_beside_a_writer
 
 FILES = {pidtab.native.__file__, pidtab.shared.__file__, pidtab.table.__file__}
 
@@ -158,15 +158,15 @@ class Reading(unittest.TestCase):
         """All numbers, where so many are there at each try."""
         tries = iter(counts)
 
-        def write(caller: int, control: int, start: int, numbers: list[int], room: int, reply: PidtabReply) -> int:
-            self.assertEqual((caller, control, start), (1, 2**64 - 1, 3))
+        def write(name: str, caller: int, control: int, start: int, numbers: list[int], room: int, reply: PidtabReply) -> int:
+            self.assertEqual((name, caller, control, start), ("control_tasks", 1, 2**64 - 1, 3))
             if status != DONE:
                 return status
             reply.kind, reply.first = COUNTED, next(tries)
             numbers[: min(room, reply.first)] = range(3, 3 + min(room, reply.first))
             return DONE
 
-        return read_control_tasks(1, 2**64 - 1, 3, write)
+        return Ask(Answered(write)).control_tasks(1, 2**64 - 1, 3)
 
     def test_rooms(self) -> None:
         self.assertEqual(self.read(0), ())

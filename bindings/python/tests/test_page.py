@@ -8,11 +8,11 @@ import pidtab.native
 import pidtab.shared
 import pidtab.table
 from pidtab import Ask, MemoryLog, Refusal, Replicated, Seat, Shared, Table, TableClosed
-from pidtab.native import SHORT_PAGE, read_page
+from pidtab.native import SHORT_PAGE
 from pidtab.raw import CHILDREN, CLOSED, COUNTED, DONE, NO_MEMORY, PidtabReply
 from tests.test_ends import OTHERS, in_child
 from tests.test_interrupts import CallInterrupter
-from tests.ways import OnEachTable, need_library, numbers_beside_a_writer
+from tests.ways import Answered, OnEachTable, need_library, numbers_beside_a_writer
 
 FILES = {pidtab.native.__file__, pidtab.shared.__file__, pidtab.table.__file__}
 
@@ -176,8 +176,8 @@ class Reading(unittest.TestCase):
         tries = iter(counts)
         self.rooms: list[int] = []
 
-        def write(caller: int, kind: int, number: int, start: int, numbers: list[int], room: int, reply: PidtabReply) -> int:
-            self.assertEqual((caller, kind, number, start), (1, CHILDREN, 2, 3))
+        def write(name: str, caller: int, kind: int, number: int, start: int, numbers: list[int], room: int, reply: PidtabReply) -> int:
+            self.assertEqual((name, caller, kind, number, start), ("page", 1, CHILDREN, 2, 3))
             self.rooms.append(room)
             if status != DONE:
                 return status
@@ -185,7 +185,7 @@ class Reading(unittest.TestCase):
             numbers[: min(room, reply.first)] = range(3, 3 + min(room, reply.first))
             return DONE
 
-        return read_page(CHILDREN, (1, 2, 3), write)
+        return Ask(Answered(write)).children(1, 2, 3)
 
     def test_rooms(self) -> None:
         self.assertEqual(self.read(0), ())

@@ -8,12 +8,12 @@ import pidtab.native
 import pidtab.shared
 import pidtab.table
 from pidtab import Ask, LibraryFault, MemoryLog, Refusal, Replicated, Seat, Shared, SpaceStat, Table, TableClosed
-from pidtab.native import SHORT_PAGE, read_inside, read_space
-from pidtab.raw import CLOSED, DONE, NO_MEMORY, OUT_OF_RANGE, SPACES, PidtabSpace
+from pidtab.native import SHORT_PAGE
+from pidtab.raw import CLOSED, DONE, NO_MEMORY, OUT_OF_RANGE, PidtabSpace
 from tests.test_changes import validator
 from tests.test_ends import OTHERS, in_child
 from tests.test_interrupts import CallInterrupter
-from tests.ways import OnEachTable, need_library, read_beside_a_writer
+from tests.ways import Answered, OnEachTable, need_library, read_beside_a_writer
 
 FILES = {pidtab.native.__file__, pidtab.shared.__file__, pidtab.table.__file__}
 
@@ -154,7 +154,7 @@ class Others(unittest.TestCase):
 
     def test_inside_without_memory(self) -> None:
         with self.assertRaises(MemoryError):
-            read_inside(SPACES, 1, 2, lambda *taken: NO_MEMORY)
+            Ask(Answered(lambda *taken: NO_MEMORY)).spaces_inside(1, 2)
 
     def test_as_the_list_of_the_table_says(self) -> None:
         need_library()
@@ -218,13 +218,13 @@ class Reading(unittest.TestCase):
     def read(self, status: int = DONE, **fields: int) -> SpaceStat:
         """What is told where the library tells these fields."""
 
-        def write(asked: int, space: PidtabSpace) -> int:
-            self.assertEqual(asked, 3)
+        def write(name: str, asked: int, space: PidtabSpace) -> int:
+            self.assertEqual((name, asked), ("space", 3))
             for name, value in fields.items():
                 setattr(space, name, value)
             return status
 
-        return read_space(3, write)
+        return Ask(Answered(write)).space(3)
 
     def test_fields(self) -> None:
         self.assertEqual(self.read(init=1), ROOT)

@@ -5,6 +5,7 @@ import importlib.util
 import threading
 import unittest
 from collections.abc import Callable, Sequence
+from functools import partial
 from types import SimpleNamespace
 from typing import TYPE_CHECKING
 from unittest import mock
@@ -160,6 +161,19 @@ def numbers_beside_a_writer(test: unittest.TestCase, ask: Callable[[Shared], Seq
         return len(told)
 
     read_beside_a_writer(test, read)
+
+
+class Answered:
+    """A table whose library answers a question by this function: it takes the name of the question's own, what is asked, and where the answer goes."""
+
+    def __init__(self, read: Callable[..., int]) -> None:
+        self._read = read
+
+    def _question(self, name: str) -> Callable[..., int]:
+        return partial(self._read, name)
+
+    def _check_owner(self) -> None:
+        """It is open."""
 
 
 class OnEachTable(unittest.TestCase):

@@ -18,6 +18,25 @@ struct World {
     is_whole: bool,
 }
 
+// Written by tools/interface: questions.
+#[rustfmt::skip]
+macro_rules! question {
+    ($it:expr, $word:expr, $n:expr) => { match $word {
+        "stat" => say_stat($it.stat($n[0] as u32, $n[1] as u32)),
+        "children" => say_page($it.children($n[0] as u32, $n[1] as u32, $n[2] as u32)),
+        "group_members" => say_page($it.group_members($n[0] as u32, $n[1] as u32, $n[2] as u32)),
+        "session_members" => say_page($it.session_members($n[0] as u32, $n[1] as u32, $n[2] as u32)),
+        "namespace_members" => say_page($it.namespace_members($n[0] as u32, $n[1] as u32, $n[2] as u32)),
+        "namespace_own" => say_page($it.namespace_own($n[0] as u32, $n[1] as u32, $n[2] as u32)),
+        "space" => say_space_stat($it.space($n[0])),
+        "spaces_inside" => say_ids($it.spaces_inside($n[0], $n[1])),
+        "controls_inside" => say_ids($it.controls_inside($n[0], $n[1])),
+        "control_tasks" => say_page($it.control_tasks($n[0] as u32, $n[1], $n[2] as u32)),
+        _ => return None,
+    } };
+}
+// The end of questions.
+
 impl World {
     fn of(tables: Vec<Table>, shared: Shared, keep: u64, is_whole: bool) -> World {
         let shared: &'static Shared = Box::leak(Box::new(shared));
@@ -156,85 +175,14 @@ impl World {
         say(&told.reply) + &effects.collect::<String>()
     }
 
-    fn stat(&mut self, caller: u32, number: u32) -> String {
-        let told = self.shared.stat(caller, number);
-        assert!(self
-            .tables
-            .iter_mut()
-            .all(|it| it.stat(caller, number) == told));
-        told.map_or_else(|fault| say_error(&fault), |it| say_task(&it))
-    }
-
-    /// Whom a page lists.
-    fn page(&mut self, numbers: &[u64]) -> String {
-        let whom = numbers[0] as usize;
-        let of_shared = [
-            Shared::children,
-            Shared::group_members,
-            Shared::session_members,
-            Shared::namespace_members,
-            Shared::namespace_own,
-        ][whom];
-        let of_table = [
-            Table::children,
-            Table::group_members,
-            Table::session_members,
-            Table::namespace_members,
-            Table::namespace_own,
-        ][whom];
-        let [caller, number, from] = [1, 2, 3].map(|place| numbers[place] as u32);
-        let told = of_shared(self.shared, caller, number, from);
-        assert!(self
-            .tables
-            .iter()
-            .all(|it| of_table(it, caller, number, from) == told));
-        say_page(told)
-    }
-
-    /// The live tasks of a control group.
-    fn control_tasks(&mut self, numbers: &[u64]) -> String {
-        let (caller, control, from) = (numbers[0] as u32, numbers[1], numbers[2] as u32);
-        let told = self.shared.control_tasks(caller, control, from);
-        assert!(self
-            .tables
-            .iter()
-            .all(|it| it.control_tasks(caller, control, from) == told));
-        say_page(told)
-    }
-
-    /// A namespace that is read at once.
-    fn space(&mut self, id: u64) -> String {
-        let told = self.shared.space(id);
-        assert!(self.tables.iter().all(|it| it.space(id) == told));
-        match told.expect("a read") {
-            None => "OUT_OF_RANGE".to_owned(),
-            Some(it) => say_space(&it),
+    /// What a question tells, which is the same of each table; none for a step that is no question.
+    fn question(&self, word: &str, numbers: &[u64]) -> Option<String> {
+        let told: String = question!(self.shared, word, numbers);
+        for table in &self.tables {
+            let other: String = question!(table, word, numbers);
+            assert_eq!(other, told, "{word} {numbers:?}");
         }
-    }
-
-    /// What is directly inside.
-    fn inside(&mut self, numbers: &[u64]) -> String {
-        let (of_shared, of_table) = if numbers[0] == 0 {
-            (
-                Shared::spaces_inside as fn(&_, _, _) -> _,
-                Table::spaces_inside as fn(&_, _, _) -> _,
-            )
-        } else {
-            (
-                Shared::controls_inside as fn(&_, _, _) -> _,
-                Table::controls_inside as fn(&_, _, _) -> _,
-            )
-        };
-        let told: Result<Option<Vec<u64>>, Error> = of_shared(self.shared, numbers[1], numbers[2]);
-        assert!(self
-            .tables
-            .iter()
-            .all(|it| of_table(it, numbers[1], numbers[2]) == told));
-        match told.expect("a read").as_deref() {
-            None => "OUT_OF_RANGE".to_owned(),
-            Some([]) => "none".to_owned(),
-            Some(ids) => ids.iter().map(u64::to_string).collect::<Vec<_>>().join(" "),
-        }
+        Some(told)
     }
 
     /// What a step of a history tells.
@@ -417,6 +365,23 @@ fn say_page(told: Result<Vec<u32>, Error>) -> String {
     }
 }
 
+fn say_ids(told: Result<Option<Vec<u64>>, Error>) -> String {
+    match told.expect("a read").as_deref() {
+        None => "OUT_OF_RANGE".to_owned(),
+        Some([]) => "none".to_owned(),
+        Some(ids) => ids.iter().map(u64::to_string).collect::<Vec<_>>().join(" "),
+    }
+}
+
+fn say_stat(told: Result<Stat, Error>) -> String {
+    told.map_or_else(|fault| say_error(&fault), |it| say_task(&it))
+}
+
+fn say_space_stat(told: Result<Option<SpaceStat>, Error>) -> String {
+    told.expect("a read")
+        .map_or_else(|| "OUT_OF_RANGE".to_owned(), |it| say_space(&it))
+}
+
 fn say_effect(effect: &Effect) -> String {
     match effect {
         Effect::Ended { number, ended } => format!(", ended {number} {}", say_end(*ended)),
@@ -566,18 +531,18 @@ fn make_open(
             return world.told.to_json();
         }
         "told" => return world.call_told(&words[1..].join(" ")),
-        "stat" => return world.stat(numbers[0] as u32, numbers[1] as u32),
-        "page" => return world.page(numbers),
-        "control_tasks" => return world.control_tasks(numbers),
-        "inside" => return world.inside(numbers),
-        "space" => return world.space(numbers[0]),
         "list" | "dump" | "opening" => assert_eq!(world.text(word), text),
         "reload" => world.reload(),
         "differs" | "stranger" => world.replay(Some((word, numbers[0] as usize))),
         "counts" | "worker" | "entry" | "read" | "checkpoint" | "checkpoint_at" => {
             return world.read(words)
         }
-        _ => return world.call(&step.replace("\\r", "\r").replace("\\0", "\0")),
+        _ => {
+            let call = || step.replace("\\r", "\r").replace("\\0", "\0");
+            return world
+                .question(word, numbers)
+                .unwrap_or_else(|| world.call(&call()));
+        }
     }
     String::new()
 }

@@ -35,6 +35,7 @@ mod labels;
 mod listing;
 mod numbers;
 mod page;
+mod questions;
 mod raw;
 mod saved;
 mod shared;
@@ -268,29 +269,6 @@ impl Table {
     /// `NoMemory`, `Busy`.
     pub fn dump(&self) -> Result<String, Error> {
         texts::whole(|room, size| self.raw.dump(room, size))
-    }
-
-    /// Answers a query as its call would be answered, refusals too. It is no call: nothing changes, and it is not counted. It takes no memory.
-    ///
-    /// [`Call`] says which are queries.
-    ///
-    /// # Errors
-    /// `NoQuery` for each other call, `Busy`.
-    pub fn ask(&self, query: Call) -> Result<Reply, Error> {
-        let mut reply = raw::Reply::BLANK;
-        Error::unless_asked(self.raw.ask(&query.numbers(), &mut reply))?;
-        Ok(Reply::of(&reply))
-    }
-
-    /// The reply that the call would get now, refusals too: the numbers of a fork, and whom a wait would reap, as `waitid(2)` with `WNOWAIT`. Nothing
-    /// changes, and it is not counted. It takes no memory, and does not tell whether the call would find some.
-    ///
-    /// # Errors
-    /// `Spent`, `Busy`.
-    pub fn would(&self, call: Call) -> Result<Reply, Error> {
-        let mut reply = raw::Reply::BLANK;
-        Error::unless_done(self.raw.would(&call.numbers(), &mut reply))?;
-        Ok(Reply::of(&reply))
     }
 
     /// Makes a fork, if its child gets exactly these numbers, as [`Table::would`] has told them. Else nothing changes, and it is `false`. So who

@@ -5,8 +5,8 @@
 use crate::calls::sealed::Sealed;
 use crate::labels::Labels;
 use crate::{
-    effects, page, raw, space, texts, Argument, Call, Calls, Child, Error, LineError, Listing,
-    ReplayError, Reply, SavedError, SpaceStat, Stat, Table, TextError, Told,
+    effects, raw, texts, Argument, Call, Calls, Child, Error, LineError, Listing, ReplayError,
+    Reply, SavedError, Table, TextError, Told,
 };
 use std::ops::{Deref, DerefMut};
 use std::sync::atomic::{AtomicBool, AtomicU32, AtomicU64, Ordering};
@@ -314,7 +314,7 @@ impl Shared {
     }
 
     /// The record for a query, beside others. It lets those go before that are no calls, where they wait.
-    fn look(&self) -> RwLockReadGuard<'_, Record> {
+    pub(crate) fn look(&self) -> RwLockReadGuard<'_, Record> {
         if self.is_awaited.load(Ordering::Relaxed) {
             drop(whole(self.gate.lock()));
         }
@@ -382,102 +382,6 @@ impl Shared {
     }
 
     // Written by tools/interface: forwards.
-    /// As [`Record::ask`].
-    ///
-    /// # Errors
-    /// `NoQuery` for each other call, `Busy`.
-    pub fn ask(&self, query: Call) -> Result<Reply, Error> {
-        self.look().ask(query)
-    }
-
-    /// As [`Record::would`].
-    ///
-    /// # Errors
-    /// `Spent`, `Busy`.
-    pub fn would(&self, call: Call) -> Result<Reply, Error> {
-        self.look().would(call)
-    }
-
-    /// As [`Record::stat`].
-    ///
-    /// # Errors
-    /// `Refused` as `NoCaller`, `NoTask`; `Busy`.
-    pub fn stat(&self, caller: u32, number: u32) -> Result<Stat, Error> {
-        self.look().stat(caller, number)
-    }
-
-    /// As [`Record::children`].
-    ///
-    /// # Errors
-    /// `Refused` as `NoCaller`; `NoMemory`, `Busy`.
-    pub fn children(&self, caller: u32, number: u32, from: u32) -> Result<Vec<u32>, Error> {
-        self.look().children(caller, number, from)
-    }
-
-    /// As [`Record::group_members`].
-    ///
-    /// # Errors
-    /// `Refused` as `NoCaller`; `NoMemory`, `Busy`.
-    pub fn group_members(&self, caller: u32, number: u32, from: u32) -> Result<Vec<u32>, Error> {
-        self.look().group_members(caller, number, from)
-    }
-
-    /// As [`Record::session_members`].
-    ///
-    /// # Errors
-    /// `Refused` as `NoCaller`; `NoMemory`, `Busy`.
-    pub fn session_members(&self, caller: u32, number: u32, from: u32) -> Result<Vec<u32>, Error> {
-        self.look().session_members(caller, number, from)
-    }
-
-    /// As [`Record::namespace_members`].
-    ///
-    /// # Errors
-    /// `Refused` as `NoCaller`; `NoMemory`, `Busy`.
-    pub fn namespace_members(&self, caller: u32, pid: u32, from: u32) -> Result<Vec<u32>, Error> {
-        self.look().namespace_members(caller, pid, from)
-    }
-
-    /// As [`Record::namespace_own`].
-    ///
-    /// # Errors
-    /// `Refused` as `NoCaller`; `NoMemory`, `Busy`.
-    pub fn namespace_own(&self, caller: u32, number: u32, from: u32) -> Result<Vec<u32>, Error> {
-        self.look().namespace_own(caller, number, from)
-    }
-
-    /// As [`Record::space`].
-    ///
-    /// # Errors
-    /// `Busy`.
-    pub fn space(&self, id: u64) -> Result<Option<SpaceStat>, Error> {
-        self.look().space(id)
-    }
-
-    /// As [`Record::spaces_inside`].
-    ///
-    /// # Errors
-    /// `NoMemory`, `Busy`.
-    pub fn spaces_inside(&self, id: u64, from: u64) -> Result<Option<Vec<u64>>, Error> {
-        self.look().spaces_inside(id, from)
-    }
-
-    /// As [`Record::controls_inside`].
-    ///
-    /// # Errors
-    /// `NoMemory`, `Busy`.
-    pub fn controls_inside(&self, id: u64, from: u64) -> Result<Option<Vec<u64>>, Error> {
-        self.look().controls_inside(id, from)
-    }
-
-    /// As [`Record::control_tasks`].
-    ///
-    /// # Errors
-    /// `Refused` as `NoCaller`, `NoControl`; `NoMemory`, `Busy`.
-    pub fn control_tasks(&self, caller: u32, control: u64, from: u32) -> Result<Vec<u32>, Error> {
-        self.look_first().control_tasks(caller, control, from)
-    }
-
     /// As [`Record::counts`].
     ///
     /// # Errors
@@ -692,7 +596,7 @@ pub(crate) struct Saving {
 
 /// A table with its history, while its lock is held: what a [`Locked`] and a [`Turn`] lend.
 pub struct Record {
-    raw: raw::Record,
+    pub(crate) raw: raw::Record,
     keep: u64,
     pub(crate) saving: Saving,
     pub(crate) labels: Labels,
@@ -719,150 +623,6 @@ impl Record {
         }
         let ahead = self.counts()?.recorded.saturating_sub(self.saving.saved);
         Ok(ahead != 0 && ahead.saturating_add(calls) > most)
-    }
-
-    /// Answers a query as its call would be answered, refusals too. It is no call: nothing changes, and it is not recorded. It takes no memory.
-    ///
-    /// [`Call`] says which are queries.
-    ///
-    /// # Errors
-    /// `NoQuery` for each other call, `Busy`.
-    pub fn ask(&self, query: Call) -> Result<Reply, Error> {
-        let mut reply = raw::Reply::BLANK;
-        Error::unless_asked(self.raw.ask(&query.numbers(), &mut reply))?;
-        Ok(Reply::of(&reply))
-    }
-
-    /// The reply that the call would get now, refusals too: the numbers of a fork, and whom a wait would reap, as `waitid(2)` with `WNOWAIT`. Nothing
-    /// changes, and it is not recorded. It takes no memory, and does not tell whether the call would find some.
-    ///
-    /// # Errors
-    /// `Spent`, `Busy`.
-    pub fn would(&self, call: Call) -> Result<Reply, Error> {
-        let mut reply = raw::Reply::BLANK;
-        Error::unless_done(self.raw.would(&call.numbers(), &mut reply))?;
-        Ok(Reply::of(&reply))
-    }
-
-    /// Reads the task with the number in the caller's namespace, where 0 is the caller, and a zombie too. It is no call, and is not recorded.
-    /// It takes no memory, and costs what a `getpgid` costs.
-    ///
-    /// ```
-    /// use pidtab::{Calls, Shared};
-    ///
-    /// let shared = Shared::open(32768, 1)?;
-    /// shared.seat()?.fork(1, true)?;
-    /// let task = shared.stat(1, 2)?;
-    /// assert_eq!((task.numbers(), task.parent(), task.ended()), (&[2, 1][..], 1, None));
-    /// # Ok::<(), pidtab::Error>(())
-    /// ```
-    ///
-    /// # Errors
-    /// `Refused` as `NoCaller`, `NoTask`; `Busy`.
-    pub fn stat(&self, caller: u32, number: u32) -> Result<Stat, Error> {
-        let mut task = raw::Task::BLANK;
-        Stat::of(self.raw.stat(caller, number, &mut task), task)
-    }
-
-    /// The children of the task with the number in the caller's namespace, as [`Table::children`] has them. It is no call, and is not recorded. It takes
-    /// memory for a list.
-    ///
-    /// ```
-    /// use pidtab::{Calls, Shared};
-    ///
-    /// let shared = Shared::open(32768, 1)?;
-    /// shared.seat()?.fork(1, false)?;
-    /// assert_eq!(shared.children(1, 0, 0)?, [2]);
-    /// assert_eq!(shared.group_members(1, 0, 0)?, [1, 2]);
-    /// # Ok::<(), pidtab::Error>(())
-    /// ```
-    ///
-    /// # Errors
-    /// `Refused` as `NoCaller`; `NoMemory`, `Busy`.
-    pub fn children(&self, caller: u32, number: u32, from: u32) -> Result<Vec<u32>, Error> {
-        self.page(raw::CHILDREN, caller, number, from)
-    }
-
-    /// The members of the process group with the number in the caller's namespace, as [`Table::group_members`] has them. It is not recorded.
-    ///
-    /// # Errors
-    /// `Refused` as `NoCaller`; `NoMemory`, `Busy`.
-    pub fn group_members(&self, caller: u32, number: u32, from: u32) -> Result<Vec<u32>, Error> {
-        self.page(raw::GROUP_MEMBERS, caller, number, from)
-    }
-
-    /// The members of the session with the number in the caller's namespace, as [`Table::session_members`] has them. It is not recorded.
-    ///
-    /// # Errors
-    /// `Refused` as `NoCaller`; `NoMemory`, `Busy`.
-    pub fn session_members(&self, caller: u32, number: u32, from: u32) -> Result<Vec<u32>, Error> {
-        self.page(raw::SESSION_MEMBERS, caller, number, from)
-    }
-
-    /// The tasks of the namespace that the task with the number is in, as [`Table::namespace_members`] has them. It is not recorded.
-    ///
-    /// # Errors
-    /// `Refused` as `NoCaller`; `NoMemory`, `Busy`.
-    pub fn namespace_members(&self, caller: u32, pid: u32, from: u32) -> Result<Vec<u32>, Error> {
-        self.page(raw::NAMESPACE_MEMBERS, caller, pid, from)
-    }
-
-    /// Of them those that are in no namespace inside it, as [`Table::namespace_own`] has them. It is not recorded.
-    ///
-    /// # Errors
-    /// `Refused` as `NoCaller`; `NoMemory`, `Busy`.
-    pub fn namespace_own(&self, caller: u32, number: u32, from: u32) -> Result<Vec<u32>, Error> {
-        self.page(raw::NAMESPACE_OWN, caller, number, from)
-    }
-
-    fn page(&self, whom: u32, caller: u32, number: u32, from: u32) -> Result<Vec<u32>, Error> {
-        page::all(|numbers, reply| self.raw.page(caller, whom, number, from, numbers, reply))
-    }
-
-    /// Reads the namespace with the id, as [`Table::space`] does. It is no call, and is not recorded.
-    ///
-    /// ```
-    /// use pidtab::{Calls, Shared};
-    ///
-    /// let shared = Shared::open(32768, 1)?;
-    /// shared.seat()?.fork(1, true)?;
-    /// assert_eq!(shared.space(1)?.and_then(|it| it.init), Some(2));
-    /// assert_eq!(shared.space(2)?, None);
-    /// # Ok::<(), pidtab::Error>(())
-    /// ```
-    ///
-    /// # Errors
-    /// `Busy`.
-    pub fn space(&self, id: u64) -> Result<Option<SpaceStat>, Error> {
-        let mut space = raw::Space::BLANK;
-        SpaceStat::of(self.raw.space(id, &mut space), space)
-    }
-
-    /// The ids of the namespaces directly in the one with the id, as [`Table::spaces_inside`] has them. It is no call, and is not recorded.
-    ///
-    /// # Errors
-    /// `NoMemory`, `Busy`.
-    pub fn spaces_inside(&self, id: u64, from: u64) -> Result<Option<Vec<u64>>, Error> {
-        space::inside(|ids, count| self.raw.inside(raw::SPACES, id, from, ids, count))
-    }
-
-    /// The ids of the control groups directly in the one with the id, as [`Table::controls_inside`] has them. It is no call, and is not recorded.
-    ///
-    /// # Errors
-    /// `NoMemory`, `Busy`.
-    pub fn controls_inside(&self, id: u64, from: u64) -> Result<Option<Vec<u64>>, Error> {
-        space::inside(|ids, count| self.raw.inside(raw::CONTROLS, id, from, ids, count))
-    }
-
-    /// The live tasks that are directly in the control group with the id, as [`Table::control_tasks`] has them. It is no call, and is not recorded.
-    ///
-    /// # Errors
-    /// `Refused` as `NoCaller`, `NoControl`; `NoMemory`, `Busy`.
-    pub fn control_tasks(&self, caller: u32, control: u64, from: u32) -> Result<Vec<u32>, Error> {
-        page::all(|numbers, reply| {
-            self.raw
-                .control_tasks(caller, control, from, numbers, reply)
-        })
     }
 
     /// The ordinal of the first kept entry, and how many calls were recorded, the cut ones too.

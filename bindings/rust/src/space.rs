@@ -1,5 +1,5 @@
 //! A namespace in one read.
-use crate::{raw, Error, Table};
+use crate::{raw, Error};
 
 /// A namespace, as a read of its id tells it.
 #[derive(Clone, Copy, Debug, PartialEq, Eq, Hash)]
@@ -59,74 +59,10 @@ pub(crate) fn inside(
     }
 }
 
-impl Table {
-    /// Reads the namespace with the id, where 0 is the root namespace; none where no namespace has it, or it is gone. It is no call, as [`Table::ask`]
-    /// makes none. It takes no memory, and costs two searches and a few reads.
-    ///
-    /// ```
-    /// use pidtab::{Calls, Table};
-    ///
-    /// // 2 is the init of a namespace, and 3 that of one within it, which ends.
-    /// let mut table = Table::open(32768)?;
-    /// table.fork(1, true)?;
-    /// table.fork(2, true)?;
-    /// table.exit(3, 0)?;
-    /// // The namespaces that it was in, from its own outwards.
-    /// let (mut id, mut told) = (table.stat(1, 3)?.space(), Vec::new());
-    /// while let Some(space) = table.space(id)? {
-    ///     told.push((space.level, space.init, space.fallen));
-    ///     let Some(parent) = space.parent else { break };
-    ///     id = parent;
-    /// }
-    /// assert_eq!(told, [(2, Some(3), true), (1, Some(2), false), (0, Some(1), false)]);
-    /// assert_eq!(table.space(9)?, None);
-    /// # Ok::<(), pidtab::Error>(())
-    /// ```
-    ///
-    /// # Errors
-    /// `Busy`.
-    pub fn space(&self, id: u64) -> Result<Option<SpaceStat>, Error> {
-        let mut space = raw::Space::BLANK;
-        SpaceStat::of(self.raw.space(id, &mut space), space)
-    }
-
-    /// The ids of the namespaces directly in the one with the id, from `from` on, in rising order; none where no namespace has it, or it is gone.
-    ///
-    /// It is no call, as [`Table::ask`] makes none. It costs what is read of each of them, and takes memory for a list.
-    ///
-    /// ```
-    /// use pidtab::{Calls, Table};
-    ///
-    /// let mut table = Table::open(32768)?;
-    /// table.fork(1, true)?;
-    /// table.fork(2, true)?;
-    /// table.mk(0)?;
-    /// assert_eq!(table.spaces_inside(0, 0)?, Some(vec![1]));
-    /// assert_eq!(table.spaces_inside(1, 0)?, Some(vec![2]));
-    /// assert_eq!(table.spaces_inside(3, 0)?, None);
-    /// assert_eq!(table.controls_inside(0, 0)?, Some(vec![3]));
-    /// # Ok::<(), pidtab::Error>(())
-    /// ```
-    ///
-    /// # Errors
-    /// `NoMemory`, `Busy`.
-    pub fn spaces_inside(&self, id: u64, from: u64) -> Result<Option<Vec<u64>>, Error> {
-        inside(|ids, count| self.raw.inside(raw::SPACES, id, from, ids, count))
-    }
-
-    /// The ids of the control groups directly in the one with the id, as [`Table::spaces_inside`] has those of a namespace.
-    ///
-    /// # Errors
-    /// `NoMemory`, `Busy`.
-    pub fn controls_inside(&self, id: u64, from: u64) -> Result<Option<Vec<u64>>, Error> {
-        inside(|ids, count| self.raw.inside(raw::CONTROLS, id, from, ids, count))
-    }
-}
-
 #[cfg(test)]
 mod tests {
     use super::*;
-    use crate::{Calls, Which};
+    use crate::{Calls, Table, Which};
 
     fn told(id: u64, parent: Option<u64>, level: u32, init: u32, fallen: bool) -> SpaceStat {
         SpaceStat {

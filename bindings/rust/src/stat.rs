@@ -1,5 +1,5 @@
 //! A task as the caller's namespace sees it.
-use crate::{raw, Ended, Error, Refusal, Table};
+use crate::{raw, Ended, Error, Refusal};
 use std::fmt;
 
 /// A task as the caller's namespace sees it. The numbers of processes but the root number are those there, 0 where there is none.
@@ -94,32 +94,10 @@ impl fmt::Debug for Stat {
     }
 }
 
-impl Table {
-    /// Reads the task with the number in the caller's namespace, where 0 is the caller, and a zombie too. It is no call, as
-    /// [`Table::ask`] makes none, and costs what a `getpgid` costs.
-    ///
-    /// ```
-    /// use pidtab::{Calls, Table};
-    ///
-    /// let mut table = Table::open(32768)?;
-    /// table.fork(1, true)?;
-    /// let task = table.stat(1, 2)?;
-    /// assert_eq!((task.numbers(), task.parent(), task.ended()), (&[2, 1][..], 1, None));
-    /// # Ok::<(), pidtab::Error>(())
-    /// ```
-    ///
-    /// # Errors
-    /// `Refused` as `NoCaller`, `NoTask`; `Busy`.
-    pub fn stat(&self, caller: u32, number: u32) -> Result<Stat, Error> {
-        let mut task = raw::Task::BLANK;
-        Stat::of(self.raw.stat(caller, number, &mut task), task)
-    }
-}
-
 #[cfg(test)]
 mod tests {
     use super::*;
-    use crate::Calls;
+    use crate::{Calls, Table};
 
     /// The task 3,2 of the worked list of docs/SCRIPT.md, and a zombie.
     #[test]

@@ -11,6 +11,33 @@ fn read(name: &str) -> String {
     fs::read_to_string(&path).unwrap_or_else(|_| panic!("{}", path.display()))
 }
 
+/// The lines that a line of a stored file stands for: `3* child 2.. root 5` is three, in which the first number rises by one from each to the next.
+fn lines_of(line: &str) -> Vec<String> {
+    let run = line.split_once("* ");
+    match run.and_then(|(count, form)| Some((count.parse::<u64>().ok()?, form))) {
+        Some((count, form)) => (0..count).map(|step| risen(form, step)).collect(),
+        None => vec![line.to_owned()],
+    }
+}
+
+/// The line in which each number before two dots is greater by so much.
+fn risen(form: &str, step: u64) -> String {
+    let (mut line, mut rest) = (String::new(), form);
+    while let Some((before, behind)) = rest.split_once("..") {
+        let words = before.trim_end_matches(|it: char| it.is_ascii_digit());
+        let number: u64 = before[words.len()..].parse().expect("a number");
+        line += &format!("{words}{}", number + step);
+        rest = behind;
+    }
+    line + rest
+}
+
+/// A stored file, each line written out.
+fn stored(name: &str) -> String {
+    let lines: Vec<_> = read(name).lines().flat_map(lines_of).collect();
+    lines.join("\n") + "\n"
+}
+
 /// What the table writes for the stored scripts; the head of each is `# NAME PID_MAX`, and perhaps `listed`.
 fn play(scripts: &str) -> String {
     let mut told = String::new();
@@ -35,8 +62,8 @@ fn play(scripts: &str) -> String {
 
 #[test]
 fn the_stored_scripts() {
-    let told = play(&read("stored/scripts"));
-    let wanted = read("stored/answers");
+    let told = play(&stored("stored/scripts"));
+    let wanted = stored("stored/answers");
     for (line, wanted) in told.lines().zip(wanted.lines()) {
         assert_eq!(line, wanted);
     }

@@ -5,7 +5,7 @@ from contextlib import suppress
 from operator import index
 from typing import TypeVar
 
-from pidtab.answers import Form, SpaceStat, Stat
+from pidtab.answers import Form, Stat
 from pidtab.bounds import DEFAULT_PID_MAX, check_pid_max, check_seconds, check_timeout
 from pidtab.calls import Call, Calls, as_line
 from pidtab.faults import LibraryFault, NotKept
@@ -17,7 +17,6 @@ from pidtab.hosts.replica_threads import OwnThreads
 from pidtab.hosts.submitted import Submitted, deadline_behind
 from pidtab.labels import Labelled, Labels
 from pidtab.native import ROOT_INIT, Ask, AskableCalls, Would, pack
-from pidtab.raw import PidtabReply, PidtabSpace, PidtabTask
 from pidtab.table import Table
 
 # Seconds until a call that has no answer is given up.
@@ -26,53 +25,33 @@ PATIENCE = 60.0
 T = TypeVar("T")
 
 
+class Fresh:
+    """A table on many hosts each of whose questions first waits until this host is not behind the log."""
+
+    def __init__(self, table: "Replicated") -> None:
+        self._table = table
+        self._question = table._question
+
+    def __repr__(self) -> str:
+        return repr(self._table)
+
+    def _check_owner(self) -> None:
+        self._table.catch_up()
+
+
 class ReplicaAsk(Ask):
     """Queries of this host's own table, which may be behind the log; by `ask(now=True)` those that are not behind it.
 
     They are no calls: nothing goes into the log, and no later id is shifted.
     """
 
-    _table: "Replicated"
-
     def __init__(self, table: "Replicated", now: bool = False) -> None:
-        super().__init__(table)
-        self._now = now
+        super().__init__(Fresh(table) if now else table)
+        self._host = table
 
     def __call__(self, *, now: bool = False) -> "ReplicaAsk":
         """The same queries; with `now`, each first waits until this host has all that the log has: it asks the log for its end."""
-        return ReplicaAsk(self._table, now)
-
-    def stat(self, caller: int, pid: int = 0) -> Stat:
-        """As `Ask.stat`, of this host's own table."""
-        self._wait()
-        return super().stat(caller, pid)
-
-    def space(self, id: int) -> SpaceStat:
-        """As `Ask.space`, of this host's own table."""
-        self._wait()
-        return super().space(id)
-
-    def control_tasks(self, caller: int, control: int = 0, start: int = 0) -> tuple[int, ...]:
-        """As `Ask.control_tasks`, of this host's own table."""
-        self._wait()
-        return super().control_tasks(caller, control, start)
-
-    def _inside(self, tree: int, id: int, start: int) -> tuple[int, ...]:
-        self._wait()
-        return super()._inside(tree, id, start)
-
-    def _page(self, whom: int, *asked: int) -> tuple[int, ...]:
-        self._wait()
-        return super()._page(whom, *asked)
-
-    def _make(self, call: Call, form: Form[T]) -> T:
-        self._wait()
-        return super()._make(call, form)
-
-    def _wait(self) -> None:
-        """Waits, with `now`, until this host is not behind."""
-        if self._now:
-            self._table.catch_up()
+        return ReplicaAsk(self._host, now)
 
 
 class Replicated(Labelled, AskableCalls):
@@ -270,33 +249,9 @@ class Replicated(Labelled, AskableCalls):
         pack(call)
         return form.read(self.line(call.line))
 
-    def _ask(self, call: bytes, reply: PidtabReply) -> int:
+    def _question(self, name: str) -> Callable[..., int]:
         super()._check_owner()
-        return self._replica.read(lambda table: as_table(table)._ask(call, reply))
-
-    def _stat(self, caller: int, pid: int, task: PidtabTask) -> int:
-        super()._check_owner()
-        return self._replica.read(lambda table: as_table(table)._stat(caller, pid, task))
-
-    def _page(self, *taken: object) -> int:
-        super()._check_owner()
-        return self._replica.read(lambda table: as_table(table)._page(*taken))
-
-    def _space(self, id: int, space: PidtabSpace) -> int:
-        super()._check_owner()
-        return self._replica.read(lambda table: as_table(table)._space(id, space))
-
-    def _inside(self, *taken: object) -> int:
-        super()._check_owner()
-        return self._replica.read(lambda table: as_table(table)._inside(*taken))
-
-    def _control_tasks(self, *taken: object) -> int:
-        super()._check_owner()
-        return self._replica.read(lambda table: as_table(table)._control_tasks(*taken))
-
-    def _would(self, call: bytes, reply: PidtabReply) -> int:
-        super()._check_owner()
-        return self._replica.read(lambda table: as_table(table)._would(call, reply))
+        return lambda *taken: self._replica.read(lambda table: as_table(table)._question(name)(*taken))
 
     def _place(self) -> int:
         self._check_owner()

@@ -1,0 +1,14 @@
+use pidtab::{Calls, Table};
+
+// 2 leads a session. Its child 3 is in the foreground, in a group of its own, and 5, a child of its child 4, leads another session.
+let mut table = Table::open(32768)?;
+table.fork(1, false)?;
+table.setsid(2)?;
+table.fork(2, false)?;
+table.fork(2, false)?;
+table.setpgid(2, 3, 3)?;
+table.fork(4, false)?;
+table.setsid(5)?;
+assert_eq!(table.group_members(2, 3, 0)?, [3]);
+assert_eq!(table.session_members(2, 0, 0)?, [2, 3, 4]);
+# Ok::<(), pidtab::Error>(())
