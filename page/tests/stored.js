@@ -19,11 +19,18 @@ export function examples() {
   });
 }
 
+/** The lines that a line of a stored file stands for: `3* child 2.. root 5` is three, in which the first number rises by one from each to the next. */
+function linesOf(line) {
+  const run = line.match(/^(\d+)\* (.*)$/s);
+  if (run === null) return [line];
+  return Array.from({ length: Number(run[1]) }, (_, step) => run[2].replace(/(\d+)\.\./g, (_, number) => String(Number(number) + step)));
+}
+
 /** A stored file by its heads, as "# empty 32768 listed": the head's words and the lines below it. */
 function parts(name) {
   const texts = readFileSync(REPOSITORY + name, "latin1").split("# ").slice(1);
   return texts.map((text) => {
-    const [head, ...lines] = text.replace(/\n$/, "").split("\n");
+    const [head, ...lines] = text.replace(/\n$/, "").split("\n").flatMap(linesOf);
     return { head, words: head.split(" "), lines };
   });
 }
