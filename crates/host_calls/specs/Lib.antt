@@ -1,0 +1,4 @@
+pub mod Calls
+pub mod Puts
+pub mod Reads
+pub mod Tells

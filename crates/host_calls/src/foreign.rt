@@ -1,0 +1,1 @@
+//! The machine for who is not written in this language.

@@ -1,0 +1,1 @@
+//! What holds of each run of the machine.
