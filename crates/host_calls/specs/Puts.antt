@@ -90,7 +90,7 @@ pub record IsNextCall (h : HostCalls) (c : HostCall) : Type 0 where
   pub ticket : c.ticket ≡ h.taken
 
 -- it fits into the entry that is made up
-pub record HasRoom (h : HostCalls) (c : HostCall) : Type 0 where
+pub record FitsIn (h : HostCalls) (c : HostCall) : Type 0 where
   pub bytes : h.size + c.size ≤ MOST_BYTES
   pub lines : h.lines + c.lines < 2 ^ 64
 
@@ -104,8 +104,8 @@ abbrev pub MayTake : HostCalls → HostCall → Taken → Type 0
 MayTake h c Refused = IsNextCall h c → ⊥
 MayTake h c Passes = IsNextCall h c × (is_over c.state ≡ true)
 MayTake h c Begins = IsNextLive h c × (h.is_filling ≡ false)
-MayTake h c Joins = IsNextLive h c × (h.is_filling ≡ true) × HasRoom h c
-MayTake h c Fills = IsNextLive h c × (h.is_filling ≡ true) × (HasRoom h c → ⊥)
+MayTake h c Joins = IsNextLive h c × (h.is_filling ≡ true) × FitsIn h c
+MayTake h c Fills = IsNextLive h c × (h.is_filling ≡ true) × (FitsIn h c → ⊥)
 
 abbrev pub took_in : Taken → HostCalls → HostCall → HostCalls
 took_in Refused h c = h

@@ -19,7 +19,7 @@ abbrev pub is_telling : HostCalls → Bool
 is_telling h = tells_some h.telling && nat_lt h.told h.taken
 
 -- the session is the one of this host
-pub record IsOwn (session : ℕ) (h : HostCalls) : Type 0 where
+pub record IsOwnSession (session : ℕ) (h : HostCalls) : Type 0 where
   pub goes : h.is_stopped ≡ false
   pub some : 0 < session
   pub own : session ≡ h.session
@@ -30,7 +30,7 @@ IsSealed sequence h = MatchBool h.is_filling (sequence < h.sequence) (sequence �
 
 -- the entry is the next of this host that the log makes
 pub record IsNextMade (session sequence : ℕ) (h : HostCalls) : Type 0 where
-  pub own : IsOwn session h
+  pub own : IsOwnSession session h
   pub next : sequence ≡ h.made + 1
   pub sealed : IsSealed sequence h
 
@@ -38,15 +38,15 @@ pub record IsNextMade (session sequence : ℕ) (h : HostCalls) : Type 0 where
 abbrev pub SaysNothing : LogOutcome → ℕ → ℕ → HostCalls → Type 0
 SaysNothing Made session sequence h = IsNextMade session sequence h → ⊥
 SaysNothing Repeated session sequence h = Unit {0}
-SaysNothing Gone session sequence h = IsOwn session h → ⊥
-SaysNothing Gap session sequence h = IsOwn session h → ⊥
+SaysNothing Gone session sequence h = IsOwnSession session h → ⊥
+SaysNothing Gap session sequence h = IsOwnSession session h → ⊥
 
 -- what is made of an entry: the answers of this host's are told, and a session of this host's that is gone is given up
 abbrev pub IsReading : LogOutcome → ℕ → ℕ → HostCalls → Reading → Type 0
 IsReading outcome session sequence h Busy = is_telling h ≡ true
 IsReading outcome session sequence h Tells = (is_telling h ≡ false) × (outcome ≡ Made) × IsNextMade session sequence h
-IsReading outcome session sequence h Renews = (is_telling h ≡ false) × (outcome ≡ Gone) × IsOwn session h
-IsReading outcome session sequence h Misses = (is_telling h ≡ false) × (outcome ≡ Gap) × IsOwn session h
+IsReading outcome session sequence h Renews = (is_telling h ≡ false) × (outcome ≡ Gone) × IsOwnSession session h
+IsReading outcome session sequence h Misses = (is_telling h ≡ false) × (outcome ≡ Gap) × IsOwnSession session h
 IsReading outcome session sequence h Ignores = (is_telling h ≡ false) × SaysNothing outcome session sequence h
 
 -- an entry that the log has made, or that a snapshot has, is not put any more
@@ -83,7 +83,7 @@ read_as Misses session sequence h = h
 
 -- the snapshot of all up to the position has this host's session, or should have it
 pub record IsOfOwn (position : ℕ) (h : HostCalls) : Type 0 where
-  pub own : IsOwn h.session h
+  pub own : IsOwnSession h.session h
   pub there : h.session ≤ position
 
 -- what is made of a snapshot, in which the session is open, with its last number that was made, or not open

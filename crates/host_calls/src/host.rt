@@ -1,9 +1,9 @@
 //! What a host knows of its calls and of its session.
 ghost use Rattle.std.specs.Prelude.{◌≡◌, ◌↔◌, true, false, IsTrue, MatchBool};
 ghost use Rattle.host_calls.specs.Puts.{begun_host, MaySubmit, submitted_to, submitted_as, IsNextPut, MayOpen, opened_as};
-ghost use Rattle.host_calls.specs.Puts.{IsNextCall, HasRoom, MayTake, took_in, took_call, MaySeal, sealed_of};
+ghost use Rattle.host_calls.specs.Puts.{IsNextCall, FitsIn, MayTake, took_in, took_call, MaySeal, sealed_of};
 ghost use Rattle.host_calls.specs.Puts.{IsPutting, acknowledged};
-ghost use Rattle.host_calls.specs.Reads.{is_telling, IsOwn, IsSealed, IsNextMade, IsReading, read_as, IsLoading, loaded_as};
+ghost use Rattle.host_calls.specs.Reads.{is_telling, IsOwnSession, IsSealed, IsNextMade, IsReading, read_as, IsLoading, loaded_as};
 ghost use Rattle.host_calls.specs.Tells.{IsNextTold, IsDue, words_for, MayTell, told_as, told_call, stopped_of};
 
 use crate::call::{CallState, HostCall};
@@ -147,7 +147,7 @@ impl HostCalls {
 
     /// Whether the call fits into the entry that is made up.
     fn has_room(&self, call: &HostCall) -> bool
-        ensures { IsTrue result ↔ HasRoom self.now call.now }
+        ensures { IsTrue result ↔ FitsIn self.now call.now }
     {
         self.size <= MOST_BYTES
             && call.size <= MOST_BYTES - self.size
@@ -200,7 +200,7 @@ impl HostCalls {
     /// Puts the call behind those that the entry has.
     fn join_entry(&mut self, call: &mut HostCall)
         requires next { IsNextCall self.old call.old }
-        requires room { HasRoom self.old call.old }
+        requires room { FitsIn self.old call.old }
         ensures becomes { self.new ≡ took_in Taken.Joins self.old call.old }
         ensures call { call.new ≡ took_call Taken.Joins self.old call.old }
     {
@@ -253,7 +253,7 @@ impl HostCalls {
 
     /// Whether it is the session of this host.
     fn is_own(&self, session: u64) -> bool
-        ensures { IsTrue result ↔ IsOwn session self.now }
+        ensures { IsTrue result ↔ IsOwnSession session self.now }
     {
         !self.is_stopped && session > 0 && session == self.session
     }
