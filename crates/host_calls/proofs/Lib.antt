@@ -1,1 +1,7 @@
 pub mod Logs
+pub mod SoundCalls
+pub mod Changes
+pub mod Taking
+pub mod Growing
+pub mod Telling
+pub mod Events

@@ -17,7 +17,7 @@ both true true e = (refl, refl)
 both true false e = cc
 both false b e = cc
 
-same : (a b : ℕ) → eqb a b ≡ true → a ≡ b
+pub same : (a b : ℕ) → eqb a b ≡ true → a ≡ b
 same a b e = grind (arith, nat_tests)
 
 -- what an entry makes of the last number of a session
