@@ -5,3 +5,4 @@ pub mod Taking
 pub mod Growing
 pub mod Telling
 pub mod Events
+pub mod Reading

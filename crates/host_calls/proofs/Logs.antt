@@ -176,3 +176,47 @@ gone_is e log h = gone_by (is_open_in e.session log) (leb e.sequence (last_made 
 pub append_one : (rest log : List LogItem) (item : LogItem) → (rest ++ item ∷ []) ++ log ≡ rest ++ (item ∷ log)
 append_one [] log item = refl
 append_one (x ∷ rest) log item = ap (λ l. x ∷ l) (append_one rest log item)
+
+-- an entry of another session, or one that is not the next, is not made
+pub last_same : (S : ℕ) (e : PutEntry) (log : List LogItem) → (S ≡ e.session → is_next_in e log ≡ true → ⊥) → last_made S (Holds e ∷ log) ≡ last_made S log
+last_same S e log h =
+    by_test (eqb S e.session)
+    (λ is. by_test (is_open_in S log && eqb e.sequence (last_made S log + 1))
+    (λ next. absurd (h (same S e.session is) (subst (λ s. (is_open_in s log && eqb e.sequence (last_made s log + 1)) ≡ true) (same S e.session is) next)))
+    (λ not_next. rw (is, not_next) refl))
+    (λ other. rw other refl)
+
+pub last_next : (S : ℕ) (e : PutEntry) (log : List LogItem) → e.session ≡ S → is_next_in e log ≡ true → last_made S (Holds e ∷ log) ≡ e.sequence
+last_next S e log is h = subst (λ s. last_made s (Holds e ∷ log) ≡ e.sequence) is (last_behind_next e log h ∙ sym (next_is e log h).1)
+
+-- the next entry is made
+pub next_made : (e : PutEntry) (log : List LogItem) → is_next_in e log ≡ true → outcome_in e log ≡ Made
+next_made e log h =
+    let two = both (is_open_in e.session log) (eqb e.sequence (last_made e.session log + 1)) h in
+    let above : leb e.sequence (last_made e.session log) ≡ false = high e.sequence (last_made e.session log) (same _ _ two.1) in
+    rw (two.0, above, two.1) refl
+  where
+    high : (a b : ℕ) → a ≡ b + 1 → leb a b ≡ false
+    high a b h = grind (arith, nat_tests)
+
+pub last_others : (S : ℕ) (item : LogItem) (log : List LogItem) → ((e : PutEntry) → item ≡ Holds e → ⊥) → last_made S (item ∷ log) ≡ last_made S log
+last_others S Opens log h = refl
+last_others S (Ends ended) log h = refl
+last_others S Other log h = refl
+last_others S (Holds e) log h = absurd (h e refl)
+
+-- what was made last is in the log
+pub last_has : (S : ℕ) (log : List LogItem) → 0 < last_made S log → (e : PutEntry) × HasEntry e log × (e.session ≡ S) × (e.sequence ≡ last_made S log)
+last_has S [] h = absurd (omega arith)
+last_has S (Opens ∷ log) h = let it = last_has S log h in (it.0, inr it.1, it.2, it.3)
+last_has S (Ends ended ∷ log) h = let it = last_has S log h in (it.0, inr it.1, it.2, it.3)
+last_has S (Other ∷ log) h = let it = last_has S log h in (it.0, inr it.1, it.2, it.3)
+last_has S (Holds o ∷ log) h =
+    by_test (eqb S o.session && (is_open_in S log && eqb o.sequence (last_made S log + 1)))
+    (λ next.
+    let one = both (eqb S o.session) (is_open_in S log && eqb o.sequence (last_made S log + 1)) next in
+    let two = both (is_open_in S log) (eqb o.sequence (last_made S log + 1)) one.1 in
+    (o, inl refl, sym (same _ _ one.0), rw next (same _ _ two.1)))
+    (λ no_next.
+    let it = last_has S log (rw no_next at h) in
+    (it.0, inr it.1, it.2, rw no_next it.3))
