@@ -6,3 +6,4 @@ pub mod Growing
 pub mod Telling
 pub mod Events
 pub mod Reading
+pub mod Runs
