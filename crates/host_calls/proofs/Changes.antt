@@ -42,7 +42,7 @@ call_goes_on w j c s g h =
     }
 
 -- the calls that are in entries are those that were, as they were
-entered_same : (t : ℕ) (s : CallState) (calls : ℕ → HostCall) → (s ≡ call.Entered → (calls t).state ≡ call.Entered) → (j : ℕ)
+pub entered_same : (t : ℕ) (s : CallState) (calls : ℕ → HostCall) → (s ≡ call.Entered → (calls t).state ≡ call.Entered) → (j : ℕ)
     → (with_call t (with_state s (calls t)) calls j).state ≡ call.Entered → with_call t (with_state s (calls t)) calls j ≡ calls j
 entered_same t s calls h j =
     call_case (λ c. c.state ≡ call.Entered → c ≡ calls j) t j (with_state s (calls t)) calls

@@ -7,3 +7,6 @@ pub mod Telling
 pub mod Events
 pub mod Reading
 pub mod Runs
+pub mod Held
+pub mod Keeping
+pub mod Losing

@@ -12,7 +12,7 @@ pub by_test : {P : Type 0} (b : Bool) → (b ≡ true → P) → (b ≡ false �
 by_test true on_true on_false = on_true refl
 by_test false on_true on_false = on_false refl
 
-both : (a b : Bool) → (a && b) ≡ true → (a ≡ true) × (b ≡ true)
+pub both : (a b : Bool) → (a && b) ≡ true → (a ≡ true) × (b ≡ true)
 both true true e = (refl, refl)
 both true false e = cc
 both false b e = cc
@@ -220,3 +220,27 @@ last_has S (Holds o ∷ log) h =
     (λ no_next.
     let it = last_has S log (rw no_next at h) in
     (it.0, inr it.1, it.2, rw no_next it.3))
+
+pub repeated_is : (e : PutEntry) (log : List LogItem) → outcome_in e log ≡ Repeated → e.sequence ≤ last_made e.session log
+repeated_is e log h = at_most e.sequence (last_made e.session log) (by (is_open_in e.session log) (leb e.sequence (last_made e.session log)) (eqb e.sequence (last_made e.session log + 1)) h)
+  where
+    by : (a b c : Bool) → (if a then (if b then Repeated else if c then Made else Gap) else Gone) ≡ Repeated → b ≡ true
+    by true true c h = refl
+    by true false true h = cc
+    by true false false h = cc
+    by false b c h = cc
+
+    at_most : (a b : ℕ) → leb a b ≡ true → a ≤ b
+    at_most a b h = grind (arith, nat_tests)
+
+pub gap_is : (e : PutEntry) (log : List LogItem) → outcome_in e log ≡ Gap → last_made e.session log + 1 < e.sequence
+gap_is e log h = above e.sequence (last_made e.session log) (by (is_open_in e.session log) (leb e.sequence (last_made e.session log)) (eqb e.sequence (last_made e.session log + 1)) h)
+  where
+    by : (a b c : Bool) → (if a then (if b then Repeated else if c then Made else Gap) else Gone) ≡ Gap → (b ≡ false) × (c ≡ false)
+    by true true c h = cc
+    by true false true h = cc
+    by true false false h = (refl, refl)
+    by false b c h = cc
+
+    above : (a b : ℕ) → (leb a b ≡ false) × (eqb a (b + 1) ≡ false) → b + 1 < a
+    above a b h = let low = h.0 in let other = h.1 in grind (arith, nat_tests)

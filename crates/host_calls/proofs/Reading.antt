@@ -17,19 +17,19 @@ use Rattle.host_calls.proofs.Growing.{read_on, reads_on, same_whole}
 use Rattle.host_calls.proofs.Telling.{answers, loses, loses_session, renews}
 
 -- where entries stand
-late_back : (newer older : List LogItem) → AllLate (newer ++ older) → AllLate older
+pub late_back : (newer older : List LogItem) → AllLate (newer ++ older) → AllLate older
 late_back [] older h = h
 late_back (Opens ∷ newer) older h = late_back newer older h
 late_back (Ends s ∷ newer) older h = late_back newer older h
 late_back (Other ∷ newer) older h = late_back newer older h
 late_back (Holds e ∷ newer) older h = late_back newer older h.1
 
-late_has : (log : List LogItem) (e : PutEntry) → AllLate log → HasEntry e log → e.session < length log
+pub late_has : (log : List LogItem) (e : PutEntry) → AllLate log → HasEntry e log → e.session < length log
 late_has [] e h has = absurd has
 late_has (item ∷ log) e h (inl is) = let now : AllLate (Holds e ∷ log) = subst (λ i. AllLate (i ∷ log)) is h in omega (arith, now.0)
 late_has (item ∷ log) e h (inr has) = omega (arith, late_has log e (late_back (item ∷ []) log h) has)
 
-has_at : (newer older : List LogItem) (e : PutEntry) → HasEntry e (newer ++ Holds e ∷ older)
+pub has_at : (newer older : List LogItem) (e : PutEntry) → HasEntry e (newer ++ Holds e ∷ older)
 has_at [] older e = inl refl
 has_at (item ∷ newer) older e = inr (has_at newer older e)
 
@@ -38,10 +38,10 @@ differs : true ≡ false → ⊥
 differs h = cc
 
 module _ (w : HostWorld) (g : IsSoundWorld w) (rest : List LogItem) (e : PutEntry) (ahead : w.ahead ≡ rest ++ Holds e ∷ []) where
-  abbrev after_it : HostWorld
+  abbrev pub after_it : HostWorld
   after_it = read_on w rest (Holds e ∷ [])
 
-  rests : IsSoundRest after_it
+  pub rests : IsSoundRest after_it
   rests = reads_on w rest (Holds e ∷ []) g.rest ahead
 
   put : IsPut e w.puts
@@ -51,7 +51,7 @@ module _ (w : HostWorld) (g : IsSoundWorld w) (rest : List LogItem) (e : PutEntr
   late = (late_back rest (Holds e ∷ w.seen) rests.log.late).0
 
   -- the next entry is the next of this host's
-  is_next : w.host.is_stopped ≡ false → e.session ≡ w.host.session → is_next_in e w.seen ≡ true → IsNextMade e.session e.sequence w.host
+  pub is_next : w.host.is_stopped ≡ false → e.session ≡ w.host.session → is_next_in e w.seen ≡ true → IsNextMade e.session e.sequence w.host
   is_next goes own next =
       let some = (g.rest.puts e put).some in
       let last : last_made e.session w.seen ≡ w.host.made = subst (λ s. last_made s w.seen ≡ w.host.made) (sym own) (g.last goes (omega arith)) in
@@ -106,18 +106,23 @@ passes w rest item g ahead others =
     not_own : (item : LogItem) → IsOthers item → (e : PutEntry) → item ≡ Holds e → ⊥
     not_own item h e is = subst IsOthers is h
 
+-- what was read before is not the next
+pub not_again : (w : HostWorld) (newer : List LogItem) (e : PutEntry) (older : List LogItem) → IsSoundWorld w → w.seen ≡ newer ++ Holds e ∷ older
+    → outcome_in e older ≡ outcome.Made → IsNextMade e.session e.sequence w.host → ⊥
+not_again w newer e older g is o m =
+    let made : IsMadeAt w.seen (length older) e =
+    subst (λ l. IsMadeAt l (length older) e) (sym is) (made_more newer (Holds e ∷ older) (length older) e (inl (refl, refl, made_is e older o))) in
+    let last : last_made e.session w.seen ≡ w.host.made =
+    subst (λ s. last_made s w.seen ≡ w.host.made) (sym m.own.own) (g.last m.own.goes (omega (arith, m.own.some, m.own.own))) in
+    omega (arith, made_last w.seen (length older) e made, m.next)
+
 pub reads_again : (w : HostWorld) (newer : List LogItem) (e : PutEntry) (older : List LogItem) (what : Reading) → IsSoundWorld w
     → w.seen ≡ newer ++ Holds e ∷ older → is_telling w.host ≡ false → IsReading (outcome_in e older) e.session e.sequence w.host what
     → IsSoundWorld (comes w (Reads_again newer e older what))
 reads_again w newer e older reading.Busy g is quiet m = g
 reads_again w newer e older reading.Ignores g is quiet m = g
 reads_again w newer e older reading.Misses g is quiet m = g
-reads_again w newer e older reading.Tells g is quiet m =
-    let made : IsMadeAt w.seen (length older) e =
-    subst (λ l. IsMadeAt l (length older) e) (sym is) (made_more newer (Holds e ∷ older) (length older) e (inl (refl, refl, made_is e older m.1))) in
-    let last : last_made e.session w.seen ≡ w.host.made =
-    subst (λ s. last_made s w.seen ≡ w.host.made) (sym m.2.own.own) (g.last m.2.own.goes (omega (arith, m.2.own.some, m.2.own.own))) in
-    absurd (omega (arith, made_last w.seen (length older) e made, m.2.next))
+reads_again w newer e older reading.Tells g is quiet m = absurd (not_again w newer e older g is m.1 m.2)
 reads_again w newer e older reading.Renews g is quiet m =
     let late : AllLate (newer ++ Holds e ∷ older) = subst AllLate is (late_back w.ahead w.seen g.rest.log.late) in
     let there : e.session ≤ length older = (late_back newer (Holds e ∷ older) late).0 in
@@ -131,17 +136,17 @@ reads_again w newer e older reading.Renews g is quiet m =
     }
 
 module _ (w : HostWorld) (g : IsSoundWorld w) (rest more : List LogItem) (ahead : w.ahead ≡ rest ++ more) where
-  abbrev with_it : HostWorld
+  abbrev pub with_it : HostWorld
   with_it = read_on w rest more
 
-  loaded : IsSoundRest with_it
+  pub loaded : IsSoundRest with_it
   loaded = reads_on w rest more g.rest ahead
 
   by_place : (a b : ℕ) → (a ≤ b) ⊎ (b < a)
   by_place a b = grind arith
 
   -- a session that was opened behind the snapshot has nothing there
-  nothing_yet : length (more ++ w.seen) < w.host.session → last_made w.host.session (more ++ w.seen) ≡ 0
+  pub nothing_yet : length (more ++ w.seen) < w.host.session → last_made w.host.session (more ++ w.seen) ≡ 0
   nothing_yet high =
       last_none w.host.session (more ++ w.seen) (λ e has is.
       omega (arith, late_has (more ++ w.seen) e (late_back rest (more ++ w.seen) loaded.log.late) has, is))
@@ -166,15 +171,28 @@ module _ (w : HostWorld) (g : IsSoundWorld w) (rest more : List LogItem) (ahead 
   loads_as false quiet of m =
       record { rest = loses_session with_it loaded quiet of.own.goes; last = λ goes no_session. absurd (omega (arith, no_session)) }
 
+  -- what a snapshot has was sealed here
+  pub not_missed : w.host.made < last_made w.host.session (more ++ w.seen) → (IsSealed (last_made w.host.session (more ++ w.seen)) w.host → ⊥) → ⊥
+  not_missed high unsealed =
+      let it = last_has w.host.session (more ++ w.seen) (omega (arith, high)) in
+      let put = loaded.log.put it.0 (has_back rest (more ++ w.seen) it.0 it.1) in
+      unsealed (subst (λ n. IsSealed n w.host) it.3 ((g.rest.puts it.0 put).number it.2))
+
   pub loads : (what : Reading) → is_telling w.host ≡ false → IsLoadingOf (more ++ w.seen) w.host what → IsSoundWorld (comes w (Loads rest more what))
   loads reading.Busy quiet m = absurd (differs (sym m ∙ quiet))
   loads reading.Renews quiet m = absurd m
   loads reading.Ignores quiet m = record { rest = loaded; last = ignores_last (λ of. (m.1 of).1) }
-  loads reading.Misses quiet m =
-      let it = last_has w.host.session (more ++ w.seen) (omega (arith, m.3)) in
-      let put = loaded.log.put it.0 (has_back rest (more ++ w.seen) it.0 it.1) in
-      absurd (m.4 (subst (λ n. IsSealed n w.host) it.3 ((g.rest.puts it.0 put).number it.2)))
+  loads reading.Misses quiet m = absurd (not_missed m.3 m.4)
   loads reading.Tells quiet m = loads_as (is_open_in w.host.session (more ++ w.seen)) quiet m.1 m.2
+
+-- a snapshot of what was read has nothing more
+pub not_less : (w : HostWorld) (newer older : List LogItem) → IsSoundWorld w → w.seen ≡ newer ++ older → IsOwnSession w.host.session w.host
+    → w.host.made < last_made w.host.session older → ⊥
+not_less w newer older g is own high =
+    let before : last_made w.host.session w.seen ≡ w.host.made = g.last own.goes own.some in
+    let rises : last_made w.host.session older ≤ last_made w.host.session w.seen =
+    subst (λ l. last_made w.host.session older ≤ last_made w.host.session l) (sym is) (last_more w.host.session newer older) in
+    omega arith
 
 pub loads_again : (w : HostWorld) (newer older : List LogItem) (what : Reading) → IsSoundWorld w → w.seen ≡ newer ++ older → is_telling w.host ≡ false
     → IsLoadingOf older w.host what → IsSoundWorld (comes w (Loads_again newer older what))
@@ -186,9 +204,5 @@ loads_again w newer older reading.Tells g is quiet m = by_found (is_open_in w.ho
   where
     by_found : (found : Bool) → (found ≡ true → (w.host.made < last_made w.host.session older) × IsSealed (last_made w.host.session older) w.host)
         → IsSoundWorld (record w { host = loaded_as reading.Tells found (last_made w.host.session older) w.host })
-    by_found true k =
-        let before : last_made w.host.session w.seen ≡ w.host.made = g.last m.1.own.goes m.1.own.some in
-        let rises : last_made w.host.session older ≤ last_made w.host.session w.seen =
-        subst (λ l. last_made w.host.session older ≤ last_made w.host.session l) (sym is) (last_more w.host.session newer older) in
-        absurd (omega (arith, (k refl).0))
+    by_found true k = absurd (not_less w newer older g is m.1.own (k refl).0)
     by_found false k = record { rest = loses_session w g.rest quiet m.1.own.goes; last = λ goes no_session. absurd (omega (arith, no_session)) }

@@ -31,7 +31,7 @@ use Rattle.host_calls.proofs.Telling.{all_current, stops}
 use Rattle.host_calls.proofs.Events.{takes, cancels, gives_up, tells}
 use Rattle.host_calls.proofs.Reading.{reads, passes, reads_again, loads, loads_again}
 
-sound_start : (calls : ℕ → HostCall) (log : List LogItem) → ((e : PutEntry) → HasEntry e log → ⊥) → IsSoundWorld (begun_world calls log)
+pub sound_start : (calls : ℕ → HostCall) (log : List LogItem) → ((e : PutEntry) → HasEntry e log → ⊥) → IsSoundWorld (begun_world calls log)
 sound_start calls log nobody =
     record {
       rest = record {
@@ -142,7 +142,7 @@ puts_none w g t p e k unmade put at = differs (sym (unput (w.calls t).state unma
     unput call.Cancelled h = refl
 
 -- where nothing is told any more, a host that has stopped has told all
-all_told : (h : HostCalls) → is_telling h ≡ false → h.telling ≡ telling.Stops → h.taken ≤ h.told
+pub all_told : (h : HostCalls) → is_telling h ≡ false → h.telling ≡ telling.Stops → h.taken ≤ h.told
 all_told h quiet is = at_end h.told h.taken (by (nat_lt h.told h.taken) (subst (λ t. (tells_some t && nat_lt h.told h.taken) ≡ false) is quiet))
   where
     by : (b : Bool) → (true && b) ≡ false → b ≡ false
