@@ -1,14 +1,14 @@
 -- What changes the state of one call, or how far the host is.
-use Rattle.std.proofs.Common.{◌≡◌, ℕ, ◌+◌, ◌<◌, ◌≤◌, Bool, true, false, List, refl, sym, ap, ◌∙◌, subst, arith, inl, inr}
+use Rattle.std.proofs.Common.{◌≡◌, ℕ, ◌+◌, ◌<◌, ◌≤◌, true, false, List, refl, sym, ap, ◌∙◌, subst, arith, inl, inr}
 use Rattle.std.specs.Prelude.{◌⊎◌}
 use Rattle.host_calls.specs.declared.call.CallState.{CallState}
 use Rattle.host_calls.specs.declared.call.CallState.TheVariants as call
 use Rattle.host_calls.specs.declared.call.HostCall.{HostCall}
 use Rattle.host_calls.specs.declared.host.HostCalls.{HostCalls}
 use Rattle.host_calls.specs.Calls.{is_over}
-use Rattle.host_calls.specs.LogRule.{PutEntry, LogItem}
+use Rattle.host_calls.specs.LogRule.{LogItem}
 use Rattle.host_calls.specs.HostWorld.{HostWorld, with_call}
-use Rattle.host_calls.proofs.SoundCalls.{is_unput, IsAnswerOf, IsSoundCall, IsSoundHost, IsSoundPut, IsSoundIn, IsSoundRest, IsCurrent, IsOrdered, AreInOrderOf, call_case}
+use Rattle.host_calls.proofs.SoundCalls.{is_unput, IsAnswerOf, IsSoundCall, IsSoundIn, IsSoundRest, IsCurrent, IsOrdered, AreInOrderOf, call_case}
 
 -- a call goes from one state to another: no entry has it still or it is in one still, and it goes back to none
 pub record GoesOn (seen : List LogItem) (j : ℕ) (c : HostCall) (s : CallState) : Type 0 where

@@ -1,6 +1,6 @@
 -- What comes keeps all sound: what the calls do and are told.
-use Rattle.std.proofs.Common.{◌≡◌, ℕ, ◌+◌, ◌<◌, ◌≤◌, Bool, true, false, ◌&&◌, List, [], ◌∷◌, refl, sym, ap, ◌∙◌, subst, arith, inl, inr}
-use Rattle.std.specs.Prelude.{◌⊎◌, nat_lt}
+use Rattle.std.proofs.Common.{◌≡◌, ℕ, ◌<◌, ◌≤◌, Bool, true, false, ◌&&◌, refl, sym, ap, ◌∙◌, subst, arith, inl, inr}
+use Rattle.std.specs.Prelude.{nat_lt}
 use Rattle.std.proofs.lemmas.Bool.Decides.{nat_tests}
 use Rattle.host_calls.specs.declared.call.CallState.{CallState}
 use Rattle.host_calls.specs.declared.call.CallState.TheVariants as call
@@ -15,13 +15,12 @@ use Rattle.host_calls.specs.declared.step.Told.TheVariants as told
 use Rattle.host_calls.specs.Calls.{is_over, is_queued, cancelled_state, given_up_state}
 use Rattle.host_calls.specs.Puts.{MayTake}
 use Rattle.host_calls.specs.Reads.{tells_some, is_telling}
-use Rattle.host_calls.specs.Tells.{IsNextTold, IsDueBy, IsDue, IsInSession, IsGiven, words_for, MayTell}
-use Rattle.host_calls.specs.HostWorld.{HostWorld, CallEvent, MayCome, comes, with_call}
+use Rattle.host_calls.specs.Tells.{IsDueBy, IsInSession, words_for, MayTell}
+use Rattle.host_calls.specs.HostWorld.{HostWorld, comes, with_call}
 use Rattle.host_calls.specs.HostWorld.CallEvent.{Takes, Tells, Cancels, Gives_up}
-use Rattle.host_calls.proofs.Logs.{by_test}
-use Rattle.host_calls.proofs.SoundCalls.{is_unput, IsCurrent, IsMatchedBy, IsAnswerOf, IsSoundCall, IsSoundRest, IsSoundIn, call_case}
-use Rattle.host_calls.proofs.Changes.{GoesOn, with_state, restated, goes_on, stays, tells_one, passes_one}
-use Rattle.host_calls.proofs.Taking.{goes_yet, takes_begins, takes_joins, fills_one}
+use Rattle.host_calls.proofs.SoundCalls.{is_unput, IsCurrent, IsMatchedBy, IsAnswerOf, IsSoundRest, call_case}
+use Rattle.host_calls.proofs.Changes.{with_state, restated, goes_on, stays, tells_one, passes_one}
+use Rattle.host_calls.proofs.Taking.{takes_begins, takes_joins, fills_one}
 
 -- the call at a place is the one that was put there
 here : (P : HostCall → Type 0) (t : ℕ) (c : HostCall) (calls : ℕ → HostCall) → P c → P (with_call t c calls t)

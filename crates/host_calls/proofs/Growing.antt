@@ -1,15 +1,13 @@
 -- The log grows, and is read on.
-use Rattle.std.proofs.Common.{◌≡◌, ℕ, ◌+◌, ◌<◌, ◌≤◌, ◌++◌, Bool, true, false, List, [], ◌∷◌, length, refl, sym, ap, ◌∙◌, subst, arith, inl, inr, append_assoc}
+use Rattle.std.proofs.Common.{◌≡◌, ℕ, ◌≤◌, ◌++◌, List, ◌∷◌, length, sym, ap, ◌∙◌, subst, arith, inl, inr, append_assoc}
 use Rattle.std.specs.Prelude.{◌⊎◌}
-use Rattle.host_calls.specs.declared.call.CallState.TheVariants as call
 use Rattle.host_calls.specs.declared.call.HostCall.{HostCall}
 use Rattle.host_calls.specs.declared.host.HostCalls.{HostCalls}
-use Rattle.host_calls.specs.LogRule.{PutEntry, LogItem, StandsAt, IsPut, HasEntry}
+use Rattle.host_calls.specs.LogRule.{PutEntry, LogItem, IsPut, HasEntry}
 use Rattle.host_calls.specs.LogRule.LogItem.{Opens, Ends, Holds, Other}
-use Rattle.host_calls.specs.HostWorld.{HostWorld, CallEvent, comes, whole_log, IsOthers}
-use Rattle.host_calls.specs.HostWorld.CallEvent.{Lands, Comes}
+use Rattle.host_calls.specs.HostWorld.{HostWorld, whole_log, IsOthers}
 use Rattle.host_calls.proofs.Logs.{IsVoid, void_more, made_more}
-use Rattle.host_calls.proofs.SoundCalls.{is_unput, IsHome, IsAnswerOf, IsToldOf, IsSoundCall, IsSoundLog, IsSoundRest, IsSoundIn, AllLate}
+use Rattle.host_calls.proofs.SoundCalls.{IsHome, IsSoundCall, IsSoundRest, AllLate}
 
 -- an item that may come is late enough, and was put if it is of this host
 pub record MayLand (w : HostWorld) (item : LogItem) : Type 0 where

@@ -1,20 +1,16 @@
 -- No call is lost: what was put is put still, or stands in the log where it was not read.
-use Rattle.std.proofs.Common.{◌≡◌, ℕ, ◌+◌, ◌<◌, ◌≤◌, ◌++◌, Bool, true, false, ◌&&◌, ◌||◌, not, eqb, leb, zero, suc, List, [], ◌∷◌, length, refl, sym, ap, ◌∙◌, subst, arith, inl, inr}
-use Rattle.std.specs.Prelude.{◌⊎◌, if◌then◌else◌}
+use Rattle.std.proofs.Common.{◌≡◌, ℕ, ◌+◌, ◌<◌, ◌≤◌, ◌++◌, Bool, true, false, ◌||◌, not, eqb, zero, suc, List, [], ◌∷◌, length, refl, sym, ap, ◌∙◌, subst, arith, inl, inr}
+use Rattle.std.specs.Prelude.{◌⊎◌}
 use Rattle.std.proofs.lemmas.Bool.Decides.{nat_tests}
-use Rattle.host_calls.specs.declared.call.CallState.{CallState}
 use Rattle.host_calls.specs.declared.call.CallState.TheVariants as call
 use Rattle.host_calls.specs.declared.call.HostCall.{HostCall}
 use Rattle.host_calls.specs.declared.host.HostCalls.{HostCalls}
-use Rattle.host_calls.specs.declared.step.LogOutcome.{LogOutcome}
-use Rattle.host_calls.specs.declared.step.LogOutcome.TheVariants as outcome
-use Rattle.host_calls.specs.Reads.{is_telling, still_putting}
-use Rattle.host_calls.specs.LogRule.{PutEntry, LogItem, HasEntry, IsPut, is_open_in, last_made, is_next_in, outcome_in}
+use Rattle.host_calls.specs.LogRule.{PutEntry, LogItem, HasEntry, IsPut, is_open_in, last_made}
 use Rattle.host_calls.specs.LogRule.LogItem.{Opens, Ends, Holds, Other}
-use Rattle.host_calls.specs.HostWorld.{HostWorld, HasNumber, whole_log, with_call}
-use Rattle.host_calls.proofs.Logs.{by_test, same, both, last_more, has_front, has_back, has_split}
-use Rattle.host_calls.proofs.SoundCalls.{AllLate, IsCurrent, call_case}
-use Rattle.host_calls.proofs.Reading.{late_back, late_has}
+use Rattle.host_calls.specs.HostWorld.{HostWorld, HasNumber, whole_log}
+use Rattle.host_calls.proofs.Logs.{by_test, same, both, last_more, has_back, has_split}
+use Rattle.host_calls.proofs.SoundCalls.{AllLate, IsCurrent}
+use Rattle.host_calls.proofs.Reading.{late_has}
 
 -- an entry with a number comes behind one with the number before
 abbrev pub IsFollowing : PutEntry → List LogItem → Type 0

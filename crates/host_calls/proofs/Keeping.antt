@@ -17,19 +17,19 @@ use Rattle.host_calls.specs.declared.step.Taken.TheVariants as taken
 use Rattle.host_calls.specs.declared.step.Told.{Told}
 use Rattle.host_calls.specs.declared.step.Told.TheVariants as told
 use Rattle.host_calls.specs.Calls.{is_over, cancelled_state, given_up_state}
-use Rattle.host_calls.specs.Puts.{submitted_as, MayTake, took_in, took_call, sealed_of}
-use Rattle.host_calls.specs.Reads.{is_telling, still_putting, IsOwnSession, IsSealed, IsOfOwn, SaysNothing, IsReading, read_as, loaded_as}
-use Rattle.host_calls.specs.Tells.{MayTell, told_as, told_call}
+use Rattle.host_calls.specs.Puts.{submitted_as, MayTake, took_in, took_call}
+use Rattle.host_calls.specs.Reads.{is_telling, still_putting, IsSealed, SaysNothing, IsReading, loaded_as}
+use Rattle.host_calls.specs.Tells.{told_as}
 use Rattle.host_calls.specs.LogRule.{PutEntry, LogItem, HasEntry, IsPut, is_open_in, last_made, outcome_in}
 use Rattle.host_calls.specs.LogRule.LogItem.{Opens, Ends, Holds, Other}
-use Rattle.host_calls.specs.HostWorld.{HostWorld, CallEvent, MayCome, AllMayCome, HasNumber, IsOthers, IsLoadingOf, comes, comes_to, begun_world, whole_log, with_call, sealed_entry}
+use Rattle.host_calls.specs.HostWorld.{HostWorld, CallEvent, MayCome, HasNumber, IsOthers, IsLoadingOf, comes, whole_log, with_call, sealed_entry}
 use Rattle.host_calls.specs.HostWorld.CallEvent.{Submits, Takes, Cancels, Gives_up, Tells, Seals, Lands, Comes, Answers_open, Answers_put, Reads, Passes, Reads_again, Loads, Loads_again, Stops}
 use Rattle.host_calls.proofs.Logs.{by_test, same, made_is, last_has, has_back, has_front, repeated_is, gap_is}
-use Rattle.host_calls.proofs.SoundCalls.{AllLate, IsCurrent, IsSoundWorld, call_case}
-use Rattle.host_calls.proofs.Changes.{with_state, restated, entered_same}
+use Rattle.host_calls.proofs.SoundCalls.{IsCurrent, IsSoundWorld, call_case}
+use Rattle.host_calls.proofs.Changes.{restated, entered_same}
 use Rattle.host_calls.proofs.Growing.{same_whole}
-use Rattle.host_calls.proofs.Reading.{late_back, late_has, has_at, not_again, not_missed, not_less, loaded, rests, is_next}
-use Rattle.host_calls.proofs.Held.{IsFollowing, AllFollowing, following_back, all_made, IsHeldIn, AreHeld, IsBegunBehind, IsThereIfPut, IsReadUp, IsKeptWorld, number_back, number_split, held_same}
+use Rattle.host_calls.proofs.Reading.{late_back, late_has, not_again, not_missed, not_less, loaded, is_next}
+use Rattle.host_calls.proofs.Held.{IsFollowing, AllFollowing, following_back, all_made, IsHeldIn, IsBegunBehind, IsThereIfPut, IsReadUp, IsKeptWorld, number_back, number_split, held_same}
 
 differs : true ≡ false → ⊥
 differs h = cc
@@ -62,7 +62,7 @@ submits w lines size deadline s g =
 -- the call that has its turn is in the entry that is made up
 filled_held : (w : HostWorld) (h : HostCalls) (c : HostCall) → h.is_filling ≡ true → c.sequence ≡ h.sequence → (j : ℕ)
     → (j < w.host.taken → (w.calls j).state ≡ call.Entered → IsCurrent h.session h.made h.sequence (w.calls j).session (w.calls j).sequence
-      → IsHeldIn h w.ahead (w.calls j).session (w.calls j).sequence)
+    → IsHeldIn h w.ahead (w.calls j).session (w.calls j).sequence)
     → (with_call w.host.taken c w.calls j).state ≡ call.Entered → j < w.host.taken + 1
     → IsCurrent h.session h.made h.sequence (with_call w.host.taken c w.calls j).session (with_call w.host.taken c w.calls j).sequence
     → IsHeldIn h w.ahead (with_call w.host.taken c w.calls j).session (with_call w.host.taken c w.calls j).sequence

@@ -1,8 +1,7 @@
 -- What stays so while a log grows.
-use Rattle.std.proofs.Common.{◌≡◌, ◌≢◌, ℕ, ◌+◌, ◌<◌, ◌≤◌, ◌++◌, Bool, true, false, not, ◌&&◌, ◌||◌, eqb, leb, List, [], ◌∷◌, length, refl, ap, sym, ◌∙◌, arith, subst, inl, inr, length-append, add-one}
-use Rattle.std.specs.Prelude.{◌⊎◌, ◌==◌, nat_le, if◌then◌else◌}
+use Rattle.std.proofs.Common.{◌≡◌, ℕ, ◌+◌, ◌<◌, ◌≤◌, ◌++◌, Bool, true, false, not, ◌&&◌, eqb, leb, List, [], ◌∷◌, length, refl, ap, sym, ◌∙◌, arith, subst, inl, inr, length-append}
+use Rattle.std.specs.Prelude.{◌⊎◌, ◌==◌, if◌then◌else◌}
 use Rattle.std.proofs.lemmas.Bool.Decides.{nat_tests}
-use Rattle.host_calls.specs.declared.step.LogOutcome.{LogOutcome}
 use Rattle.host_calls.specs.declared.step.LogOutcome.TheVariants.{Made, Repeated, Gone, Gap}
 use Rattle.host_calls.specs.LogRule.{PutEntry, LogItem, is_open_in, last_made, is_next_in, outcome_in, IsMadeAt, HasEntry}
 use Rattle.host_calls.specs.LogRule.LogItem.{Opens, Ends, Holds, Other}

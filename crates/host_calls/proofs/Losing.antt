@@ -1,11 +1,10 @@
 -- Each run of the machine loses no call.
-use Rattle.std.proofs.Common.{◌≡◌, ℕ, ◌<◌, ◌≤◌, ◌++◌, Bool, true, false, List, [], ◌∷◌, refl, sym, ap, ◌∙◌, subst, arith, inl, inr}
+use Rattle.std.proofs.Common.{◌≡◌, ℕ, ◌<◌, ◌≤◌, true, false, List, [], ◌∷◌, refl, sym, ◌∙◌, subst, arith, inl, inr}
 use Rattle.std.specs.Prelude.{◌⊎◌}
 use Rattle.host_calls.specs.declared.call.CallState.{CallState}
 use Rattle.host_calls.specs.declared.call.CallState.TheVariants as call
 use Rattle.host_calls.specs.declared.call.HostCall.{HostCall}
 use Rattle.host_calls.specs.Calls.{is_over}
-use Rattle.host_calls.specs.Reads.{is_telling}
 use Rattle.host_calls.specs.LogRule.{PutEntry, LogItem, HasEntry}
 use Rattle.host_calls.specs.LogRule.LogItem.{Opens, Ends, Holds, Other}
 use Rattle.host_calls.specs.HostWorld.{HostWorld, CallEvent, AllMayCome, comes, comes_to, begun_world}

@@ -1,19 +1,17 @@
 -- What comes keeps all sound: what is read in the log.
-use Rattle.std.proofs.Common.{◌≡◌, ℕ, ◌+◌, ◌<◌, ◌≤◌, ◌++◌, Bool, true, false, List, [], ◌∷◌, length, refl, sym, ap, ◌∙◌, subst, arith, inl, inr, length-append, append_assoc}
+use Rattle.std.proofs.Common.{◌≡◌, ℕ, ◌+◌, ◌<◌, ◌≤◌, ◌++◌, Bool, true, false, List, [], ◌∷◌, length, refl, sym, ap, ◌∙◌, subst, arith, inl, inr, length-append}
 use Rattle.std.specs.Prelude.{◌⊎◌}
-use Rattle.host_calls.specs.declared.host.HostCalls.{HostCalls}
-use Rattle.host_calls.specs.declared.step.LogOutcome.{LogOutcome}
 use Rattle.host_calls.specs.declared.step.LogOutcome.TheVariants as outcome
 use Rattle.host_calls.specs.declared.step.Reading.{Reading}
 use Rattle.host_calls.specs.declared.step.Reading.TheVariants as reading
-use Rattle.host_calls.specs.Reads.{is_telling, IsOwnSession, IsSealed, IsNextMade, SaysNothing, IsReading, IsOfOwn, IsLoading, loaded_as}
+use Rattle.host_calls.specs.Reads.{is_telling, IsOwnSession, IsSealed, IsNextMade, SaysNothing, IsReading, IsOfOwn, loaded_as}
 use Rattle.host_calls.specs.LogRule.{PutEntry, LogItem, IsPut, HasEntry, IsMadeAt, is_open_in, last_made, is_next_in, outcome_in}
 use Rattle.host_calls.specs.LogRule.LogItem.{Opens, Ends, Holds, Other}
-use Rattle.host_calls.specs.HostWorld.{HostWorld, CallEvent, MayCome, comes, whole_log, IsOthers, IsLoadingOf}
+use Rattle.host_calls.specs.HostWorld.{HostWorld, comes, IsOthers, IsLoadingOf}
 use Rattle.host_calls.specs.HostWorld.CallEvent.{Reads, Passes, Reads_again, Loads, Loads_again}
-use Rattle.host_calls.proofs.Logs.{by_test, next_is, made_is, gone_is, last_same, last_next, next_made, last_others, last_has, last_more, last_none, made_last, made_more, gone_more, has_back}
-use Rattle.host_calls.proofs.SoundCalls.{AllLate, IsToldOf, IsSoundRest, IsSoundWorld, IsAtLast}
-use Rattle.host_calls.proofs.Growing.{read_on, reads_on, same_whole}
+use Rattle.host_calls.proofs.Logs.{next_is, made_is, gone_is, last_same, last_next, next_made, last_others, last_has, last_more, last_none, made_last, made_more, gone_more, has_back}
+use Rattle.host_calls.proofs.SoundCalls.{AllLate, IsSoundRest, IsSoundWorld, IsAtLast}
+use Rattle.host_calls.proofs.Growing.{read_on, reads_on}
 use Rattle.host_calls.proofs.Telling.{answers, loses, loses_session, renews}
 
 -- where entries stand

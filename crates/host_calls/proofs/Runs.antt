@@ -1,12 +1,11 @@
 -- Each run of the machine is sound, and what follows.
-use Rattle.std.proofs.Common.{◌≡◌, ℕ, ◌+◌, ◌<◌, ◌≤◌, ◌++◌, Bool, true, false, ◌&&◌, List, [], ◌∷◌, length, refl, sym, ap, ◌∙◌, subst, arith, inl, inr}
+use Rattle.std.proofs.Common.{◌≡◌, ℕ, ◌<◌, ◌≤◌, Bool, true, false, ◌&&◌, List, [], ◌∷◌, refl, sym, ap, ◌∙◌, subst, arith, inl, inr}
 use Rattle.std.specs.Prelude.{◌⊎◌, nat_lt}
 use Rattle.std.proofs.lemmas.Bool.Decides.{nat_tests}
 use Rattle.host_calls.specs.declared.call.CallState.{CallState}
 use Rattle.host_calls.specs.declared.call.CallState.TheVariants as call
 use Rattle.host_calls.specs.declared.call.HostCall.{HostCall}
 use Rattle.host_calls.specs.declared.host.HostCalls.{HostCalls}
-use Rattle.host_calls.specs.declared.step.Telling.{Telling}
 use Rattle.host_calls.specs.declared.step.Telling.TheVariants as telling
 use Rattle.host_calls.specs.declared.step.Taken.{Taken}
 use Rattle.host_calls.specs.declared.step.Taken.TheVariants as taken
@@ -23,8 +22,8 @@ use Rattle.host_calls.specs.LogRule.LogItem.{Opens, Ends, Holds, Other}
 use Rattle.host_calls.specs.HostWorld.{HostWorld, CallEvent, MayCome, AllMayCome, comes, comes_to, begun_world, whole_log, with_call}
 use Rattle.host_calls.specs.HostWorld.CallEvent.{Submits, Takes, Cancels, Gives_up, Tells, Seals, Lands, Comes, Answers_open, Answers_put, Reads, Passes, Reads_again, Loads, Loads_again, Stops}
 use Rattle.host_calls.specs.CallPromises.{IsComeBy, IsMadeOnce, AnswersAreTheLogs, PutsNoneThatIsUnmade, TellsOnce, TellsWhatWasRead}
-use Rattle.host_calls.proofs.Logs.{by_test, IsVoid, void_never, made_has, made_last, made_once, has_back}
-use Rattle.host_calls.proofs.SoundCalls.{is_unput, IsHome, AllLate, IsSoundRest, IsSoundWorld, call_case}
+use Rattle.host_calls.proofs.Logs.{by_test, void_never, made_has, made_last, made_once, has_back}
+use Rattle.host_calls.proofs.SoundCalls.{is_unput, IsHome, AllLate, IsSoundWorld, call_case}
 use Rattle.host_calls.proofs.Taking.{submits, acknowledges, seals, opens, opens_last}
 use Rattle.host_calls.proofs.Growing.{lands, may_land_entry, may_land_others}
 use Rattle.host_calls.proofs.Telling.{all_current, stops}

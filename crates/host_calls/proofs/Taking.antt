@@ -5,17 +5,15 @@ use Rattle.host_calls.specs.declared.call.CallState.{CallState}
 use Rattle.host_calls.specs.declared.call.CallState.TheVariants as call
 use Rattle.host_calls.specs.declared.call.HostCall.{HostCall}
 use Rattle.host_calls.specs.declared.host.HostCalls.{HostCalls}
-use Rattle.host_calls.specs.declared.step.Telling.TheVariants as telling
-use Rattle.host_calls.specs.declared.step.Taken.{Taken}
-use Rattle.host_calls.specs.declared.step.Taken.TheVariants.{Refused, Passes, Begins, Joins, Fills}
+use Rattle.host_calls.specs.declared.step.Taken.TheVariants.{Begins, Joins}
 use Rattle.host_calls.specs.Calls.{is_over}
-use Rattle.host_calls.specs.Puts.{MaySubmit, submitted_to, submitted_as, MayOpen, opened_as, IsNextCall, IsNextLive, took_in, took_call, MaySeal, sealed_of, acknowledged}
+use Rattle.host_calls.specs.Puts.{MaySubmit, submitted_to, submitted_as, MayOpen, opened_as, IsNextLive, took_in, took_call, MaySeal, sealed_of, acknowledged}
 use Rattle.host_calls.specs.Reads.{IsSealed}
-use Rattle.host_calls.specs.LogRule.{PutEntry, LogItem, StandsAt, HasEntry, IsPut, last_made}
-use Rattle.host_calls.specs.HostWorld.{HostWorld, CallEvent, comes, with_call, filled_with, sealed_entry, whole_log}
-use Rattle.host_calls.specs.HostWorld.CallEvent.{Submits, Takes, Seals, Answers_open, Answers_put}
+use Rattle.host_calls.specs.LogRule.{PutEntry, StandsAt, IsPut}
+use Rattle.host_calls.specs.HostWorld.{HostWorld, comes, with_call, sealed_entry, whole_log}
+use Rattle.host_calls.specs.HostWorld.CallEvent.{Submits, Takes, Seals, Answers_open}
 use Rattle.host_calls.proofs.Logs.{IsVoid, last_none, has_back}
-use Rattle.host_calls.proofs.SoundCalls.{is_unput, IsHome, IsFilled, IsSoundCall, IsSoundHost, IsSoundPut, IsSoundIn, IsSoundRest, IsCurrent, IsMatchedBy, IsOrdered, AreInOrderOf, IsAtRest, IsToldOf, IsAtLast, call_case}
+use Rattle.host_calls.proofs.SoundCalls.{is_unput, IsHome, IsFilled, IsSoundCall, IsSoundPut, IsSoundIn, IsSoundRest, IsCurrent, IsOrdered, AreInOrderOf, IsToldOf, IsAtLast, call_case}
 use Rattle.host_calls.proofs.Changes.{order_stays}
 
 differ : true ≡ false → ⊥
@@ -218,7 +216,7 @@ module _ (w : HostWorld) (g : IsSoundRest w) (m : IsNextLive w.host (w.calls w.h
         old jt ei ej cur =
             let there : i < w.host.submitted = omega (arith, ij, jt, m.next.waits) in
             let was = g.order n i j ti ij jt ei ej
-                (record { some = cur.some; session = cur.session; unmade = cur.unmade; begun = (g.calls i there).begun cur.some cur.session }) in
+            (record { some = cur.some; session = cur.session; unmade = cur.unmade; begun = (g.calls i there).begun cur.some cur.session }) in
             record {
               current = record { some = was.current.some; session = was.current.session; unmade = was.current.unmade; begun = omega (arith, was.current.begun) };
               order = was.order;
@@ -486,12 +484,14 @@ seals w g m =
         entries : (e : PutEntry) (p : ℕ) → IsPut e (sealed_entry w ∷ w.puts) → StandsAt j p e.parts
             → (is_unput c.state ≡ false) × (IsHome c.session c.sequence c.place e p ⊎ IsVoid e w.seen)
         entries e p (inl is) at =
-            let old = s.filled p m.some (subst (λ x. StandsAt j p x.parts) is at) in
-            (old.0, inl (record {
-              session = ap (λ x. x.session) is ∙ sym old.1.session;
-              sequence = ap (λ x. x.sequence) is ∙ sym old.1.sequence;
-              place = old.1.place;
-            }))
+            let old = s.filled p m.some (subst (λ x. StandsAt j p x.parts) is at) in (
+              old.0,
+              inl (record {
+                session = ap (λ x. x.session) is ∙ sym old.1.session;
+                sequence = ap (λ x. x.sequence) is ∙ sym old.1.sequence;
+                place = old.1.place;
+              }),
+            )
         entries e p (inr put) at = s.entries e p put at
 
         again : c.state ≡ call.Entered → w.host.taken ≤ j → (e : PutEntry) (p : ℕ) → IsPut e (sealed_entry w ∷ w.puts) → StandsAt j p e.parts → IsVoid e w.seen

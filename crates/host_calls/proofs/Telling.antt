@@ -1,19 +1,17 @@
 -- What follows from what was read: answers and losses are to be told, or the session is given up.
-use Rattle.std.proofs.Common.{◌≡◌, ℕ, ◌+◌, ◌<◌, ◌≤◌, Bool, true, false, ◌&&◌, List, length, refl, sym, ap, ◌∙◌, subst, arith, inl, inr}
-use Rattle.std.specs.Prelude.{◌⊎◌, nat_lt, MatchBool}
+use Rattle.std.proofs.Common.{◌≡◌, ℕ, ◌<◌, ◌≤◌, Bool, true, false, ◌&&◌, length, refl, sym, ◌∙◌, subst, arith, inl, inr}
+use Rattle.std.specs.Prelude.{◌⊎◌, nat_lt}
 use Rattle.std.proofs.lemmas.Bool.Decides.{nat_tests}
-use Rattle.host_calls.specs.declared.call.CallState.{CallState}
 use Rattle.host_calls.specs.declared.call.CallState.TheVariants as call
-use Rattle.host_calls.specs.declared.call.HostCall.{HostCall}
 use Rattle.host_calls.specs.declared.host.HostCalls.{HostCalls}
 use Rattle.host_calls.specs.declared.step.Telling.{Telling}
 use Rattle.host_calls.specs.declared.step.Telling.TheVariants as telling
-use Rattle.host_calls.specs.Reads.{tells_some, is_telling, IsOwnSession, IsSealed, IsNextMade, told_answers, renewed, lost_to, lost_session, still_putting}
+use Rattle.host_calls.specs.Reads.{tells_some, is_telling, IsSealed, IsNextMade, told_answers, renewed, lost_to, lost_session}
 use Rattle.host_calls.specs.Tells.{stopped_of}
-use Rattle.host_calls.specs.LogRule.{PutEntry, LogItem, StandsAt, IsPut, is_open_in, last_made}
+use Rattle.host_calls.specs.LogRule.{PutEntry, IsPut, is_open_in, last_made}
 use Rattle.host_calls.specs.HostWorld.{HostWorld}
 use Rattle.host_calls.proofs.Logs.{IsVoid}
-use Rattle.host_calls.proofs.SoundCalls.{is_unput, IsHome, IsCurrent, IsMatchedBy, IsSoundCall, IsSoundRest, IsSoundIn, IsToldOf, IsOrdered, AreInOrderOf, IsAtRest, IsAtLast}
+use Rattle.host_calls.proofs.SoundCalls.{IsHome, IsCurrent, IsMatchedBy, IsSoundRest, IsToldOf, IsOrdered}
 use Rattle.host_calls.proofs.Taking.{goes_yet, sealed_most}
 
 -- where nothing is told, a call that has had its turn is in an entry that was not made
@@ -60,7 +58,7 @@ module _ (w : HostWorld) (g : IsSoundRest w) (quiet : is_telling w.host ≡ fals
         → IsCurrent w.host.session M w.host.sequence (w.calls i).session (w.calls i).sequence → IsOrdered w.host.session M w.host.sequence (w.calls i) (w.calls j)
     orders i j ti ij jt ei ej cur =
         let was = g.order goes i j ti ij jt ei ej
-            (record { some = cur.some; session = cur.session; unmade = omega (arith, cur.unmade); begun = cur.begun }) in
+        (record { some = cur.some; session = cur.session; unmade = omega (arith, cur.unmade); begun = cur.begun }) in
         record {
           current = record { some = was.current.some; session = was.current.session; unmade = omega (arith, was.order, cur.unmade); begun = was.current.begun };
           order = was.order;

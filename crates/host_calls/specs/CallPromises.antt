@@ -1,5 +1,5 @@
 -- What holds whenever, after whatever has come since a host began.
-use Rattle.std.specs.Prelude.{◌≡◌, ◌⊎◌, ℕ, ◌<◌, ◌≤◌, List, [], ◌∷◌, Bool, true, false}
+use Rattle.std.specs.Prelude.{◌≡◌, ◌⊎◌, ℕ, ◌<◌, ◌≤◌, List, true, false}
 use Rattle.host_calls.specs.declared.call.HostCall.{HostCall}
 use Rattle.host_calls.specs.declared.call.CallState.TheVariants.{Answered}
 use Rattle.host_calls.specs.Calls.{is_over, is_unmade}

@@ -1,5 +1,5 @@
 -- A host, its calls and the log, and what may come.
-use Rattle.std.specs.Prelude.{◌≡◌, ◌⊎◌, ℕ, ◌+◌, ◌<◌, ◌≤◌, ◌==◌, List, [], ◌∷◌, ◌++◌, Bool, true, false, length, if◌then◌else◌}
+use Rattle.std.specs.Prelude.{◌≡◌, ℕ, ◌<◌, ◌≤◌, ◌==◌, List, [], ◌∷◌, ◌++◌, true, false, length, if◌then◌else◌}
 use Rattle.host_calls.specs.declared.call.HostCall.{HostCall}
 use Rattle.host_calls.specs.declared.host.HostCalls.{HostCalls}
 use Rattle.host_calls.specs.declared.step.Taken.{Taken}
@@ -93,7 +93,8 @@ HasNumber session sequence log =
 abbrev pub IsLoadingOf : List LogItem → HostCalls → Reading → Type 0
 IsLoadingOf log h what = IsLoading (length log) (is_open_in h.session log) (last_made h.session log) h what
 
--- When each may come. Of the log: it opens a session for this host behind all that it has opened for it before, and answers that it has what it has.
+-- When each may come. Of the log: it opens a session for this host behind all that it has opened for it before, and answers that it has
+-- what it has.
 abbrev pub MayCome : HostWorld → CallEvent → Type 0
 MayCome w (Submits lines size deadline) = MaySubmit lines w.host
 MayCome w (Takes what) = MayTake w.host (w.calls w.host.taken) what

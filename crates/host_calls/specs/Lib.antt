@@ -5,3 +5,4 @@ pub mod Tells
 pub mod LogRule
 pub mod HostWorld
 pub mod CallPromises
+pub mod CallNumbers

@@ -1,5 +1,5 @@
 -- A log, its newest item first, and what it makes of the entries of one host.
-use Rattle.std.specs.Prelude.{◌≡◌, ◌⊎◌, ℕ, ◌+◌, ◌≤◌, ◌==◌, ◌&&◌, ◌||◌, not, nat_le, List, [], ◌∷◌, Bool, true, false, length, if◌then◌else◌}
+use Rattle.std.specs.Prelude.{◌≡◌, ◌⊎◌, ℕ, ◌+◌, ◌==◌, ◌&&◌, ◌||◌, not, nat_le, List, [], ◌∷◌, Bool, true, false, length, if◌then◌else◌}
 use Rattle.host_calls.specs.declared.step.LogOutcome.{LogOutcome}
 use Rattle.host_calls.specs.declared.step.LogOutcome.TheVariants.{Made, Repeated, Gone, Gap}
 
@@ -56,7 +56,7 @@ abbrev pub outcome_in : PutEntry → List LogItem → LogOutcome
 outcome_in e log =
     if is_open_in e.session log
     then (if nat_le e.sequence (last_made e.session log) then Repeated
-      else if e.sequence == last_made e.session log + 1 then Made else Gap)
+    else if e.sequence == last_made e.session log + 1 then Made else Gap)
     else Gone
 
 -- the entry that stands at a place of the log was made there; a place is how many items are before it

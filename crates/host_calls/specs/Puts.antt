@@ -1,5 +1,5 @@
 -- What is put: the calls are taken in their order into entries, each of which is put until the log has it.
-use Rattle.std.specs.Prelude.{◌≡◌, ◌⊎◌, ℕ, ◌+◌, ◌-◌, ◌^◌, ◌<◌, ◌≤◌, Bool, true, false, MatchBool}
+use Rattle.std.specs.Prelude.{◌≡◌, ◌⊎◌, ℕ, ◌+◌, ◌^◌, ◌<◌, ◌≤◌, true, false}
 use Rattle.host_calls.specs.declared.host.TheConstants.{MOST_BYTES}
 use Rattle.host_calls.specs.declared.call.HostCall.{HostCall}
 use Rattle.host_calls.specs.declared.call.CallState.TheVariants as call

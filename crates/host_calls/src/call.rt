@@ -4,7 +4,6 @@ ghost use Rattle.host_calls.specs.Calls.{is_over, is_queued, cancelled, given_up
 
 /// Where a call is. From the last four it never goes on.
 #[derive(Clone, Copy)]
-#[repr(u8)]
 pub enum CallState {
     /// It waits for its turn, and no entry has it.
     Queued,
@@ -22,7 +21,6 @@ pub enum CallState {
 
 /// A call: lines that go into one entry.
 #[derive(Clone, Copy)]
-#[repr(C)]
 pub struct HostCall {
     /// So many calls were submitted to its host before it.
     pub ticket: u64,
@@ -45,10 +43,8 @@ impl HostCall {
     {
         match self.state {
             CallState::Queued | CallState::Entered => false,
-            CallState::Answered
-            | CallState::NotKnown
-            | CallState::NotMade
-            | CallState::Cancelled => true,
+            CallState::Answered | CallState::NotKnown | CallState::NotMade | CallState::Cancelled =>
+                true,
         }
     }
 
@@ -91,10 +87,8 @@ impl HostCall {
         match self.state {
             CallState::Queued => self.state = CallState::NotMade,
             CallState::Entered => self.state = CallState::NotKnown,
-            CallState::Answered
-            | CallState::NotKnown
-            | CallState::NotMade
-            | CallState::Cancelled => {}
+            CallState::Answered | CallState::NotKnown | CallState::NotMade | CallState::Cancelled =>
+                {}
         }
     }
 

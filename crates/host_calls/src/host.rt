@@ -1,9 +1,10 @@
 //! What a host knows of its calls and of its session.
 ghost use Rattle.std.specs.Prelude.{◌≡◌, ◌↔◌, true, false, IsTrue, MatchBool};
-ghost use Rattle.host_calls.specs.Puts.{begun_host, MaySubmit, submitted_to, submitted_as, IsNextPut, MayOpen, opened_as};
+ghost use Rattle.host_calls.specs.Puts.{begun_host, MaySubmit, submitted_to, submitted_as, IsNextPut, MayOpen};
 ghost use Rattle.host_calls.specs.Puts.{IsNextCall, FitsIn, MayTake, took_in, took_call, MaySeal, sealed_of};
 ghost use Rattle.host_calls.specs.Puts.{IsPutting, acknowledged};
-ghost use Rattle.host_calls.specs.Reads.{is_telling, IsOwnSession, IsSealed, IsNextMade, IsReading, read_as, IsLoading, loaded_as};
+ghost use Rattle.host_calls.specs.Reads.{is_telling, IsOwnSession, IsSealed, IsNextMade, IsReading, read_as};
+ghost use Rattle.host_calls.specs.{Puts.{opened_as}, Reads.{IsLoading, loaded_as}};
 ghost use Rattle.host_calls.specs.Tells.{IsNextTold, IsDue, words_for, MayTell, told_as, told_call, stopped_of};
 
 use crate::call::{CallState, HostCall};
@@ -15,7 +16,6 @@ pub const MOST_BYTES: u64 = 512 * 1024;
 /// The calls of one host, in the order in which they were submitted: those that were told, those that are in entries,
 /// and those that wait.
 #[derive(Clone, Copy)]
-#[repr(C)]
 pub struct HostCalls {
     /// So many calls were submitted.
     pub submitted: u64,
@@ -70,12 +70,13 @@ impl HostCalls {
         }
     }
 
-    /// Has a call made: so many lines, at least one, of so many bytes, until the deadline. It gets its ticket. False once
-    /// the host has stopped.
+    /// Has a call made: so many lines, at least one, of so many bytes, until the deadline. It gets its ticket. False
+    /// once the host has stopped.
     pub fn submit(&mut self, call: &mut HostCall, lines: u64, size: u64, deadline: u64) -> bool
         ensures when { IsTrue result ↔ MaySubmit lines self.old }
         ensures becomes { MatchBool result (self.new ≡ submitted_to self.old) (self.new ≡ self.old) }
-        ensures call { MatchBool result (call.new ≡ submitted_as lines size deadline self.old) (call.new ≡ call.old) }
+        ensures call { MatchBool result (call.new ≡ submitted_as lines size deadline self.old)
+            (call.new ≡ call.old) }
     {
         if self.is_stopped || lines == 0 || self.submitted == u64::MAX {
             return false;
@@ -164,7 +165,8 @@ impl HostCalls {
         if !self.is_next_call(call) {
             return Taken::Refused;
         }
-        if call.is_over() {
+        let was_over = call.is_over();
+        if was_over {
             self.taken += 1;
             return Taken::Passes;
         }
@@ -213,8 +215,8 @@ impl HostCalls {
         self.taken += 1;
     }
 
-    /// The entry that is made up has all that it will have, and is put from now on, always the same. False where none is
-    /// made up.
+    /// The entry that is made up has all that it will have, and is put from now on, always the same. False where none
+    /// is made up.
     pub fn seal(&mut self) -> bool
         ensures when { IsTrue result ↔ MaySeal self.old }
         ensures becomes { MatchBool result (self.new ≡ sealed_of self.old) (self.new ≡ self.old) }
@@ -273,7 +275,10 @@ impl HostCalls {
     fn is_next_made(&self, session: u64, sequence: u64) -> bool
         ensures { IsTrue result ↔ IsNextMade session sequence self.now }
     {
-        self.is_own(session) && self.made < sequence && sequence - self.made == 1 && self.is_sealed(sequence)
+        self.is_own(session)
+            && self.made < sequence
+            && sequence - self.made == 1
+            && self.is_sealed(sequence)
     }
 
     /// An entry of calls was read in the log, which has made this of it. Where calls are to be told, that comes first.

@@ -17,7 +17,6 @@ pub enum PutStep {
 
 /// What became of a call that had its turn.
 #[derive(Clone, Copy)]
-#[repr(u8)]
 pub enum Taken {
     /// It is not its turn, or none is taken now.
     Refused,
@@ -33,7 +32,6 @@ pub enum Taken {
 
 /// What the log makes of an entry of calls.
 #[derive(Clone, Copy)]
-#[repr(u8)]
 pub enum LogOutcome {
     /// Its calls were made.
     Made,
@@ -47,7 +45,6 @@ pub enum LogOutcome {
 
 /// What follows from what was read.
 #[derive(Clone, Copy)]
-#[repr(u8)]
 pub enum Reading {
     /// Calls are to be told first.
     Busy,
@@ -63,7 +60,6 @@ pub enum Reading {
 
 /// What is being told, of the calls from `told` on.
 #[derive(Clone, Copy)]
-#[repr(u8)]
 pub enum Telling {
     /// Nothing.
     Nothing,
@@ -77,7 +73,6 @@ pub enum Telling {
 
 /// What a call is told.
 #[derive(Clone, Copy)]
-#[repr(u8)]
 pub enum Told {
     /// It is not its turn.
     Refused,
