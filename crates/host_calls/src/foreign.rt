@@ -5,7 +5,8 @@ ghost use Rattle.host_calls.specs.Calls.{is_queued, cancelled};
 ghost use Rattle.host_calls.specs.CallNumbers.{AreNextPut, GoesTo, StaysAs, SubmitsAs, GivesUpAs, TakesAs, ReadsAs};
 ghost use Rattle.host_calls.specs.CallNumbers.{LoadsAs, TellsAs, host_for, numbers_of_host, call_for, numbers_of_call};
 ghost use Rattle.host_calls.specs.Puts.{begun_host, MaySubmit, MayOpen, opened_as, MaySeal, sealed_of, IsPutting};
-ghost use Rattle.host_calls.specs.{CallNumbers.{outcome_for}, Puts.{acknowledged}, Reads.{is_telling}, Tells.{stopped_of}};
+ghost use Rattle.host_calls.specs.{CallNumbers.{outcome_for}, Puts.{acknowledged}, Reads.{is_telling}};
+ghost use Rattle.host_calls.specs.Tells.{stopped_of};
 
 use crate::host::HostCalls;
 use crate::numbers::{

@@ -2,8 +2,8 @@
 //!
 //! [`HostCalls`](host::HostCalls), and a [`HostCall`](call::HostCall) for each call, are told what comes: a call, an
 //! answer of the log, an entry that was read, a time, a cancel. They say what to do: what is put, who is answered, and
-//! who is told that nobody knows. [`laws`] has what holds of all runs, whatever is late, lost or doubled. [`foreign`] is
-//! for hosts in other languages, which put the entries, read the log, and wait.
+//! who is told that nobody knows. [`laws`] has what holds of all runs, whatever is late, lost or doubled.
+//! [`foreign`] is for hosts in other languages, which put the entries, read the log, and wait.
 #![tactic(auto)]
 
 pub mod call;
