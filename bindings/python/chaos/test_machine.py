@@ -9,7 +9,6 @@ import random
 import shutil
 import tempfile
 import unittest
-from collections import deque
 from collections.abc import Sequence
 from pathlib import Path
 from typing import NamedTuple
@@ -24,7 +23,7 @@ from pidtab.hosts.log import Progress
 from pidtab.hosts.log_entries import OPEN, Asked, Ended, Opened, Settings, read_entry, write_calls, write_end, write_settings
 from pidtab.hosts.machine import Machine, NoMemory
 from pidtab.hosts.replica import Replica
-from pidtab.hosts.submitted import Submitted
+from pidtab.hosts.submitted import Part, Submitted
 from tests.stand_in import StandIn
 
 SETTINGS = Settings(2, 32768, 1)
@@ -165,9 +164,8 @@ class Game:
         wanted = self.next_of_python()
         kind, session, sequence = self.machine.next_entry()
         if wanted is None:
-            # The machine has a session opened for calls that are over, too.
+            # Calls that were given up are in the queue of the machine yet, and have a session opened.
             self.test.assertIn(kind, (Put.REST, Put.OPEN))
-            self.test.assertEqual([it for it in self.python.queue if not it.submitted.done()], [])
             return False
         if wanted == OPEN:
             self.test.assertIs(kind, Put.OPEN)
@@ -184,10 +182,8 @@ class Game:
     def next_of_python(self) -> bytes | None:
         """What the host in Python puts: nothing for an entry that is not wanted any more, and then the next one.
 
-        It counts the bytes of what is over and waits yet, and opens a session for an entry that is not wanted any more, where the machine does
-        neither. So both go away before.
+        For such an entry it opens a session, where the machine does not, so that goes away before.
         """
-        self.python.queue = deque(it for it in self.python.queue if not it.submitted.done())
         if self.python.batch is not None and not self.python.is_wanted(self.python.batch):
             self.python.batch = None
         wanted = None
@@ -203,6 +199,8 @@ class Game:
     def try_entry(self, data: bytes, well: bool, answer: object) -> None:
         """Puts an entry by one try."""
         chance = 1.0 if well else self.random.random()
+        if chance <= 0.55:
+            self.python.trouble = ConnectionError("the log does not answer")
         if chance < 0.2:
             return
         if chance < 0.4:
@@ -296,6 +294,11 @@ class Game:
             self.test.assertEqual(seen_of(both.submitted), told_of(both.calls), [State(it.state).name for it in both.calls])
 
 
+def size_of(part: Part) -> int:
+    """The bytes of a part in an entry: none where it is over, which the machine does not count and the host in Python does."""
+    return 0 if part.submitted.done() else sum(map(len, part.lines)) + len(part.lines)
+
+
 def seen_of(submitted: Submitted) -> object:
     """What the host in Python has made of a submit."""
     if submitted.cancelled():
@@ -329,6 +332,7 @@ class Beside(unittest.TestCase):
         folder = self.enterContext(tempfile.TemporaryDirectory())
         self.library = load_machine(Path(folder))
         self.enterContext(mock.patch.object(submitted_module, "PART_BYTES", PART_BYTES))
+        self.enterContext(mock.patch.object(Part, "size", property(size_of)))
         self.enterContext(mock.patch.object(replica_module, "MOST_BYTES", MOST_BYTES))
 
     def test_they_decide_the_same(self) -> None:
