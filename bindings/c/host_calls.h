@@ -66,7 +66,7 @@ enum host_taken {
 	HOST_TAKEN_REFUSED = 0, /* it is not its turn */
 	HOST_TAKEN_PASSES = 1,  /* it was over, and no entry has it */
 	HOST_TAKEN_BEGINS = 2,  /* it begins a new entry */
-	HOST_TAKEN_JOINS = 3,   /* it stands behind the others of the entry that is made up */
+	HOST_TAKEN_JOINS = 3,   /* it is in the entry that is made up, after the others */
 	HOST_TAKEN_FILLS = 4    /* it does not fit in: the entry is sealed next */
 };
 
