@@ -113,7 +113,8 @@ bool host_calls_seal(struct host_calls *host);
 /* The log has answered that it has the entry. */
 bool host_calls_acknowledge(struct host_calls *host, uint64_t session, uint64_t sequence);
 
-/* Whether the call with the ticket `told` is to be told: before the log is read on. */
+/* Whether the call with the ticket `told` is to be told. Before each host_calls_read and host_calls_load, and after it: as long as this is so,
+ * host_calls_tell. */
 bool host_calls_is_telling(const struct host_calls *host);
 
 /* An entry of calls was read, of which the log has made this: an enum host_reading. */

@@ -52,14 +52,18 @@ class Told(IntEnum):
 class HostCall(ctypes.Structure):
     """A struct host_call."""
 
-    _fields_ = [*((name, ctypes.c_uint64) for name in ("ticket", "lines", "size", "deadline", "session", "sequence", "place")), ("state", ctypes.c_uint32)]
+    _fields_ = [
+        *((name, ctypes.c_uint64) for name in ("ticket", "lines", "size", "deadline", "session", "sequence", "place")),
+        ("state", ctypes.c_uint32),
+    ]
 
 
 class HostCalls(ctypes.Structure):
     """A struct host_calls."""
 
     _fields_ = [
-        *((name, ctypes.c_uint64) for name in ("submitted", "taken", "told", "session", "sequence", "made", "lines", "size", "told_session", "told_sequence")),
+        *((name, ctypes.c_uint64) for name in ("submitted", "taken", "told", "session", "sequence", "made", "lines", "size")),
+        *((name, ctypes.c_uint64) for name in ("told_session", "told_sequence")),
         ("telling", ctypes.c_uint32),
         *((name, ctypes.c_bool) for name in ("is_filling", "is_full", "is_putting", "is_stopped")),
     ]

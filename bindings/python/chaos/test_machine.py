@@ -1,11 +1,12 @@
 """The proved machine for the calls of a host beside the host in Python: both have the same calls, log, times and ends, and decide the same.
 
-The log is made here, by the rules of docs/CLUSTER.md: entries come late, twice or never, answers are lost, sessions end, and snapshots take the place of
-entries. The machine is that of `crates/host_calls/out/libhost_calls.a`, which `rt lib` makes there, or of the archive that PIDTAB_HOST_CALLS names.
+The log is made here, by the rules of docs/CLUSTER.md: entries come late, twice or never, answers are lost, sessions end, and snapshots take the
+place of entries. The machine is that of `crates/host_calls/out/libhost_calls.a`, which `rt lib` makes there, or of the archive that PIDTAB_HOST_CALLS names.
 """
 
 import ctypes
 import random
+import re
 import shutil
 import tempfile
 import unittest
@@ -14,7 +15,7 @@ from pathlib import Path
 from typing import NamedTuple
 from unittest import mock
 
-from chaos.machine import ARCHIVE, HostCall, MachineHost, Outcome, Put, State, load_machine
+from chaos.machine import ARCHIVE, FUNCTIONS, TOP, HostCall, HostCalls, MachineHost, Outcome, Put, PutStep, Reading, State, Taken, Told, load_machine
 from pidtab import MemoryLog, NotKnown
 from pidtab.hosts import replica as replica_module
 from pidtab.hosts import submitted as submitted_module
@@ -322,6 +323,34 @@ def told_of(calls: Sequence[HostCall]) -> object:
     if states & {State.NOT_KNOWN, State.NOT_MADE}:
         return ("not known", bool(states & {State.NOT_KNOWN, State.ANSWERED}))
     return ("waits", states != {State.QUEUED})
+
+
+class Header(unittest.TestCase):
+    """What C has of the machine is what is used here."""
+
+    def setUp(self) -> None:
+        text = (TOP / "bindings" / "c" / "host_calls.h").read_text(encoding="utf-8")
+        self.text = re.sub(r"/\*.*?\*/", "", text, flags=re.DOTALL)
+
+    def body_of(self, what: str) -> str:
+        """What is between the braces of an enum or a struct."""
+        found = re.search(rf"{what} \{{(.*?)\}};", self.text, re.DOTALL)
+        assert found
+        return found[1]
+
+    def test_the_choices(self) -> None:
+        choices = {"host_call_state": State, "host_put": Put, "host_taken": Taken, "host_outcome": Outcome, "host_reading": Reading, "host_told": Told}
+        for name, choice in choices.items():
+            found = {words.rpartition("_")[2]: int(number) for words, number in re.findall(r"HOST_(\w+) = (\d+)", self.body_of(f"enum {name}"))}
+            self.assertEqual(found, {it.name.rpartition("_")[2]: it.value for it in choice}, name)
+
+    def test_the_fields(self) -> None:
+        for name, fields in {"host_call": HostCall, "host_calls": HostCalls, "host_put_step": PutStep}.items():
+            found = re.findall(r"\w+(?=[,;])", self.body_of(f"struct {name}"))
+            self.assertEqual(found, [it[0] for it in fields._fields_], name)
+
+    def test_the_functions(self) -> None:
+        self.assertEqual(set(re.findall(r"host_calls_(\w+)\(", self.text)), set(FUNCTIONS))
 
 
 @unittest.skipUnless(ARCHIVE.exists() and shutil.which("cc"), f"needs {ARCHIVE}, which `rt lib` makes in crates/host_calls, and a C compiler")
