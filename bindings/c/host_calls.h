@@ -42,7 +42,7 @@ struct host_calls {
 	uint64_t sequence;      /* the number of the entry that was begun last */
 	uint64_t made;          /* the number of the one that the log has made last, as far as it was read */
 	uint64_t lines, size;   /* of the entry that is made up */
-	uint64_t told_session, told_sequence;
+	uint64_t told_session, told_sequence, told_to;
 	uint32_t telling;       /* 0: nothing is told */
 	bool is_filling, is_full, is_putting, is_stopped;
 };
@@ -113,7 +113,7 @@ bool host_calls_seal(struct host_calls *host);
 /* The log has answered that it has the entry. */
 bool host_calls_acknowledge(struct host_calls *host, uint64_t session, uint64_t sequence);
 
-/* Whether the call with the ticket `told` is to be told. Before each host_calls_read and host_calls_load, and after it: as long as this is so,
+/* Whether the call with the ticket `told` is to be told. After each host_calls_read, host_calls_load and host_calls_stop: as long as this is so,
  * host_calls_tell. */
 bool host_calls_is_telling(const struct host_calls *host);
 

@@ -63,7 +63,7 @@ class HostCalls(ctypes.Structure):
 
     _fields_ = [
         *((name, ctypes.c_uint64) for name in ("submitted", "taken", "told", "session", "sequence", "made", "lines", "size")),
-        *((name, ctypes.c_uint64) for name in ("told_session", "told_sequence")),
+        *((name, ctypes.c_uint64) for name in ("told_session", "told_sequence", "told_to")),
         ("telling", ctypes.c_uint32),
         *((name, ctypes.c_bool) for name in ("is_filling", "is_full", "is_putting", "is_stopped")),
     ]
@@ -176,17 +176,15 @@ class MachineHost:
 
     def read(self, outcome: Outcome, session: int, sequence: int) -> list[HostCall]:
         """An entry was read: the calls that are told that nobody knows."""
-        lost = self._tell()
         reading = Reading(self._library.host_calls_read(self._host, outcome, session, sequence))
         assert reading not in (Reading.BUSY, Reading.MISSES)
-        return lost + self._tell()
+        return self._tell()
 
     def load(self, position: int, last: int | None) -> list[HostCall]:
         """A snapshot was loaded: the calls that are told that nobody knows."""
-        lost = self._tell()
         reading = Reading(self._library.host_calls_load(self._host, position, last is not None, last or 0))
         assert reading not in (Reading.BUSY, Reading.MISSES)
-        return lost + self._tell()
+        return self._tell()
 
     def stop(self) -> None:
         """Each call that is not over is told."""

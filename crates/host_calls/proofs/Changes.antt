@@ -93,8 +93,9 @@ tells_one w g below over =
         sealed = g.host.sealed;
         lines = g.host.lines;
         tickets = g.host.tickets;
-        stopped = λ s. let old = g.host.stopped s in record { tells = old.tells; not_filling = old.not_filling; not_putting = old.not_putting; all = old.all };
+        stopped = λ s. let old = g.host.stopped s in record { tells = old.tells; not_filling = old.not_filling; not_putting = old.not_putting; all = old.all; to = old.to };
         stops = g.host.stops;
+        due = g.host.due;
       };
       log = record { opened = g.log.opened; there = g.log.there; tells = g.log.tells; late = g.log.late; put = g.log.put };
       puts = λ e put. let old = g.puts e put in record { some = old.some; opened = old.opened; number = old.number; tickets = old.tickets };
@@ -138,6 +139,7 @@ passes_one w g goes below over =
         tickets = λ j p f at. omega (arith, g.host.tickets j p f at);
         stopped = λ s. let no : true ≡ false = sym s ∙ goes in cc;
         stops = g.host.stops;
+        due = λ t. omega (arith, g.host.due t);
       };
       log = record { opened = g.log.opened; there = g.log.there; tells = g.log.tells; late = g.log.late; put = g.log.put };
       puts = λ e put. let old = g.puts e put in record { some = old.some; opened = old.opened; number = old.number; tickets = old.tickets };

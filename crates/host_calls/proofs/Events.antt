@@ -139,11 +139,11 @@ gives_up w t g =
     over call.Cancelled h = h
 
 -- a call is to be told, so there is one
-pub telling_below : (h : HostCalls) → is_telling h ≡ true → h.told < h.taken
-telling_below h e = by (tells_some h.telling) (nat_lt h.told h.taken) e (below h.told h.taken)
+pub telling_below : (h : HostCalls) → (tells_some h.telling ≡ true → h.told_to ≤ h.taken) → is_telling h ≡ true → h.told < h.taken
+telling_below h due e = by (tells_some h.telling) (nat_lt h.told h.told_to) e (λ t b. let low = below h.told h.told_to b in omega (arith, due t))
   where
-    by : {P : Type 0} → (a b : Bool) → (a && b) ≡ true → (b ≡ true → P) → P
-    by true true e f = f refl
+    by : {P : Type 0} → (a b : Bool) → (a && b) ≡ true → (a ≡ true → b ≡ true → P) → P
+    by true true e f = f refl refl
     by true false e f = cc
     by false b e f = cc
 
@@ -219,6 +219,7 @@ ends w g m =
         tickets = g.host.tickets;
         stopped = λ s. absurd (not_stopped s);
         stops = λ (no : telling.Nothing ≡ telling.Stops). cc;
+        due = λ (no : false ≡ true). cc;
       };
       log = record { opened = g.log.opened; there = g.log.there; tells = λ (no : telling.Nothing ≡ telling.Answers). cc; late = g.log.late; put = g.log.put };
       puts = λ e put. let old = g.puts e put in record { some = old.some; opened = old.opened; number = old.number; tickets = old.tickets };
@@ -241,7 +242,7 @@ ends w g m =
     }
   where
     below : w.host.told < w.host.taken
-    below = telling_below w.host m.0.telling
+    below = telling_below w.host g.host.due m.0.telling
 
     there : w.host.told < w.host.submitted
     there = omega (arith, below, g.host.taken)
@@ -271,7 +272,7 @@ ends w g m =
     first n =
         elim ((g.calls w.host.told there).turn (entered_if _ m.1 (not_queued n)) n (omega arith) below) [
           | inl a ↦ a
-          | inr x ↦ absurd (m.2 (due w.host.telling (w.calls w.host.told) (not_queued n) x))
+          | inr x ↦ absurd (m.2 (due w.host.telling (w.calls w.host.told) (not_queued n) x.1))
         ]
 
     current : (j : ℕ) → j < w.host.submitted → (w.calls j).state ≡ call.Entered → w.host.is_stopped ≡ false → w.host.told ≤ j → j < w.host.taken
@@ -282,7 +283,7 @@ ends w g m =
 pub tells : (w : HostWorld) (what : Told) → IsSoundRest w → MayTell w.host (w.calls w.host.told) what → IsSoundRest (comes w (Tells what))
 tells w told.Refused g m = stays w w.host.told g
 tells w told.Passes g m =
-    tells_one (restated w w.host.told (w.calls w.host.told).state) (stays w w.host.told g) (telling_below w.host m.0.telling)
+    tells_one (restated w w.host.told (w.calls w.host.told).state) (stays w w.host.told g) (telling_below w.host g.host.due m.0.telling)
     (here (λ c. is_over c.state ≡ true) w.host.told (w.calls w.host.told) w.calls m.1)
 tells w told.Ends g m = stays (record w { host = quiet_one w.host }) w.host.told (ends w g m)
 tells w told.Answers g m =
@@ -291,7 +292,7 @@ tells w told.Answers g m =
     let due : IsInSession w.host c × (c.sequence ≡ w.host.told_sequence) = subst (λ t. IsDueBy t w.host c) is m.due in
     let entered : c.state ≡ call.Entered = entered_if c.state m.live due.0.entered in
     let of = g.log.tells is in
-    let below = telling_below w.host m.next.telling in
+    let below = telling_below w.host g.host.due m.next.telling in
     let there : w.host.told < w.host.submitted = omega (arith, below, g.host.taken) in
     let session : of.entry.session ≡ c.session = of.session ∙ sym due.0.session in
     let sequence : of.entry.sequence ≡ c.sequence = of.sequence ∙ sym due.1 in
@@ -312,10 +313,10 @@ tells w told.Loses g m =
     let entered : c.state ≡ call.Entered = entered_if c.state m.live (words_loses w.host.telling w.host c m.words m.due) in
     tells_one (restated w w.host.told call.NotKnown)
     (becomes w w.host.told call.NotKnown (λ (no : call.NotKnown ≡ call.Entered). cc) (λ (no : call.NotKnown ≡ call.Queued). cc) g (sym (ap is_unput entered)) refl (λ (no : call.NotKnown ≡ call.Answered). cc))
-    (telling_below w.host m.next.telling) (here (λ c. is_over c.state ≡ true) w.host.told (with_state call.NotKnown c) w.calls refl)
+    (telling_below w.host g.host.due m.next.telling) (here (λ c. is_over c.state ≡ true) w.host.told (with_state call.NotKnown c) w.calls refl)
 tells w told.Drops g m =
     let c = w.calls w.host.told in
     let queued : c.state ≡ call.Queued = words_drops w.host.telling c.state m.words in
     tells_one (restated w w.host.told call.NotMade)
     (becomes w w.host.told call.NotMade (λ (no : call.NotMade ≡ call.Entered). cc) (λ (no : call.NotMade ≡ call.Queued). cc) g (sym (ap is_unput queued)) refl (λ (no : call.NotMade ≡ call.Answered). cc))
-    (telling_below w.host m.next.telling) (here (λ c. is_over c.state ≡ true) w.host.told (with_state call.NotMade c) w.calls refl)
+    (telling_below w.host g.host.due m.next.telling) (here (λ c. is_over c.state ≡ true) w.host.told (with_state call.NotMade c) w.calls refl)

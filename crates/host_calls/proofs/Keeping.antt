@@ -300,7 +300,7 @@ module _ (w : HostWorld) (g : IsKeptWorld w) (rest more : List LogItem) (ahead :
   goes_to : (T : Telling) (S N : ℕ) → w.host.made < N → HasNumber w.host.session N (more ++ w.seen)
       → ((e : PutEntry) → HasEntry e (more ++ w.seen) → e.session ≡ w.host.session → e.sequence ≤ N)
       → IsKeptWorld (record w {
-        host = record w.host { made = N; telling = T; told_session = S; told_sequence = N; is_putting = still_putting N w.host };
+        host = record w.host { made = N; telling = T; told_session = S; told_sequence = N; told_to = w.host.taken; is_putting = still_putting N w.host };
         ahead = rest;
         seen = more ++ w.seen;
       })

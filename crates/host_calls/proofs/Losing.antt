@@ -8,7 +8,7 @@ use Rattle.host_calls.specs.Calls.{is_over}
 use Rattle.host_calls.specs.LogRule.{PutEntry, LogItem, HasEntry}
 use Rattle.host_calls.specs.LogRule.LogItem.{Opens, Ends, Holds, Other}
 use Rattle.host_calls.specs.HostWorld.{HostWorld, CallEvent, AllMayCome, comes, comes_to, begun_world}
-use Rattle.host_calls.specs.CallPromises.{IsComeBy, IsHeldBy, IsComing, LosesNone}
+use Rattle.host_calls.specs.CallPromises.{IsComeBy, IsHeldBy, IsComing, LosesNone, TellsAllInTheEnd}
 use Rattle.host_calls.proofs.Logs.{by_test, has_front}
 use Rattle.host_calls.proofs.SoundCalls.{IsSoundWorld}
 use Rattle.host_calls.proofs.Telling.{all_current}
@@ -58,7 +58,7 @@ loses_none w g quiet t k live = by (w.calls t).state refl
     not_told low = let no : true ≡ false = sym ((s.rest.calls t k).told low) ∙ live in cc
 
     not_stopped : w.host.is_stopped ≡ true → ⊥
-    not_stopped h = let old = s.rest.host.stopped h in not_told (omega (arith, all_told w.host quiet old.tells, old.all, k))
+    not_stopped h = let old = s.rest.host.stopped h in not_told (omega (arith, all_told w.host quiet old.tells, old.to, k))
 
     goes : w.host.is_stopped ≡ false
     goes = by_test w.host.is_stopped (λ h. absurd (not_stopped h)) (λ h. h)
@@ -87,3 +87,25 @@ loses_none w g quiet t k live = by (w.calls t).state refl
     by call.NotKnown is = not_over call.NotKnown is refl
     by call.NotMade is = not_over call.NotMade is refl
     by call.Cancelled is = not_over call.Cancelled is refl
+
+-- where nothing is to be put, and all was read, each call is over
+pub tells_all : (w : HostWorld) → IsKeptSound w → TellsAllInTheEnd w
+tells_all w g quiet rest read t k =
+    by_test (is_over (w.calls t).state) (λ over. over) (λ live. absurd (nowhere live (loses_none w g quiet t k live)))
+  where
+    differs : true ≡ false → ⊥
+    differs h = cc
+
+    not_stopped : is_over (w.calls t).state ≡ false → w.host.is_stopped ≡ true → ⊥
+    not_stopped live h =
+        let old = g.sound.rest.host.stopped h in
+        let over = (g.sound.rest.calls t k).told (omega (arith, all_told w.host quiet old.tells, old.to, k)) in
+        differs (sym over ∙ live)
+
+    nowhere : is_over (w.calls t).state ≡ false → IsHeldBy w t ⊎ IsComing w t → ⊥
+    nowhere live (inr it) = subst (HasEntry it.0) read it.1
+    nowhere live (inl (inl waits)) = elim rest [ inl stopped ↦ not_stopped live stopped | inr none ↦ omega (arith, none.2, waits, k) ]
+    nowhere live (inl (inr it)) = elim rest [
+      | inl stopped ↦ not_stopped live stopped
+      | inr none ↦ elim it.0 [ inl f ↦ differs (sym f ∙ none.1) | inr p ↦ differs (sym p ∙ none.0) ]
+    ]

@@ -43,6 +43,7 @@ sound_start calls log nobody =
           tickets = λ j p (no : false ≡ true). cc;
           stopped = λ (no : false ≡ true). cc;
           stops = λ (no : telling.Nothing ≡ telling.Stops). cc;
+          due = λ (no : false ≡ true). cc;
         };
         log = record {
           opened = omega arith;
@@ -141,8 +142,8 @@ puts_none w g t p e k unmade put at = differs (sym (unput (w.calls t).state unma
     unput call.Cancelled h = refl
 
 -- where nothing is told any more, a host that has stopped has told all
-pub all_told : (h : HostCalls) → is_telling h ≡ false → h.telling ≡ telling.Stops → h.taken ≤ h.told
-all_told h quiet is = at_end h.told h.taken (by (nat_lt h.told h.taken) (subst (λ t. (tells_some t && nat_lt h.told h.taken) ≡ false) is quiet))
+pub all_told : (h : HostCalls) → is_telling h ≡ false → h.telling ≡ telling.Stops → h.told_to ≤ h.told
+all_told h quiet is = at_end h.told h.told_to (by (nat_lt h.told h.told_to) (subst (λ t. (tells_some t && nat_lt h.told h.told_to) ≡ false) is quiet))
   where
     by : (b : Bool) → (true && b) ≡ false → b ≡ false
     by true e = e
@@ -173,7 +174,7 @@ tells_what_was_read w g quiet t p k e made at = by (w.calls t).state refl
     entered_not q =
         let over : t < w.host.told → ⊥ = λ low. let no : false ≡ true = subst (λ s. is_over s ≡ true) q ((g.rest.calls t there).told low) in cc in
         by_test w.host.is_stopped
-        (λ s. let old = g.rest.host.stopped s in over (omega (arith, all_told w.host quiet old.tells, old.all, there)))
+        (λ s. let old = g.rest.host.stopped s in over (omega (arith, all_told w.host quiet old.tells, old.to, there)))
         (λ goes. elim (by_order w.host.taken t) [
           | inl high ↦ void_never e [] w.seen k ((g.rest.calls t there).again q high e p put at) made
           | inr low ↦ elim (by_order w.host.told t) [

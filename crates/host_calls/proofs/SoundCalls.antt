@@ -8,7 +8,7 @@ use Rattle.host_calls.specs.declared.host.HostCalls.{HostCalls}
 use Rattle.host_calls.specs.declared.step.Telling.{Telling}
 use Rattle.host_calls.specs.declared.step.Telling.TheVariants as telling
 use Rattle.host_calls.specs.Calls.{is_over}
-use Rattle.host_calls.specs.Reads.{IsSealed}
+use Rattle.host_calls.specs.Reads.{IsSealed, tells_some}
 use Rattle.host_calls.specs.LogRule.{PutEntry, LogItem, part_lines, StandsAt, last_made, IsMadeAt, HasEntry, IsPut}
 use Rattle.host_calls.specs.LogRule.LogItem.{Opens, Ends, Holds, Other}
 use Rattle.host_calls.specs.HostWorld.{HostWorld, whole_log, with_call}
@@ -71,7 +71,7 @@ pub record IsSoundCall (h : HostCalls) (o : ℕ) (puts : List PutEntry) (filling
   pub waits : c.state ≡ call.Queued → h.is_stopped ≡ false → h.taken ≤ j
   pub again : c.state ≡ call.Entered → h.taken ≤ j → (e : PutEntry) (p : ℕ) → IsPut e puts → StandsAt j p e.parts → IsVoid e seen
   pub turn : c.state ≡ call.Entered → h.is_stopped ≡ false → h.told ≤ j → j < h.taken
-      → IsCurrent h.session h.made h.sequence c.session c.sequence ⊎ IsMatchedBy h.telling h.told_session h.told_sequence c.session c.sequence
+      → IsCurrent h.session h.made h.sequence c.session c.sequence ⊎ ((j < h.told_to) × IsMatchedBy h.telling h.told_session h.told_sequence c.session c.sequence)
   pub content : c.state ≡ call.Entered → (e : PutEntry) → IsPut e puts → e.session ≡ c.session → e.sequence ≡ c.sequence → StandsAt j c.place e.parts
   pub in_filling : c.state ≡ call.Entered → h.is_filling ≡ true → c.session ≡ h.session → c.sequence ≡ h.sequence → StandsAt j c.place filling
   pub answered : c.state ≡ call.Answered → IsAnswerOf seen j c.session c.sequence c.place
@@ -99,6 +99,7 @@ pub record IsAtRest (h : HostCalls) : Type 0 where
   pub not_filling : h.is_filling ≡ false
   pub not_putting : h.is_putting ≡ false
   pub all : h.taken ≡ h.submitted
+  pub to : h.told_to ≡ h.submitted
 
 pub record IsSoundHost (h : HostCalls) (filling : List (ℕ × ℕ)) : Type 0 where
   pub told : h.told ≤ h.taken
@@ -109,6 +110,7 @@ pub record IsSoundHost (h : HostCalls) (filling : List (ℕ × ℕ)) : Type 0 wh
   pub tickets : (j p : ℕ) → h.is_filling ≡ true → StandsAt j p filling → j < h.taken
   pub stopped : h.is_stopped ≡ true → IsAtRest h
   pub stops : h.telling ≡ telling.Stops → h.is_stopped ≡ true
+  pub due : tells_some h.telling ≡ true → h.told_to ≤ h.taken
 
 pub record IsSoundLog (h : HostCalls) (o : ℕ) (puts : List PutEntry) (seen whole : List LogItem) : Type 0 where
   pub opened : h.session ≤ o

@@ -53,6 +53,7 @@ submits w lines size deadline g m =
         tickets = g.host.tickets;
         stopped = λ s. absurd (goes_yet w.host m.goes s);
         stops = g.host.stops;
+        due = g.host.due;
       };
       log = record { opened = g.log.opened; there = g.log.there; tells = g.log.tells; late = g.log.late; put = g.log.put };
       puts = λ e put. let old = g.puts e put in
@@ -233,6 +234,7 @@ module _ (w : HostWorld) (g : IsSoundRest w) (m : IsNextLive w.host (w.calls w.h
         tickets = λ j p f at. there j p at;
         stopped = λ s. absurd (goes_yet w.host m.next.goes s);
         stops = g.host.stops;
+        due = λ t. omega (arith, g.host.due t);
       };
       log = record { opened = g.log.opened; there = g.log.there; tells = g.log.tells; late = g.log.late; put = g.log.put };
       puts = λ e put. let old = g.puts e put in
@@ -336,6 +338,7 @@ module _ (w : HostWorld) (g : IsSoundRest w) (m : IsNextLive w.host (w.calls w.h
         tickets = λ j p f at. there j p at;
         stopped = λ s. absurd (goes_yet w.host m.next.goes s);
         stops = g.host.stops;
+        due = λ t. omega (arith, g.host.due t);
       };
       log = record { opened = g.log.opened; there = g.log.there; tells = g.log.tells; late = g.log.late; put = g.log.put };
       puts = λ e put. let old = g.puts e put in record { some = old.some; opened = old.opened; number = old.number; tickets = old.tickets };
@@ -366,6 +369,7 @@ fills_one w g goes =
         tickets = g.host.tickets;
         stopped = λ s. absurd (goes_yet w.host goes s);
         stops = g.host.stops;
+        due = g.host.due;
       };
       log = record { opened = g.log.opened; there = g.log.there; tells = g.log.tells; late = g.log.late; put = g.log.put };
       puts = λ e put. let old = g.puts e put in record { some = old.some; opened = old.opened; number = old.number; tickets = old.tickets };
@@ -398,8 +402,9 @@ acknowledges w g =
         sealed = g.host.sealed;
         lines = g.host.lines;
         tickets = g.host.tickets;
-        stopped = λ s. let old = g.host.stopped s in record { tells = old.tells; not_filling = old.not_filling; not_putting = refl; all = old.all };
+        stopped = λ s. let old = g.host.stopped s in record { tells = old.tells; not_filling = old.not_filling; not_putting = refl; all = old.all; to = old.to };
         stops = g.host.stops;
+        due = g.host.due;
       };
       log = record { opened = g.log.opened; there = g.log.there; tells = g.log.tells; late = g.log.late; put = g.log.put };
       puts = λ e put. let old = g.puts e put in record { some = old.some; opened = old.opened; number = old.number; tickets = old.tickets };
@@ -433,6 +438,7 @@ seals w g m =
         tickets = λ j p (no : false ≡ true). cc;
         stopped = λ s. absurd (goes_yet w.host m.goes s);
         stops = g.host.stops;
+        due = g.host.due;
       };
       log = record { opened = g.log.opened; there = g.log.there; tells = λ t. tells (g.log.tells t); late = g.log.late; put = λ e has. inr (g.log.put e has) };
       puts = puts;
@@ -518,6 +524,7 @@ opens w session g m later there =
         tickets = g.host.tickets;
         stopped = λ s. absurd (goes_yet w.host m.goes s);
         stops = g.host.stops;
+        due = g.host.due;
       };
       log = record {
         opened = omega arith;

@@ -18,10 +18,10 @@ use Rattle.host_calls.proofs.Taking.{goes_yet, sealed_most}
 pub all_current : (w : HostWorld) → IsSoundRest w → is_telling w.host ≡ false → w.host.is_stopped ≡ false → (j : ℕ) → j < w.host.submitted → w.host.told ≤ j → j < w.host.taken
     → (w.calls j).state ≡ call.Entered → IsCurrent w.host.session w.host.made w.host.sequence (w.calls j).session (w.calls j).sequence
 all_current w g quiet goes j k t b q =
-    elim ((g.calls j k).turn q goes t b) [ inl a ↦ a | inr m ↦ absurd (unmatched w.host.telling _ _ _ _ nothing m) ]
+    elim ((g.calls j k).turn q goes t b) [ inl a ↦ a | inr m ↦ absurd (unmatched w.host.telling _ _ _ _ (nothing m.0) m.1) ]
   where
-    nothing : tells_some w.host.telling ≡ false
-    nothing = by (tells_some w.host.telling) (nat_lt w.host.told w.host.taken) quiet (below w.host.told w.host.taken (omega arith))
+    nothing : j < w.host.told_to → tells_some w.host.telling ≡ false
+    nothing d = by (tells_some w.host.telling) (nat_lt w.host.told w.host.told_to) quiet (below w.host.told w.host.told_to (omega arith))
       where
         by : (a b : Bool) → (a && b) ≡ false → b ≡ true → a ≡ false
         by true true e f = cc
@@ -46,11 +46,11 @@ module _ (w : HostWorld) (g : IsSoundRest w) (quiet : is_telling w.host ≡ fals
   module _ (h : HostCalls) (M : ℕ) (more : w.host.made < M) where
     turns : (j : ℕ) → j < w.host.submitted → w.host.told ≤ j → j < w.host.taken → (w.calls j).state ≡ call.Entered → (T : Telling)
         → ((w.calls j).session ≡ w.host.session → (w.calls j).sequence ≤ M → w.host.made < (w.calls j).sequence → IsMatchedBy T w.host.session M (w.calls j).session (w.calls j).sequence)
-        → IsCurrent w.host.session M w.host.sequence (w.calls j).session (w.calls j).sequence ⊎ IsMatchedBy T w.host.session M (w.calls j).session (w.calls j).sequence
+        → IsCurrent w.host.session M w.host.sequence (w.calls j).session (w.calls j).sequence ⊎ ((j < w.host.taken) × IsMatchedBy T w.host.session M (w.calls j).session (w.calls j).sequence)
     turns j k t b q T matched =
         let old = all_current w g quiet goes j k t b q in
         elim (by_number (w.calls j).sequence M) [
-          | inl low ↦ inr (matched old.session low old.unmade)
+          | inl low ↦ inr (b, matched old.session low old.unmade)
           | inr high ↦ inl (record { some = old.some; session = old.session; unmade = high; begun = old.begun })
         ]
 
@@ -76,6 +76,7 @@ module _ (w : HostWorld) (g : IsSoundRest w) (quiet : is_telling w.host ≡ fals
           tickets = g.host.tickets;
           stopped = λ s. absurd (goes_yet w.host goes s);
           stops = λ (no : telling.Answers ≡ telling.Stops). cc;
+          due = λ t. omega arith;
         };
         log = record { opened = g.log.opened; there = g.log.there; tells = λ t. told; late = g.log.late; put = g.log.put };
         puts = λ e put. let old = g.puts e put in record { some = old.some; opened = old.opened; number = old.number; tickets = old.tickets };
@@ -90,7 +91,7 @@ module _ (w : HostWorld) (g : IsSoundRest w) (quiet : is_telling w.host ≡ fals
               waits = s.waits;
               again = s.again;
               turn = λ q n t b.
-                  subst (λ X. IsCurrent w.host.session N w.host.sequence (w.calls j).session (w.calls j).sequence ⊎ IsMatchedBy telling.Answers X N (w.calls j).session (w.calls j).sequence) (sym m.own.own)
+                  subst (λ X. IsCurrent w.host.session N w.host.sequence (w.calls j).session (w.calls j).sequence ⊎ ((j < w.host.taken) × IsMatchedBy telling.Answers X N (w.calls j).session (w.calls j).sequence)) (sym m.own.own)
                   (turns w.host N (omega (arith, m.next)) j k t b q telling.Answers (λ is low high. (is, omega (arith, m.next))));
               content = s.content;
               in_filling = s.in_filling;
@@ -111,6 +112,7 @@ module _ (w : HostWorld) (g : IsSoundRest w) (quiet : is_telling w.host ≡ fals
           tickets = g.host.tickets;
           stopped = λ s. absurd (goes_yet w.host goes s);
           stops = λ (no : telling.Losses ≡ telling.Stops). cc;
+          due = λ t. omega arith;
         };
         log = record { opened = g.log.opened; there = g.log.there; tells = λ (no : telling.Losses ≡ telling.Answers). cc; late = g.log.late; put = g.log.put };
         puts = λ e put. let old = g.puts e put in record { some = old.some; opened = old.opened; number = old.number; tickets = old.tickets };
@@ -144,6 +146,7 @@ module _ (w : HostWorld) (g : IsSoundRest w) (quiet : is_telling w.host ≡ fals
           tickets = λ j p (no : false ≡ true). cc;
           stopped = λ s. absurd (goes_yet w.host goes s);
           stops = λ (no : telling.Losses ≡ telling.Stops). cc;
+          due = λ t. omega arith;
         };
         log = record {
           opened = omega arith;
@@ -164,7 +167,7 @@ module _ (w : HostWorld) (g : IsSoundRest w) (quiet : is_telling w.host ≡ fals
               filled = λ p (no : false ≡ true). cc;
               waits = s.waits;
               again = s.again;
-              turn = λ q n t b. let old = all_current w g quiet goes j k t b q in inr (old.session, old.begun);
+              turn = λ q n t b. let old = all_current w g quiet goes j k t b q in inr (b, (old.session, old.begun));
               content = s.content;
               in_filling = λ q (no : false ≡ true). cc;
               answered = s.answered;
@@ -186,6 +189,7 @@ module _ (w : HostWorld) (g : IsSoundRest w) (quiet : is_telling w.host ≡ fals
           tickets = λ j p (no : false ≡ true). cc;
           stopped = λ s. absurd (goes_yet w.host goes s);
           stops = g.host.stops;
+          due = λ t. at_end t;
         };
         log = record { opened = omega arith; there = g.log.there; tells = g.log.tells; late = g.log.late; put = g.log.put };
         puts = λ e put. let old = g.puts e put in
@@ -208,6 +212,17 @@ module _ (w : HostWorld) (g : IsSoundRest w) (quiet : is_telling w.host ≡ fals
         order = λ n i j ti ij jt. absurd (omega arith);
       }
     where
+      at_end : tells_some w.host.telling ≡ true → w.host.told_to ≤ w.host.told
+      at_end t = behind w.host.told w.host.told_to (by (tells_some w.host.telling) (nat_lt w.host.told w.host.told_to) t quiet)
+        where
+          by : (a b : Bool) → a ≡ true → (a && b) ≡ false → b ≡ false
+          by true true t e = cc
+          by true false t e = refl
+          by false b t e = cc
+
+          behind : (a b : ℕ) → nat_lt a b ≡ false → b ≤ a
+          behind a b h = grind (arith, nat_tests)
+
       again : (j : ℕ) → j < w.host.submitted → (w.calls j).state ≡ call.Entered → w.host.told ≤ j → (e : PutEntry) → {p : ℕ} → IsPut e w.puts
           → IsHome (w.calls j).session (w.calls j).sequence (w.calls j).place e p ⊎ IsVoid e w.seen → (w.host.taken ≤ j → IsVoid e w.seen) → IsVoid e w.seen
       again j k q t e put (inr v) late = v
@@ -234,8 +249,9 @@ stops w g =
         sealed = sealed_most w.host w.host.made g.host.sealed;
         lines = λ (no : false ≡ true). cc;
         tickets = λ j p (no : false ≡ true). cc;
-        stopped = λ s. record { tells = refl; not_filling = refl; not_putting = refl; all = refl };
+        stopped = λ s. record { tells = refl; not_filling = refl; not_putting = refl; all = refl; to = refl };
         stops = λ s. refl;
+        due = λ t. omega arith;
       };
       log = record { opened = g.log.opened; there = g.log.there; tells = λ (no : telling.Stops ≡ telling.Answers). cc; late = g.log.late; put = g.log.put };
       puts = λ e put. let old = g.puts e put in

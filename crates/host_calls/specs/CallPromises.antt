@@ -1,8 +1,10 @@
 -- What holds whenever, after whatever has come since a host began.
-use Rattle.std.specs.Prelude.{◌≡◌, ◌⊎◌, ℕ, ◌<◌, ◌≤◌, List, true, false}
+use Rattle.std.specs.Prelude.{◌≡◌, ◌⊎◌, ℕ, ◌<◌, ◌≤◌, List, [], true, false}
 use Rattle.host_calls.specs.declared.call.HostCall.{HostCall}
 use Rattle.host_calls.specs.declared.call.CallState.TheVariants.{Answered}
 use Rattle.host_calls.specs.Calls.{is_over, is_unmade}
+use Rattle.host_calls.specs.declared.step.PutStep.TheVariants.{Rest}
+use Rattle.host_calls.specs.Puts.{IsNextPut}
 use Rattle.host_calls.specs.Reads.{is_telling}
 use Rattle.host_calls.specs.LogRule.{PutEntry, LogItem, StandsAt, IsMadeAt, HasEntry, IsPut}
 use Rattle.host_calls.specs.HostWorld.{HostWorld, CallEvent, begun_world, whole_log, AllMayCome, comes_to}
@@ -65,3 +67,9 @@ abbrev pub LosesNone : HostWorld → Type 0
 LosesNone w =
     is_telling w.host ≡ false → (ticket : ℕ) → ticket < w.host.submitted → is_over (w.calls ticket).state ≡ false
     → IsHeldBy w ticket ⊎ IsComing w ticket
+
+-- and so, where nothing is to be put, and the log was read to its end, each call is answered, or its caller knows that it has no answer
+abbrev pub TellsAllInTheEnd : HostWorld → Type 0
+TellsAllInTheEnd w =
+    is_telling w.host ≡ false → IsNextPut w.host Rest → w.ahead ≡ [] → (ticket : ℕ) → ticket < w.host.submitted
+    → is_over (w.calls ticket).state ≡ true

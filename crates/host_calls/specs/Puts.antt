@@ -25,6 +25,7 @@ begun_host =
       size = 0;
       told_session = 0;
       told_sequence = 0;
+      told_to = 0;
       telling = telling.Nothing;
       is_filling = false;
       is_full = false;

@@ -16,7 +16,7 @@ tells_some telling.Stops = true
 
 -- a call is to be told before the log is read on
 abbrev pub is_telling : HostCalls → Bool
-is_telling h = tells_some h.telling && nat_lt h.told h.taken
+is_telling h = tells_some h.telling && nat_lt h.told h.told_to
 
 -- the session is the one of this host
 pub record IsOwnSession (session : ℕ) (h : HostCalls) : Type 0 where
@@ -59,6 +59,7 @@ told_answers session sequence h = record h {
   telling = telling.Answers;
   told_session = session;
   told_sequence = sequence;
+  told_to = h.taken;
   is_putting = still_putting sequence h;
 }
 
@@ -103,6 +104,7 @@ lost_to last h = record h {
   telling = telling.Losses;
   told_session = h.session;
   told_sequence = last;
+  told_to = h.taken;
   is_putting = still_putting last h;
 }
 
@@ -111,6 +113,7 @@ lost_session h = record h {
   telling = telling.Losses;
   told_session = h.session;
   told_sequence = h.sequence;
+  told_to = h.taken;
   session = 0;
   sequence = 0;
   made = 0;

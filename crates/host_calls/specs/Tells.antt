@@ -1,5 +1,5 @@
 -- What the calls are told, one after the other.
-use Rattle.std.specs.Prelude.{◌≡◌, ◌+◌, ◌≤◌, true, false}
+use Rattle.std.specs.Prelude.{◌≡◌, ◌+◌, ◌^◌, ◌<◌, ◌≤◌, true, false}
 use Rattle.host_calls.specs.declared.call.HostCall.{HostCall}
 use Rattle.host_calls.specs.declared.call.CallState.{CallState}
 use Rattle.host_calls.specs.declared.call.CallState.TheVariants as call
@@ -14,6 +14,7 @@ use Rattle.host_calls.specs.Reads.{is_telling}
 -- the call is the one that is told next
 pub record IsNextTold (h : HostCalls) (c : HostCall) : Type 0 where
   pub telling : is_telling h ≡ true
+  pub number : h.told + 1 < 2 ^ 64
   pub ticket : c.ticket ≡ h.told
 
 -- what is told is for this call: an answer for those of the entry alone, a loss for those of the session up to the number
@@ -82,5 +83,6 @@ stopped_of h = record h {
   is_full = false;
   is_putting = false;
   taken = h.submitted;
+  told_to = h.submitted;
   telling = telling.Stops;
 }

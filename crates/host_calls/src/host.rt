@@ -32,9 +32,10 @@ pub struct HostCalls {
     /// The lines and the bytes of the entry that is made up.
     pub lines: u64,
     pub size: u64,
-    /// The session and the number up to which calls are being told.
+    /// The session and the number up to which calls are being told, and the call before which that ends.
     pub told_session: u64,
     pub told_sequence: u64,
+    pub told_to: u64,
     pub telling: Telling,
     /// The entry that was begun last is being made up.
     pub is_filling: bool,
@@ -62,6 +63,7 @@ impl HostCalls {
             size: 0,
             told_session: 0,
             told_sequence: 0,
+            told_to: 0,
             telling: Telling::Nothing,
             is_filling: false,
             is_full: false,
@@ -250,7 +252,7 @@ impl HostCalls {
             Telling::Nothing => false,
             Telling::Answers | Telling::Losses | Telling::Stops => true,
         };
-        has_some && self.told < self.taken
+        has_some && self.told < self.told_to
     }
 
     /// Whether it is the session of this host.
@@ -323,6 +325,7 @@ impl HostCalls {
         self.telling = Telling::Answers;
         self.told_session = session;
         self.told_sequence = sequence;
+        self.told_to = self.taken;
         if sequence == self.sequence {
             self.is_putting = false;
         }
@@ -375,6 +378,7 @@ impl HostCalls {
         self.telling = Telling::Losses;
         self.told_session = self.session;
         self.told_sequence = last;
+        self.told_to = self.taken;
         if last == self.sequence {
             self.is_putting = false;
         }
@@ -387,6 +391,7 @@ impl HostCalls {
         self.telling = Telling::Losses;
         self.told_session = self.session;
         self.told_sequence = self.sequence;
+        self.told_to = self.taken;
         self.session = 0;
         self.sequence = 0;
         self.made = 0;
@@ -399,7 +404,7 @@ impl HostCalls {
     fn is_next_told(&self, call: &HostCall) -> bool
         ensures { IsTrue result ↔ IsNextTold self.now call.now }
     {
-        self.is_telling() && call.ticket == self.told
+        self.is_telling() && self.told < u64::MAX && call.ticket == self.told
     }
 
     /// Whether what is told is for this call.
@@ -475,6 +480,7 @@ impl HostCalls {
         self.is_full = false;
         self.is_putting = false;
         self.taken = self.submitted;
+        self.told_to = self.submitted;
         self.telling = Telling::Stops;
     }
 }

@@ -1,6 +1,6 @@
 //! What holds of each run of the machine, whatever is late, lost or doubled.
 ghost use Rattle.host_calls.specs.{HostWorld.{HostWorld}, CallPromises.{IsComeBy, IsMadeOnce, AnswersAreTheLogs}};
-ghost use Rattle.host_calls.specs.CallPromises.{PutsNoneThatIsUnmade, TellsOnce, TellsWhatWasRead, LosesNone};
+ghost use Rattle.host_calls.specs.CallPromises.{PutsNoneThatIsUnmade, TellsOnce, TellsWhatWasRead, LosesNone, TellsAllInTheEnd};
 ghost use Rattle.host_calls.specs.CallNumbers.{NumbersTellHosts, NumbersTellCalls};
 
 /// The promises to whoever submits a call, in each state that a host can come to; the call does nothing.
@@ -11,6 +11,7 @@ pub fn keeps_its_promises()
     ensures tells_once { (w : HostWorld) → IsComeBy w → TellsOnce w }
     ensures tells_what_was_read { (w : HostWorld) → IsComeBy w → TellsWhatWasRead w }
     ensures loses_none { (w : HostWorld) → IsComeBy w → LosesNone w }
+    ensures tells_all_in_the_end { (w : HostWorld) → IsComeBy w → TellsAllInTheEnd w }
 {}
 
 /// C may keep the numbers of hosts and of calls: they tell each, and nothing is lost.
