@@ -73,3 +73,7 @@ abbrev pub TellsAllInTheEnd : HostWorld → Type 0
 TellsAllInTheEnd w =
     is_telling w.host ≡ false → IsNextPut w.host Rest → w.ahead ≡ [] → (ticket : ℕ) → ticket < w.host.submitted
     → is_over (w.calls ticket).state ≡ true
+
+-- a run in which a call is answered: the promises are of something
+abbrev pub SomeCallIsAnswered : Type 0
+SomeCallIsAnswered = (w : HostWorld) × IsComeBy w × (0 < w.host.submitted) × ((w.calls 0).state ≡ Answered)

@@ -1,6 +1,7 @@
 //! What holds of each run of the machine, whatever is late, lost or doubled.
 ghost use Rattle.host_calls.specs.{HostWorld.{HostWorld}, CallPromises.{IsComeBy, IsMadeOnce, AnswersAreTheLogs}};
-ghost use Rattle.host_calls.specs.CallPromises.{PutsNoneThatIsUnmade, TellsOnce, TellsWhatWasRead, LosesNone, TellsAllInTheEnd};
+ghost use Rattle.host_calls.specs.CallPromises.{PutsNoneThatIsUnmade, TellsOnce, TellsWhatWasRead, LosesNone};
+ghost use Rattle.host_calls.specs.CallPromises.{TellsAllInTheEnd, SomeCallIsAnswered};
 ghost use Rattle.host_calls.specs.CallNumbers.{NumbersTellHosts, NumbersTellCalls};
 
 /// The promises to whoever submits a call, in each state that a host can come to; the call does nothing.
@@ -18,4 +19,9 @@ pub fn keeps_its_promises()
 pub fn numbers_tell_all()
     ensures hosts { NumbersTellHosts }
     ensures calls { NumbersTellCalls }
+{}
+
+/// There is a run in which a call is answered.
+pub fn answers_calls()
+    ensures { SomeCallIsAnswered }
 {}
