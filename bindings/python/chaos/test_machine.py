@@ -10,7 +10,7 @@ import re
 import shutil
 import tempfile
 import unittest
-from collections.abc import Sequence
+from collections.abc import Callable, Sequence
 from pathlib import Path
 from typing import NamedTuple
 from unittest import mock
@@ -197,7 +197,7 @@ class Game:
         parts = [part for it in self.all for part in it.submitted.parts]
         return parts[ticket].lines
 
-    def try_entry(self, data: bytes, well: bool, answer: object) -> None:
+    def try_entry(self, data: bytes, well: bool, answer: Callable[[int], object]) -> None:
         """Puts an entry by one try."""
         chance = 1.0 if well else self.random.random()
         if chance <= 0.55:
@@ -211,7 +211,7 @@ class Game:
         if self.random.random() < 0.1:
             self.log.land(data, 1)
         if chance > 0.55:
-            answer(position)  # type: ignore[operator]
+            answer(position)
 
     def come_late(self) -> bool:
         """An entry that was tried comes; it may come again."""
@@ -358,11 +358,17 @@ class Beside(unittest.TestCase):
     """The machine and the host in Python."""
 
     def setUp(self) -> None:
-        folder = self.enterContext(tempfile.TemporaryDirectory())
-        self.library = load_machine(Path(folder))
-        self.enterContext(mock.patch.object(submitted_module, "PART_BYTES", PART_BYTES))
-        self.enterContext(mock.patch.object(Part, "size", property(size_of)))
-        self.enterContext(mock.patch.object(replica_module, "MOST_BYTES", MOST_BYTES))
+        folder = tempfile.TemporaryDirectory()
+        self.addCleanup(folder.cleanup)
+        self.library = load_machine(Path(folder.name))
+        for where, name, value in (
+            (submitted_module, "PART_BYTES", PART_BYTES),
+            (replica_module, "MOST_BYTES", MOST_BYTES),
+            (Part, "size", property(size_of)),
+        ):
+            patch = mock.patch.object(where, name, value)
+            patch.start()
+            self.addCleanup(patch.stop)
 
     def test_they_decide_the_same(self) -> None:
         came: set[str] = set()
