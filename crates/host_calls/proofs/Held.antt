@@ -7,14 +7,14 @@ use Rattle.host_calls.specs.declared.call.HostCall.{HostCall}
 use Rattle.host_calls.specs.declared.host.HostCalls.{HostCalls}
 use Rattle.host_calls.specs.LogRule.{PutEntry, LogItem, HasEntry, IsPut, is_open_in, last_made}
 use Rattle.host_calls.specs.LogRule.LogItem.{Opens, Ends, Holds, Other}
-use Rattle.host_calls.specs.HostWorld.{HostWorld, HasNumber, whole_log}
+use Rattle.host_calls.specs.HostWorld.{HostWorld, HasEntryNumbered, whole_log}
 use Rattle.host_calls.proofs.Logs.{by_test, same, both, last_more, has_back, has_split}
 use Rattle.host_calls.proofs.SoundCalls.{AllLate, IsCurrent}
 use Rattle.host_calls.proofs.Reading.{late_has}
 
 -- an entry with a number comes behind one with the number before
 abbrev pub IsFollowing : PutEntry → List LogItem → Type 0
-IsFollowing e log = (n : ℕ) → e.sequence ≡ n + 1 → 0 < n → HasNumber e.session n log
+IsFollowing e log = (n : ℕ) → e.sequence ≡ n + 1 → 0 < n → HasEntryNumbered e.session n log
 
 abbrev pub AllFollowing : List LogItem → Type 0
 AllFollowing [] = Unit {0}
@@ -87,7 +87,7 @@ all_made S (Holds o ∷ log) e late chain now (inl h) is =
 
 -- the call with the session and the number is in the entry that is made up or put, or in one that was not read
 abbrev pub IsHeldIn : HostCalls → List LogItem → ℕ → ℕ → Type 0
-IsHeldIn h ahead s n = (((h.is_filling ≡ true) ⊎ (h.is_putting ≡ true)) × (n ≡ h.sequence)) ⊎ HasNumber s n ahead
+IsHeldIn h ahead s n = (((h.is_filling ≡ true) ⊎ (h.is_putting ≡ true)) × (n ≡ h.sequence)) ⊎ HasEntryNumbered s n ahead
 
 abbrev pub AreHeld : HostCalls → (ℕ → HostCall) → List LogItem → Type 0
 AreHeld h calls ahead =
@@ -96,11 +96,11 @@ AreHeld h calls ahead =
 
 -- the number before the one that is made up is in the log; and the last one, where it is not put any more
 abbrev pub IsBegunBehind : HostCalls → List LogItem → Type 0
-IsBegunBehind h whole = h.is_filling ≡ true → (n : ℕ) → h.sequence ≡ n + 1 → 0 < n → HasNumber h.session n whole
+IsBegunBehind h whole = h.is_filling ≡ true → (n : ℕ) → h.sequence ≡ n + 1 → 0 < n → HasEntryNumbered h.session n whole
 
 abbrev pub IsThereIfPut : HostCalls → List LogItem → Type 0
 IsThereIfPut h whole =
-    h.is_stopped ≡ false → h.is_filling ≡ false → h.is_putting ≡ false → 0 < h.session → 0 < h.sequence → HasNumber h.session h.sequence whole
+    h.is_stopped ≡ false → h.is_filling ≡ false → h.is_putting ≡ false → 0 < h.session → 0 < h.sequence → HasEntryNumbered h.session h.sequence whole
 
 -- what was read of the session that is open was made
 abbrev pub IsReadUp : HostCalls → List LogItem → Type 0
@@ -114,10 +114,10 @@ pub record IsKeptWorld (w : HostWorld) : Type 0 where
   pub read : IsReadUp w.host w.seen
   pub held : AreHeld w.host w.calls w.ahead
 
-pub number_back : (newer log : List LogItem) (s n : ℕ) → HasNumber s n log → HasNumber s n (newer ++ log)
+pub number_back : (newer log : List LogItem) (s n : ℕ) → HasEntryNumbered s n log → HasEntryNumbered s n (newer ++ log)
 number_back newer log s n h = (h.0, has_back newer log h.0 h.1, h.2, h.3)
 
-pub number_split : (newer log : List LogItem) (s n : ℕ) → HasNumber s n (newer ++ log) → HasNumber s n newer ⊎ HasNumber s n log
+pub number_split : (newer log : List LogItem) (s n : ℕ) → HasEntryNumbered s n (newer ++ log) → HasEntryNumbered s n newer ⊎ HasEntryNumbered s n log
 number_split newer log s n h = elim (has_split newer log h.0 h.1) [ inl a ↦ inl (h.0, a, h.2, h.3) | inr b ↦ inr (h.0, b, h.2, h.3) ]
 
 -- calls that are in entries as they were

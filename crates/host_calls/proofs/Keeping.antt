@@ -22,7 +22,7 @@ use Rattle.host_calls.specs.Reads.{is_telling, still_putting, IsSealed, SaysNoth
 use Rattle.host_calls.specs.Tells.{told_as}
 use Rattle.host_calls.specs.LogRule.{PutEntry, LogItem, HasEntry, IsPut, is_open_in, last_made, outcome_in}
 use Rattle.host_calls.specs.LogRule.LogItem.{Opens, Ends, Holds, Other}
-use Rattle.host_calls.specs.HostWorld.{HostWorld, CallEvent, MayCome, HasNumber, IsOthers, IsLoadingOf, comes, whole_log, with_call, sealed_entry}
+use Rattle.host_calls.specs.HostWorld.{HostWorld, CallEvent, MayCome, HasEntryNumbered, IsOthers, IsLoadingOf, comes, whole_log, with_call, sealed_entry}
 use Rattle.host_calls.specs.HostWorld.CallEvent.{Submits, Takes, Cancels, Gives_up, Tells, Seals, Lands, Comes, Answers_open, Answers_put, Reads, Passes, Reads_again, Loads, Loads_again, Stops}
 use Rattle.host_calls.proofs.Logs.{by_test, same, made_is, last_has, has_back, has_front, repeated_is, gap_is}
 use Rattle.host_calls.proofs.SoundCalls.{IsCurrent, IsSoundWorld, call_case}
@@ -109,7 +109,7 @@ takes w taken.Begins s g m =
       chain = g.chain;
       puts = g.puts;
       begun = λ f n is some.
-          subst (λ k. HasNumber w.host.session k (whole_log w)) (same n w.host.sequence is)
+          subst (λ k. HasEntryNumbered w.host.session k (whole_log w)) (same n w.host.sequence is)
           (g.there m.0.next.goes m.1 m.0.next.not_putting m.0.next.session (omega arith));
       there = λ n (no : true ≡ false). cc;
       read = g.read;
@@ -219,7 +219,7 @@ opens w session s g closed later =
       held = λ j e n t b cur. absurd (omega (arith, cur.session, (s.rest.calls j (omega (arith, b, s.rest.host.taken))).opened));
     }
 
-acknowledges : (w : HostWorld) → IsKeptWorld w → HasNumber w.host.session w.host.sequence (whole_log w) → IsKeptWorld (comes w Answers_put)
+acknowledges : (w : HostWorld) → IsKeptWorld w → HasEntryNumbered w.host.session w.host.sequence (whole_log w) → IsKeptWorld (comes w Answers_put)
 acknowledges w g has =
     record {
       chain = g.chain;
@@ -234,7 +234,7 @@ acknowledges w g has =
     }
   where
     unread : (j : ℕ) → w.host.is_stopped ≡ false → IsCurrent w.host.session w.host.made w.host.sequence (w.calls j).session (w.calls j).sequence
-        → (w.calls j).sequence ≡ w.host.sequence → HasNumber (w.calls j).session (w.calls j).sequence w.ahead
+        → (w.calls j).sequence ≡ w.host.sequence → HasEntryNumbered (w.calls j).session (w.calls j).sequence w.ahead
     unread j n cur is = elim (number_split w.ahead w.seen w.host.session w.host.sequence has) [
       | inl it ↦ (it.0, it.1, it.2 ∙ sym cur.session, it.3 ∙ sym is)
       | inr it ↦ absurd (omega (arith, g.read n cur.some it.0 it.1 it.2, it.3, is, cur.unmade))
@@ -271,10 +271,10 @@ module _ (w : HostWorld) (g : IsKeptWorld w) (rest more : List LogItem) (ahead :
 
   -- an entry that was not read is not read now, if what was read was made
   unread : (M : ℕ) → ((e : PutEntry) → HasEntry e (more ++ w.seen) → e.session ≡ w.host.session → e.sequence ≤ M) → (j : ℕ)
-      → IsCurrent w.host.session M w.host.sequence (w.calls j).session (w.calls j).sequence → HasNumber (w.calls j).session (w.calls j).sequence w.ahead
-      → HasNumber (w.calls j).session (w.calls j).sequence rest
+      → IsCurrent w.host.session M w.host.sequence (w.calls j).session (w.calls j).sequence → HasEntryNumbered (w.calls j).session (w.calls j).sequence w.ahead
+      → HasEntryNumbered (w.calls j).session (w.calls j).sequence rest
   unread M read j cur there =
-      elim (number_split rest more (w.calls j).session (w.calls j).sequence (subst (λ l. HasNumber (w.calls j).session (w.calls j).sequence l) ahead there)) [
+      elim (number_split rest more (w.calls j).session (w.calls j).sequence (subst (λ l. HasEntryNumbered (w.calls j).session (w.calls j).sequence l) ahead there)) [
         | inl it ↦ it
         | inr it ↦
             let has = has_front more w.seen it.0 it.1 in
@@ -297,7 +297,7 @@ module _ (w : HostWorld) (g : IsKeptWorld w) (rest more : List LogItem) (ahead :
       }
 
   -- the host goes on to a number that was made there, up to which it has read
-  goes_to : (T : Telling) (S N : ℕ) → w.host.made < N → HasNumber w.host.session N (more ++ w.seen)
+  goes_to : (T : Telling) (S N : ℕ) → w.host.made < N → HasEntryNumbered w.host.session N (more ++ w.seen)
       → ((e : PutEntry) → HasEntry e (more ++ w.seen) → e.session ≡ w.host.session → e.sequence ≤ N)
       → IsKeptWorld (record w {
         host = record w.host { made = N; telling = T; told_session = S; told_sequence = N; told_to = w.host.taken; is_putting = still_putting N w.host };
@@ -311,7 +311,7 @@ module _ (w : HostWorld) (g : IsKeptWorld w) (rest more : List LogItem) (ahead :
         begun = begun_on;
         there = λ n f p some one.
             by_test (eqb N w.host.sequence)
-            (λ is. number_back rest (more ++ w.seen) w.host.session w.host.sequence (subst (λ k. HasNumber w.host.session k (more ++ w.seen)) (same N w.host.sequence is) has))
+            (λ is. number_back rest (more ++ w.seen) w.host.session w.host.sequence (subst (λ k. HasEntryNumbered w.host.session k (more ++ w.seen)) (same N w.host.sequence is) has))
             (λ other. there_on n f (subst (λ t. (if t then false else w.host.is_putting) ≡ false) other p) some one);
         read = λ n some. read;
         held = λ j e n t b cur.

@@ -85,8 +85,8 @@ IsOthers (Holds entry) = ⊥
 IsOthers Other = Unit {0}
 
 -- the log has an entry of the session with the number
-abbrev pub HasNumber : ℕ → ℕ → List LogItem → Type 0
-HasNumber session sequence log =
+abbrev pub HasEntryNumbered : ℕ → ℕ → List LogItem → Type 0
+HasEntryNumbered session sequence log =
     (e : PutEntry) × HasEntry e log × (e.session ≡ session) × (e.sequence ≡ sequence)
 
 -- what a snapshot of these items says to the host
@@ -105,7 +105,7 @@ MayCome w Seals = MaySeal w.host
 MayCome w (Lands entry) = IsPut entry w.puts
 MayCome w (Comes item) = IsOthers item
 MayCome w (Answers_open session) = MayOpen session w.host × (w.opened < session) × (session ≤ length (whole_log w))
-MayCome w Answers_put = (w.host.is_putting ≡ true) × HasNumber w.host.session w.host.sequence (whole_log w)
+MayCome w Answers_put = (w.host.is_putting ≡ true) × HasEntryNumbered w.host.session w.host.sequence (whole_log w)
 MayCome w (Reads rest entry what) =
     (w.ahead ≡ rest ++ Holds entry ∷ []) × (is_telling w.host ≡ false)
     × IsReading (outcome_in entry w.seen) entry.session entry.sequence w.host what
