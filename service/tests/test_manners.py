@@ -241,7 +241,7 @@ print(listener.get_message(timeout=5)["type"])
 it.execute_command("PIDTAB.EXIT", 3, 7)
 print(listener.get_message(timeout=5)["data"])
 """
-        wanted = "[2, 2] 1 True\nESRCH no-caller\n[[3, 3], 1]\nNone pidtabd\nsubscribe\nb'3 7 space 0 control 0'\n"
+        wanted = "[2, 2] 1 True\nESRCH no-caller\n[[3, 3], 1]\nNone pidtabd\nsubscribe\nb'3 7 space 0 control 0 at 2'\n"
         self.assertEqual(self.script(python, "-c", code, self.one.socket), wanted)
 
     def test_redis_cli(self):

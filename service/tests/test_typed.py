@@ -312,6 +312,13 @@ class Misused(Case):
         for _ in range(50):
             self.assertEqual(self.said(pidtab.NotServed, pidtab.connect, one.socket), "ERR max number of clients reached")
 
+    def test_who_is_closed_is_told_why(self):
+        """What the service has said before it closed the connection is what the next request is told."""
+        with pidtab.connect(self.peer(b"*2\r\n$7\r\npid-max\r\n$3\r\n400\r\n-ERR closed for a reason\r\n")) as other:
+            time.sleep(0.2)
+            self.assertEqual(self.said(pidtab.NotServed, other.fork, 1), "ERR closed for a reason")
+            self.assertRaises(pidtab.TableClosed, other.fork, 1)
+
     def is_first(self, path):
         """Whether it is the only connection, which it stays."""
         with suppress(pidtab.NotServed):
