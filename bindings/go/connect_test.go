@@ -36,7 +36,8 @@ func serve(t *testing.T) (string, *exec.Cmd) {
 		command.Wait()
 	})
 	for end := time.Now().Add(10 * time.Second); time.Now().Before(end); time.Sleep(10 * time.Millisecond) {
-		if _, err := os.Stat(socket); err == nil {
+		if it, err := net.Dial("unix", socket); err == nil {
+			it.Close()
 			return "unix:" + socket, command
 		}
 	}

@@ -194,6 +194,10 @@ pub enum Error {
     Ended,
     /// A label is printable text of one line, and this one is not.
     BadLabel,
+    /// The service does not do that for this connection: [`Connected::why`](crate::Connected::why) has its words. No call was made.
+    NotServed,
+    /// The connection to the service is closed: [`Connected::why`](crate::Connected::why) says why. The last call was made or was not.
+    Disconnected,
 }
 
 impl Error {
@@ -229,7 +233,7 @@ impl Error {
         }
     }
 
-    /// The number of Linux's errno, as [`io::Error::raw_os_error`] would have it: of a refusal the one that the kernel would give.
+    /// The number of Linux's errno, as [`io::Error::raw_os_error`] would have it: of a refusal the one that the kernel would give. `NotServed` has none.
     ///
     /// ```
     /// use pidtab::{Calls, Table};
@@ -251,7 +255,8 @@ impl Error {
             Error::NotKept => raw::NOT_KEPT,
             Error::Again => raw::AGAIN,
             Error::Differs => raw::DIFFERS,
-            Error::Unsaved | Error::Ended => raw::ENDED,
+            Error::Unsaved | Error::Ended | Error::Disconnected => raw::ENDED,
+            Error::NotServed => return None,
         };
         Some(status as i32)
     }
@@ -307,6 +312,8 @@ impl fmt::Display for Error {
             }
             Error::Ended => to.write_str("the waits were ended"),
             Error::BadLabel => to.write_str("a label is printable text of one line"),
+            Error::NotServed => to.write_str("the service does not do that for this connection"),
+            Error::Disconnected => to.write_str("the connection to the service is closed"),
         }
     }
 }
@@ -327,7 +334,8 @@ impl From<Error> for io::Error {
             Error::Again => kind_of(raw::AGAIN as i32),
             Error::Differs => io::ErrorKind::InvalidData,
             Error::Unsaved | Error::Ended => io::ErrorKind::BrokenPipe,
-            Error::Spent => io::ErrorKind::Other,
+            Error::Disconnected => io::ErrorKind::NotConnected,
+            Error::Spent | Error::NotServed => io::ErrorKind::Other,
         };
         io::Error::new(kind, error)
     }
@@ -608,6 +616,7 @@ mod tests {
             (Error::Unsaved, 32),
             (Error::Ended, 32),
             (Error::BadLabel, 22),
+            (Error::Disconnected, 32),
         ] {
             assert_eq!(error.raw_os_error(), Some(errno), "{error:?}");
         }
