@@ -487,7 +487,7 @@ impl Service {
         self.accounts.gone(conn.user, conn.channels.len());
         self.figures.followers -= usize::from(conn.follower.is_some());
         if let Some(held) = &conn.lease {
-            self.engine.leases.let_go(held.number, self.now);
+            self.engine.noted.leases.let_go(held.number, self.now);
         }
     }
 
@@ -534,7 +534,7 @@ impl Service {
             return self.turn_away(&socket, "-ERR max number of clients reached\r\n");
         }
         let peer = getsockopt(socket.as_raw_fd(), PeerCredentials).map(|it| (it.uid(), it.gid()));
-        let known = peer.ok().and_then(|it| Some((it, self.options.allowed.rights_of(it.0, it.1)?)));
+        let known = peer.ok().and_then(|it| Some((it, self.allowed_to(it.0, it.1)?)));
         let Some(((user, group), rights)) = known else {
             return self.turn_away(&socket, "-NOPERM this user may not connect\r\n");
         };
@@ -558,18 +558,27 @@ impl Service {
 
     /// What a user may do who need not be connected.
     fn rights_of(&self, user: u32) -> Rights {
-        let allowed = &self.options.allowed;
-        if allowed.is_open() {
+        if self.options.allowed.is_open() {
             return Rights::All;
         }
         let group = group_of_user(user).unwrap_or(u32::MAX);
-        allowed.rights_of(user, group).unwrap_or(Rights::Asks)
+        self.allowed_to(user, group).unwrap_or(Rights::Asks)
     }
 
-    /// A cgroup that is not there would be that of whoever makes the call with its number.
+    /// What a user of that group may do now; none: he may not connect.
+    fn allowed_to(&self, user: u32, group: u32) -> Option<Rights> {
+        let (names, book) = (&self.engine.noted.names, &self.engine.book);
+        self.options.allowed.rights_of(user, group, |path| names.find(path, book))
+    }
+
+    /// An id that no cgroup has would be that of whoever makes the call with its number. A path means a cgroup once one has it, which is said.
     fn refusal_of(&self, allowed: &Allowed) -> Option<Fault> {
-        let missing = allowed.controls().find(|it| !self.engine.book.has_control(*it))?;
-        Some(format!("below={missing}: there is no such cgroup"))
+        let (names, book) = (&self.engine.noted.names, &self.engine.book);
+        for path in allowed.paths().filter(|it| names.find(it.1, book).is_none()) {
+            eprintln!("pidtabd: {}: there is no cgroup {} yet, and who is below it makes no call", path.0, path.1);
+        }
+        let (place, id) = allowed.controls().find(|it| !book.has_control(it.1))?;
+        Some(format!("{place}: there is no cgroup {id}"))
     }
 
     /// SIGHUP: the rights as their file has them now, also of who is connected. One that is wrong changes nothing.
@@ -589,10 +598,13 @@ impl Service {
         }
     }
 
-    fn give_rights(&mut self) {
+    /// Those that they have now, to all who are connected.
+    pub fn give_rights(&mut self) {
         for token in self.clients.tokens() {
+            let Some((user, group)) = self.clients.get(token).map(|it| (it.user, it.group)) else { continue };
+            let rights = self.allowed_to(user, group);
             let Some(conn) = self.clients.get(token) else { continue };
-            match self.options.allowed.rights_of(conn.user, conn.group) {
+            match rights {
                 Some(rights) => conn.rights = rights,
                 None => self.end(token),
             }
@@ -672,7 +684,7 @@ impl Service {
         if self.leader.is_some() || self.is_stuck() {
             return;
         }
-        for (number, user, tasks) in self.engine.leases.over(self.now) {
+        for (number, user, tasks) in self.engine.noted.leases.over(self.now) {
             let rights = self.rights_of(user);
             tasks.iter().for_each(|it| self.kill(rights, *it));
             if self.options.reaps {
