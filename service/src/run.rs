@@ -132,8 +132,12 @@ impl Service {
         }
     }
 
-    /// Why the client may not make the call now. One that may take long is counted as such.
+    /// Why the client may not make the call now. One that may take long is counted as such, also if it is refused: whether he may end an init is asked of
+    /// each task that would fall with it.
     fn refusal_of_call(&mut self, conn: &Conn, call: Call) -> Option<String> {
+        if matches!(call, Call::Exit { .. }) {
+            self.accounts.count(REQUESTS_AT_ONCE);
+        }
         let why = self.refusal(conn.rights, Some(call));
         if why.is_some() {
             return why;
@@ -142,9 +146,6 @@ impl Service {
         if is_fork && conn.lease.as_ref().is_some_and(|it| !self.engine.noted.leases.is_there(it.number)) {
             let why = "-NOLEASE the lease of this connection was released: say LEASE, or RELEASE and its name";
             return Some(why.to_owned());
-        }
-        if matches!(call, Call::Exit { .. }) {
-            self.accounts.count(REQUESTS_AT_ONCE);
         }
         None
     }

@@ -753,6 +753,12 @@ class Full(Case):
         self.assertIn(other.answer(), (answered + 1, answered + 2))
         self.assertIn("waiting_calls:0\r\n", client.say("INFO"))
         self.assertTrue(one.said().endswith("pidtabd: the disk takes what has waited, and answers go out\n"), one.said())
+        # The file has what was written and no more: so it is closed, and a snapshot is made of it.
+        client.say("BGSAVE")
+        end = time.monotonic() + 20
+        while f"snapshot:{answered + 2}\r" not in client.say("INFO"):
+            self.assertLess(time.monotonic(), end, one.said())
+            time.sleep(0.02)
         one.kill()
         self.assertEqual(one.start().client().say("POSITION"), answered + 2)
 
