@@ -1,6 +1,7 @@
 package pidtab
 
 import (
+	"bufio"
 	"context"
 	"errors"
 	"fmt"
@@ -308,6 +309,16 @@ func TestAPeerThatIsNoService(t *testing.T) {
 	}
 	if _, err := it.Fork(1, NoNewNamespace); !errors.Is(err, ErrClosed) {
 		t.Fatal(err)
+	}
+}
+
+// TestHowDeepAnswersAre reads arrays in arrays, which end after eight.
+func TestHowDeepAnswersAre(t *testing.T) {
+	for depth, isRead := range map[int]bool{1: true, deepestAnswer: true, deepestAnswer + 1: false} {
+		own := connection{reader: bufio.NewReader(strings.NewReader(strings.Repeat("*1\r\n", depth) + ":1\r\n"))}
+		if _, err := own.read(0); (err == nil) != isRead {
+			t.Fatal(depth, err)
+		}
 	}
 }
 

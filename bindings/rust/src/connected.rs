@@ -454,6 +454,16 @@ mod tests {
         assert_eq!(table.fork(1, false), Err(Error::Disconnected));
     }
 
+    /// Arrays in arrays end after eight.
+    #[test]
+    fn how_deep_answers_are() {
+        for (depth, is_read) in [(1, true), (8, true), (9, false)] {
+            let text = "*1\r\n".repeat(depth) + ":1\r\n";
+            let read = read_answer(&mut text.as_bytes(), 0);
+            assert_eq!(read.is_ok(), is_read, "{depth}");
+        }
+    }
+
     /// What a service has said before it closed the connection is what the next request is told.
     #[test]
     fn who_is_turned_away_is_told_why() {
