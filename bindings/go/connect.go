@@ -101,6 +101,22 @@ func (it *Connected) Position() (uint64, error) {
 	return position, nil
 }
 
+// Lease has what this connection forks from now on end so long after the last connection with the lease has gone: 0 to a day, in whole ms. Its name has
+// 1 to 64 visible characters of ASCII. A NotServed for another name or time.
+func (it *Connected) Lease(name string, ttl time.Duration) error {
+	_, err := it.ask("PIDTAB.LEASE", name, strconv.FormatInt(ttl.Milliseconds(), 10))
+	return err
+}
+
+// Release forgets the lease, whose tasks stay. Whether there was one.
+func (it *Connected) Release(name string) (bool, error) {
+	answer, err := it.ask("PIDTAB.RELEASE", name)
+	if err == nil && answer.kind != ':' {
+		return false, it.noService(answer.text)
+	}
+	return answer.text == "1", err
+}
+
 func (it *Connected) make(call Call) (Reply, error) {
 	line, err := call.Line()
 	if err != nil {

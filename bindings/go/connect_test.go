@@ -106,6 +106,44 @@ func TestNotServed(t *testing.T) {
 	}
 }
 
+// TestLeases binds a fork to a lease, and gives names and times that are none.
+func TestLeases(t *testing.T) {
+	address, _ := serve(t)
+	it, other := connect(t, address), connect(t, address)
+	if err := it.Lease("rig", 0); err != nil {
+		t.Fatal(err)
+	}
+	if child, err := it.Fork(1, NoNewNamespace); err != nil || child.Root != 2 {
+		t.Fatal(child, err)
+	}
+	for _, wrong := range []error{it.Lease("a b", 0), it.Lease("", 0), it.Lease("a\r\nSHUTDOWN", 0), it.Lease("rig", -time.Second), it.Lease("rig", 25*time.Hour)} {
+		var told *NotServed
+		if !errors.As(wrong, &told) || told.Said != "ERR syntax: LEASE NAME TTL" {
+			t.Fatal(wrong)
+		}
+	}
+	it.Close()
+	for end := time.Now().Add(10 * time.Second); ; time.Sleep(10 * time.Millisecond) {
+		reaped, err := other.Wait(1, Any())
+		if err == nil && reaped != nil && *reaped == (Reaped{Child: 2, Status: 137}) {
+			break
+		}
+		if err != nil || time.Now().After(end) {
+			t.Fatal(reaped, err)
+		}
+	}
+	first, err := other.Release("rig")
+	if second, fault := other.Release("rig"); first || second || err != nil || fault != nil {
+		t.Fatal(first, second, err, fault)
+	}
+	if err := other.Lease("rig", time.Minute); err != nil {
+		t.Fatal(err)
+	}
+	if was, err := other.Release("rig"); !was || err != nil {
+		t.Fatal(was, err)
+	}
+}
+
 // connect connects to a service, which is there.
 func connect(t *testing.T, address string) *Connected {
 	t.Helper()
