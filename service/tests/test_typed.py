@@ -269,9 +269,23 @@ class Misused(Case):
     def interrupt(self, *_):
         raise KeyboardInterrupt
 
+    def test_an_interrupt_amid_an_interrupt(self):
+        """A second one comes before the first has closed the connection: no answer is misread after that either."""
+        self.table.answers(["fork 1"] * 30)
+        self.table.close = lambda: self.interrupt()
+        before = signal.signal(signal.SIGALRM, self.interrupt)
+        self.addCleanup(signal.signal, signal.SIGALRM, before)
+        os.kill(self.one.process.pid, signal.SIGSTOP)
+        signal.setitimer(signal.ITIMER_REAL, 0.2)
+        self.assertRaises(KeyboardInterrupt, self.table.getpid, 7)
+        os.kill(self.one.process.pid, signal.SIGCONT)
+        del self.table.close
+        self.assertRaises(RuntimeError, self.table.getpid, 8)
+        self.assertRaises(pidtab.TableClosed, self.table.getpid, 9)
+
     def test_a_handler_that_asks_amid_a_call(self):
         """It is told so, and the connection is closed; it may close it too."""
-        self.assertEqual(self.with_handler(lambda: self.table.getpid(1)), RuntimeError("a handler of a signal asks amid a call of its thread").args)
+        self.assertEqual(self.with_handler(lambda: self.table.getpid(1)), RuntimeError("a handler of a signal asks amid a call of its thread, or such a call was interrupted: the connection is closed").args)
         self.assertRaises(pidtab.TableClosed, self.table.getpid, 1)
         self.table = pidtab.connect(self.one.socket)
         self.assertEqual(self.with_handler(self.table.close), ("the connection was closed amid a call, which was made or was not",))

@@ -208,23 +208,24 @@ class Connected(Calls):
         """The answers to requests, in their order."""
         self._check_owner()
         with self._turn:
-            if self._is_amid:
-                raise RuntimeError("a handler of a signal asks amid a call of its thread")
             if not self._is_open():
                 raise TableClosed("the connection was closed")
+            if self._is_amid:
+                self.close()
+                raise RuntimeError("a handler of a signal asks amid a call of its thread, or such a call was interrupted: the connection is closed")
+            # So it stays if the call does not end: after that the next answer would be that of another request.
+            self._is_amid = True
             try:
-                self._is_amid = True
                 parts = [requests[start : start + AHEAD] for start in range(0, len(requests), AHEAD)]
-                return [answer for part in parts for answer in self._exchange_some(part)]
+                answers = [answer for part in parts for answer in self._exchange_some(part)]
             except BaseException as fault:
-                # After this the next answer would be that of another request.
                 is_closed_by_another = self._is_ending
                 self.close()
                 if isinstance(fault, OSError) and is_closed_by_another:
                     raise TableClosed("the connection was closed amid a call, which was made or was not") from None
                 raise
-            finally:
-                self._is_amid = False
+            self._is_amid = False
+            return answers
 
     def _exchange_some(self, requests: Sequence[tuple[bytes, ...]]) -> list[Answer]:
         """No more of them than the socket has room for, with their answers."""
