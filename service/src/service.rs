@@ -44,6 +44,9 @@ const TICK: u64 = 100;
 /// A table with so few tasks is copied in the loop, some 0.2 ms, as no other client notices.
 const FEW_TASKS: usize = 200;
 
+/// So many bytes are sent to guests in a turn, and the rest of one that is begun.
+const SENT_TO_GUESTS: usize = 256 << 10;
+
 /// A follower that is so many bytes behind is closed.
 const FAR_BEHIND: usize = 256 << 20;
 
@@ -300,8 +303,10 @@ impl Service {
 
     /// Each client that is ready is read from once, and its requests are done.
     fn work(&mut self) {
-        self.accounts.begin_turn();
-        for token in std::mem::take(&mut self.clients.ready) {
+        let ready = std::mem::take(&mut self.clients.ready);
+        let is_awaited = ready.iter().any(|it| self.clients.get(*it).is_some_and(|it| !it.is_cut));
+        self.accounts.begin_turn(is_awaited);
+        for token in ready {
             let Some(mut conn) = self.clients.take(token) else { continue };
             conn.is_queued = false;
             if conn.is_delayed {
@@ -404,10 +409,22 @@ impl Service {
             self.order_texts();
             self.order_recalls();
         }
+        let mut room = SENT_TO_GUESTS;
         for token in std::mem::take(&mut self.clients.touched) {
-            self.send_to(token);
+            match self.has_room_for(token, &mut room) {
+                true => self.send_to(token),
+                false => self.clients.postpone(token),
+            }
         }
         Ok(())
+    }
+
+    /// Whether it is sent what it has in this turn. Guests have so much room together; who has none comes first in the next turn.
+    fn has_room_for(&mut self, token: usize, room: &mut usize) -> bool {
+        let Some(conn) = self.clients.get(token).filter(|it| it.is_guest) else { return true };
+        let had = *room > 0;
+        *room = room.saturating_sub(conn.unsent());
+        had
     }
 
     /// The answers of this turn may be of what is not saved: they wait, and the clients with them. These stay touched, and so are not sent anything.
