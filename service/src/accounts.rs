@@ -19,6 +19,9 @@ const MUCH_POURED: usize = 8 << 20;
 /// So long a guest's requests are done in a turn. Then the others come, and his in the next turn, or, if others have come meanwhile, in the one after.
 const BUDGET: Duration = Duration::from_micros(200);
 
+/// The calls of a MULTI come together, whatever time they take. Those exits of a guest are not made that come so long after his time was over.
+const GRACE: Duration = Duration::from_millis(10);
+
 /// So many requests are done between two looks at the clock. One that may take long counts as all of them.
 pub const REQUESTS_AT_ONCE: u32 = 8;
 
@@ -150,6 +153,11 @@ impl Accounts {
         Instant::now() >= until
     }
 
+    /// Whether the guest's time has been over for long.
+    pub fn is_late(&self) -> bool {
+        self.until.is_some_and(|it| Instant::now() >= it + GRACE)
+    }
+
     pub fn end(&mut self, user: u32) {
         let Some(until) = self.until.take() else { return };
         if let Some(account) = self.guests.get_mut(&user) {
@@ -210,7 +218,9 @@ mod tests {
         std::thread::sleep(BUDGET);
         assert!(!accounts.is_over());
         accounts.count(1);
-        assert!(accounts.is_over());
+        assert!(accounts.is_over() && !accounts.is_late());
+        std::thread::sleep(GRACE);
+        assert!(accounts.is_late());
         accounts.end(1000);
         assert!(!accounts.begin(1000) && accounts.begin(7));
         accounts.count(REQUESTS_AT_ONCE);

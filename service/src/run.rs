@@ -136,6 +136,9 @@ impl Service {
     /// each task that would fall with it.
     fn refusal_of_call(&mut self, conn: &Conn, call: Call) -> Option<String> {
         if matches!(call, Call::Exit { .. }) {
+            if self.accounts.is_late() {
+                return Some("-BUSY the calls of this MULTI take too long".to_owned());
+            }
             self.accounts.count(REQUESTS_AT_ONCE);
         }
         let why = self.refusal(conn.rights, Some(call));

@@ -177,18 +177,37 @@ class Guests(Case):
         self.assertEqual({str(guest.answer()) for _ in range(300)}, {"ECHILD no-child"})
         self.assertLess(slowest.ms(), 400)
 
-    def test_requests_that_take_long(self):
-        """Each exit of this init looks at 20,000 tasks, of which the last is not the guest's. His time in a turn is over after a few, and others come between."""
+    def with_a_large_init(self):
+        """A guest's init, an exit of which looks at 20,000 tasks: the last of them is not the guest's."""
         one, client, guest = self.serve("--pid-max", "100000")
         init = guest.say("FORK 2 NEW")[1]
         self.assertEqual(client.say(f"MOVE {forks(guest, init, 20000)[-1]} 0"), "OK")
-        slowest, began = Slowest(one.client()), time.monotonic()
-        guest.socket.sendall(f"EXIT {init} 0\r\n".encode() * 200)
-        self.assertEqual({str(guest.answer()) for _ in range(200)}, {"NOPERM this user may call by tasks below his cgroup alone"})
-        took = (time.monotonic() - began) * 1000
-        print(f"200 exits that look at 20,000 tasks took {took:.0f} ms, and the slowest PING beside {slowest.ms():.1f} ms")
+        return one, guest, init
+
+    def test_requests_that_take_long(self):
+        """The guest's time in a turn is over after one such exit, and others come between."""
+        with first_of_all():
+            one, guest, init = self.with_a_large_init()
+            slowest, began = Slowest(one.client()), time.monotonic()
+            guest.socket.sendall(f"EXIT {init} 0\r\n".encode() * 200)
+            self.assertEqual({str(guest.answer()) for _ in range(200)}, {"NOPERM this user may call by tasks below his cgroup alone"})
+            took, worst = (time.monotonic() - began) * 1000, slowest.ms()
+        print(f"200 exits that look at 20,000 tasks took {took:.0f} ms, and the slowest PING beside {worst:.1f} ms")
         self.assertGreater(took, 300)
-        self.assertLess(slowest.ms(), max(took / 10, 100))
+        self.assertLess(worst, max(took / 10, 100))
+
+    def test_a_multi_that_takes_long(self):
+        """Its calls come together, so its exits end after a while: those that are left are not made, and others are served."""
+        with first_of_all():
+            one, guest, init = self.with_a_large_init()
+            slowest = Slowest(one.client())
+            guest.socket.sendall(b"MULTI\r\n" + f"EXIT {init} 0\r\nEXEC 2\r\n".encode() * 500 + b"EXEC\r\n")
+            self.assertEqual([guest.answer() for _ in range(1001)], ["OK"] + ["QUEUED"] * 1000)
+            told, worst = [str(it) for it in guest.answer()], slowest.ms()
+        self.assertEqual((set(told[1::2]), told[-2]), ({"OK"}, "BUSY the calls of this MULTI take too long"))
+        self.assertEqual(told[0], "NOPERM this user may call by tasks below his cgroup alone")
+        print(f"the slowest PING beside a MULTI of 500 such exits {worst:.1f} ms")
+        self.assertLess(worst, 500)
 
     def test_who_is_cut_and_says_no_more(self):
         """A guest that has closed its half is answered all that it has sent."""
