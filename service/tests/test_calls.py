@@ -951,21 +951,24 @@ class Users(Case):
         self.assertIn(f'--allow: "{allow}": there is no cgroup /build/jobs yet, and who is below it makes no call\n', one.said())
         for line in ("FORK 1", "LEASE x 1", "FOLLOW"):
             self.refused(other, line, "NOPERM this user may call by tasks below his cgroup alone, which is not there")
-        self.assertEqual([client.say(line) for line in ("FORK 1", "MK 0", "MK 2", "MOVE 2 3")], [[2, 2], 2, 3, "OK"])
-        self.assertEqual([client.say(line) for line in ("NAME 3 jobs", "NAME 3 jobs", "NAMES")], ["OK", "OK", [["/2/jobs", 3]]])
+        # Another one has the name elsewhere, and came before.
+        self.assertEqual([client.say(line) for line in ("FORK 1", "MK 0", "MK 0", "MK 3", "MOVE 2 4")], [[2, 2], 2, 3, 4, "OK"])
+        told = [client.say(line) for line in ("NAME 2 jobs", "NAME 4 jobs", "NAME 4 jobs", "NAMES")]
+        self.assertEqual(told, ["OK", "OK", "OK", [["/jobs", 2], ["/3/jobs", 4]]])
         self.refused(other, "FORK 2", "NOPERM")
-        self.assertEqual([client.say(line) for line in ("NAME 2 build", "NAMES")], ["OK", [["/build", 2], ["/build/jobs", 3]]])
+        self.assertEqual([client.say(line) for line in ("NAME 3 build", "NAMES")], ["OK", [["/jobs", 2], ["/build", 3], ["/build/jobs", 4]]])
         self.assertEqual((other.say("FORK 2"), other.say("NAMES")), ([3, 3], client.say("NAMES")))
-        self.refused(other, "NAME 3 mine", "NOPERM")
+        self.refused(other, "NAME 4 mine", "NOPERM")
         one.kill()
         client, other = one.start().client(), Client.of(self.ENEMY, one.socket)
         self.assertEqual(other.say("FORK 2"), [4, 4])
         self.assertTrue(one.said().endswith("makes no call\n") and one.said().count("\n") == 1, one.said())
         # Another cgroup has the path: his tasks are outside of it now.
-        self.assertEqual([client.say(line) for line in ("MK 2", "NAME 3 old", "NAME 7 jobs")], [7, "OK", "OK"])
+        self.assertEqual([client.say(line) for line in ("MK 3", "NAME 4 old", "NAME 8 jobs")], [8, "OK", "OK"])
         self.refused(other, "FORK 2", "NOPERM this user may call by tasks below his cgroup alone")
-        self.assertEqual((other.say("MK 7"), client.say("MOVE 4 7"), other.say("FORK 4")), (8, "OK", [5, 5]))
-        self.assertEqual([client.say(line) for line in ("MK 3", "NAME 11 x", "RM 11", "NAMES")], [11, "OK", "OK", [["/build", 2], ["/build/old", 3], ["/build/jobs", 7]]])
+        self.assertEqual((other.say("MK 8"), client.say("MOVE 4 8"), other.say("FORK 4")), (9, "OK", [5, 5]))
+        self.assertEqual([client.say(line) for line in ("MK 4", "NAME 12 x", "RM 12")], [12, "OK", "OK"])
+        self.assertEqual(client.say("NAMES"), [["/jobs", 2], ["/build", 3], ["/build/old", 4], ["/build/jobs", 8]])
 
     def test_names_that_are_none(self):
         one = self.daemon(kept=False).start()

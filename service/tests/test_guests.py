@@ -1,13 +1,11 @@
 """Users who do their worst: others are served meanwhile, and the daemon stays small. It needs root, to be other users."""
-import contextlib
 import os
 import pathlib
-import signal
 import threading
 import time
 import unittest
 
-from harness import Case, Client, LONG, Refused
+from harness import Case, Client, LONG, Refused, first_of_all
 from test_manners import times
 
 GUEST, OTHER = 65534, 65533
@@ -31,25 +29,6 @@ class Slowest(threading.Thread):
         self.goes = False
         self.join()
         return self.worst
-
-
-@contextlib.contextmanager
-def first_of_all():
-    """What is begun within goes before all other work of the machine, if it may: so a time has no wait for a processor that others use."""
-    before = os.sched_getscheduler(0)
-    with contextlib.suppress(PermissionError):
-        os.sched_setscheduler(0, os.SCHED_RR, os.sched_param(10))
-    try:
-        yield
-    finally:
-        os.sched_setscheduler(0, before, os.sched_param(0))
-
-
-def read_all(client):
-    """Reads to the end, and keeps nothing."""
-    with contextlib.suppress(OSError):
-        while client.socket.recv(1 << 20):
-            pass
 
 
 def forks(client, parent, count):
@@ -119,21 +98,6 @@ class Guests(Case):
         print(f"{way.__name__}: 99 of 100 PINGs in {alone:.0f} us without him, in {beside:.0f} us beside him; {one.memory()} kB")
         self.assertLess(beside, max(self.TIMES * alone, self.ENOUGH))
         self.assertLess(one.memory(), self.MEMORY)
-
-    def again_and_again(self, client, data, waits=False):
-        """A process that sends the same, and reads what comes; if it waits, each time all answers come first."""
-        child = os.fork()
-        if not child:
-            with contextlib.suppress(OSError, EOFError):
-                client.socket.settimeout(None)
-                if not waits:
-                    threading.Thread(target=read_all, args=(client,), daemon=True).start()
-                while True:
-                    client.socket.sendall(data)
-                    [client.answer() for _ in range(data.count(b"\n") * waits)]
-            os._exit(0)
-        self.addCleanup(os.waitpid, child, 0)
-        self.addCleanup(os.kill, child, signal.SIGKILL)
 
     def asks_for_a_group(self):
         one, client, guest = self.serve()
