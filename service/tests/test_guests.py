@@ -219,22 +219,23 @@ class Guests(Case):
         self.assertIn("leases:1001\r", client.say("INFO"))
 
     def test_lists(self):
-        """30 guests want the list of 20,000 tasks at 30 states: they have a few texts together, and root's DUMP does not wait for 30."""
-        one, client, _ = self.serve()
-        forks(client, 1, 20000)
-        began = time.monotonic()
-        client.say("LIST")
-        alone = time.monotonic() - began
-        guests = [Client.of(OTHER, one.socket) for _ in range(30)]
-        for guest in guests:
-            guest.send("LIST")
-            client.say("EXEC 1")
-        began = time.monotonic()
-        self.assertIn("\ntask 20000@", client.say("DUMP"))
-        took = time.monotonic() - began
-        self.assertLess(took, 6 * alone + 0.5)
-        self.assertTrue(all(guest.answer().count("task ") > 20000 for guest in guests))
+        """30 guests want the list of 60,000 tasks at 30 states: they have a few texts together, and root's DUMP does not wait for 30."""
+        with first_of_all():
+            one, client, _ = self.serve("--pid-max", "100000")
+            forks(client, 1, 60000)
+            began = time.monotonic()
+            client.say("LIST")
+            alone = time.monotonic() - began
+            guests = [Client.of(OTHER, one.socket) for _ in range(30)]
+            for guest in guests:
+                guest.send("LIST")
+                client.say("EXEC 1")
+            began = time.monotonic()
+            self.assertIn("\ntask 60000@", client.say("DUMP"))
+            took = time.monotonic() - began
         print(f"LIST alone {alone:.2f} s, DUMP behind 30 of them {took:.2f} s")
+        self.assertLess(took, 6 * alone + 0.2)
+        self.assertTrue(all(guest.answer().count("task ") > 60000 for guest in guests))
 
 
 if __name__ == "__main__":
