@@ -1,5 +1,5 @@
 //! The table of a service by [`Connected`], beside one in this process. It needs the built service; without it each test says so, and passes.
-use pidtab::{Call, Calls, Child, Connected, Error, Kind, Reply, Table, Which};
+use pidtab::{Call, Calls, Child, Connected, Ended, Error, Kind, Reaped, Reply, Table, Which};
 use std::path::PathBuf;
 use std::process::{self, Command};
 use std::sync::atomic::{AtomicU32, Ordering};
@@ -213,6 +213,31 @@ fn leases_and_what_is_not_served() {
         follower.why()
     );
     assert_eq!(Error::NotServed.raw_os_error(), None);
+}
+
+/// The namespace of a child falls, whose parent is outside of it.
+#[test]
+fn a_killed_child() {
+    let Some(service) = Service::start(&[]) else {
+        return;
+    };
+    let mut table = service.connect();
+    assert_eq!(table.fork(1, false), Ok(Child { number: 2, root: 2 }));
+    assert_eq!(table.fork(1, true), Ok(Child { number: 3, root: 3 }));
+    assert_eq!(
+        (table.join(2, 3), table.wait(2, Which::Any).is_err()),
+        (Ok(()), true)
+    );
+    assert_eq!(table.fork(2, false), Ok(Child { number: 4, root: 4 }));
+    assert_eq!(
+        (table.wait(2, Which::Any), table.exit(3, 0)),
+        (Ok(None), Ok(()))
+    );
+    let killed = Reaped {
+        child: 4,
+        ended: Ended::Killed,
+    };
+    assert_eq!(table.wait(2, Which::Any), Ok(Some(killed)));
 }
 
 /// Each has the answers to its own calls.
