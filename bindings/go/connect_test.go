@@ -144,6 +144,25 @@ func TestLeases(t *testing.T) {
 	}
 }
 
+// TestAKilledChild has the namespace of a child fall, whose parent is outside of it.
+func TestAKilledChild(t *testing.T) {
+	address, _ := serve(t)
+	it := connect(t, address)
+	first, _ := it.Fork(1, NoNewNamespace)
+	init, _ := it.Fork(1, NewNamespace)
+	if err := it.Join(first.Root, init.Number); err != nil {
+		t.Fatal(err)
+	}
+	child, err := it.Fork(first.Root, NoNewNamespace)
+	if reaped, fault := it.Wait(first.Root, Any()); err != nil || fault != nil || reaped != nil {
+		t.Fatal(child, err, reaped, fault)
+	}
+	it.Exit(init.Root, 0)
+	if reaped, err := it.Wait(first.Root, Any()); err != nil || reaped == nil || *reaped != (Reaped{Child: 4, Killed: true}) {
+		t.Fatal(reaped, err)
+	}
+}
+
 // connect connects to a service, which is there.
 func connect(t *testing.T, address string) *Connected {
 	t.Helper()

@@ -72,6 +72,12 @@ class Typed(Case):
         self.assertRaises(pidtab.TableClosed, other.position)
         self.assertEqual(self.table.getpid(3), 3)
 
+    def test_a_killed_child(self):
+        """The namespace of a child falls, whose parent is outside of it."""
+        for table in (self.table, self.beside):
+            self.assertEqual((table.fork(1), table.fork(1, new=True), table.join(2, 3), table.fork(2)), ((2, 2), (3, 3), None, (4, 4)))
+            self.assertEqual((table.wait(2), table.exit(3), table.wait(2)), (None, None, pidtab.Reaped(4, None)))
+
     def test_what_is_not_served(self):
         if os.geteuid() != 0:
             self.skipTest("not root")
