@@ -44,7 +44,7 @@ def answers_of(lines: Sequence[bytes]) -> list[bytes] | None:
     """What the program answers to each line that is not empty; None without a program that answers them all."""
     with suppress(ProgramMissing, OSError):
         # Which lines are bad is the same in each table, and a small one is quick.
-        words = [find_program(), "run", "--pid-max", str(LEAST_PID_MAX)]
+        words = [str(find_program()), "run", "--pid-max", str(LEAST_PID_MAX)]
         answers = subprocess.run(words, input=b"".join(lines), capture_output=True, check=False).stdout.split(b"\n")[:-1]
         if len(answers) == len(lines) - lines.count(b"\n"):
             return answers
