@@ -15,7 +15,6 @@ import time
 from cluster.load import Load, User, run_users, table_kind
 from pidtab import EtcdLog, Replicated
 
-
 # How often an entry is put twice, and how often its acknowledgement is lost, of 1.
 TROUBLE = 0.05
 

@@ -6,7 +6,7 @@ from operator import index
 from typing import Literal, NamedTuple, TypeVar, get_args
 
 from pidtab import raw
-from pidtab.answers import A_CHILD, A_CONTROL, A_NUMBER, AN_ENDED_CHILD, NOTHING, THE_NEXT, THE_NUMBERS, Form, Forked, Reaped
+from pidtab.answers import A_CHILD, A_CONTROL, A_NUMBER, AN_ENDED_CHILD, NOTHING, THE_NEXT, THE_NUMBERS, Forked, Form, Reaped
 from pidtab.faults import read_fault, shorten
 from pidtab.listing import Listing, read_list
 from pidtab.owner import Owner

@@ -307,7 +307,7 @@ def say_field(item: Item, word: str, name: str, form: str) -> str:
     """A field as its line has it, with its word."""
     value = getattr(item, name)
     if form == "mark":
-        return word * value
+        return word if value else ""
     if form == "state":
         return "" if not isinstance(item, Task) or item.state == "exited" else f" {item.state}"
     if value is None and form not in NONE:

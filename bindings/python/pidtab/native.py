@@ -6,7 +6,7 @@ from abc import abstractmethod
 from collections.abc import Callable, Sequence
 from functools import partial, wraps
 from inspect import signature
-from typing import TYPE_CHECKING, Concatenate, NoReturn, ParamSpec, Protocol, SupportsIndex, TypeVar
+from typing import TYPE_CHECKING, Concatenate, NoReturn, ParamSpec, Protocol, TypeVar
 
 from pidtab import raw
 from pidtab.answers import Forked, Form, SpaceStat, Stat, tell_space, tell_stat
@@ -205,7 +205,8 @@ def read_space(asked: str, what: str, read: Callable[[PidtabSpace], int]) -> Spa
 class Asked(Protocol):
     """A table that answers queries."""
 
-    def _check_owner(self) -> None: ...
+    def _check_owner(self) -> None:
+        """Sees to it that the table is one of this process."""
 
     def _question(self, name: str) -> Callable[..., int]:
         """The function of the library that answers a question, which has this name after the kind of the table. It answers a status."""
@@ -430,6 +431,10 @@ class NumberCalls(Labelled, AskableCalls):
     _call: Callable[[bytes, PidtabReply], int]
 
     @abstractmethod
+    def _question(self, name: str) -> Callable[..., int]:
+        """The function of the library that answers a question, as `Asked` has it."""
+
+    @abstractmethod
     def _line(self, line: bytes, room: "ctypes.Array[ctypes.c_char]", size: ctypes.c_size_t) -> int:
         """The status of the function that answers the line."""
 
@@ -466,14 +471,15 @@ class NumberCalls(Labelled, AskableCalls):
         """
         self._check_owner()
         told = Forked(*child)
-        numbers = [check_range(name, it, 0, GREATEST_PID) for name, it in (("caller", caller), ("child", told.child), ("root", told.root))]
-        status = self._fork_at(numbers[0], bool(new), *numbers[1:], PidtabReply())
+        caller = check_range("caller", caller, 0, GREATEST_PID)
+        number, root = check_range("child", told.child, 0, GREATEST_PID), check_range("root", told.root, 0, GREATEST_PID)
+        status = self._fork_at(caller, bool(new), number, root, PidtabReply())
         if status == DIFFERS:
             return False
         if status != DONE:
-            raise fault_of(status, f"fork {numbers[0]}")
+            raise fault_of(status, f"fork {caller}")
         if self._labels.by_root:
-            self._forked(numbers[2])
+            self._forked(root)
         return True
 
     def _make(self, call: Call, form: Form[T]) -> T:

@@ -5,12 +5,26 @@ import weakref
 from abc import ABC, abstractmethod
 from collections.abc import Callable
 from types import TracebackType
-from typing import Any, NoReturn, TypeVar
+from typing import NoReturn, Protocol, TypeVar
 
 from pidtab.bounds import DEFAULT_PID_MAX
 from pidtab.faults import TableClosed
 
-O = TypeVar("O", bound="Owner")
+Opened = TypeVar("Opened", bound="Owner")
+
+
+class Finish(Protocol):
+    """What ends a table once, as a `weakref.finalize` does. It is a type of its own, as that class has parameters for some checkers and none for others."""
+
+    @property
+    def alive(self) -> bool:
+        """Whether the table is not ended yet, and not detached."""
+
+    def __call__(self) -> object:
+        """Ends the table, if it is alive."""
+
+    def detach(self) -> object:
+        """Leaves the table as it is."""
 
 
 class Owner(ABC):
@@ -21,13 +35,13 @@ class Owner(ABC):
     # Whether this process is a forked child of the one that has the table.
     _left = False
     # Ends the table where nobody has it any more.
-    _finish: "weakref.finalize[..., Any] | None" = None
+    _finish: Finish | None = None
 
     def __repr__(self) -> str:
         state = "of the parent process" if self._is_left() else "open" if self._is_open() else "closed"
         return f"<pidtab.{type(self).__name__} {self._settings()}, {state}>"
 
-    def __enter__(self: O) -> O:
+    def __enter__(self: Opened) -> Opened:
         return self
 
     def __exit__(

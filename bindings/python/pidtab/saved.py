@@ -153,11 +153,11 @@ class SavedFile:
 
     def _sizes(self) -> tuple[int, int]:
         """How many bytes the file has, and how many it should have. A pipe and the like has what it should."""
-        left = None
         # A handler of a signal may save in between.
-        while left != self._left():
-            left = self._left()
-            about = os.fstat(self.descriptor)
+        while True:
+            left, about = self._left(), os.fstat(self.descriptor)
+            if left == self._left():
+                break
         return about.st_size if stat.S_ISREG(about.st_mode) else left, left
 
     def _bad(self, why: str) -> BadHistory:

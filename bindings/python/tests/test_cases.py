@@ -6,8 +6,33 @@ import unittest
 from collections.abc import Callable, Iterator
 from typing import Any
 
-from pidtab import Adopted, Ask, BadList, BadText, Calls, Effect, Ended, Gone, GroupGone, NotKept, Process, ProgramMissing, Queries, Refusal, Seat, SeatsTaken
-from pidtab import SessionGone, Shared, SpaceFell, SpaceGone, SpaceStat, Stat, Table, find_program, read_list
+from pidtab import (
+    Adopted,
+    Ask,
+    BadList,
+    BadText,
+    Calls,
+    Effect,
+    Ended,
+    Gone,
+    GroupGone,
+    NotKept,
+    Process,
+    ProgramMissing,
+    Queries,
+    Refusal,
+    Seat,
+    SeatsTaken,
+    SessionGone,
+    Shared,
+    SpaceFell,
+    SpaceGone,
+    SpaceStat,
+    Stat,
+    Table,
+    find_program,
+    read_list,
+)
 from pidtab.calls import Call
 from pidtab.forms import QUERIES, say_answer
 from pidtab.history import Entry

@@ -8,6 +8,7 @@ import sys
 import tempfile
 import time
 import unittest
+from importlib.util import find_spec
 from pathlib import Path
 
 from tests.pages import REPOSITORY
@@ -67,9 +68,7 @@ class Conform(unittest.TestCase):
 
     def setUp(self) -> None:
         need_library()
-        try:
-            import hypothesis  # noqa: F401
-        except ImportError:
+        if find_spec("hypothesis") is None:
             self.skipTest("no Hypothesis")
         folder = tempfile.TemporaryDirectory()
         self.addCleanup(folder.cleanup)

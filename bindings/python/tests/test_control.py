@@ -6,7 +6,7 @@ import unittest
 import pidtab.native
 import pidtab.shared
 import pidtab.table
-from pidtab import Ask, LibraryFault, MemoryLog, Refusal, Replicated, Seat, Shared, Table, TableClosed
+from pidtab import Ask, LibraryFault, MemoryLog, Refusal, Replicated, Seat, Table, TableClosed
 from pidtab.native import SHORT_PAGE
 from pidtab.raw import CLOSED, COUNTED, DONE, NO_MEMORY, PidtabReply
 from tests.test_ends import OTHERS, in_child

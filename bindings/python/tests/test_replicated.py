@@ -20,9 +20,9 @@ import pidtab
 from pidtab import Diverged, EtcdLog, Following, LibraryFault, LogFault, MemoryLog, NotKept, NotKnown, Replicated, TableClosed
 from pidtab.hosts.log_entries import MOST_SESSIONS, OPEN, Asked, Settings, read_entry, write_calls, write_end, write_settings
 from pidtab.hosts.memory_log import MemoryFollowing
+from tests.alarms import alarms
 from tests.stand_in import StandIn
 from tests.test_ends import OTHERS, in_child, run_python
-from tests.alarms import alarms
 from tests.test_interrupts import CallInterrupter, interrupts
 
 SETTINGS = write_settings(Settings(2, 32768, 1))

@@ -11,7 +11,6 @@ from pidtab import Counts, Saved, SaverEnded, Seat, Shared, TableClosed, Unsaved
 from tests.test_arguments import NO_INTEGERS
 from tests.test_ends import in_child
 from tests.test_saved import BLOCK, Files
-from tests.test_shared import run_all
 
 THREADS = 4
 EACH = 100

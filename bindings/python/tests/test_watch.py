@@ -17,7 +17,7 @@ from pathlib import Path
 from types import FrameType, SimpleNamespace
 from unittest import mock
 
-from pidtab import LibraryFault, Seat, Shared, Table, TableClosed, WaitingEnded
+from pidtab import LibraryFault, Shared, Table, TableClosed, WaitingEnded
 from pidtab.watch import Watch
 from tests.alarms import Awaiting, alarms
 from tests.test_arguments import NO_INTEGERS

@@ -44,15 +44,20 @@ def read_declared(name: str) -> dict[str, str]:
     return declared
 
 
+def add_wishes(parser: argparse.ArgumentParser) -> None:
+    """The options for what is compared, and how often."""
+    parser.add_argument("--calls", type=names_of, default=[], metavar="NAME,..", help="only these calls, as fork,exit,'wait any'")
+    parser.add_argument("--without", type=names_of, default=[], metavar="NAME,..", help="all calls except these")
+    parser.add_argument("--cases", type=count_of, default=300, metavar="N", help="how many cases are tried, 300 by default")
+    parser.add_argument("--steps", type=count_of, default=40, metavar="N", help="at most so many calls in a case, 40 by default")
+    parser.add_argument("--declared", metavar="FILE", help="differences that are none, one a line: NAME: LINE => YOURS | PIDTAB")
+
+
 def read_command_line(called: str, words: Sequence[str] | None) -> argparse.Namespace:
     """The words of the command line."""
     parser = parser_of(called, ABOUT)
-    parser.add_argument("--calls", type=names_of, default=[], metavar="NAME,..", help="only these calls, as fork,exit,'wait any'")
-    parser.add_argument("--without", type=names_of, default=[], metavar="NAME,..", help="all calls but these")
-    parser.add_argument("--cases", type=count_of, default=300, metavar="N", help="how many cases are tried, 300 by default")
-    parser.add_argument("--steps", type=count_of, default=40, metavar="N", help="at most so many calls in a case, 40 by default")
+    add_wishes(parser)
     parser.add_argument("--seed", type=count_of, metavar="N", help="the same cases in each run")
-    parser.add_argument("--declared", metavar="FILE", help="differences that are none, one a line: NAME: LINE => YOURS | PIDTAB")
     parser.add_argument("--list", default="", metavar="COMMAND", help="a command that reads a script and writes the list, which is compared too")
     parser.add_argument("--save", metavar="FILE", help="write the script that is found there, for pidtab run")
     parser.add_argument("command", nargs=argparse.REMAINDER, metavar="COMMAND", help="the command with its words")

@@ -11,9 +11,8 @@ from collections.abc import Callable, Sequence
 from dataclasses import dataclass, field
 from typing import NamedTuple
 
-from pidtab.commands.common import STATUS_DONE, STATUS_FAULT, STATUS_INTERRUPTED, STATUS_USAGE
-from pidtab.commands.common import Progress, complain, finish, parser_of
-from pidtab.commands.compare import count_of, names_of, read_declared
+from pidtab.commands.common import STATUS_DONE, STATUS_FAULT, STATUS_INTERRUPTED, STATUS_USAGE, Progress, complain, finish, parser_of
+from pidtab.commands.compare import add_wishes, count_of, read_declared
 from pidtab.faults import LibraryFault, ProgramFault
 from pidtab.forms import ALL_FORMS, Form, form_of, select_forms
 from pidtab.testing.peer import CommandPeer, LeftOut
@@ -105,16 +104,9 @@ def read_command_line(called: str, words: Sequence[str] | None) -> argparse.Name
     """The words of the command line."""
     parser = parser_of(called, ABOUT)
     parser.add_argument("--json", action="store_true", help="write the report as JSON in one line")
-    names, count = {"type": names_of, "default": [], "metavar": "NAME,.."}, {"type": count_of, "metavar": "N"}
-    parser.add_argument("--calls", **names, help="only these calls, as fork,exit,'wait any'")
-    parser.add_argument("--without", **names, help="all calls but these")
-    parser.add_argument("--cases", **count, default=300, help="how many cases are tried, 300 by default")
-    parser.add_argument("--steps", **count, default=40, help="at most so many calls in a case, 40 by default")
-    parser.add_argument("--seed", **count, default=1, help="other cases, 1 by default")
-    declared = "differences that are none, one a line: NAME: LINE => YOURS | PIDTAB"
-    parser.add_argument("--declared", metavar="FILE", help=declared)
-    yours = "the command with its words, or a class"
-    parser.add_argument("yours", nargs=argparse.REMAINDER, metavar="COMMAND|MODULE:CLASS", help=yours)
+    add_wishes(parser)
+    parser.add_argument("--seed", type=count_of, default=1, metavar="N", help="other cases, 1 by default")
+    parser.add_argument("yours", nargs=argparse.REMAINDER, metavar="COMMAND|MODULE:CLASS", help="the command with its words, or a class")
     given = parser.parse_args(words)
     given.yours = given.yours[given.yours[:1] == ["--"] :]
     if not given.yours:
@@ -199,9 +191,8 @@ class Comparing:
         try:
             with warnings.catch_warnings():
                 warnings.simplefilter("ignore", kit.NotCompared)
-                wishes = {"calls": self.has([form.name for form in forms]), "declared": self.declared}
-                wishes |= {"cases": given.cases, "steps": given.steps, "begin_at": given.seed}
-                tally = kit.compare(self.yours, **wishes)
+                named = self.has([form.name for form in forms])
+                tally = kit.compare(self.yours, calls=named, declared=self.declared, cases=given.cases, steps=given.steps, begin_at=given.seed)
         except kit.Different as different:
             return found_of(different.lines, *different.met)
         except NoAnswer as silent:

@@ -11,7 +11,7 @@ from io import BytesIO
 from typing import BinaryIO, NoReturn
 
 from pidtab.commands.check import Found, find_bad
-from pidtab.commands.common import STANDARD_INPUT, STATUS_FAULT, STATUS_INTERRUPTED, STATUS_USAGE, complain, open_script, parser_of, pid_max_of
+from pidtab.commands.common import STANDARD_INPUT, STATUS_FAULT, STATUS_INTERRUPTED, STATUS_USAGE, cannot_read, complain, open_script, parser_of, pid_max_of
 from pidtab.faults import ProgramMissing
 from pidtab.listing import read_list
 from pidtab.program import find_program
@@ -30,7 +30,7 @@ def program_words(given: argparse.Namespace, command: str) -> list[str]:
     return [str(find_program()), command, *([] if given.pid_max is None else ["--pid-max", str(given.pid_max)])]
 
 
-def become(words: Sequence[str]) -> NoReturn:
+def become(words: list[str]) -> NoReturn:
     """Is the program from here on, with standard input as it is."""
     # Python ignores these, and who starts a program expects what they do by default.
     for number in (signal.SIGPIPE, signal.SIGXFSZ):
@@ -113,13 +113,12 @@ def run(command: str, called: str, words: Sequence[str]) -> int:
         with ExitStack() as opened:
             # All are opened before the first is played.
             scripts = [opened.enter_context(open_script(name)) for name in given.file]
-            return play_strictly(started, given, scripts) if given.strict else play(started, scripts, given.json)
+            status = play_strictly(started, given, scripts) if given.strict else play(started, scripts, given.json)
+        return status
     except KeyboardInterrupt:
         return STATUS_INTERRUPTED
-    except BrokenPipeError:
-        raise
     except OSError as fault:
-        return complain(f"{called}: cannot read {fault.filename or STANDARD_INPUT}: {fault.strerror}", STATUS_USAGE)
+        return cannot_read(called, fault, fault.filename or STANDARD_INPUT)
     except ProgramMissing as fault:
         return complain(f"{called}: {fault}", STATUS_USAGE)
 

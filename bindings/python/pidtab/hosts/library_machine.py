@@ -5,21 +5,10 @@ import weakref
 from typing import Literal
 
 from pidtab.faults import LibraryFault
+from pidtab.hosts import log_faults
 from pidtab.hosts.log_entries import Announced, Asked, Settings, read_entry
-from pidtab.hosts.log_faults import (
-    bad_snapshot,
-    diverged,
-    diverged_snapshot,
-    late_snapshot,
-    missing,
-    no_settings,
-    no_snapshots,
-    not_rising,
-    other_settings,
-    unreadable,
-)
 from pidtab.hosts.machine import NoMemory, Outcome
-from pidtab.native import fault_of, read_written
+from pidtab.native import read_written
 from pidtab.raw import (
     BAD_TEXT,
     DIVERGED,
@@ -120,7 +109,7 @@ class LibraryMachine:
     def load(self, position: int, text: bytes) -> None:
         """Takes what a snapshot has in the place of what is here, which is behind it."""
         if position <= self.position:
-            raise late_snapshot(position, self.position)
+            raise log_faults.late_snapshot(position, self.position)
         replica = self._open(self.settings)
         used = self._read_head(replica, position, text)
         log = self._log(replica)
@@ -129,7 +118,7 @@ class LibraryMachine:
                 raise ValueError(f"it is that of entry {log.position}")
             table = Table.from_dump(text[used:], self.table.library)
         except ValueError as fault:
-            raise bad_snapshot(position, fault) from None
+            raise log_faults.bad_snapshot(position, fault) from None
         self.table, before = table, self.table
         before.close()
         self._call(self._replica, "close")
@@ -175,27 +164,27 @@ class LibraryMachine:
         status = self._call(replica, "read", text, len(text), used)
         if status in (BAD_TEXT, OTHER_SETTINGS):
             head = text.partition(b"\n")[0][:200]
-            raise bad_snapshot(position, f"it begins with {head[:40]!r}") if status == BAD_TEXT else other_log(head, self.settings)
+            raise log_faults.bad_snapshot(position, f"it begins with {head[:40]!r}") if status == BAD_TEXT else other_log(head, self.settings)
         self._check(status)
         return used.value
 
     def _refused(self, status: int, position: int, data: bytes) -> Exception:
         """What is raised for an entry that is not applied."""
         if status == NOT_RISING:
-            return not_rising(position, self.position)
+            return log_faults.not_rising(position, self.position)
         if status == NO_ENTRY:
-            return unreadable(position, why_no_entry(data))
+            return log_faults.unreadable(position, why_no_entry(data))
         if status not in (OTHER_SETTINGS, MISSING, DIVERGED):
             self._check(status)
         entry = read_entry(data)
         if isinstance(entry, Settings):
-            return other_settings(entry, self.settings)
+            return log_faults.other_settings(entry, self.settings)
         if status == OTHER_SETTINGS:
-            return no_snapshots(position, self.settings.form) if self.begun else no_settings()
+            return log_faults.no_snapshots(position, self.settings.form) if self.begun else log_faults.no_settings()
         if isinstance(entry, Announced):
-            return diverged_snapshot(position, entry)
+            return log_faults.diverged_snapshot(position, entry)
         assert isinstance(entry, Asked)
-        return missing(position, entry) if status == MISSING else diverged(position, entry, self.digest_at(entry.position) or "")
+        return log_faults.missing(position, entry) if status == MISSING else log_faults.diverged(position, entry, self.digest_at(entry.position) or "")
 
 
 def why_no_entry(data: bytes) -> object:
@@ -210,4 +199,4 @@ def why_no_entry(data: bytes) -> object:
 def other_log(head: bytes, own: Settings) -> Exception:
     """What is said of the snapshot of a log with other settings."""
     words = head.decode("ascii", "replace").split()
-    return other_settings(Settings(int(words[1]), int(words[3]), int(words[5])), own)
+    return log_faults.other_settings(Settings(int(words[1]), int(words[3]), int(words[5])), own)

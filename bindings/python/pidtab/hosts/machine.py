@@ -9,6 +9,7 @@ from typing import Literal, NamedTuple
 
 from pidtab.calls import Calls
 from pidtab.faults import LibraryFault
+from pidtab.hosts import log_faults
 from pidtab.hosts.log_entries import (
     DIGESTS_KEPT,
     FORM,
@@ -24,18 +25,6 @@ from pidtab.hosts.log_entries import (
     Wanted,
     read_entry,
     write_settings,
-)
-from pidtab.hosts.log_faults import (
-    bad_snapshot,
-    diverged,
-    diverged_snapshot,
-    late_snapshot,
-    missing,
-    no_settings,
-    no_snapshots,
-    not_rising,
-    other_settings,
-    unreadable,
 )
 from pidtab.hosts.snapshot import Snapshot, read_snapshot, write_snapshot
 from pidtab.native import NumberCalls
@@ -139,11 +128,11 @@ class Machine:
     def apply(self, position: int, data: bytes) -> Outcome | None:
         """Applies the next entry. What became of it, if it has calls."""
         if position <= self.position:
-            raise not_rising(position, self.position)
+            raise log_faults.not_rising(position, self.position)
         try:
             entry = read_entry(data)
         except ValueError as fault:
-            raise unreadable(position, fault) from None
+            raise log_faults.unreadable(position, fault) from None
         outcome = self._apply(position, entry)
         self.position = position
         self._digests[position] = self.digest
@@ -158,7 +147,7 @@ class Machine:
     def load(self, position: int, text: bytes) -> None:
         """Takes what a snapshot has in the place of what is here, which is behind it."""
         if position <= self.position:
-            raise late_snapshot(position, self.position)
+            raise log_faults.late_snapshot(position, self.position)
         try:
             found = read_snapshot(text)
             if found.position != position:
@@ -166,7 +155,7 @@ class Machine:
             self._check_settings(found.settings)
             table = table_of(found.table, self.table)
         except ValueError as fault:
-            raise bad_snapshot(position, fault) from None
+            raise log_faults.bad_snapshot(position, fault) from None
         self.table, before = table, self.table
         before.close()
         self.settings, self.begun = found.settings, True
@@ -200,7 +189,7 @@ class Machine:
     def _begin(self, entry: Entry) -> None:
         """Takes the first entry."""
         if not isinstance(entry, Settings):
-            raise no_settings()
+            raise log_faults.no_settings()
         self._check_settings(entry)
         self.settings, self.begun = entry, True
         self.digest = hashlib.sha256(write_settings(entry)).hexdigest()
@@ -208,14 +197,14 @@ class Machine:
     def _check_settings(self, found: Settings) -> None:
         """Sees to it that the log has the settings of this replica. It may have an earlier form, and goes on with that."""
         if found.form not in FORMS or found[1:] != self.settings[1:]:
-            raise other_settings(found, self.settings)
+            raise log_faults.other_settings(found, self.settings)
 
     def _check_snapshot(self, position: int, entry: Wanted | Announced) -> None:
         """Sees to it that a log has snapshots, and that one has the digest that this host had."""
         if self.settings.form < FORM:
-            raise no_snapshots(position, self.settings.form)
+            raise log_faults.no_snapshots(position, self.settings.form)
         if isinstance(entry, Announced) and self._digests.get(entry.position, entry.digest) != entry.digest:
-            raise diverged_snapshot(position, entry)
+            raise log_faults.diverged_snapshot(position, entry)
 
     def _open(self, position: int) -> None:
         """Opens a session, for which the one that was used the longest ago may end."""
@@ -228,9 +217,9 @@ class Machine:
         mine = self._digests.get(asked.position)
         if mine is None:
             if asked.position >= next(iter(self._digests)):
-                raise missing(position, asked)
+                raise log_faults.missing(position, asked)
         elif mine[:SHORT_DIGEST] != asked.digest:
-            raise diverged(position, asked, mine)
+            raise log_faults.diverged(position, asked, mine)
 
     def _ask(self, asked: Asked) -> Outcome:
         """Makes the calls of an entry, if it is the next of its session."""

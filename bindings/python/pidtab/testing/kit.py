@@ -24,7 +24,7 @@ from pidtab.process import Process
 from pidtab.sight import Sight
 from pidtab.table import Table
 from pidtab.testing.aim import GREATEST_PICK, Aim
-from pidtab.testing.methods import Misnamed, name_missing
+from pidtab.testing.methods import name_missing
 from pidtab.testing.peer import CommandPeer, LeftOut, LinePeer, ObjectPeer, Peer
 
 DEFAULT_CASES = 300
@@ -38,6 +38,9 @@ ARROW, BAR = " => ", " | "
 
 # The line of a difference that no call showed.
 THE_LIST = "(the list)"
+
+# Some versions of Hypothesis have no types for it.
+run_machine: Callable[..., None] = run_state_machine_as_test
 
 
 class Met(NamedTuple):
@@ -365,7 +368,7 @@ def compare(
         max_examples=cases, stateful_step_count=steps, deadline=None, database=None, report_multiple_bugs=False, verbosity=Verbosity.quiet
     )
     try:
-        run_state_machine_as_test(compared, settings=wanted)
+        run_machine(compared, settings=wanted)
     except Different as first:
         found = leave_out(compared.rig, first)
         if save is not None:
