@@ -114,6 +114,17 @@ def errnos(tables):
     ]  # fmt: skip
 
 
+def refusals_by_words(tables):
+    """The refusal that an answer has, by the words of its error and its reason."""
+    names = {it.name: it.value for it in tables["errnos"]}
+    rows = [(f'("{it.error}", "{it.word}")', f"({names[it.error]}, {variant(it, 'id')})") for it in tables["refusals"]]
+    return [
+        "/// The errno and the refusal that an answer names, of whatever has the id.",
+        "fn refusal_by(errno: &str, word: &str, id: u64) -> Option<(i32, Refusal)> {", "    Some(match (errno, word) {",
+        *matched(rows, 1), "        _ => return None,", "    })", "}",
+    ]  # fmt: skip
+
+
 # The statuses that a function of an open table may have, and those of a line.
 OF_TABLES = ("NO_MEMORY", "BUSY", "OUT_OF_RANGE", "SPENT", "NOT_KEPT", "AGAIN", "NO_HISTORY", "DIFFERS")
 OF_LINES = {"NO_MEMORY": "NoMemory", "BUSY": "Busy", "EMPTY_LINE": "Empty", "BAD_LINE": "Bad", "SPENT": "Spent"}
@@ -133,6 +144,7 @@ PARTS = {
     (FAULT, "errors"): errors,
     (FAULT, "errors of lines"): errors_of_lines,
     ("bindings/rust/src/json.rs", "errnos"): errnos,
+    ("bindings/rust/src/connected.rs", "refusals by words"): refusals_by_words,
     (RAW, "operations"): operations,
     (RAW, "kinds"): kinds,
     (RAW, "bounds"): bounds,

@@ -16,11 +16,14 @@ pub const MOST_OUTPUT: usize = 32 << 20;
 /// Behind so many bytes of output to guests it is looked at whose is too much.
 const MUCH_POURED: usize = 8 << 20;
 
-/// So long a guest's requests are done in a turn. Then the others come, and his in the next turn.
-const BUDGET: Duration = Duration::from_millis(4);
+/// So long a guest's requests are done in a turn. Then the others come, and his in the next turn, or, if others have come meanwhile, in the one after.
+const BUDGET: Duration = Duration::from_micros(200);
+
+/// The calls of a MULTI come together, whatever time they take. Those exits of a guest are not made that come so long after his time was over.
+const GRACE: Duration = Duration::from_millis(10);
 
 /// So many requests are done between two looks at the clock. One that may take long counts as all of them.
-pub const REQUESTS_AT_ONCE: u32 = 16;
+pub const REQUESTS_AT_ONCE: u32 = 8;
 
 #[derive(Default)]
 struct Account {
@@ -29,12 +32,16 @@ struct Account {
     /// In that turn.
     spent: Duration,
     turn: u64,
+    /// He has no time in that turn, as he had all of his in the one before.
+    rests: bool,
 }
 
 pub struct Accounts {
     guests: HashMap<u32, Account>,
     own: u32,
     turn: u64,
+    /// Whether there are requests in this turn of others than those whose time was over.
+    is_awaited: bool,
     most_connections: usize,
     /// What guests may have of all connections.
     most_of_guests: usize,
@@ -51,6 +58,7 @@ impl Accounts {
             guests: HashMap::new(),
             own: geteuid().as_raw(),
             turn: 0,
+            is_awaited: false,
             most_connections: options.most_user_clients.unwrap_or(most.div_ceil(2)),
             most_of_guests: most - most.div_ceil(16).min(most - 1),
             until: None,
@@ -113,9 +121,10 @@ impl Accounts {
         is_much
     }
 
-    /// A turn begins: each guest has his whole time.
-    pub fn begin_turn(&mut self) {
+    /// A turn begins: each guest has his whole time, or rests for this turn, if others wait.
+    pub fn begin_turn(&mut self, is_awaited: bool) {
         self.turn += 1;
+        self.is_awaited = is_awaited;
     }
 
     /// The requests of a connection of the user are done from now on, if he has time left in this turn.
@@ -123,7 +132,10 @@ impl Accounts {
         (self.until, self.requests) = (None, 0);
         let Some(account) = self.guests.get_mut(&user) else { return true };
         if account.turn != self.turn {
-            (account.turn, account.spent) = (self.turn, Duration::ZERO);
+            let had_all = account.turn + 1 == self.turn && account.spent >= BUDGET && !account.rests;
+            account.rests = had_all && self.is_awaited;
+            account.spent = if account.rests { BUDGET } else { Duration::ZERO };
+            account.turn = self.turn;
         }
         self.until = Some(Instant::now() + BUDGET.saturating_sub(account.spent));
         account.spent < BUDGET
@@ -139,6 +151,11 @@ impl Accounts {
         let Some(until) = self.until.filter(|_| self.requests >= REQUESTS_AT_ONCE) else { return false };
         self.requests = 0;
         Instant::now() >= until
+    }
+
+    /// Whether the guest's time has been over for long.
+    pub fn is_late(&self) -> bool {
+        self.until.is_some_and(|it| Instant::now() >= it + GRACE)
     }
 
     pub fn end(&mut self, user: u32) {
@@ -195,18 +212,39 @@ mod tests {
     fn time() {
         let mut accounts = accounts(32);
         accounts.connected(1000);
-        accounts.begin_turn();
+        accounts.begin_turn(true);
         assert!(accounts.begin(1000));
         accounts.count(REQUESTS_AT_ONCE - 1);
         std::thread::sleep(BUDGET);
         assert!(!accounts.is_over());
         accounts.count(1);
-        assert!(accounts.is_over());
+        assert!(accounts.is_over() && !accounts.is_late());
+        std::thread::sleep(GRACE);
+        assert!(accounts.is_late());
         accounts.end(1000);
         assert!(!accounts.begin(1000) && accounts.begin(7));
         accounts.count(REQUESTS_AT_ONCE);
         assert!(!accounts.is_over());
-        accounts.begin_turn();
+        accounts.begin_turn(false);
         assert!(accounts.begin(1000));
+    }
+
+    /// Who had all of his time rests for a turn, if others wait, and for no more than one.
+    #[test]
+    fn rests() {
+        let mut accounts = accounts(32);
+        accounts.connected(1000);
+        let mut told = Vec::new();
+        for is_awaited in [true, true, true, true, false, false, true] {
+            accounts.begin_turn(is_awaited);
+            told.push(accounts.begin(1000));
+            std::thread::sleep(BUDGET);
+            accounts.end(1000);
+        }
+        assert_eq!(told, [true, false, true, false, true, true, false]);
+        for _ in 0..3 {
+            accounts.begin_turn(true);
+            assert!(accounts.begin(7));
+        }
     }
 }

@@ -157,6 +157,11 @@ impl Book {
         self.controls.len()
     }
 
+    /// The cgroup above that one; none for the root's, and where there is none.
+    pub fn parent_of_control(&self, id: u64) -> Option<u64> {
+        self.controls.get(&id).copied()
+    }
+
     /// Whether there is such a cgroup.
     pub fn has_control(&self, id: u64) -> bool {
         id == 0 || self.controls.contains_key(&id)

@@ -1,7 +1,7 @@
 //! --check: what a directory has, read as a start reads it; and --copy: the table of a service in a directory of its own. Neither changes what it reads.
 use crate::directory::{fault_at, is_identity, Directory, Fault};
 use crate::former::{self, Known};
-use crate::leases::Leases;
+use crate::noted::Noted;
 use crate::peer::Peer;
 use crate::recover::Recovery;
 use crate::snapshot;
@@ -24,7 +24,8 @@ pub fn check(path: &Path) -> Result<String, Fault> {
     recovery.born = directory.former_leases().exists().then(HashMap::new);
     let left_out = recovery.finish()?.map_or(0, |it| it.left_out);
     take_former(&directory, &mut recovery)?;
-    let Recovery { table, leases, place, snapshot, replayed, pid_max, .. } = &mut recovery;
+    let Recovery { table, noted, place, snapshot, replayed, pid_max, .. } = &mut recovery;
+    let leases = &mut noted.leases;
     leases.keep_those_that(|task| table.stat(1, task).is_ok());
     let listing = table.listing().map_err(fault_at(path))?;
     let figures = [
@@ -38,6 +39,7 @@ pub fn check(path: &Path) -> Result<String, Fault> {
         ("controls", listing.controls.len() as u64 - 1),
         ("leases", leases.count() as u64),
         ("leased_tasks", leases.tasks() as u64),
+        ("named_controls", noted.names.ids().count() as u64),
     ];
     let mut text = format!("identity:{}\n", identity.as_deref().unwrap_or("none"));
     for (name, value) in figures {
@@ -51,7 +53,7 @@ fn take_former(directory: &Directory, recovery: &mut Recovery) -> Result<(), Fau
     let Some(born) = &recovery.born else { return Ok(()) };
     let (known, table) = (Known { snapshot: recovery.snapshot.calls, born }, &recovery.table);
     let facts = former::read_file(directory, &known, |task| table.stat(1, task).is_ok())?.unwrap_or_default();
-    facts.iter().for_each(|it| recovery.leases.apply(it));
+    facts.iter().for_each(|it| recovery.noted.apply(it));
     Ok(())
 }
 
@@ -67,7 +69,7 @@ pub fn copy(socket: &Path, path: &Path) -> Result<String, Fault> {
     let text = peer.bulk()?;
     let read = snapshot::read(&text).map_err(fault_at(socket))?;
     Table::from_dump(read.table).map_err(fault_at(socket))?;
-    let (place, leases) = (read.place, Leases::of(&read.facts));
+    let (place, leases) = (read.place, Noted::of(&read.facts).leases);
     let to = directory.snapshot(place.entries);
     directory.write(&to, &[&text]).map_err(fault_at(&to))?;
     directory.set_identity(&identity)?;

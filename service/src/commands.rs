@@ -45,6 +45,8 @@ pub enum Action {
     Page,
     Space,
     Inside,
+    Name,
+    Names,
     Multi,
     Discard,
     Subscribe,
@@ -331,7 +333,7 @@ impl Command {
         match self.action {
             Action::Call(verb) => verb.asks(),
             Action::Line | Action::WaitChild | Action::ForkAt | Action::Told => false,
-            Action::Lease | Action::Release => false,
+            Action::Lease | Action::Release | Action::Name => false,
             Action::Save | Action::Takeover | Action::Shutdown => false,
             _ => true,
         }
@@ -398,6 +400,8 @@ pub const COMMANDS: &[Command] = &[
     row("MK", A::Call(Verb::Mk), &[Control], "a cgroup below the one with the id: its id"),
     row("MOVE", A::Call(Verb::Move), &[Task, Control], "the task goes into the cgroup"),
     row("MULTI", A::Multi, &[], "the next calls come together, at EXEC"),
+    row("NAME", A::Name, &[Control, Other("NAME", 1, 1)], "the cgroup has the name among those beside it: --allow may have its path"),
+    row("NAMES", A::Names, &[], "each cgroup with a name: its path and its id"),
     row("NEXT", A::Call(Verb::Next), &[Caller, Kind, Process], "the least number from P on that is in use, or nil"),
     row("NSPID", A::Call(Verb::Nspid), &[Caller, Process], "the task's numbers, outermost first"),
     row("PAGE", A::Page, &[Caller, Whom, From(MOST_PROCESS), Room], "how many children or members there are from the number FROM on, and their numbers, ROOM at most"),

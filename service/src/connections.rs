@@ -112,6 +112,12 @@ impl Connections {
         }
     }
 
+    /// It is sent what it has in the next turn, before those that come then. It was touched.
+    pub fn postpone(&mut self, token: usize) {
+        self.touched.push(token);
+        self.queue(token);
+    }
+
     /// It is sent what it has.
     pub fn touch(&mut self, token: usize) {
         if let Some(conn) = self.all[token].as_mut().filter(|it| !it.is_touched) {

@@ -13,7 +13,7 @@
 //! - Which of these is next, and when the log turns to a new file, says the machine that [`Log`] drives. What was written stays in `written` until
 //!   followers have it.
 //! - By `everysec` a thread syncs each second what was written.
-//! - What is recorded of leases is taken as a call is. A fork and its lease are one entry, so that a crash leaves both or neither.
+//! - What is recorded of leases and of names is taken as a call is. A fork and its lease are one entry, so that a crash leaves both or neither.
 //! - Turning: the log is synced beside, before the machine is asked to. The second table names the new log in `current` and makes the snapshot, and then the
 //!   older files go.
 //! - Adopting, of a follower: the leader's text is the snapshot, a new log and a new machine begin, and texts that were ordered are ordered anew.
@@ -24,8 +24,9 @@ use crate::directory::{new_identity, Directory, Fault, SEATS};
 use crate::entry::{self, Entry};
 use crate::facts::{forks, Fact};
 use crate::former::{self, Known};
-use crate::leases::{Key, Leases};
+use crate::leases::Key;
 use crate::log::{Closed, Committed, Log, Sync};
+use crate::noted::Noted;
 use crate::recall::Recall;
 use crate::recover::{End, Recovery};
 use crate::replica::{loose_blocks, Asker, Order, Replica, Report, Source, TextKind};
@@ -69,13 +70,14 @@ pub struct Engine {
     pub identity: String,
     pub table: Table,
     pub book: Book,
-    pub leases: Leases,
+    /// What is recorded beside the calls.
+    pub noted: Noted,
     pub pid_max: u32,
     /// So many calls are recorded: the ordinal of the next one.
     pub made: u64,
     /// So many of them are written.
     pub saved: u64,
-    /// So many entries are recorded: the calls, and what is recorded of leases.
+    /// So many entries are recorded: the calls, and what is recorded beside them.
     pub entries: u64,
     pub counts: [u64; SEATS as usize],
     pub asked: u64,
@@ -99,7 +101,7 @@ pub struct Engine {
 /// What the directory has, or a new table.
 struct Opened {
     table: Table,
-    leases: Leases,
+    noted: Noted,
     pid_max: u32,
     place: Place,
     /// So many calls are before the snapshot.
@@ -116,7 +118,7 @@ fn read_directory(directory: &Directory, keep: &Keep) -> Result<Opened, Fault> {
     recovery.born = directory.former_leases().exists().then(HashMap::new);
     let end = recovery.finish()?;
     Ok(Opened {
-        leases: recovery.leases,
+        noted: recovery.noted,
         pid_max: recovery.pid_max,
         place: recovery.place,
         snapshot: recovery.snapshot.calls,
@@ -129,8 +131,8 @@ fn read_directory(directory: &Directory, keep: &Keep) -> Result<Opened, Fault> {
 
 fn new_table(keep: &Keep) -> Result<Opened, Fault> {
     let table = Table::open(keep.pid_max).map_err(|error| error.to_string())?;
-    let (leases, place, born) = (Leases::default(), Place::default(), HashMap::new());
-    Ok(Opened { table, leases, pid_max: keep.pid_max, place, snapshot: 0, replayed: 0, born, end: None })
+    let (noted, place, born) = (Noted::default(), Place::default(), HashMap::new());
+    Ok(Opened { table, noted, pid_max: keep.pid_max, place, snapshot: 0, replayed: 0, born, end: None })
 }
 
 /// The log, the checksum that it goes on from, and where the second table has its calls from.
@@ -177,7 +179,7 @@ impl Engine {
             identity: identity_of(directory.as_ref())?,
             book: Book::default(),
             table: opened.table,
-            leases: opened.leases,
+            noted: opened.noted,
             pid_max,
             made,
             saved: made,
@@ -208,9 +210,9 @@ impl Engine {
         let listing = self.table.listing().map_err(|error| error.to_string())?;
         let is_watched = self.book.is_watched;
         self.book = Book::of(&listing);
-        (self.book.is_watched, self.book.tells_gone) = (is_watched, !self.leases.is_empty());
+        (self.book.is_watched, self.book.tells_gone) = (is_watched, !self.noted.leases.is_empty());
         let book = &self.book;
-        self.leases.keep_those_that(|task| book.kin(task).is_some());
+        self.noted.leases.keep_those_that(|task| book.kin(task).is_some());
         Ok(())
     }
 
@@ -276,20 +278,29 @@ impl Engine {
         }
     }
 
-    /// Records what comes of a lease.
+    /// Records what comes of a lease, or a name.
     pub fn record(&mut self, fact: &Fact) {
         let before = self.batch.len();
         self.blocks.put_note(&fact.note(), &mut self.batch).expect(HAS_A_PLACE);
         self.take(before);
-        self.leases.apply(fact);
-        self.book.tells_gone = true;
+        self.noted.apply(fact);
+        self.book.tells_gone |= !self.noted.leases.is_empty();
+    }
+
+    /// Why the cgroup cannot have the name, if it cannot.
+    pub fn refusal_of_name(&self, id: u64, name: &str) -> Option<&'static str> {
+        let Some(parent) = self.book.parent_of_control(id) else {
+            return Some("-ERR there is no such cgroup, or it is the root's");
+        };
+        let taken = self.noted.names.below(parent, name, &self.book).filter(|it| *it != id);
+        taken.map(|_| "-ERR a cgroup beside it has the name")
     }
 
     /// A connection takes the lease of that name, which is new if there is none: its number.
     pub fn hold(&mut self, key: &Key, ttl: u64) -> Option<u64> {
-        self.record(&self.leases.hold_of(key, ttl));
-        let number = self.leases.number(key)?;
-        self.leases.hold(number);
+        self.record(&self.noted.leases.hold_of(key, ttl));
+        let number = self.noted.leases.number(key)?;
+        self.noted.leases.hold(number);
         Some(number)
     }
 
@@ -314,11 +325,9 @@ impl Engine {
         self.made += 1;
         self.counts[seat as usize % SEATS as usize] += 1;
         self.book.note(&mut self.table, call, reply, self.made);
-        if let Reply::Forked(child) = reply {
-            self.leases.forked(child.root, lease);
-        }
+        self.noted.made(call, reply, lease);
         for task in self.book.gone.drain(..) {
-            self.leases.gone(task);
+            self.noted.leases.gone(task);
         }
     }
 
@@ -404,7 +413,7 @@ impl Engine {
 
     /// The same text by the table that serves.
     pub fn text(&self, kind: TextKind) -> Result<Vec<u8>, Fault> {
-        kind.of(&self.table, &self.leases, Place { entries: self.entries, calls: self.made })
+        kind.of(&self.table, &self.noted, Place { entries: self.entries, calls: self.made })
     }
 
     /// The second table goes on to the end of what was written, and answers.
@@ -512,7 +521,7 @@ impl Engine {
         let table = Table::from_dump(read.table).map_err(|fault| fault.to_string())?;
         let (log, blocks, source) = self.keep_adopted(text, place, pid_max, wake.clone())?;
         (self.log, self.blocks, self.replica) = (log, blocks, Replica::start(source, wake));
-        (self.table, self.leases, self.pid_max) = (table, Leases::of(&read.facts), pid_max);
+        (self.table, self.noted, self.pid_max) = (table, Noted::of(&read.facts), pid_max);
         (self.entries, self.made, self.saved, self.snapshot) = (place.entries, place.calls, place.calls, place.calls);
         self.batch.clear();
         self.loose.clear();

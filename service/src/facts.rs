@@ -2,7 +2,7 @@
 use crate::resp::number;
 use pidtab::Note;
 
-/// What the log says of leases.
+/// What the log says of leases, and of the names of cgroups.
 #[derive(Clone, Debug, PartialEq)]
 pub enum Fact {
     /// A user has a lease of that name, which has the number.
@@ -15,6 +15,8 @@ pub enum Fact {
     Release { number: u64 },
     /// Its time is over, and its tasks have ended before this.
     End { number: u64 },
+    /// A cgroup that is there has that name among those beside it.
+    Name { id: u64, name: Vec<u8> },
 }
 
 /// The note before a fork, at one place of the log with it: the child is the lease's.
@@ -24,6 +26,7 @@ const HOLD: u8 = 202;
 const BIND: u8 = 203;
 const RELEASE: u8 = 204;
 const END: u8 = 205;
+const NAME: u8 = 206;
 
 /// The note before a fork under the lease.
 pub fn forks(lease: u64) -> Note {
@@ -45,6 +48,7 @@ impl Fact {
             Fact::Bind { number, task } => note(BIND, *number, *task),
             Fact::Release { number } => note(RELEASE, *number, 0),
             Fact::End { number } => note(END, *number, 0),
+            Fact::Name { id, name } => Note { text: name.clone(), ..note(NAME, *id, 0) },
         }
     }
 
@@ -57,6 +61,7 @@ impl Fact {
             BIND => Fact::Bind { number, task: value },
             RELEASE => Fact::Release { number },
             END => Fact::End { number },
+            NAME => Fact::Name { id: number, name },
             _ => return None,
         })
     }
@@ -68,6 +73,7 @@ impl Fact {
                 Some(format!("lease {number} {user} {} {ttl}", String::from_utf8_lossy(name)))
             }
             Fact::Bind { number, task } => Some(format!("bind {number} {task}")),
+            Fact::Name { id, name } => Some(format!("name {id} {}", String::from_utf8_lossy(name))),
             Fact::Hold { .. } | Fact::Release { .. } | Fact::End { .. } => None,
         }
     }
@@ -80,6 +86,7 @@ impl Fact {
                 Some(Fact::Lease { number, user, name: name.to_vec(), ttl })
             }
             [b"bind", number, task] => Some(Fact::Bind { number: long(number)?, task: short(task)? }),
+            [b"name", id, name] => Some(Fact::Name { id: long(id)?, name: name.to_vec() }),
             _ => None,
         }
     }
@@ -106,6 +113,7 @@ mod tests {
             Fact::Bind { number, task: 4_194_303 },
             Fact::Release { number },
             Fact::End { number },
+            Fact::Name { id: u64::MAX, name: vec![b'x'; 64] },
         ]
     }
 
@@ -123,7 +131,18 @@ mod tests {
 
     #[test]
     fn what_is_no_line() {
-        let wrong = ["", "lease 1 2 x", "lease 1 2 x 3 4", "lease 01 2 x 3", "bind 1", "bind 1 4294967296", "hold 1 2"];
+        let wrong = [
+            "",
+            "lease 1 2 x",
+            "lease 1 2 x 3 4",
+            "lease 01 2 x 3",
+            "bind 1",
+            "bind 1 4294967296",
+            "hold 1 2",
+            "name x y",
+            "name 1",
+            "name 1 x y",
+        ];
         assert_eq!(wrong.iter().find(|it| Fact::read(it.as_bytes()).is_some()), None);
     }
 }

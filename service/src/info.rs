@@ -56,7 +56,7 @@ fn clients(service: &Service) -> Fields {
         field("closed_as_stalled", figures.stalled),
         field("closed_with_too_much_output", figures.heavy),
         field("sleeping", service.sleepers.count()),
-        field("leases", service.engine.leases.count()),
+        field("leases", service.engine.noted.leases.count()),
         field("followers", figures.followers),
         field("follower_lag_bytes", service.follower_lag()),
     ]

@@ -46,13 +46,6 @@ pub fn read_ttl(word: &[u8]) -> Option<u64> {
 }
 
 impl Leases {
-    /// Those of a snapshot, of which nobody holds one.
-    pub fn of(facts: &[Fact]) -> Leases {
-        let mut leases = Leases::default();
-        facts.iter().for_each(|it| leases.apply(it));
-        leases
-    }
-
     /// What the log says next.
     pub fn apply(&mut self, fact: &Fact) {
         match fact {
@@ -64,6 +57,7 @@ impl Leases {
             }
             Fact::Bind { number, task } => self.forked(*task, Some(*number)),
             Fact::Release { number } | Fact::End { number } => self.remove(*number),
+            Fact::Name { .. } => {}
         }
     }
 
@@ -221,7 +215,8 @@ mod tests {
         }
         leases.gone(3);
         leases.forked(4, None);
-        let again = Leases::of(&leases.facts(|task| task != 6));
+        let mut again = Leases::default();
+        leases.facts(|task| task != 6).iter().for_each(|it| again.apply(it));
         assert_eq!((tasks(&again, first), tasks(&again, second)), (vec![2], vec![]));
         assert_eq!(again.over(100), [(second, 8, vec![])]);
         assert_eq!(leases.over(u64::MAX), []);

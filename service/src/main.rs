@@ -24,6 +24,8 @@ mod leader;
 mod leases;
 mod log;
 mod metrics;
+mod names;
+mod noted;
 mod options;
 mod peer;
 mod recall;

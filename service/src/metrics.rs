@@ -67,7 +67,7 @@ fn of_table(service: &Service) -> Vec<Figure> {
         ("pidtabd_pid_max", Gauge, u64::from(engine.pid_max), "The greatest number of a task."),
         ("pidtabd_tasks", Gauge, engine.book.tasks() as u64, "Tasks, live or not waited for yet."),
         ("pidtabd_controls", Gauge, engine.book.controls() as u64, "Cgroups beside the root's."),
-        ("pidtabd_leases", Gauge, service.engine.leases.count() as u64, "Leases."),
+        ("pidtabd_leases", Gauge, service.engine.noted.leases.count() as u64, "Leases."),
         ("pidtabd_calls_total", Counter, figures.calls, "Calls that were made."),
         ("pidtabd_refusals_total", Counter, figures.refused, "Of these those that the table refused."),
         ("pidtabd_queries_total", Counter, engine.asked, "Queries."),

@@ -12,7 +12,7 @@ usage: pidtabd [OPTION ..]
   --socket PATH       a Unix socket; without it those that systemd passes
   --mode OCTAL        the socket's mode (0600)
   --allow WHO,..      who may connect: UID, NAME or %GROUP; with :ro he may only ask, with :below=CGROUP he
-                      makes and ends tasks below that cgroup alone (whoever the mode lets)
+                      makes and ends tasks below that cgroup alone, an id or a path (whoever the mode lets)
   --allow-file FILE   the same, a WHO a line, which SIGHUP has read again
   --dir DIR           where the log and the snapshots are (nothing is kept)
   --fsync WHEN        no, everysec, always (everysec)
@@ -42,6 +42,8 @@ pub enum Rights {
     Asks,
     /// He may ask, and make calls by tasks in the cgroup and those below it.
     Below(u64),
+    /// The same, and the cgroup is not there yet.
+    BelowNone,
 }
 
 #[derive(Clone, Debug)]
@@ -222,7 +224,7 @@ mod tests {
         .expect("options");
         assert_eq!((read.keep.sync, read.keep.segment, read.keep.archive), (Sync::Always, 4096, true));
         assert_eq!(
-            (read.allowed.rights_of(7, 7), read.allowed.rights_of(8, 8)),
+            (read.allowed.rights_of(7, 7, |_| None), read.allowed.rights_of(8, 8, |_| None)),
             (Some(Rights::Asks), Some(Rights::Below(5)))
         );
         assert_eq!((read.mode, read.keep.pid_max, read.stall), (0o600, 32768, 60));

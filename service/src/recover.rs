@@ -1,8 +1,8 @@
 //! Reads a directory: the newest snapshot, and the logs behind it, in parts.
 use crate::directory::{fault_at, Directory, Fault, SEATS};
 use crate::entry::{self, Entry, Wrong};
-use crate::leases::Leases;
 use crate::log::BATCH;
+use crate::noted::Noted;
 use crate::recall::{Recall, Watcher};
 use crate::snapshot::{self, Place};
 use pidtab::{Blocks, Head, Reply, SavedFault, Table};
@@ -95,7 +95,7 @@ impl Input {
 pub struct Recovery {
     directory: Directory,
     pub table: Table,
-    pub leases: Leases,
+    pub noted: Noted,
     pub pid_max: u32,
     /// So far it goes.
     pub place: Place,
@@ -140,8 +140,8 @@ impl Recovery {
             let entries = place.entries;
             return Err(fault_at(&path)(format!("is the text after {entries} entries, and its name says {snapshot}")));
         }
-        let leases = Leases::of(&read.facts);
-        Ok(Some(Recovery { leases, snapshot: place, place, ..Recovery::of(directory, table, pid_max) }))
+        let noted = Noted::of(&read.facts);
+        Ok(Some(Recovery { noted, snapshot: place, place, ..Recovery::of(directory, table, pid_max) }))
     }
 
     fn begin_with_log(directory: Directory, logs: &[u64]) -> Result<Option<Recovery>, Fault> {
@@ -169,11 +169,11 @@ impl Recovery {
     }
 
     fn of(directory: Directory, table: Table, pid_max: u32) -> Recovery {
-        let (leases, place, born) = (Leases::default(), Place::default(), None);
+        let (noted, place, born) = (Noted::default(), Place::default(), None);
         Recovery {
             directory,
             table,
-            leases,
+            noted,
             pid_max,
             place,
             snapshot: place,
@@ -323,14 +323,12 @@ impl Recovery {
             watcher.note(&mut self.table, entry, self.place.calls);
         }
         let (made, lease) = match entry {
-            Entry::Fact(fact) => return self.leases.apply(fact),
+            Entry::Fact(fact) => return self.noted.apply(fact),
             Entry::Call { made, lease } => (made, lease),
         };
-        if let Reply::Forked(child) = &made.reply {
-            self.leases.forked(child.root, *lease);
-            if let Some(born) = &mut self.born {
-                born.insert(child.root, self.place.calls);
-            }
+        self.noted.made(made.call, &made.reply, *lease);
+        if let (Reply::Forked(child), Some(born)) = (&made.reply, &mut self.born) {
+            born.insert(child.root, self.place.calls);
         }
         self.place.calls += 1;
         self.replayed += 1;

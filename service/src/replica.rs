@@ -3,11 +3,11 @@
 use crate::asks::{Answered, Query};
 use crate::directory::{fault_at, Directory, Fault, SEATS};
 use crate::entry::{self, Entry};
-use crate::leases::Leases;
+use crate::noted::Noted;
 use crate::recall::Recall;
 use crate::recover::Recovery;
 use crate::snapshot::{self, Place};
-use pidtab::{Blocks, Head, Reply, Table};
+use pidtab::{Blocks, Head, Table};
 use std::sync::mpsc::{channel, Receiver, Sender};
 use std::sync::Arc;
 use std::thread;
@@ -37,19 +37,19 @@ pub enum Order {
 pub enum TextKind {
     List,
     Dump,
-    /// The leases too: what a snapshot has, and a follower begins with.
+    /// The leases and the names of cgroups too: what a snapshot has, and a follower begins with.
     Whole,
 }
 
 impl TextKind {
     pub const ALL: [TextKind; 3] = [TextKind::List, TextKind::Dump, TextKind::Whole];
 
-    pub fn of(self, table: &Table, leases: &Leases, place: Place) -> Result<Vec<u8>, Fault> {
+    pub fn of(self, table: &Table, noted: &Noted, place: Place) -> Result<Vec<u8>, Fault> {
         let text = if self == TextKind::List { table.list() } else { table.dump() };
         let text = text.map_err(|error| error.to_string())?.into_bytes();
         match self {
             TextKind::List | TextKind::Dump => Ok(text),
-            TextKind::Whole => Ok([snapshot::front(leases, place, table), text].concat()),
+            TextKind::Whole => Ok([snapshot::front(noted, place, table), text].concat()),
         }
     }
 }
@@ -140,7 +140,7 @@ enum State {
 /// A table whose calls are in no file.
 struct Loose {
     table: Table,
-    leases: Leases,
+    noted: Noted,
     blocks: Blocks,
     place: Place,
 }
@@ -160,12 +160,10 @@ impl Loose {
     fn count(&mut self, entry: &Entry) {
         self.place.entries += 1;
         match entry {
-            Entry::Fact(fact) => self.leases.apply(fact),
+            Entry::Fact(fact) => self.noted.apply(fact),
             Entry::Call { made, lease } => {
                 self.place.calls += 1;
-                if let Reply::Forked(child) = &made.reply {
-                    self.leases.forked(child.root, *lease);
-                }
+                self.noted.made(made.call, &made.reply, *lease);
             }
         }
     }
@@ -270,21 +268,21 @@ impl Copy {
         }
     }
 
-    fn table(&mut self) -> Result<(&Table, &Leases, Place), Fault> {
+    fn table(&mut self) -> Result<(&Table, &Noted, Place), Fault> {
         if matches!(self.state, State::Unread) {
             self.replay(b"");
         }
         match &self.state {
-            State::Kept(it) => Ok((&it.table, &it.leases, it.place)),
-            State::Loose(it) => Ok((&it.table, &it.leases, it.place)),
+            State::Kept(it) => Ok((&it.table, &it.noted, it.place)),
+            State::Loose(it) => Ok((&it.table, &it.noted, it.place)),
             State::Failed(fault) => Err(fault.clone()),
             State::Unread => Err("there is no second table".to_owned()),
         }
     }
 
     fn text(&mut self, kind: TextKind) -> Result<Vec<u8>, Fault> {
-        let (table, leases, place) = self.table()?;
-        kind.of(table, leases, place)
+        let (table, noted, place) = self.table()?;
+        kind.of(table, noted, place)
     }
 
     fn snapshot(&mut self) -> Result<Place, Fault> {
@@ -308,18 +306,18 @@ fn begin_loose(pid_max: u32, text: Option<Vec<u8>>) -> State {
     let begun = match text {
         Some(text) => loose_of(&text),
         None => {
-            Table::open(pid_max).map_err(|error| error.to_string()).map(|it| (it, Leases::default(), Place::default()))
+            Table::open(pid_max).map_err(|error| error.to_string()).map(|it| (it, Noted::default(), Place::default()))
         }
     };
     match (begun, loose_blocks(pid_max)) {
-        (Ok((table, leases, place)), Ok(blocks)) => State::Loose(Box::new(Loose { table, leases, blocks, place })),
+        (Ok((table, noted, place)), Ok(blocks)) => State::Loose(Box::new(Loose { table, noted, blocks, place })),
         (Err(fault), _) => State::Failed(fault),
         (_, Err(error)) => State::Failed(error.to_string()),
     }
 }
 
-fn loose_of(text: &[u8]) -> Result<(Table, Leases, Place), Fault> {
+fn loose_of(text: &[u8]) -> Result<(Table, Noted, Place), Fault> {
     let read = snapshot::read(text)?;
     let table = Table::from_dump(read.table).map_err(|fault| fault.to_string())?;
-    Ok((table, Leases::of(&read.facts), read.place))
+    Ok((table, Noted::of(&read.facts), read.place))
 }

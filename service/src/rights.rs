@@ -7,7 +7,7 @@ use pidtab::{Call, Reply};
 pub fn may_make(engine: &mut Engine, rights: Rights, call: Call) -> bool {
     match rights {
         Rights::All => true,
-        Rights::Asks => false,
+        Rights::Asks | Rights::BelowNone => false,
         Rights::Below(top) => Below { engine, top }.may_make(call),
     }
 }

@@ -9,6 +9,7 @@ use crate::directory::{Fault, SEATS};
 use crate::events::{self, Channel, MOST_CHANNELS};
 use crate::facts::Fact;
 use crate::leases::{is_name, read_ttl, Lease};
+use crate::names;
 use crate::options::Rights;
 use crate::replica::{Asker, TextKind};
 use crate::resp::{is_word, number, Answer, Words};
@@ -131,19 +132,23 @@ impl Service {
         }
     }
 
-    /// Why the client may not make the call now. One that may take long is counted as such.
+    /// Why the client may not make the call now. One that may take long is counted as such, also if it is refused: whether he may end an init is asked of
+    /// each task that would fall with it.
     fn refusal_of_call(&mut self, conn: &Conn, call: Call) -> Option<String> {
+        if matches!(call, Call::Exit { .. }) {
+            if self.accounts.is_late() {
+                return Some("-BUSY the calls of this MULTI take too long".to_owned());
+            }
+            self.accounts.count(REQUESTS_AT_ONCE);
+        }
         let why = self.refusal(conn.rights, Some(call));
         if why.is_some() {
             return why;
         }
         let is_fork = matches!(call, Call::Fork { .. });
-        if is_fork && conn.lease.as_ref().is_some_and(|it| !self.engine.leases.is_there(it.number)) {
+        if is_fork && conn.lease.as_ref().is_some_and(|it| !self.engine.noted.leases.is_there(it.number)) {
             let why = "-NOLEASE the lease of this connection was released: say LEASE, or RELEASE and its name";
             return Some(why.to_owned());
-        }
-        if matches!(call, Call::Exit { .. }) {
-            self.accounts.count(REQUESTS_AT_ONCE);
         }
         None
     }
@@ -302,6 +307,8 @@ impl Service {
             Action::Lease => self.run_lease(conn, command, words),
             Action::Leases => self.run_leases(conn),
             Action::Release => self.run_release(conn, words.at(1)),
+            Action::Name => self.run_name(conn, command, words),
+            Action::Names => self.run_names(conn),
             Action::Save => self.run_save(conn, command, words),
             Action::Follow => self.run_follow(conn, command, words),
             Action::Takeover => self.run_takeover(conn, command, words),
@@ -434,11 +441,11 @@ impl Service {
             return conn.out.line(&why);
         }
         if let Some(before) = conn.lease.take() {
-            self.engine.leases.let_go(before.number, self.now);
+            self.engine.noted.leases.let_go(before.number, self.now);
         }
         let key = (conn.user, name.to_vec());
-        let is_full = conn.is_guest && self.engine.leases.count_of(conn.user) >= MOST_LEASES;
-        if is_full && self.engine.leases.number(&key).is_none() {
+        let is_full = conn.is_guest && self.engine.noted.leases.count_of(conn.user) >= MOST_LEASES;
+        if is_full && self.engine.noted.leases.number(&key).is_none() {
             return conn.out.line("-OOM too-many-leases");
         }
         conn.lease = self.engine.hold(&key, ttl).map(|number| Held { number, name: name.to_vec() });
@@ -453,7 +460,7 @@ impl Service {
 
     fn run_leases(&mut self, conn: &mut Conn) {
         let is_seen = |it: &&Lease| it.key.0 == conn.user || conn.rights == Rights::All;
-        let those: Vec<_> = self.engine.leases.named().filter(is_seen).collect();
+        let those: Vec<_> = self.engine.noted.leases.named().filter(is_seen).collect();
         conn.out.array(those.len());
         for lease in those {
             conn.out.array(4);
@@ -470,11 +477,36 @@ impl Service {
             return conn.out.line(&why);
         }
         let held = conn.lease.take_if(|it| it.name == name);
-        let leases = &self.engine.leases;
+        let leases = &self.engine.noted.leases;
         let is_another_s = held.is_some_and(|it| !leases.is_there(it.number));
         let number = leases.number(&(conn.user, name.to_vec())).filter(|_| !is_another_s);
         number.into_iter().for_each(|number| self.engine.record(&Fact::Release { number }));
         conn.out.number(u64::from(number.is_some()));
+    }
+
+    /// Rights follow what a path means, so only who may do all says it.
+    fn run_name(&mut self, conn: &mut Conn, command: &Command, words: Words) {
+        let name = std::str::from_utf8(words.at(2)).ok().filter(|it| names::is_name(it.as_bytes()));
+        let (Some(id), Some(name)) = (number(words.at(1), u64::MAX), name) else { return self.misused(conn, command) };
+        let refused = self.refusal(conn.rights, None);
+        if let Some(why) = refused.or_else(|| self.engine.refusal_of_name(id, name).map(str::to_owned)) {
+            return conn.out.line(&why);
+        }
+        if self.engine.noted.names.name(id) != Some(name.as_bytes()) {
+            self.engine.record(&Fact::Name { id, name: name.as_bytes().to_vec() });
+            self.give_rights();
+        }
+        conn.out.ok();
+    }
+
+    fn run_names(&mut self, conn: &mut Conn) {
+        let (names, book) = (&self.engine.noted.names, &self.engine.book);
+        conn.out.array(names.ids().count());
+        for id in names.ids() {
+            conn.out.array(2);
+            conn.out.bulk(&names.path(id, book));
+            conn.out.number(id);
+        }
     }
 
     fn run_save(&mut self, conn: &mut Conn, command: &Command, words: Words) {
@@ -532,7 +564,8 @@ impl Service {
             }
             Some(_) => {
                 self.leader = None;
-                self.engine.leases.begin(self.now);
+                self.engine.noted.leases.begin(self.now);
+                self.give_rights();
                 conn.out.ok();
             }
         }

@@ -44,6 +44,9 @@ const TICK: u64 = 100;
 /// A table with so few tasks is copied in the loop, some 0.2 ms, as no other client notices.
 const FEW_TASKS: usize = 200;
 
+/// So many bytes are sent to guests in a turn, and the rest of one that is begun.
+const SENT_TO_GUESTS: usize = 256 << 10;
+
 /// A follower that is so many bytes behind is closed.
 const FAR_BEHIND: usize = 256 << 20;
 
@@ -300,8 +303,10 @@ impl Service {
 
     /// Each client that is ready is read from once, and its requests are done.
     fn work(&mut self) {
-        self.accounts.begin_turn();
-        for token in std::mem::take(&mut self.clients.ready) {
+        let ready = std::mem::take(&mut self.clients.ready);
+        let is_awaited = ready.iter().any(|it| self.clients.get(*it).is_some_and(|it| !it.is_cut));
+        self.accounts.begin_turn(is_awaited);
+        for token in ready {
             let Some(mut conn) = self.clients.take(token) else { continue };
             conn.is_queued = false;
             if conn.is_delayed {
@@ -404,10 +409,22 @@ impl Service {
             self.order_texts();
             self.order_recalls();
         }
+        let mut room = SENT_TO_GUESTS;
         for token in std::mem::take(&mut self.clients.touched) {
-            self.send_to(token);
+            match self.has_room_for(token, &mut room) {
+                true => self.send_to(token),
+                false => self.clients.postpone(token),
+            }
         }
         Ok(())
+    }
+
+    /// Whether it is sent what it has in this turn. Guests have so much room together; who has none comes first in the next turn.
+    fn has_room_for(&mut self, token: usize, room: &mut usize) -> bool {
+        let Some(conn) = self.clients.get(token).filter(|it| it.is_guest) else { return true };
+        let had = *room > 0;
+        *room = room.saturating_sub(conn.unsent());
+        had
     }
 
     /// The answers of this turn may be of what is not saved: they wait, and the clients with them. These stay touched, and so are not sent anything.
@@ -487,7 +504,7 @@ impl Service {
         self.accounts.gone(conn.user, conn.channels.len());
         self.figures.followers -= usize::from(conn.follower.is_some());
         if let Some(held) = &conn.lease {
-            self.engine.leases.let_go(held.number, self.now);
+            self.engine.noted.leases.let_go(held.number, self.now);
         }
     }
 
@@ -534,7 +551,7 @@ impl Service {
             return self.turn_away(&socket, "-ERR max number of clients reached\r\n");
         }
         let peer = getsockopt(socket.as_raw_fd(), PeerCredentials).map(|it| (it.uid(), it.gid()));
-        let known = peer.ok().and_then(|it| Some((it, self.options.allowed.rights_of(it.0, it.1)?)));
+        let known = peer.ok().and_then(|it| Some((it, self.allowed_to(it.0, it.1)?)));
         let Some(((user, group), rights)) = known else {
             return self.turn_away(&socket, "-NOPERM this user may not connect\r\n");
         };
@@ -558,18 +575,27 @@ impl Service {
 
     /// What a user may do who need not be connected.
     fn rights_of(&self, user: u32) -> Rights {
-        let allowed = &self.options.allowed;
-        if allowed.is_open() {
+        if self.options.allowed.is_open() {
             return Rights::All;
         }
         let group = group_of_user(user).unwrap_or(u32::MAX);
-        allowed.rights_of(user, group).unwrap_or(Rights::Asks)
+        self.allowed_to(user, group).unwrap_or(Rights::Asks)
     }
 
-    /// A cgroup that is not there would be that of whoever makes the call with its number.
+    /// What a user of that group may do now; none: he may not connect.
+    fn allowed_to(&self, user: u32, group: u32) -> Option<Rights> {
+        let (names, book) = (&self.engine.noted.names, &self.engine.book);
+        self.options.allowed.rights_of(user, group, |path| names.find(path, book))
+    }
+
+    /// An id that no cgroup has would be that of whoever makes the call with its number. A path means a cgroup once one has it, which is said.
     fn refusal_of(&self, allowed: &Allowed) -> Option<Fault> {
-        let missing = allowed.controls().find(|it| !self.engine.book.has_control(*it))?;
-        Some(format!("below={missing}: there is no such cgroup"))
+        let (names, book) = (&self.engine.noted.names, &self.engine.book);
+        for path in allowed.paths().filter(|it| names.find(it.1, book).is_none()) {
+            eprintln!("pidtabd: {}: there is no cgroup {} yet, and who is below it makes no call", path.0, path.1);
+        }
+        let (place, id) = allowed.controls().find(|it| !book.has_control(it.1))?;
+        Some(format!("{place}: there is no cgroup {id}"))
     }
 
     /// SIGHUP: the rights as their file has them now, also of who is connected. One that is wrong changes nothing.
@@ -589,10 +615,13 @@ impl Service {
         }
     }
 
-    fn give_rights(&mut self) {
+    /// Those that they have now, to all who are connected.
+    pub fn give_rights(&mut self) {
         for token in self.clients.tokens() {
+            let Some((user, group)) = self.clients.get(token).map(|it| (it.user, it.group)) else { continue };
+            let rights = self.allowed_to(user, group);
             let Some(conn) = self.clients.get(token) else { continue };
-            match self.options.allowed.rights_of(conn.user, conn.group) {
+            match rights {
                 Some(rights) => conn.rights = rights,
                 None => self.end(token),
             }
@@ -672,7 +701,7 @@ impl Service {
         if self.leader.is_some() || self.is_stuck() {
             return;
         }
-        for (number, user, tasks) in self.engine.leases.over(self.now) {
+        for (number, user, tasks) in self.engine.noted.leases.over(self.now) {
             let rights = self.rights_of(user);
             tasks.iter().for_each(|it| self.kill(rights, *it));
             if self.options.reaps {

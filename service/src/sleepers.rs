@@ -142,6 +142,7 @@ impl Service {
 pub fn no_permission(rights: Rights) -> &'static str {
     match rights {
         Rights::Below(_) => "-NOPERM this user may call by tasks below his cgroup alone",
+        Rights::BelowNone => "-NOPERM this user may call by tasks below his cgroup alone, which is not there",
         _ => "-NOPERM this user may only ask",
     }
 }

@@ -1,9 +1,10 @@
-//! The text of a snapshot: the table's, and before it, where leases were recorded, lines of these:
+//! The text of a snapshot: the table's, and before it, where leases or names of cgroups were recorded, lines of these:
 //!
 //! ```text
 //! pidtabd snapshot 1 entries 7
 //! lease 1 1000 rig 5000
 //! bind 1 3
+//! name 5 build
 //! end 995dc9bbdf1939fa
 //! pidtab table 1 pid-max 32768 stamp 6
 //! ```
@@ -11,7 +12,7 @@
 //! Behind `end` is the CRC-64/XZ of the lines before it.
 use crate::checksum::checksum;
 use crate::facts::{long, Fact};
-use crate::leases::Leases;
+use crate::noted::Noted;
 use pidtab::Table;
 
 const HEAD: &[u8] = b"pidtabd snapshot 1 entries ";
@@ -19,7 +20,7 @@ const HEAD: &[u8] = b"pidtabd snapshot 1 entries ";
 /// How far a history goes.
 #[derive(Clone, Copy, Debug, Default, PartialEq)]
 pub struct Place {
-    /// So many entries: calls, and what is recorded of leases.
+    /// So many entries: calls, and what is recorded beside them.
     pub entries: u64,
     pub calls: u64,
 }
@@ -34,9 +35,9 @@ pub struct Snapshot<'a> {
 }
 
 /// The lines before the table's text.
-pub fn front(leases: &Leases, place: Place, table: &Table) -> Vec<u8> {
+pub fn front(noted: &Noted, place: Place, table: &Table) -> Vec<u8> {
     let mut text = Vec::new();
-    let facts = leases.facts(|task| table.stat(1, task).is_ok());
+    let facts = noted.facts(table);
     if facts.is_empty() && place.entries == place.calls {
         return text;
     }
@@ -80,7 +81,7 @@ fn read_front(text: &[u8]) -> Result<Front<'_>, String> {
         }
         match entries {
             None => entries = Some(line.strip_prefix(HEAD).and_then(long).ok_or("has no entries")?),
-            Some(_) => facts.push(Fact::read(line).ok_or_else(|| format!("line {count}: is no fact of a lease"))?),
+            Some(_) => facts.push(Fact::read(line).ok_or_else(|| format!("line {count}: is no fact"))?),
         }
         at += size + 1;
     }
@@ -107,14 +108,16 @@ mod tests {
     /// Two tasks, of which one is leased.
     fn text() -> (Vec<u8>, usize) {
         let mut table = Table::open(400).expect("a table");
-        let (mut leases, key) = (Leases::default(), (1000, b"rig".to_vec()));
-        leases.apply(&leases.hold_of(&key, 5000));
+        let (mut noted, key) = (Noted::default(), (1000, b"rig".to_vec()));
+        noted.apply(&noted.leases.hold_of(&key, 5000));
         for lease in [Some(1), None] {
             let child = table.fork(1, false).expect("a child");
-            leases.forked(child.root, lease);
+            noted.leases.forked(child.root, lease);
         }
+        let id = table.mk(0).expect("a cgroup");
+        noted.apply(&Fact::Name { id, name: b"build".to_vec() });
         let dump = table.dump().expect("a text");
-        let front = front(&leases, Place { entries: 3, calls: 2 }, &table);
+        let front = front(&noted, Place { entries: 5, calls: 3 }, &table);
         let size = front.len();
         ([front, dump.into_bytes()].concat(), size)
     }
@@ -122,14 +125,15 @@ mod tests {
     #[test]
     fn what_is_written_is_read() {
         let (text, size) = text();
-        let sum = checksum(0, b"pidtabd snapshot 1 entries 3\nlease 1 1000 rig 5000\nbind 1 2\n");
-        let wanted = format!("pidtabd snapshot 1 entries 3\nlease 1 1000 rig 5000\nbind 1 2\nend {sum:016x}\n");
+        let sum = checksum(0, b"pidtabd snapshot 1 entries 5\nlease 1 1000 rig 5000\nbind 1 2\nname 3 build\n");
+        let wanted =
+            format!("pidtabd snapshot 1 entries 5\nlease 1 1000 rig 5000\nbind 1 2\nname 3 build\nend {sum:016x}\n");
         assert_eq!(String::from_utf8_lossy(&text[..size]), wanted);
         let read = read(&text).expect("a snapshot");
-        assert_eq!((read.place, read.pid_max), (Place { entries: 3, calls: 2 }, 400));
-        assert_eq!((read.facts.len(), read.table), (2, &text[size..]));
+        assert_eq!((read.place, read.pid_max), (Place { entries: 5, calls: 3 }, 400));
+        assert_eq!((read.facts.len(), read.table), (3, &text[size..]));
         let alone = super::read(&text[size..]).expect("a snapshot");
-        assert_eq!((alone.place, alone.facts.len()), (Place { entries: 2, calls: 2 }, 0));
+        assert_eq!((alone.place, alone.facts.len()), (Place { entries: 3, calls: 3 }, 0));
     }
 
     /// Each changed byte of the front, and each front that is cut, is refused.

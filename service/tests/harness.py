@@ -1,4 +1,5 @@
 """A daemon in a folder of its own, and a client of RESP2 that shares no code with it."""
+import contextlib
 import os
 import pathlib
 import resource
@@ -7,6 +8,7 @@ import signal
 import socket
 import subprocess
 import tempfile
+import threading
 import time
 import unittest
 
@@ -195,6 +197,13 @@ class Daemon:
         return (int(fields[11]) + int(fields[12])) / os.sysconf("SC_CLK_TCK")
 
 
+def read_all(client):
+    """Reads to the end, and keeps nothing."""
+    with contextlib.suppress(OSError):
+        while client.socket.recv(1 << 20):
+            pass
+
+
 class Case(unittest.TestCase):
     """A test with a folder of its own."""
 
@@ -218,6 +227,21 @@ class Case(unittest.TestCase):
         self.daemons.append(Daemon(folder, *options, **others))
         return self.daemons[-1]
 
+    def again_and_again(self, client, data, waits=False):
+        """A process that sends the same, and reads what comes; if it waits, each time all answers come first."""
+        child = os.fork()
+        if not child:
+            with contextlib.suppress(OSError, EOFError):
+                client.socket.settimeout(None)
+                if not waits:
+                    threading.Thread(target=read_all, args=(client,), daemon=True).start()
+                while True:
+                    client.socket.sendall(data)
+                    [client.answer() for _ in range(data.count(b"\n") * waits)]
+            os._exit(0)
+        self.addCleanup(os.waitpid, child, 0)
+        self.addCleanup(os.kill, child, signal.SIGKILL)
+
     def with_rights(self, *words, options=(), name="one", **others):
         """A daemon with the cgroup 1, where root may all, and others may what the words say."""
         file = self.folder / f"allowed-{name}"
@@ -233,6 +257,18 @@ class Case(unittest.TestCase):
         with self.assertRaises(Refused) as caught:
             client.say(words)
         self.assertTrue(str(caught.exception).startswith(front), f"{words}: {caught.exception}")
+
+
+@contextlib.contextmanager
+def first_of_all():
+    """What is begun within goes before all other work of the machine, if it may: so a time has no wait for a processor that others use."""
+    before = os.sched_getscheduler(0)
+    with contextlib.suppress(PermissionError):
+        os.sched_setscheduler(0, os.SCHED_RR, os.sched_param(10))
+    try:
+        yield
+    finally:
+        os.sched_setscheduler(0, before, os.sched_param(0))
 
 
 def need(*commands):

@@ -942,13 +942,58 @@ class Users(Case):
         two.command = one.command
         self.assertEqual(two.start().client().say("PING"), "PONG")
 
+    def test_a_cgroup_by_its_path(self):
+        """Rights may name one that is not there yet, which is said, and follow the name: also after a start, and to another table."""
+        allow = f"{self.ENEMY}:below=/build/jobs"
+        one = self.daemon("--mode", "666", "--allow", f"0,{allow}").start()
+        client, other = one.client(), Client.of(self.ENEMY, one.socket)
+        self.assertEqual(client.say("PING"), "PONG")
+        self.assertIn(f'--allow: "{allow}": there is no cgroup /build/jobs yet, and who is below it makes no call\n', one.said())
+        for line in ("FORK 1", "LEASE x 1", "FOLLOW"):
+            self.refused(other, line, "NOPERM this user may call by tasks below his cgroup alone, which is not there")
+        # Another one has the name elsewhere, and came before.
+        self.assertEqual([client.say(line) for line in ("FORK 1", "MK 0", "MK 0", "MK 3", "MOVE 2 4")], [[2, 2], 2, 3, 4, "OK"])
+        told = [client.say(line) for line in ("NAME 2 jobs", "NAME 4 jobs", "NAME 4 jobs", "NAMES")]
+        self.assertEqual(told, ["OK", "OK", "OK", [["/jobs", 2], ["/3/jobs", 4]]])
+        self.refused(other, "FORK 2", "NOPERM")
+        self.assertEqual([client.say(line) for line in ("NAME 3 build", "NAMES")], ["OK", [["/jobs", 2], ["/build", 3], ["/build/jobs", 4]]])
+        self.assertEqual((other.say("FORK 2"), other.say("NAMES")), ([3, 3], client.say("NAMES")))
+        self.refused(other, "NAME 4 mine", "NOPERM")
+        one.kill()
+        client, other = one.start().client(), Client.of(self.ENEMY, one.socket)
+        self.assertEqual(other.say("FORK 2"), [4, 4])
+        self.assertTrue(one.said().endswith("makes no call\n") and one.said().count("\n") == 1, one.said())
+        # Another cgroup has the path: his tasks are outside of it now.
+        self.assertEqual([client.say(line) for line in ("MK 3", "NAME 4 old", "NAME 8 jobs")], [8, "OK", "OK"])
+        self.refused(other, "FORK 2", "NOPERM this user may call by tasks below his cgroup alone")
+        self.assertEqual((other.say("MK 8"), client.say("MOVE 4 8"), other.say("FORK 4")), (9, "OK", [5, 5]))
+        self.assertEqual([client.say(line) for line in ("MK 4", "NAME 12 x", "RM 12")], [12, "OK", "OK"])
+        self.assertEqual(client.say("NAMES"), [["/jobs", 2], ["/build", 3], ["/build/old", 4], ["/build/jobs", 8]])
+
+    def test_names_that_are_none(self):
+        one = self.daemon(kept=False).start()
+        client = one.client()
+        self.assertEqual([client.say("MK 0"), client.say("MK 0"), client.say("MK 1")], [1, 2, 3])
+        for name in ("5", ".", "..", ".x", "a/b", "a:b", "a,b", "a#b", "x" * 65):
+            self.refused(client, f"NAME 1 {name}", "ERR syntax: NAME I NAME")
+        for name in (b"a b", b"a\r\nb", b"\xff", b""):
+            client.send(b"NAME", b"1", name)
+            self.assertEqual(str(client.answer()), "ERR syntax: NAME I NAME")
+        for id in (0, 77, 2**64 - 1):
+            self.refused(client, f"NAME {id} x", "ERR there is no such cgroup, or it is the root's")
+        self.assertEqual([client.say("NAME 1 x"), client.say("NAME 3 x"), client.say("NAMES")], ["OK", "OK", [["/x", 1], ["/x/x", 3]]])
+        self.refused(client, "NAME 2 x", "ERR a cgroup beside it has the name")
+        two = self.daemon("--allow", "0,1000:below=/a//b", name="two", kept=False)
+        self.assertEqual(two.start(is_up=False).process.wait(timeout=10), 2)
+        self.assertIn('--allow: "1000:below=/a//b" is none of UID, NAME or %GROUP, with :ro or :below=CGROUP behind', two.said())
+
     def test_rights_are_read_again(self):
         """A file that is wrong changes nothing, and it is said why; who is connected has the new rights at once, or is closed."""
         one = self.with_rights(f"{self.ENEMY}:ro")
         file, other = self.folder / "allowed-one", Client.of(self.ENEMY, one.socket)
         self.refused(other, "FORK 1", "NOPERM this user may only ask")
-        wrong = [("0\n7:rw\n", 'allowed-one: line 2: "7:rw" is none of UID, NAME or %GROUP'), ("0\n1000:below=77\n", "below=77: there is no such cgroup"),
-                 ("0\nnobody-by-that-name\n", "line 2: there is no user nobody-by-that-name"), ("%no-such-group", "line 1: there is no group no-such-group")]
+        wrong = [("0\n7:rw\n", 'allowed-one: line 2: "7:rw" is none of UID, NAME or %GROUP'), ("0\n1000:below=77\n", 'allowed-one: line 2: "1000:below=77": there is no cgroup 77'),
+                 ("0\nnobody-by-that-name\n", 'line 2: "nobody-by-that-name": there is no user nobody-by-that-name'), ("%no-such-group", 'line 1: "%no-such-group": there is no group no-such-group')]
         for text, why in wrong:
             file.write_text(text, encoding="ascii")
             self.assertIn(f"{why}", said := one.reload())
@@ -976,7 +1021,7 @@ class Users(Case):
         one = self.daemon("--allow", f"0,{self.ENEMY}:below=1")
         one.start(is_up=False)
         self.assertEqual(one.process.wait(timeout=10), 3)
-        self.assertIn("below=1: there is no such cgroup", one.said())
+        self.assertIn("there is no cgroup 1\n", one.said())
 
     def test_who_may_not_come(self):
         one = self.daemon("--mode", "666", "--allow", "0").start()

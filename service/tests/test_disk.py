@@ -500,7 +500,7 @@ class Checked(Case):
         before = self.files(one.kept)
         identity = (one.kept / "identity").read_text(encoding="ascii").strip()
         told = [f"identity:{identity}", "calls:4", "entries:5", "snapshot:3", "replayed:1", "left_out_bytes:11", "pid_max:32768", "tasks:4", "controls:1",
-                "leases:1", "leased_tasks:3"]
+                "leases:1", "leased_tasks:3", "named_controls:0"]
         self.assertEqual(by_itself("--check", one.kept), (0, "".join(f"{line}\n" for line in told), ""))
         self.assertEqual(self.files(one.kept), before)
         self.assertEqual(one.start().client().say("POSITION"), 4)
@@ -514,7 +514,7 @@ class Checked(Case):
         (one.kept / "leases").write_bytes(former_file("at 1", "lease 0 rig 1 60000", "bind 1 2 1"))
         before = self.files(one.kept)
         status, told, _ = by_itself("--check", one.kept)
-        self.assertEqual((status, told.splitlines()[-2:]), (0, ["leases:1", "leased_tasks:1"]))
+        self.assertEqual((status, told.splitlines()[-3:-1]), (0, ["leases:1", "leased_tasks:1"]))
         self.assertEqual(self.files(one.kept), before)
 
     def test_what_is_none(self):
@@ -527,10 +527,11 @@ class Checked(Case):
         self.assertIn("may be written by others", by_itself("--check", one.kept)[2])
 
     def test_a_copy(self):
-        """While another client forks: the copy has a front of the calls, with the leases of then, and goes on by itself."""
+        """While another client forks: the copy has a front of the calls, with the leases and names of then, and goes on by itself."""
         one = self.daemon().start()
         client, other = one.client(), one.client()
-        client.say("LEASE rig 60000")
+        for line in ("LEASE rig 60000", "MK 0", "NAME 1 build"):
+            client.say(line)
         client.socket.sendall(b"FORK 1\r\n" * 300)
         [client.answer() for _ in range(300)]
         for number in range(5):
@@ -543,9 +544,9 @@ class Checked(Case):
             copied = two.start().client()
             position = copied.say("POSITION")
             self.assertTrue(before <= position <= before + 2000, position)
-            self.assertEqual(told, f"{two.kept}/snap-{position + 1:020}: {position} calls, 1 leases\n")
-            self.assertEqual(copied.say("LEASES"), [["rig", 60000, 0, list(range(2, position + 2))]])
-            self.assertEqual(copied.say("FORK 1"), [position + 2, position + 2])
+            self.assertEqual(told, f"{two.kept}/snap-{position + 2:020}: {position} calls, 1 leases\n")
+            self.assertEqual(copied.say("LEASES"), [["rig", 60000, 0, list(range(2, position + 1))]])
+            self.assertEqual((copied.say("FORK 1"), copied.say("NAMES")), ([position + 1, position + 1], [["/build", 1]]))
             two.kill()
             self.assertEqual((two.kept / "identity").read_bytes(), (one.kept / "identity").read_bytes())
         self.assertIn("has a table: name an empty directory", by_itself("--copy", one.socket, two.kept)[2])
@@ -752,6 +753,12 @@ class Full(Case):
         self.assertIn(other.answer(), (answered + 1, answered + 2))
         self.assertIn("waiting_calls:0\r\n", client.say("INFO"))
         self.assertTrue(one.said().endswith("pidtabd: the disk takes what has waited, and answers go out\n"), one.said())
+        # The file has what was written and no more: so it is closed, and a snapshot is made of it.
+        client.say("BGSAVE")
+        end = time.monotonic() + 20
+        while f"snapshot:{answered + 2}\r" not in client.say("INFO"):
+            self.assertLess(time.monotonic(), end, one.said())
+            time.sleep(0.02)
         one.kill()
         self.assertEqual(one.start().client().say("POSITION"), answered + 2)
 

@@ -70,6 +70,26 @@ class Follows(Case):
         self.assertEqual(other.say("LIST"), listed)
         self.assertEqual(other.say("FORK 1"), [103, 103])
 
+    def test_names(self):
+        """A follower has its leader's, those from before it came too, and those that are gone are gone."""
+        one, client, two, other = self.two()
+        self.assertEqual([client.say(line) for line in ("MK 0", "MK 2", "MK 2", "NAME 2 build", "NAME 3 jobs", "NAME 4 old")], [2, 3, 4, "OK", "OK", "OK"])
+        two.kill()
+        other = two.start().client()
+        client.say("RM 4")
+        wait_for(other, 5)
+        self.assertEqual(other.say("NAMES"), [["/build", 2], ["/build/jobs", 3]])
+        self.refused(other, "NAME 3 x", "READONLY this follows")
+        client.say("NAME 3 x")
+        client.say("EXEC 1")
+        wait_for(other, 6)
+        self.assertEqual(other.say("NAMES"), [["/build", 2], ["/build/x", 3]])
+        one.kill()
+        self.assertEqual((other.say("TAKEOVER FORCE"), other.say("NAME 3 y")), ("OK", "OK"))
+        two.kill()
+        two.options = two.options[:2]
+        self.assertEqual(two.start().client().say("NAMES"), [["/build", 2], ["/build/y", 3]])
+
     def test_leases(self):
         """A follower has its leader's, those from before it came too, and ends none. When it takes over each has its whole time."""
         one, client, two, other = self.two()

@@ -5,7 +5,8 @@ import threading
 import time
 import unittest
 
-from harness import Case, Client, Refused
+from harness import Case, Client, LONG, Refused, first_of_all
+from test_manners import times
 
 GUEST, OTHER = 65534, 65533
 
@@ -76,6 +77,61 @@ class Guests(Case):
         except OSError:
             return str(client.answer())
 
+    # 99 of 100 PINGs of others may take so many times what they take without him, or so many µs where that is more; and so many kB the daemon may have.
+    TIMES, ENOUGH, MEMORY = 10, 1000, 256_000
+
+    def test_six_at_their_worst(self):
+        """A user who does his worst, in one of six ways."""
+        for way in (self.asks_for_a_group, self.follows, self.asks_for_lists, self.takes_leases, self.connects, self.subscribes):
+            with first_of_all(), self.subTest(way.__name__):
+                self.compare(way)
+            self.end_all()
+            self.doCleanups()
+            self.setUp()
+
+    def compare(self, way):
+        one, client, begin = way()
+        alone = min(times(client, 1000 * LONG)[1] for _ in range(3))
+        begin()
+        time.sleep(0.3)
+        beside = min(times(client, 1000 * LONG)[1] for _ in range(3))
+        print(f"{way.__name__}: 99 of 100 PINGs in {alone:.0f} us without him, in {beside:.0f} us beside him; {one.memory()} kB")
+        self.assertLess(beside, max(self.TIMES * alone, self.ENOUGH))
+        self.assertLess(one.memory(), self.MEMORY)
+
+    def asks_for_a_group(self):
+        one, client, guest = self.serve()
+        forks(guest, 2, 30000)
+        return one, client, lambda: self.again_and_again(guest, b"WAITCHILD 2 GROUP 7\r\n" * 1000)
+
+    def follows(self):
+        """40 that never read, while others write."""
+        one, client, _ = self.serve()
+        self.again_and_again(one.client(), b"EXEC 1\r\n" * 50, waits=True)
+        guests = [Client.of(OTHER, one.socket) for _ in range(40)]
+        return one, client, lambda: [guest.send("FOLLOW") for guest in guests]
+
+    def asks_for_lists(self):
+        one, client, _ = self.serve("--pid-max", "200000")
+        forks(client, 1, 50000)
+        self.again_and_again(one.client(), b"EXEC 1\r\n", waits=True)
+        return one, client, lambda: [self.again_and_again(Client.of(OTHER, one.socket), b"LIST\r\n" * 10) for _ in range(20)]
+
+    def takes_leases(self):
+        one, client, guest = self.serve(kept=True)
+        return one, client, lambda: self.again_and_again(guest, b"".join(b"LEASE x%d 86400000\r\n" % number for number in range(2000)))
+
+    def connects(self):
+        one, client, _ = self.serve()
+        return one, client, lambda: [Client.of(OTHER, one.socket) for _ in range(600)]
+
+    def subscribes(self):
+        """100 that never read, while others fork, exit and wait."""
+        one, client, _ = self.serve()
+        self.again_and_again(one.client(), b"EXIT 3 0\r\nWAIT 1 ANY\r\nFORK 1\r\n" * 10, waits=True)
+        guests = [Client.of(OTHER, one.socket) for _ in range(100)]
+        return one, client, lambda: [guest.send("SUBSCRIBE", "exit", "fork", "fall", "exit:space:0", "fork:space:0", "exit:control:0") for guest in guests]
+
     def test_waits_for_a_group(self):
         """Among 20,000 children none is of that group, which is not looked for in each."""
         one, _, guest = self.serve()
@@ -85,18 +141,37 @@ class Guests(Case):
         self.assertEqual({str(guest.answer()) for _ in range(300)}, {"ECHILD no-child"})
         self.assertLess(slowest.ms(), 400)
 
-    def test_requests_that_take_long(self):
-        """Each exit of an init looks at all namespaces. The guest's time in a turn is over after a few, and others come between."""
+    def with_a_large_init(self):
+        """A guest's init, an exit of which looks at 20,000 tasks: the last of them is not the guest's."""
         one, client, guest = self.serve("--pid-max", "100000")
-        client.socket.sendall(b"FORK 1 NEW\r\n" * 10000)
-        [client.answer() for _ in range(10000)]
-        guest.socket.sendall(b"FORK 2 NEW\r\n" * 300)
-        inits = [guest.answer()[1] for _ in range(300)]
-        slowest, began = Slowest(one.client()), time.monotonic()
-        guest.socket.sendall(b"".join(f"EXIT {init} 0\r\n".encode() for init in inits))
-        self.assertEqual({guest.answer() for _ in inits}, {"OK"})
-        took = (time.monotonic() - began) * 1000
-        self.assertLess(slowest.ms(), max(took / 3, 100))
+        init = guest.say("FORK 2 NEW")[1]
+        self.assertEqual(client.say(f"MOVE {forks(guest, init, 20000)[-1]} 0"), "OK")
+        return one, guest, init
+
+    def test_requests_that_take_long(self):
+        """The guest's time in a turn is over after one such exit, and others come between."""
+        with first_of_all():
+            one, guest, init = self.with_a_large_init()
+            slowest, began = Slowest(one.client()), time.monotonic()
+            guest.socket.sendall(f"EXIT {init} 0\r\n".encode() * 200)
+            self.assertEqual({str(guest.answer()) for _ in range(200)}, {"NOPERM this user may call by tasks below his cgroup alone"})
+            took, worst = (time.monotonic() - began) * 1000, slowest.ms()
+        print(f"200 exits that look at 20,000 tasks took {took:.0f} ms, and the slowest PING beside {worst:.1f} ms")
+        self.assertGreater(took, 300)
+        self.assertLess(worst, max(took / 10, 100))
+
+    def test_a_multi_that_takes_long(self):
+        """Its calls come together, so its exits end after a while: those that are left are not made, and others are served."""
+        with first_of_all():
+            one, guest, init = self.with_a_large_init()
+            slowest = Slowest(one.client())
+            guest.socket.sendall(b"MULTI\r\n" + f"EXIT {init} 0\r\nEXEC 2\r\n".encode() * 500 + b"EXEC\r\n")
+            self.assertEqual([guest.answer() for _ in range(1001)], ["OK"] + ["QUEUED"] * 1000)
+            told, worst = [str(it) for it in guest.answer()], slowest.ms()
+        self.assertEqual((set(told[1::2]), told[-2]), ({"OK"}, "BUSY the calls of this MULTI take too long"))
+        self.assertEqual(told[0], "NOPERM this user may call by tasks below his cgroup alone")
+        print(f"the slowest PING beside a MULTI of 500 such exits {worst:.1f} ms")
+        self.assertLess(worst, 500)
 
     def test_who_is_cut_and_says_no_more(self):
         """A guest that has closed its half is answered all that it has sent."""
@@ -144,22 +219,23 @@ class Guests(Case):
         self.assertIn("leases:1001\r", client.say("INFO"))
 
     def test_lists(self):
-        """30 guests want the list of 20,000 tasks at 30 states: they have a few texts together, and root's DUMP does not wait for 30."""
-        one, client, _ = self.serve()
-        forks(client, 1, 20000)
-        began = time.monotonic()
-        client.say("LIST")
-        alone = time.monotonic() - began
-        guests = [Client.of(OTHER, one.socket) for _ in range(30)]
-        for guest in guests:
-            guest.send("LIST")
-            client.say("EXEC 1")
-        began = time.monotonic()
-        self.assertIn("\ntask 20000@", client.say("DUMP"))
-        took = time.monotonic() - began
-        self.assertLess(took, 6 * alone + 0.5)
-        self.assertTrue(all(guest.answer().count("task ") > 20000 for guest in guests))
+        """30 guests want the list of 60,000 tasks at 30 states: they have a few texts together, and root's DUMP does not wait for 30."""
+        with first_of_all():
+            one, client, _ = self.serve("--pid-max", "100000")
+            forks(client, 1, 60000)
+            began = time.monotonic()
+            client.say("LIST")
+            alone = time.monotonic() - began
+            guests = [Client.of(OTHER, one.socket) for _ in range(30)]
+            for guest in guests:
+                guest.send("LIST")
+                client.say("EXEC 1")
+            began = time.monotonic()
+            self.assertIn("\ntask 60000@", client.say("DUMP"))
+            took = time.monotonic() - began
         print(f"LIST alone {alone:.2f} s, DUMP behind 30 of them {took:.2f} s")
+        self.assertLess(took, 6 * alone + 0.2)
+        self.assertTrue(all(guest.answer().count("task ") > 60000 for guest in guests))
 
 
 if __name__ == "__main__":

@@ -8,17 +8,22 @@ import subprocess
 import time
 import unittest
 
-from harness import Case, Client, DAEMON, LONG, Refused, files_limit, need, request
+from harness import Case, Client, DAEMON, LONG, Refused, files_limit, first_of_all, need, request
 
 
-def times(client, count):
-    """How long PINGs take, in µs: half, and 99 of 100."""
+def all_times(client, count):
+    """How long PINGs take, in µs."""
     told = []
     for _ in range(count):
         began = time.perf_counter()
         client.say("PING")
         told.append((time.perf_counter() - began) * 1e6)
-    told.sort()
+    return told
+
+
+def times(client, count):
+    """Half of them, and 99 of 100."""
+    told = sorted(all_times(client, count))
     return told[len(told) // 2], told[len(told) * 99 // 100]
 
 
@@ -110,18 +115,23 @@ class Slow(Case):
 
     def test_others_while_one_dumps(self):
         """100,000 tasks: p99 of the others is at most 5 ms while one client dumps all the time."""
-        one = self.daemon("--pid-max", "200000").start()
-        client = one.client()
-        for _ in range(100):
-            client.socket.sendall(b"FORK 1\r\n" * 1000)
-            [client.answer() for _ in range(1000)]
-        dumper = one.client()
-        alone = times(client, 3000)
-        dumper.socket.sendall(b"DUMP\r\nEXEC 1\r\n" * 5)
-        beside = times(client, 3000)
-        self.assertEqual([isinstance(dumper.answer(), str) for _ in range(10)], [True] * 10)
-        print("beside DUMPs of 100,000 tasks: p50 {:.0f} p99 {:.0f} us; alone p50 {:.0f} p99 {:.0f} us".format(*beside, *alone))
-        self.assertLess(beside[1], 5000)
+        with first_of_all():
+            one = self.daemon("--pid-max", "200000").start()
+            client = one.client()
+            for _ in range(100):
+                client.socket.sendall(b"FORK 1\r\n" * 1000)
+                [client.answer() for _ in range(1000)]
+            alone, (before, at_first) = times(client, 3000), (client.say("POSITION"), time.monotonic())
+            self.again_and_again(one.client(), b"DUMP\r\nEXEC 1\r\n")
+            told, dumps = [], 0
+            while dumps < 20 and time.monotonic() - at_first < 60:
+                told += all_times(client, 100)
+                dumps = client.say("POSITION") - before
+        told.sort()
+        half, most, slow = told[len(told) // 2], told[len(told) * 99 // 100], sum(it > 20_000 for it in told)
+        print("beside {} DUMPs of 100,000 tasks: p50 {:.0f} p99 {:.0f} us; alone p50 {:.0f} p99 {:.0f} us".format(dumps, half, most, *alone))
+        self.assertLess(most, 5000)
+        self.assertLess(slow, dumps / 2)
 
 
 class Fuzzed(Case):
@@ -241,7 +251,7 @@ print(listener.get_message(timeout=5)["type"])
 it.execute_command("PIDTAB.EXIT", 3, 7)
 print(listener.get_message(timeout=5)["data"])
 """
-        wanted = "[2, 2] 1 True\nESRCH no-caller\n[[3, 3], 1]\nNone pidtabd\nsubscribe\nb'3 7 space 0 control 0'\n"
+        wanted = "[2, 2] 1 True\nESRCH no-caller\n[[3, 3], 1]\nNone pidtabd\nsubscribe\nb'3 7 space 0 control 0 at 2'\n"
         self.assertEqual(self.script(python, "-c", code, self.one.socket), wanted)
 
     def test_redis_cli(self):

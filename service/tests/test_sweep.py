@@ -39,7 +39,7 @@ class Told:
     """What a daemon was asked, and has answered."""
 
     def __init__(self):
-        self.calls, self.leased, self.leases, self.released = 0, set(), set(), set()
+        self.calls, self.leased, self.leases, self.released, self.names = 0, set(), set(), set(), []
 
     def say(self, client, words):
         verb = words.split()[0]
@@ -58,7 +58,7 @@ class Told:
         return answer
 
     def play(self, one):
-        """A lease, calls, two snapshots, and another client whose lease ends."""
+        """A lease, calls, two snapshots, a named cgroup, and another client whose lease ends."""
         client, other = one.client(), one.client()
         client.socket.settimeout(5)
         for words in ("LEASE alone 60000", "LEASE spare 60000", "LEASE rig 60000", "FORK 1", "FORK 1", "FORK 1", "EXIT 2 1", "WAIT 1 ANY", "BGSAVE",
@@ -67,9 +67,11 @@ class Told:
         for words in ("FORK 1", "FORK 1", "FORK 1", "FORK 1"):
             time.sleep(0.03)
             self.say(client, words)
-        for words in ("LEASE brief 0", "MK 0"):
-            other.say(words)
+        other.say("LEASE brief 0")
+        made = other.say("MK 0")
         self.calls += 1
+        other.say(f"NAME {made} build")
+        self.names.append(["/build", made])
         other.say("FORK 1")
         self.calls += 1
         other.close()
@@ -118,6 +120,7 @@ class Sweep(Case):
         leases = {row[0]: set(row[3]) for row in rows}
         bound = set().union(*leases.values())
         wrong = {"leases are lost": told.leases - set(leases), "leases come again": told.released & set(leases),
+                 "names are lost": [it for it in told.names if it not in client.say("NAMES")],
                  "tasks are leased no more": told.leased - leases.get("rig", set()), "tasks live on without a lease": live - bound}
         return "; ".join(f"{what}: {those}" for what, those in wrong.items() if those)
 

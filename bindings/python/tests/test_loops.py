@@ -12,9 +12,9 @@ from types import FrameType
 from typing import Any
 from unittest import mock
 
-from pidtab import Counts, Reaped, Refusal, Shared, TableClosed, WaitingEnded
+from pidtab import Counts, Reaped, Refusal, TableClosed, WaitingEnded
 from tests.alarms import alarms
-from tests.ways import need_shared
+from tests.ways import TwoSeats
 
 # Seconds: longer than any wait here takes, and long enough that one that waits has begun.
 LONG, SHORT = 20.0, 0.05
@@ -45,17 +45,8 @@ async def begin(waits: Awaitable[Any]) -> "asyncio.Task[Any]":
     return task
 
 
-class Tables(unittest.TestCase):
+class Tables(TwoSeats):
     """A table with a seat for the loop, and one for others."""
-
-    @classmethod
-    def setUpClass(cls) -> None:
-        need_shared()
-
-    def setUp(self) -> None:
-        self.shared = Shared(2)
-        self.addCleanup(self.shared.close)
-        self.seat, self.other = self.shared.seat(), self.shared.seat()
 
     def waiting(self) -> int:
         """How many wait in loops."""

@@ -33,7 +33,7 @@ from tests.test_calls import CallCases, LineCases, ListCases, NumberCases, PageC
 from tests.test_dump import random_lines
 from tests.test_ends import OTHERS, ForkCases, in_child
 from tests.test_refusals import RefusalCases
-from tests.ways import BySeat, ask, need_library, need_shared
+from tests.ways import BySeat, TwoSeats, ask, need_library, need_shared
 
 PACKAGE = Path(__file__).resolve().parents[1]
 WORKERS = 16
@@ -318,38 +318,29 @@ def run_all(threads: list[threading.Thread], started: bool = False) -> None:
         thread.join()
 
 
-class Histories(unittest.TestCase):
+class Histories(TwoSeats):
     """What is kept of the calls, and what is cut."""
-
-    @classmethod
-    def setUpClass(cls) -> None:
-        need_shared()
-
-    def setUp(self) -> None:
-        self.shared = Shared(2)
-        self.addCleanup(self.shared.close)
-        self.one, self.other = self.shared.seat(), self.shared.seat()
 
     def test_what_makes_no_call_is_not_recorded(self) -> None:
         faults: list[Callable[[], object]] = [
-            lambda: self.one.line("FORK 1"), lambda: self.one.line(""), lambda: self.one.exit(1, 256), lambda: self.one.fork(2**32),
-            lambda: self.one.next(1, "thing"), lambda: self.one.fork("1"),  # type: ignore[arg-type]
+            lambda: self.seat.line("FORK 1"), lambda: self.seat.line(""), lambda: self.seat.exit(1, 256), lambda: self.seat.fork(2**32),
+            lambda: self.seat.next(1, "thing"), lambda: self.seat.fork("1"),  # type: ignore[arg-type]
         ]  # fmt: skip
         for fault in faults:
             with self.assertRaises((ValueError, TypeError)):
                 fault()
-        self.assertEqual(self.one.answers(["FORK 1", "getpid 1"]), ("bad line", "1"))
-        self.assertEqual((self.one.ordinal, self.shared.counts()), (0, Counts(0, 1)))
+        self.assertEqual(self.seat.answers(["FORK 1", "getpid 1"]), ("bad line", "1"))
+        self.assertEqual((self.seat.ordinal, self.shared.counts()), (0, Counts(0, 1)))
 
     def test_the_list_is_one_for_all(self) -> None:
-        self.one.fork(1)
+        self.seat.fork(1)
         self.assertEqual(self.shared.list(), self.other.list())
-        self.assertEqual(self.shared.tree(), self.one.tree())
+        self.assertEqual(self.shared.tree(), self.seat.tree())
         self.assertEqual([task.numbers for task in self.shared.list().tasks], [(1,), (2,)])
 
     def test_many_entries_are_read_in_blocks(self) -> None:
         many = 2 * BLOCK + 3
-        self.one.answers(["getpid 1"] * many)
+        self.seat.answers(["getpid 1"] * many)
         hold = self.shared._check_open()
         with mock.patch.object(self.shared, "_check_open", return_value=hold) as entered:
             self.assertEqual([it.ordinal for it in self.shared.entries()], list(range(many)))
@@ -361,21 +352,21 @@ class Histories(unittest.TestCase):
     def test_the_walk_ends_where_it_was_begun(self) -> None:
         # Each step makes one call more, and the second block has these too.
         many = BLOCK + 1
-        self.one.answers(["getpid 1"] * many)
-        walked = [(entry.ordinal, self.one.getpid(1)) for entry in self.shared.entries()]
+        self.seat.answers(["getpid 1"] * many)
+        walked = [(entry.ordinal, self.seat.getpid(1)) for entry in self.shared.entries()]
         self.assertEqual(walked, [(place, 1) for place in range(many)])
         self.assertEqual(self.shared.counts(), Counts(0, 2 * many))
 
     def test_a_cut_behind_the_last_entry_of_a_walk(self) -> None:
-        self.one.answers(["getpid 1"] * BLOCK)
+        self.seat.answers(["getpid 1"] * BLOCK)
         walk = self.shared.entries()
         self.assertEqual([next(walk).ordinal for _ in range(BLOCK)], list(range(BLOCK)))
-        self.one.getpid(1)
+        self.seat.getpid(1)
         self.shared.checkpoint()
         self.assertEqual(list(walk), [])
 
     def test_a_cut_amid_a_walk(self) -> None:
-        self.one.answers(["getpid 1"] * (BLOCK + 1))
+        self.seat.answers(["getpid 1"] * (BLOCK + 1))
         walk = self.shared.entries()
         next(walk)
         self.shared.checkpoint()
@@ -383,14 +374,14 @@ class Histories(unittest.TestCase):
             list(walk)
 
     def test_a_cut_before_the_first_kept_entry_is_read(self) -> None:
-        self.one.answers(["getpid 1"] * 3)
+        self.seat.answers(["getpid 1"] * 3)
         self.shared.checkpoint()
         with mock.patch.object(self.shared, "counts", side_effect=[Counts(0, 3), Counts(0, 3), Counts(3, 3)]) as asked:
             self.assertEqual(list(self.shared.entries()), [])
         self.assertEqual(asked.call_count, 3)
 
     def test_what_is_not_kept(self) -> None:
-        self.one.answers(["getpid 1"] * 3)
+        self.seat.answers(["getpid 1"] * 3)
         self.assertTrue(self.shared.checkpoint_at(3))
         finds: list[Callable[[int], object]] = [self.shared.entry, self.shared.entries]
         for ordinal in (0, 2, 4, 2**64 - 1):

@@ -56,6 +56,19 @@ def need_shared() -> None:
         raise unittest.SkipTest(str(fault)) from fault
 
 
+class TwoSeats(unittest.TestCase):
+    """A table for threads with two seats, which is closed after the test."""
+
+    @classmethod
+    def setUpClass(cls) -> None:
+        need_shared()
+
+    def setUp(self) -> None:
+        self.shared = Shared(2)
+        self.addCleanup(self.shared.close)
+        self.seat, self.other = self.shared.seat(), self.shared.seat()
+
+
 def need_hypothesis() -> None:
     """Skips what needs Hypothesis, where it is not there."""
     if importlib.util.find_spec("hypothesis") is None:

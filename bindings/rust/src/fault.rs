@@ -196,6 +196,10 @@ pub enum Error {
     Ended,
     /// A label is printable text of one line, and this one is not.
     BadLabel,
+    /// The service does not do that for this connection: [`Connected::why`](crate::Connected::why) has its words. No call was made.
+    NotServed,
+    /// The connection to the service is closed: [`Connected::why`](crate::Connected::why) says why. The last call was made or was not.
+    Disconnected,
 }
 
 impl Error {
@@ -232,7 +236,7 @@ impl Error {
         }
     }
 
-    /// The number of Linux's errno, as [`io::Error::raw_os_error`] would have it: of a refusal the one that the kernel would give.
+    /// The number of Linux's errno, as [`io::Error::raw_os_error`] would have it: of a refusal the one that the kernel would give. `NotServed` has none.
     ///
     /// ```
     /// use pidtab::{Calls, Table};
@@ -255,7 +259,8 @@ impl Error {
             Error::Again => raw::AGAIN,
             Error::NoHistory => raw::NO_HISTORY,
             Error::Differs => raw::DIFFERS,
-            Error::Unsaved | Error::Ended => raw::ENDED,
+            Error::Unsaved | Error::Ended | Error::Disconnected => raw::ENDED,
+            Error::NotServed => return None,
         };
         Some(status as i32)
     }
@@ -312,6 +317,8 @@ impl fmt::Display for Error {
             }
             Error::Ended => to.write_str("the waits were ended"),
             Error::BadLabel => to.write_str("a label is printable text of one line"),
+            Error::NotServed => to.write_str("the service does not do that for this connection"),
+            Error::Disconnected => to.write_str("the connection to the service is closed"),
         }
     }
 }
@@ -333,7 +340,8 @@ impl From<Error> for io::Error {
             Error::NoHistory => io::ErrorKind::Unsupported,
             Error::Differs => io::ErrorKind::InvalidData,
             Error::Unsaved | Error::Ended => io::ErrorKind::BrokenPipe,
-            Error::Spent => io::ErrorKind::Other,
+            Error::Disconnected => io::ErrorKind::NotConnected,
+            Error::Spent | Error::NotServed => io::ErrorKind::Other,
         };
         io::Error::new(kind, error)
     }
@@ -615,6 +623,7 @@ mod tests {
             (Error::Unsaved, 32),
             (Error::Ended, 32),
             (Error::BadLabel, 22),
+            (Error::Disconnected, 32),
         ] {
             assert_eq!(error.raw_os_error(), Some(errno), "{error:?}");
         }

@@ -28,6 +28,8 @@ mod blocks;
 mod calls;
 #[cfg(test)]
 mod cases;
+#[cfg(unix)]
+mod connected;
 mod effects;
 mod fault;
 mod json;
@@ -47,6 +49,8 @@ mod texts;
 pub use argument::Argument;
 pub use blocks::{Blocks, Head, Made, Note, Replayed};
 pub use calls::{Call, Calls, Kind, Reply, Which};
+#[cfg(unix)]
+pub use connected::Connected;
 pub use effects::{Effect, Told};
 pub use fault::{Error, LineError, Refusal, ReplayError, TextError, TextFault};
 pub use listing::{BadList, Control, Listing, Space, Task};
@@ -92,7 +96,7 @@ pub struct Reaped {
 /// fn all(it: pidtab::Error) {
 ///     match it {
 ///         Refused { .. } | NoMemory | Spent | Argument(_) | NoQuery | NoSeat | OutOfRange | Busy | NotKept | Again | NoHistory |
-///         Differs | Unsaved | Ended | BadLabel => {}
+///         Differs | Unsaved | Ended | BadLabel | NotServed | Disconnected => {}
 ///     }
 /// }
 /// ```

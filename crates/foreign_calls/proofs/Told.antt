@@ -16,7 +16,7 @@ use Rattle.foreign_numbers.specs.declared.status.TheConstants.{DONE, NOT_KEPT, N
 use Rattle.foreign_calls.specs.Asked.{TellsAnswer}
 use Rattle.foreign_calls.specs.Held.{IsDoneOr}
 use Rattle.foreign_calls.specs.Made.{IsSpent, TellsReply}
-use Rattle.foreign_calls.specs.Calls.{HasMade, MakesCall}
+use Rattle.foreign_calls.specs.Calls.{HasMade, MakesCall, MakesSaid}
 use Rattle.foreign_calls.specs.Records.{memoryless, roomless}
 use Rattle.foreign_handles.specs.Held.{stamped}
 use Rattle.foreign_handles.specs.declared.held.Held.{Held}
@@ -129,12 +129,24 @@ state_made (Bare s) new worker call before ordinal made = ap (λ (n : Held). (st
 state_made (Recorded c) (Bare t) worker call before ordinal made = absurd made.moved
 state_made (Recorded c) (Recorded d) worker call before ordinal made = ap (λ (e : Chronicle). e.present) (same_Some (memoryless d) _ made.left)
 
--- worker 0 of a table without a history makes a call
+-- worker 0 of a table without a history makes a call, and no place is told
 pub by_worker_0 : (h : Held) (s : Stamped) (worker : ℕ) (call : Call) (place status : ℕ) (new : Held) → h ≡ Bare s → worker ≡ 0
-    → MakesCall (Bare s) 0 call place place status new → MakesCall h worker call place place status new
+    → MakesCall (Bare s) 0 call 0 0 status new → MakesCall h worker call place place status new
 by_worker_0 h s worker call place status new is zero makes =
     subst (λ (g : Held). MakesCall g worker call place place status new) (sym is)
-    (subst (λ (w : ℕ). MakesCall (Bare s) w call place place status new) (sym zero) makes)
+    (subst (λ (w : ℕ). MakesCall (Bare s) w call place place status new) (sym zero)
+    (record { done = λ done. ((makes.done done).0, refl); not_done = λ not. ((makes.not_done not).0, refl); why = makes.why }))
+
+pub said_by_worker_0 : (h : Held) (s : Stamped) (worker : ℕ) (said : Option Call) (old new : ReplyNumbers) (place status : ℕ) (after : Held) → h ≡ Bare s → worker ≡ 0
+    → MakesSaid (Bare s) 0 said old new 0 0 status after → MakesSaid h worker said old new place place status after
+said_by_worker_0 h s worker said old new place status after is zero makes =
+    subst (λ (g : Held). MakesSaid g worker said old new place place status after) (sym is)
+    (subst (λ (w : ℕ). MakesSaid (Bare s) w said old new place place status after) (sym zero)
+    (record {
+      done = λ done. let made = makes.done done in (made.0, made.1, (made.2.0, refl), made.3);
+      not_done = λ not. let left = makes.not_done not in (left.0, left.1, refl);
+      why = makes.why;
+    }))
 
 -- a line is put, or there is no room for it
 within_range : (status : ℕ) → IsDoneOr status (NO_ROOM ∷ []) → status ≡ OUT_OF_RANGE → ⊥

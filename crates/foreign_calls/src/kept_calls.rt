@@ -8,15 +8,19 @@ ghost use Rattle.{
   kept_past.specs.Stored.{IsList},
   kept_table.specs.{Calls.{outcome}, Chronicle.{last_reply}},
   foreign_handles.specs.declared.held.Held.TheVariants.{Recorded},
-  foreign_calls.specs.{Calls.{MakesCall}, Made.{TellsReply, IsReplyToLast}, Rooms.{KeepsRoom}},
-  foreign_numbers.specs.Numbers.{numbers_of},
+  foreign_calls.specs.{Calls.{MakesCall, MakesSaid}, Made.{TellsReply, IsReplyToLast}, Rooms.{KeepsRoom}},
+  foreign_numbers.specs.Numbers.{call_of, numbers_of},
 };
 
 use crate::texts::write_reply;
-use foreign_numbers::numbers::{ReplyNumbers, put_list, put_short, put_told};
+use foreign_numbers::numbers::{
+    CallNumbers, ReplyNumbers, put_list, put_short, put_told, read_call,
+};
+use foreign_numbers::operations;
 use foreign_numbers::status::{DONE, OUT_OF_RANGE, status_of, unmade};
 use kept_table::Kept;
 use pid_script::answer::LONGEST_ANSWER;
+use pid_table::is_query;
 use pid_types::call::Call;
 use pid_types::keys::Pid;
 use pid_types::reply::ShortReply;
@@ -79,7 +83,7 @@ fn put_last_list(held: &Kept, reply: &mut ReplyNumbers)
 /// Makes the call `NSpid` as [`make_kept`] does, and tells its reply as numbers: the list is written where the reply
 /// has room for it.
 #[inline(never)]
-pub fn list_kept(
+fn list_kept(
     held: &mut Kept,
     worker: u32,
     caller: Pid,
@@ -106,7 +110,7 @@ pub fn list_kept(
 /// Makes a query except `NSpid` as [`make_kept`] does, and tells its reply as numbers. Nothing is done between its
 /// answer and the reply except the entry.
 #[inline(always)]
-pub fn query_kept(
+fn query_kept(
     held: &mut Kept,
     worker: u32,
     query: Call,
@@ -133,7 +137,7 @@ pub fn query_kept(
 /// Makes the call as [`make_kept`] does, and tells its reply as numbers. It is for changes: a query is made faster by
 /// [`query_kept`].
 #[inline(always)]
-pub fn change_kept(
+fn change_kept(
     held: &mut Kept,
     worker: u32,
     made: Call,
@@ -150,6 +154,141 @@ pub fn change_kept(
     }
     put_last(held, told, reply);
     DONE
+}
+
+/// Makes the call as [`make_kept`] does, and tells its reply as numbers. It is not inlined: each way that comes often
+/// has a copy of its own.
+#[inline(never)]
+pub fn call_kept(
+    held: &mut Kept,
+    worker: u32,
+    made: Call,
+    reply: &mut ReplyNumbers,
+    ordinal: &mut u64,
+) -> u32
+    ensures makes { MakesCall (Recorded held.old) worker made ordinal.old ordinal.new result (Recorded held.new) }
+    ensures reply { TellsReply (outcome held.old made).reply reply.old reply.new result }
+{
+    if let Call::NsPid { caller, target } = made {
+        return list_kept(held, worker, caller, target, reply, ordinal);
+    }
+    if is_query(&made) {
+        return query_kept(held, worker, made, reply, ordinal);
+    }
+    change_kept(held, worker, made, reply, ordinal)
+}
+
+/// Makes the call that is said as [`call_kept`] does. The status is `OUT_OF_RANGE` too where none is.
+#[inline(always)]
+fn said_kept(
+    held: &mut Kept,
+    worker: u32,
+    said: Option<Call>,
+    reply: &mut ReplyNumbers,
+    ordinal: &mut u64,
+) -> u32
+    ensures { MakesSaid (Recorded held.old) worker said reply.old reply.new ordinal.old ordinal.new
+        result (Recorded held.new) }
+{
+    let Some(made) = said else {
+        return unmade(OUT_OF_RANGE);
+    };
+    call_kept(held, worker, made, reply, ordinal)
+}
+
+/// The same, with a copy of the way of a query.
+#[inline(always)]
+fn said_query_kept(
+    held: &mut Kept,
+    worker: u32,
+    said: Option<Call>,
+    reply: &mut ReplyNumbers,
+    ordinal: &mut u64,
+) -> u32
+    ensures { MakesSaid (Recorded held.old) worker said reply.old reply.new ordinal.old ordinal.new
+        result (Recorded held.new) }
+{
+    let Some(made) = said else {
+        return unmade(OUT_OF_RANGE);
+    };
+    if let Call::NsPid { caller, target } = made {
+        return list_kept(held, worker, caller, target, reply, ordinal);
+    }
+    if is_query(&made) {
+        return query_kept(held, worker, made, reply, ordinal);
+    }
+    call_kept(held, worker, made, reply, ordinal)
+}
+
+/// The same, with a copy of the way of a change.
+#[inline(always)]
+fn said_change_kept(
+    held: &mut Kept,
+    worker: u32,
+    said: Option<Call>,
+    reply: &mut ReplyNumbers,
+    ordinal: &mut u64,
+) -> u32
+    ensures { MakesSaid (Recorded held.old) worker said reply.old reply.new ordinal.old ordinal.new
+        result (Recorded held.new) }
+{
+    let Some(made) = said else {
+        return unmade(OUT_OF_RANGE);
+    };
+    if is_query(&made) {
+        return call_kept(held, worker, made, reply, ordinal);
+    }
+    change_kept(held, worker, made, reply, ordinal)
+}
+
+/// The same by the way of a change, which each call except `NSpid` can take: one copy serves all operations.
+#[inline(always)]
+pub fn said_any_kept(
+    held: &mut Kept,
+    worker: u32,
+    said: Option<Call>,
+    reply: &mut ReplyNumbers,
+    ordinal: &mut u64,
+) -> u32
+    ensures { MakesSaid (Recorded held.old) worker said reply.old reply.new ordinal.old ordinal.new
+        result (Recorded held.new) }
+{
+    let Some(made) = said else {
+        return unmade(OUT_OF_RANGE);
+    };
+    if let Call::NsPid { caller, target } = made {
+        return list_kept(held, worker, caller, target, reply, ordinal);
+    }
+    change_kept(held, worker, made, reply, ordinal)
+}
+
+/// Makes the call that the numbers say, and tells its reply and its place. Each operation that comes often has a copy
+/// of the whole way: in it the compiler knows the operation, and leaves out what only others need.
+#[inline(always)]
+pub fn kept_by_operation(
+    held: &mut Kept,
+    worker: u32,
+    n: &CallNumbers,
+    reply: &mut ReplyNumbers,
+    ordinal: &mut u64,
+) -> u32
+    ensures { MakesSaid (Recorded held.old) worker (call_of n.now) reply.old reply.new ordinal.old ordinal.new
+        result (Recorded held.new) }
+{
+    match n.operation {
+        operations::FORK => said_change_kept(held, worker, read_call(n), reply, ordinal),
+        operations::EXEC => said_change_kept(held, worker, read_call(n), reply, ordinal),
+        operations::EXIT => said_change_kept(held, worker, read_call(n), reply, ordinal),
+        operations::WAIT => said_change_kept(held, worker, read_call(n), reply, ordinal),
+        operations::SETPGID => said_change_kept(held, worker, read_call(n), reply, ordinal),
+        operations::GETPID => said_query_kept(held, worker, read_call(n), reply, ordinal),
+        operations::GETPPID => said_query_kept(held, worker, read_call(n), reply, ordinal),
+        operations::GETPGID => said_query_kept(held, worker, read_call(n), reply, ordinal),
+        operations::NSPID => said_query_kept(held, worker, read_call(n), reply, ordinal),
+        operations::NEXT => said_query_kept(held, worker, read_call(n), reply, ordinal),
+        operations::COUNT => said_query_kept(held, worker, read_call(n), reply, ordinal),
+        _ => said_kept(held, worker, read_call(n), reply, ordinal),
+    }
 }
 
 /// Makes the call as [`make_kept`] does, and puts the text of its reply at the front of the room.

@@ -13,8 +13,9 @@ ghost use Rattle.{
   foreign_calls.specs.Numbered.{TellsNumberOf, RefusesKind},
 };
 
-use foreign_calls::number_calls::tell_number;
+use foreign_calls::number_calls::{number_bare, number_kept};
 use foreign_calls::table::Pidtab;
+use foreign_handles::held::Held;
 use foreign_numbers::numbers::read_kind;
 use foreign_numbers::status::{CLOSED, OUT_OF_RANGE};
 use pid_types::call::Call;
@@ -29,7 +30,10 @@ fn number_of(table: &mut Pidtab, query: Call, number: &mut u64) -> u32
     if !table.is_open {
         return CLOSED;
     }
-    tell_number(table.handle.lend(), query, number)
+    match table.handle.lend() {
+        Held::Bare(held) => number_bare(held, query, number),
+        Held::Recorded(held) => number_kept(held, query, number),
+    }
 }
 
 /// The caller's number in its own namespace: `getpid(2)`. The refusal is that no live task has the caller's root
@@ -103,11 +107,11 @@ pub extern "C" fn pidtab_next_of(
     let Some(kind) = read_kind(kind) else {
         return OUT_OF_RANGE;
     };
-    tell_number(
-        table.handle.lend(),
-        Call::Next { caller, kind, from },
-        number,
-    )
+    let query = Call::Next { caller, kind, from };
+    match table.handle.lend() {
+        Held::Bare(held) => number_bare(held, query, number),
+        Held::Recorded(held) => number_kept(held, query, number),
+    }
 }
 
 /// How many tasks the control group and those below it have. The refusal is that no control group has the id, `ENOENT`.

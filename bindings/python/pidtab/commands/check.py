@@ -9,7 +9,7 @@ from itertools import islice
 from typing import NamedTuple
 
 from pidtab.bounds import LEAST_PID_MAX
-from pidtab.commands.common import STANDARD_INPUT, STATUS_DONE, STATUS_FAULT, STATUS_USAGE, Progress, complain, finish, open_script, parser_of
+from pidtab.commands.common import STANDARD_INPUT, STATUS_DONE, STATUS_FAULT, Progress, cannot_read, finish, open_script, parser_of
 from pidtab.faults import ProgramMissing
 from pidtab.language import Fault, judge
 from pidtab.program import find_program
@@ -99,10 +99,8 @@ def run(called: str = "pidtab-check", words: Sequence[str] | None = None) -> int
     for name in given.file:
         try:
             status = max(status, check(name, given.json))
-        except BrokenPipeError:
-            raise
         except OSError as fault:
-            return complain(f"{called}: cannot read {name}: {fault.strerror}", STATUS_USAGE)
+            return cannot_read(called, fault, name)
     return status
 
 

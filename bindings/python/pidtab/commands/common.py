@@ -89,6 +89,13 @@ def complain(text: str, status: int) -> int:
     return status
 
 
+def cannot_read(called: str, fault: OSError, name: str) -> int:
+    """Says which file cannot be read, and answers the exit status. That nobody reads what is written is raised again, for `finish`."""
+    if isinstance(fault, BrokenPipeError):
+        raise fault
+    return complain(f"{called}: cannot read {name}: {fault.strerror}", STATUS_USAGE)
+
+
 def finish(run: Callable[[], int]) -> None:
     """Ends the program with the status of what it runs."""
     for stream in (sys.stdout, sys.stderr):

@@ -8,7 +8,18 @@ from contextlib import contextmanager
 
 from pidtab.bounds import DEFAULT_PID_MAX
 from pidtab.calls import Calls
-from pidtab.commands.common import STANDARD_INPUT, STATUS_DONE, STATUS_FAULT, STATUS_INTERRUPTED, STATUS_USAGE, complain, finish, open_script, parser_of
+from pidtab.commands.common import (
+    STANDARD_INPUT,
+    STATUS_DONE,
+    STATUS_FAULT,
+    STATUS_INTERRUPTED,
+    STATUS_USAGE,
+    cannot_read,
+    complain,
+    finish,
+    open_script,
+    parser_of,
+)
 from pidtab.commands.prompt import COMMANDS, begin
 from pidtab.commands.serve import serve
 from pidtab.commands.session import Mistake, Session, read_words
@@ -101,9 +112,7 @@ def play_files(session: Session, given: argparse.Namespace) -> int:
             with open_script(name) as script:
                 status = max(status, play_script(session, name, script, given))
         except OSError as fault:
-            if isinstance(fault, BrokenPipeError):
-                raise
-            return complain(f"{given.called}: cannot read {name}: {fault.strerror}", STATUS_USAGE)
+            return cannot_read(given.called, fault, name)
         except Quit:
             break
         if given.strict and status != STATUS_DONE:

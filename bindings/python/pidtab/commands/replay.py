@@ -12,7 +12,7 @@ from pathlib import Path
 from typing import NamedTuple
 
 from pidtab.calls import Calls
-from pidtab.commands.common import STATUS_DONE, STATUS_FAULT, STATUS_USAGE, complain, finish, open_script, parser_of
+from pidtab.commands.common import STATUS_DONE, STATUS_FAULT, STATUS_USAGE, cannot_read, complain, finish, open_script, parser_of
 from pidtab.faults import LibraryFault, ProgramFault
 from pidtab.process import Process
 from pidtab.table import Table
@@ -290,7 +290,7 @@ def run(called: str = "pidtab-replay", words: Sequence[str] | None = None) -> in
     try:
         return play(given)
     except OSError as fault:
-        return complain(f"{given.called}: cannot read {fault.filename or given.log}: {fault.strerror}", STATUS_USAGE)
+        return cannot_read(given.called, fault, fault.filename or given.log)
     except BadLog as fault:
         return complain(f"{given.called}: {given.log}: {fault}", STATUS_USAGE)
     except (ProgramFault, LibraryFault, MemoryError) as fault:

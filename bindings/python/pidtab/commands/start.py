@@ -11,7 +11,7 @@ from io import BytesIO
 from typing import BinaryIO, NoReturn
 
 from pidtab.commands.check import Found, find_bad
-from pidtab.commands.common import STANDARD_INPUT, STATUS_FAULT, STATUS_INTERRUPTED, STATUS_USAGE, complain, open_script, parser_of, pid_max_of
+from pidtab.commands.common import STANDARD_INPUT, STATUS_FAULT, STATUS_INTERRUPTED, STATUS_USAGE, cannot_read, complain, open_script, parser_of, pid_max_of
 from pidtab.faults import ProgramMissing
 from pidtab.listing import read_list
 from pidtab.program import find_program
@@ -117,10 +117,8 @@ def run(command: str, called: str, words: Sequence[str]) -> int:
         return status
     except KeyboardInterrupt:
         return STATUS_INTERRUPTED
-    except BrokenPipeError:
-        raise
     except OSError as fault:
-        return complain(f"{called}: cannot read {fault.filename or STANDARD_INPUT}: {fault.strerror}", STATUS_USAGE)
+        return cannot_read(called, fault, fault.filename or STANDARD_INPUT)
     except ProgramMissing as fault:
         return complain(f"{called}: {fault}", STATUS_USAGE)
 

@@ -6,7 +6,19 @@ import re
 import sys
 from collections.abc import Iterator, Mapping, Sequence
 
-from pidtab.commands.common import CLEAR, STANDARD_INPUT, STATUS_DONE, STATUS_FAULT, STATUS_USAGE, complain, finish, open_script, parser_of, seconds_of
+from pidtab.commands.common import (
+    CLEAR,
+    STANDARD_INPUT,
+    STATUS_DONE,
+    STATUS_FAULT,
+    STATUS_USAGE,
+    cannot_read,
+    complain,
+    finish,
+    open_script,
+    parser_of,
+    seconds_of,
+)
 from pidtab.commands.service import Service
 from pidtab.listing import BadList, Listing, read_list
 from pidtab.tree import ASCII, INDENTED, Wishes, draw_trees, read_trees
@@ -129,10 +141,8 @@ def run(called: str = "pidtab-tree", words: Sequence[str] | None = None) -> int:
     except KeyboardInterrupt:
         if not given.follow:
             raise
-    except BrokenPipeError:
-        raise
     except OSError as fault:
-        return complain(f"{given.called}: cannot read {fault.filename}: {fault.strerror}", STATUS_USAGE)
+        return cannot_read(given.called, fault, fault.filename)
     except BadLabels as fault:
         return complain(f"{given.called}: {fault}", STATUS_USAGE)
     except BadList as fault:

@@ -7,7 +7,7 @@ from collections.abc import Iterator, Sequence
 from typing import Any, NamedTuple
 
 from pidtab.bounds import DEFAULT_PID_MAX, check_range
-from pidtab.commands.common import STANDARD_INPUT, STATUS_DONE, STATUS_FAULT, STATUS_USAGE, Progress, complain, open_script, parser_of, pid_max_of
+from pidtab.commands.common import STANDARD_INPUT, STATUS_DONE, STATUS_FAULT, STATUS_USAGE, Progress, cannot_read, complain, open_script, parser_of, pid_max_of
 from pidtab.commands.history_stream import follow_file
 from pidtab.faults import BadHistory, LibraryFault, Refusal
 from pidtab.language import FORMS, fits
@@ -300,10 +300,8 @@ def run(called: str, words: Sequence[str] | None = None) -> int:
     given = read_command_line(called, words)
     try:
         return report(given)
-    except BrokenPipeError:
-        raise
     except OSError as fault:
-        return complain(f"{called}: cannot read {given.file}: {fault.strerror}", STATUS_USAGE)
+        return cannot_read(called, fault, given.file)
     except (LibraryFault, MemoryError) as fault:
         return complain(f"{called}: no table: {fault}", STATUS_USAGE)
     except BadHistory as fault:

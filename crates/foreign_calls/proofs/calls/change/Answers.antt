@@ -1,7 +1,0 @@
-use Rattle.std.proofs.Common.{arith}
-use Rattle.foreign_calls.proofs.Told.{by_worker_0}
-use Rattle.foreign_calls.proofs.calls.change.Goals as goal
-
-pub returns-in-Bare-2-clause-makes : goal.returns-in-Bare-2-clause-makes
-returns-in-Bare-2-clause-makes c =
-    by_worker_0 c.args.held.now c.in-Bare.field-0 c.args.worker c.args.made c.args.ordinal.now c.change_bare.result _ c.in-Bare.is (omega (arith, c.if-worker-gt0.false)) (c.change_bare.ensures.makes c.args.ordinal.now)

@@ -1,0 +1,12 @@
+pub mod Logs
+pub mod SoundCalls
+pub mod Changes
+pub mod Taking
+pub mod Growing
+pub mod Telling
+pub mod Events
+pub mod Reading
+pub mod Runs
+pub mod Held
+pub mod Keeping
+pub mod Losing
