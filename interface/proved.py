@@ -8,7 +8,7 @@ WITH_HISTORY = ("open", "load")
 
 def proved_name(name):
     """The name of the proved function of one of C, both without what they begin with."""
-    base = name.removeprefix("record_")
+    base = name[len("record_") :] if name.startswith("record_") else name
     if base in BY_WORKER:
         return f"{base}_by"
     return f"{base}_with" if name != base and base in WITH_HISTORY else base

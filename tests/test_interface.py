@@ -55,7 +55,7 @@ DIFFERENCES = [
     ("crates/pid_types/src/config.rt", "pub const LEAST_PID_MAX: u32 = 301;", "pub const LEAST_PID_MAX: u32 = 300;", "the bound LEAST_PID_MAX 300 is not in"),
     ("crates/pid_script/src/answer.rt", "pub const LONGEST_ANSWER: usize = 362;", "pub const LONGEST_ANSWER: usize = 363;", "the bound LONGEST_ANSWER 363"),
     ("crates/pid_script/src/call.rt", "pub const LONGEST_CALL: usize = 42;", "pub const LONGEST_CALL: usize = 43;", "the bound LONGEST_CALL 43 is not in"),
-    ("crates/foreign_calls/src/record.rt", "pub const MOST_WORKERS: u32 = 16;", "pub const MOST_WORKERS: u32 = 17;", "the bound MOST_WORKERS 17 is not in"),
+    ("crates/foreign_calls/src/table.rt", "pub const MOST_WORKERS: u32 = 16;", "pub const MOST_WORKERS: u32 = 17;", "the bound MOST_WORKERS 17 is not in"),
     ("crates/pidtab_c/src/lib.rt", "pub const VERSION: u32 = 1;", "pub const VERSION: u32 = 2;", "the bound VERSION 2 is not in interface/"),
     ("crates/saved_form/src/block.rt", "pub const BLOCK: usize = 48;", "pub const BLOCK: usize = 49;", "the bound BLOCK 49 is not in interface/"),
     ("crates/saved_form/src/layout.rt", "pub const VERSION: u32 = 1;", "pub const VERSION: u32 = 2;", "the bound VERSION 2 is not in interface/"),
@@ -307,7 +307,7 @@ class Interface(unittest.TestCase):
             ("bindings/python/pidtab/native.py", "    def residents(self, caller: int, space: int = 0, start: int = 0) -> tuple[int, ...]:\n"),
             ("bindings/python/pidtab/raw.py", '    "pidtab_shared_residents": (U32, [SHARED, U32, U64, U32, NUMBER_32, SIZE_T, REPLY]),\n'),
             ("bindings/js/src/calls.js", "  residents(caller, space = 0n, start = 0) {\n"), ("bindings/js/pidtab.d.ts", "  residents(caller: number, space?: Long, start?: number): number[];\n"),
-            ("bindings/js/wasm/around.c", "uint32_t EXPORTED(record_residents)("), ("bindings/c/test_cases.c", "ASKED(residents, (uint32_t)n[0], n[1], (uint32_t)n[2], to->numbers, room, &to->reply);"),
+            ("bindings/js/wasm/around.c", "uint32_t EXPORTED(residents)("), ("bindings/c/test_cases.c", "ASKED(residents, (uint32_t)n[0], n[1], (uint32_t)n[2], to->numbers, room, &to->reply);"),
             ("bindings/rust/src/cases.rs", '"residents" => say_page($it.residents($n[0] as u32, $n[1], $n[2] as u32)),'),
             ("bindings/go/cases_test.go", "\t\treturn of(it.Residents(uint32(n[0]), n[1], uint32(n[2]))), true\n"), ("docs/LIBRARY.md", "| the residents of a namespace | `pidtab_residents` | `Ask.residents` |"),
         ):  # fmt: skip
