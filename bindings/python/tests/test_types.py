@@ -2,8 +2,10 @@
 
 import re
 import subprocess
+import sys
 import tempfile
 import unittest
+from importlib.util import find_spec
 from pathlib import Path
 
 from tests.programs import need_tool
@@ -89,6 +91,15 @@ class Types(unittest.TestCase):
         told = [int(it) for it in re.findall(r"(?m)^user\.py:(\d+): error", done.stdout)]
         wrong = [number for number, line in enumerate(USER.splitlines(), start=1) if line.endswith(WRONG)]
         self.assertEqual((told, done.stderr), (wrong, ""), done.stdout)
+
+    def test_the_package_itself_by_its_settings(self) -> None:
+        mypy = need_tool("mypy")
+        # pidtab.testing has types of it.
+        if find_spec("hypothesis") is None:
+            self.skipTest("no Hypothesis")
+        words = ["--python-executable", sys.executable, "--cache-dir=/dev/null"]
+        done = subprocess.run([mypy, *words], cwd=PACKAGE, capture_output=True, text=True, check=False)
+        self.assertEqual((done.returncode, done.stderr), (0, ""), done.stdout)
 
 
 if __name__ == "__main__":

@@ -12,7 +12,7 @@ from pidtab.changed import Changed
 from pidtab.faults import TableClosed
 from pidtab.hosts.backoff import Backoff
 from pidtab.hosts.crew import LAST_SECONDS, LOOK, Crew
-from pidtab.hosts.etcd import Etcd, JSON, decode, encode
+from pidtab.hosts.etcd import JSON, Etcd, decode, encode
 from pidtab.hosts.etcd_cells import behind
 from pidtab.hosts.etcd_log import QUIET_TIMES, EtcdLog, Events, append_all, read_behind
 from pidtab.hosts.etcd_watch import Changes, Compacted, EtcdWatch, revision_of

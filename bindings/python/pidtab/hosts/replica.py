@@ -15,7 +15,22 @@ from pidtab.faults import Diverged, LogFault, NotKnown, ProgramFault, TableClose
 from pidtab.hosts.backoff import Backoff
 from pidtab.hosts.crew import Crew
 from pidtab.hosts.log import CutLog, Following, Log, Progress
-from pidtab.hosts.log_entries import ANNOUNCES, FORM, MODEL, MOST_BYTES, OPEN, SHORT_DIGEST, Announced, Asked, Settings, Wanted, read_entry, write_calls, write_end, write_settings
+from pidtab.hosts.log_entries import (
+    ANNOUNCES,
+    FORM,
+    MODEL,
+    MOST_BYTES,
+    OPEN,
+    SHORT_DIGEST,
+    Announced,
+    Asked,
+    Settings,
+    Wanted,
+    read_entry,
+    write_calls,
+    write_end,
+    write_settings,
+)
 from pidtab.hosts.machine import NoMemory, Outcome, text_of
 from pidtab.hosts.machines import open_machine
 from pidtab.hosts.monitoring import Change, Changes, Numbers, change_of

@@ -15,7 +15,7 @@ from pidtab.hosts.monitoring import Changes, Numbers
 from pidtab.hosts.replica import Replica
 from pidtab.hosts.replica_threads import OwnThreads
 from pidtab.hosts.submitted import Submitted, deadline_behind
-from pidtab.labels import Labelled, Labels
+from pidtab.labels import Labelled
 from pidtab.native import ROOT_INIT, Ask, AskableCalls, Would, pack
 from pidtab.table import Table
 
@@ -46,7 +46,8 @@ class ReplicaAsk(Ask):
     """
 
     def __init__(self, table: "Replicated", now: bool = False) -> None:
-        super().__init__(Fresh(table) if now else table)
+        asked: Fresh | Replicated = Fresh(table) if now else table
+        super().__init__(asked)
         self._host = table
 
     def __call__(self, *, now: bool = False) -> "ReplicaAsk":
@@ -108,6 +109,8 @@ class Replicated(Labelled, AskableCalls):
         self.log = log
         self.patience = check_seconds("patience", patience)
         self._replica = Replica(log, self.pid_max, opener(table, self.pid_max), self.patience, hire, checks)
+        # Those of this host alone.
+        self._labels = self._replica.labels
         try:
             self._replica.start()
         except BaseException:
@@ -180,11 +183,6 @@ class Replicated(Labelled, AskableCalls):
         return copied
 
     @property
-    def _labels(self) -> Labels:
-        """Those of this host alone."""
-        return self._replica.labels
-
-    @property
     def position(self) -> int:
         """The position of the last entry of the log that this host has applied."""
         return self._replica.place[0]
@@ -229,7 +227,9 @@ class Replicated(Labelled, AskableCalls):
     def _submit(self, lines: Sequence[bytes], answer: Callable[[Submitted], T]) -> T:
         """Has calls made, and answers something of them."""
         super()._check_owner()
-        submitted = Submitted(lines, deadline_behind(self.patience), lambda replica=self._replica: replica.left)
+        # It holds the replica alone, so that a table that nobody has ends.
+        replica = self._replica
+        submitted = Submitted(lines, deadline_behind(self.patience), lambda: replica.left)
         if not submitted.done():
             submitted.keeps = self
         try:

@@ -17,7 +17,8 @@ class Receipt(NamedTuple):
     session: int
     sequence: int
     place: int
-    count: int
+    # In the place of the method of a tuple.
+    count: int  # type: ignore[assignment]
 
 
 class Part:
@@ -42,6 +43,9 @@ class Submitted(Future["tuple[str, ...]"]):
     It waits on its own at most as long as the patience of the table, and then its exception is a `NotKnown`. An interrupt while one waits for it
     loses nothing: wait again. It can be cancelled until it is sent, and then its calls are not made.
     """
+
+    # What a Future is at, which it has without a lock.
+    _state: str
 
     def __init__(self, lines: Sequence[bytes], deadline: float, is_left: Callable[[], bool]) -> None:
         super().__init__()
