@@ -129,9 +129,8 @@ fn said_change_bare(held: &mut StampedTable, said: Option<Call>, reply: &mut Rep
 }
 
 /// Makes the call that the numbers say, and tells its reply. Each operation that comes often has a copy
-/// of the whole way: in it the compiler knows the operation, and leaves out what only others need. It is not inlined:
-/// where both kinds of table are, each call would save the registers of the other.
-#[inline(never)]
+/// of the whole way: in it the compiler knows the operation, and leaves out what only others need.
+#[inline(always)]
 pub fn bare_by_operation(held: &mut StampedTable, n: &CallNumbers, reply: &mut ReplyNumbers) -> u32
     ensures { MakesSaid (Bare held.old) 0 (call_of n.now)
         reply.old reply.new 0 0 result (Bare held.new) }

@@ -263,9 +263,8 @@ pub fn said_any_kept(
 }
 
 /// Makes the call that the numbers say, and tells its reply and its place. Each operation that comes often has a copy
-/// of the whole way: in it the compiler knows the operation, and leaves out what only others need. It is not inlined:
-/// where both kinds of table are, each call would save the registers of the other.
-#[inline(never)]
+/// of the whole way: in it the compiler knows the operation, and leaves out what only others need.
+#[inline(always)]
 pub fn kept_by_operation(
     held: &mut Kept,
     worker: u32,
