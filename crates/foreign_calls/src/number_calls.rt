@@ -28,8 +28,8 @@ pub fn number_bare(held: &mut StampedTable, query: Call, number: &mut u64) -> u3
 }
 
 /// Makes the query on a table with its history, and tells its number. The result is the status, or the error of the
-/// refusal.
-#[inline(always)]
+/// refusal. It is not inlined, so that the way without a history is.
+#[inline(never)]
 pub fn number_kept(held: &mut Kept, query: Call, number: &mut u64) -> u32
     requires asks { IsTrue (is_query query) }
     requires short { answers_list query ≡ false }
