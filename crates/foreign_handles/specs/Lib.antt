@@ -1,4 +1,3 @@
 pub mod Owned
 pub mod Held
 pub mod Lending
-pub mod ReplicaLending

@@ -1,4 +1,4 @@
--- A handle goes to another thread with the table that it owns.
+-- A handle goes to another thread with what it owns.
 use mir.Raw.{raw}
 use base.Fml.{Fml}
 use base.Fraction.{full_share}
@@ -14,8 +14,6 @@ use denote.Struct.Owning.{shape, fields, to}
 use Rattle.std.specs.Prelude.{Option, Some, None}
 use Rattle.std.proofs.Crossing.{frees}
 use Rattle.foreign_handles.specs.Owned.{IfHeld}
-use Rattle.foreign_handles.specs.contracts.held.Held as table
-use Rattle.foreign_handles.proofs.held.Held.TheSendSync as table_may
 use Rattle.foreign_handles.specs.contracts.handle.Handle.{the_row, the_type}
 
 still_quiet : {D X : Type 0} (to : D → X) (e : Exit X) → Quiet e → Quiet (hidden (under to e))
@@ -30,7 +28,7 @@ if_held : {X : Type 0} (o : Option X) (F : X → Fml) → ((x : X) → Keyless (
 if_held None F each = tt
 if_held (Some x) F each = each x
 
-pub send : IsSend the_row
-send = let fields_may : IsSend RawPtr = search sendable in
-    owning_send the_type (fields_may, tt) (λ d. if_held d.held _ (λ x. (at_address table.the_row table_may.the_send d.at x, frees.frees d.heap (raw (lone table.the_row.mir)) d.at)))
-    (λ k. still_quiet (to the_type) (exits_of k (fields the_type)) ((struct_send (shape the_type) (fields_may, tt)).leaving k))
+pub send : (R : RattleType) → IsSend R → IsSend (the_row R)
+send R may = let fields_may : IsSend RawPtr = search sendable in
+    owning_send (the_type R) (fields_may, tt) (λ d. if_held d.held _ (λ x. (at_address R may d.at x, frees.frees d.heap (raw (lone R.mir)) d.at)))
+    (λ k. still_quiet (to (the_type R)) (exits_of k (fields (the_type R))) ((struct_send (shape (the_type R)) (fields_may, tt)).leaving k))

@@ -1,39 +1,15 @@
 -- `into_box` makes the box again.
-use Rattle.std.proofs.Common.{◌≡◌, List, [], ◌∷◌, ◌++◌, refl, sym, subst}
-use mir.Syntax.{a_type, dcons, dnil}
-use mir.Val.{Val, vptr}
-use mir.MapTy.{inst_fn}
-use base.Logic.{SProp, ent, id⊢}
-use base.Fml.{ftrue, flft}
-use prog.Wp.{WpFn}
-use types.Kit.{‵, raw, ◌⊛◌, some, later, at_ret, ◌$◌, ◌∵◌, !, qed, by, move, keep, drop, split, split3, join, fsplit, fjoin, pick, suffices, use1, await, feq_i}
-use types.Run.{stop, fld, of_opd, no_more, and_then, first, blocks, exec, returns, enter}
-use types.ByLocal.{alloc_all, pass_all, free_all, look_at, get, get_in, sets, lands_last, env}
-use types.Part.{sub, whole}
-use contract.Monad.{fact}
-use contract.BorrowLft.{◌⊑◌}
-use contract.Running.{tables}
-use denote.Exit.{no}
-use denote.RattleType.{RattleType, owns}
-use denote.Laws.{Is, shows}
-use denote.Signature.{types_at, plain}
-use denote.RawPtr.{block_ptr}
-use denote.Steps.{nothing, peeks}
-use denote.Param.{param, bounded}
-use denote.Param.Laws.{param_laws}
-use denote.Triple.Clauses.{Lasts, lasts}
-use denote.Triple.Spec.{triple_of}
-use denote.Triple.Call.{calls_at_last}
-use denote.Triple.Table.{framed}
-use denote.Triple.Walked.{Stays, stay_dropped, walk_of}
-use Rattle.std.proofs.VecSteps.Shapes.{after}
-use Rattle.std.proofs.alloc.Calls.{Goes-blank}
+use Rattle.std.proofs.boxed.Box.from_raw.Met.{met}
+use Rattle.foreign_handles.proofs.Walking.{!, Goes-blank, Is, Lasts, List, RattleType, SProp, Stays, Val, WpFn, [], a_type, after, alloc_all, and_then}
+use Rattle.foreign_handles.proofs.Walking.{at_ret, await, block_ptr, blocks, bounded, by, calls_at_last, dcons, dnil, drop, ent, enter, env, exec, fact}
+use Rattle.foreign_handles.proofs.Walking.{feq_i, first, fjoin, fld, flft, framed, free_all, fsplit, ftrue, get, get_in, id⊢, inst_fn, join, keep, lands_last}
+use Rattle.foreign_handles.proofs.Walking.{lasts, later, leaves, look_at, move, no, no_more, nothing, of_opd, owns, param, param_laws, pass_all, peeks}
+use Rattle.foreign_handles.proofs.Walking.{pick, plain, proved_at, qed, raw, refl, returns, sets, shows, some, split, split3, stay_dropped, stop, sub, subst}
+use Rattle.foreign_handles.proofs.Walking.{suffices, sym, tables, triple_of, types_at, use1, vptr, walk_of, whole, ‵, ◌$◌, ◌++◌, ◌∵◌, ◌∷◌, ◌≡◌, ◌⊑◌, ◌⊛◌}
 use Rattle.std.specs.contracts.boxed.Box as box
 use Rattle.std.proofs.boxed.Box.TheLaws as box_laws
-use Rattle.std.proofs.raw_atomic.Walks.{proved_at, leaves}
 use Rattle.foreign_handles.proofs.Words.{beside, beside_fits, Loose, loose_opens}
 use Rattle.std.specs.contracts.boxed.Box.from_raw as callee
-use Rattle.std.proofs.boxed.Box.from_raw.Met.{met}
 use Rattle.foreign_handles.specs.contracts.loose.Loose.into_box as f
 use Rattle.foreign_handles.proofs.loose.Loose.into_box.Statement.{statement}
 use Rattle.foreign_handles.proofs.loose.Loose.into_box.Code as code
