@@ -137,13 +137,13 @@ static void each_function_is_busy(void)
 	CHECK(pidtab_control_tasks(&table, 1, 0, 0, &number, 1, &reply) == PIDTAB_BUSY && reply.kind == 77 && number == 7);
 }
 
-static struct pidtab_record record = PIDTAB_RECORD_INIT;
+static struct pidtab record = PIDTAB_INIT;
 
 static struct pidtab_entry saved;
 
 static void *opens_record(void *unused)
 {
-	CHECK(pidtab_record_open(&record, 32768, 1, 2) == PIDTAB_DONE);
+	CHECK(open_history(&record, 32768, 1, 2) == PIDTAB_DONE);
 	return unused;
 }
 
@@ -154,7 +154,7 @@ static void *calls(void *unused)
 	uint64_t ordinal;
 
 	while (hold)
-		CHECK(pidtab_record_call(&record, 0, &fork_1, &reply, &ordinal) == PIDTAB_DONE && reply.kind == PIDTAB_FORKED);
+		CHECK(pidtab_call_by(&record, 0, &fork_1, &reply, &ordinal) == PIDTAB_DONE && reply.kind == PIDTAB_FORKED);
 	return unused;
 }
 
@@ -164,7 +164,7 @@ static void *tells_a_recorded_end(void *unused)
 	struct pidtab_reply reply;
 	uint64_t ordinal, count;
 
-	CHECK(pidtab_record_call_told(&record, 1, &exit_2, &reply, &ordinal, effects, 4, &count) == PIDTAB_DONE && count == 1 && effects[0].number == 2);
+	CHECK(pidtab_call_told_by(&record, 1, &exit_2, &reply, &ordinal, effects, 4, &count) == PIDTAB_DONE && count == 1 && effects[0].number == 2);
 	return unused;
 }
 
@@ -175,7 +175,7 @@ static void *writes_lines(void *unused)
 	uint64_t ordinal;
 
 	while (hold)
-		CHECK(pidtab_record_line(&record, 1, "fork 1", 6, answer, sizeof answer, &size, &ordinal) == PIDTAB_DONE);
+		CHECK(pidtab_line_by(&record, 1, "fork 1", 6, answer, sizeof answer, &size, &ordinal) == PIDTAB_DONE);
 	return unused;
 }
 
@@ -184,7 +184,7 @@ static void *replays(void *unused)
 	size_t place;
 
 	while (hold)
-		CHECK(pidtab_record_replay(&record, &saved, 1, &place) == PIDTAB_DONE);
+		CHECK(pidtab_replay(&record, &saved, 1, &place) == PIDTAB_DONE);
 	return unused;
 }
 
@@ -192,7 +192,7 @@ static void *lists_record(void *unused)
 {
 	static char text[1 << 20];
 	size_t size = 0;
-	CHECK(pidtab_record_list(&record, text, sizeof text, &size) == PIDTAB_DONE && size > 100);
+	CHECK(pidtab_list(&record, text, sizeof text, &size) == PIDTAB_DONE && size > 100);
 	return unused;
 }
 
@@ -200,13 +200,13 @@ static void *lists_opening(void *unused)
 {
 	static char text[1 << 20];
 	size_t size = 0;
-	CHECK(pidtab_record_opening(&record, text, sizeof text, &size) == PIDTAB_DONE && size > 24);
+	CHECK(pidtab_opening(&record, text, sizeof text, &size) == PIDTAB_DONE && size > 24);
 	return unused;
 }
 
 static void *dumps_record(void *unused)
 {
-	CHECK(pidtab_record_dump(&record, text, sizeof text, &length) == PIDTAB_DONE && strncmp(text, "pidtab table 1 ", 15) == 0);
+	CHECK(pidtab_dump(&record, text, sizeof text, &length) == PIDTAB_DONE && strncmp(text, "pidtab table 1 ", 15) == 0);
 	return unused;
 }
 
@@ -214,7 +214,7 @@ static void *loads_record(void *unused)
 {
 	static const uint64_t counts[2] = { 0, 1 };
 	struct pidtab_fault fault;
-	CHECK(pidtab_record_load(&record, text, length, counts, 2, &fault) == PIDTAB_DONE);
+	CHECK(load_history(&record, text, length, counts, 2, &fault) == PIDTAB_DONE);
 	return unused;
 }
 
@@ -225,14 +225,14 @@ static void forks_for_a_cut(void)
 	struct pidtab_reply reply;
 	uint64_t ordinal;
 
-	CHECK(pidtab_record_call_keeping(&record, 0, &call, 8, &reply, &ordinal) == PIDTAB_DONE);
+	CHECK(BOUNDED_(&record, 0, &call, 8, &reply, &ordinal) == PIDTAB_DONE);
 }
 
 static void *cuts(void *unused)
 {
 	while (hold) {
 		forks_for_a_cut();
-		CHECK(pidtab_record_checkpoint(&record) == PIDTAB_DONE);
+		CHECK(pidtab_checkpoint(&record) == PIDTAB_DONE);
 	}
 	return unused;
 }
@@ -242,15 +242,15 @@ static void *cuts_at(void *unused)
 	uint64_t first, recorded;
 	while (hold) {
 		forks_for_a_cut();
-		CHECK(pidtab_record_counts(&record, &first, &recorded) == PIDTAB_DONE);
-		CHECK(pidtab_record_checkpoint_at(&record, recorded) == PIDTAB_DONE);
+		CHECK(pidtab_counts(&record, &first, &recorded) == PIDTAB_DONE);
+		CHECK(pidtab_checkpoint_at(&record, recorded) == PIDTAB_DONE);
 	}
 	return unused;
 }
 
 static void *closes_record(void *unused)
 {
-	CHECK(pidtab_record_close(&record) == PIDTAB_DONE);
+	CHECK(pidtab_close(&record) == PIDTAB_DONE);
 	return unused;
 }
 
@@ -265,15 +265,15 @@ static void each_call_of_a_record_is_busy(void)
 	struct pidtab_effect effect = { .number = 77 };
 	uint64_t count = 77;
 
-	CHECK(pidtab_record_open(&record, 32768, 1, 2) == PIDTAB_BUSY && pidtab_record_open(&record, 0, 0, 0) == PIDTAB_BUSY);
-	CHECK(pidtab_record_call(&record, 0, &call, &reply, &one) == PIDTAB_BUSY);
-	CHECK(pidtab_record_call_keeping(&record, 0, &call, 1, &reply, &one) == PIDTAB_BUSY && pidtab_record_keep(&record, 0) == PIDTAB_BUSY);
-	CHECK(pidtab_record_line(&record, 0, "getpid 1", 8, room, sizeof room, &size, &one) == PIDTAB_BUSY);
-	CHECK(pidtab_record_call_told(&record, 0, &call, &reply, &one, &effect, 1, &count) == PIDTAB_BUSY && effect.number == 77 && count == 77);
-	CHECK(pidtab_record_replay(&record, &saved, 1, &size) == PIDTAB_BUSY);
-	CHECK(pidtab_record_checkpoint(&record) == PIDTAB_BUSY && pidtab_record_checkpoint_at(&record, 0) == PIDTAB_BUSY);
-	CHECK(pidtab_record_load(&record, room, sizeof room, &one, 1, &fault) == PIDTAB_BUSY && fault.kind == 0 && fault.line == 0);
-	CHECK(pidtab_record_close(&record) == PIDTAB_BUSY);
+	CHECK(open_history(&record, 32768, 1, 2) == PIDTAB_BUSY && open_history(&record, 0, 0, 0) == PIDTAB_BUSY);
+	CHECK(pidtab_call_by(&record, 0, &call, &reply, &one) == PIDTAB_BUSY);
+	CHECK(BOUNDED_(&record, 0, &call, 1, &reply, &one) == PIDTAB_BUSY && pidtab_keep(&record, 0) == PIDTAB_BUSY);
+	CHECK(pidtab_line_by(&record, 0, "getpid 1", 8, room, sizeof room, &size, &one) == PIDTAB_BUSY);
+	CHECK(pidtab_call_told_by(&record, 0, &call, &reply, &one, &effect, 1, &count) == PIDTAB_BUSY && effect.number == 77 && count == 77);
+	CHECK(pidtab_replay(&record, &saved, 1, &size) == PIDTAB_BUSY);
+	CHECK(pidtab_checkpoint(&record) == PIDTAB_BUSY && pidtab_checkpoint_at(&record, 0) == PIDTAB_BUSY);
+	CHECK(load_history(&record, room, sizeof room, &one, 1, &fault) == PIDTAB_BUSY && fault.kind == 0 && fault.line == 0);
+	CHECK(pidtab_close(&record) == PIDTAB_BUSY);
 	CHECK(one == 7 && size == 7 && strcmp(room, "kept") == 0 && reply.kind == 77);
 }
 
@@ -291,17 +291,17 @@ static void each_function_of_a_record_is_busy(void)
 	struct pidtab_entry entry = { .worker = 77 };
 
 	each_call_of_a_record_is_busy();
-	CHECK(pidtab_record_ask(&record, &call, &reply) == PIDTAB_BUSY && pidtab_record_stat(&record, 1, 0, &task) == PIDTAB_BUSY);
-	CHECK(pidtab_record_page(&record, 1, PIDTAB_CHILDREN, 0, 0, &number, 1, &reply) == PIDTAB_BUSY && reply.kind == 77 && number == 7);
-	CHECK(pidtab_record_space(&record, 0, &space) == PIDTAB_BUSY && space.level == 77);
-	CHECK(pidtab_record_inside(&record, PIDTAB_SPACES, 0, 0, &id, 1, &count) == PIDTAB_BUSY && id == 7 && count == 77);
-	CHECK(pidtab_record_control_tasks(&record, 1, 0, 0, &number, 1, &reply) == PIDTAB_BUSY && reply.kind == 77 && number == 7);
-	CHECK(pidtab_record_counts(&record, &one, &other) == PIDTAB_BUSY && pidtab_record_worker(&record, 0, &one) == PIDTAB_BUSY);
-	CHECK(pidtab_record_entry(&record, 0, &one, &call, &reply) == PIDTAB_BUSY);
-	CHECK(pidtab_record_read(&record, 0, &entry, 1, &size) == PIDTAB_BUSY);
-	CHECK(pidtab_record_list(&record, room, sizeof room, &size) == PIDTAB_BUSY);
-	CHECK(pidtab_record_opening(&record, room, sizeof room, &size) == PIDTAB_BUSY);
-	CHECK(pidtab_record_dump(&record, room, sizeof room, &size) == PIDTAB_BUSY);
+	CHECK(pidtab_ask(&record, &call, &reply) == PIDTAB_BUSY && pidtab_stat(&record, 1, 0, &task) == PIDTAB_BUSY);
+	CHECK(pidtab_page(&record, 1, PIDTAB_CHILDREN, 0, 0, &number, 1, &reply) == PIDTAB_BUSY && reply.kind == 77 && number == 7);
+	CHECK(pidtab_space(&record, 0, &space) == PIDTAB_BUSY && space.level == 77);
+	CHECK(pidtab_inside(&record, PIDTAB_SPACES, 0, 0, &id, 1, &count) == PIDTAB_BUSY && id == 7 && count == 77);
+	CHECK(pidtab_control_tasks(&record, 1, 0, 0, &number, 1, &reply) == PIDTAB_BUSY && reply.kind == 77 && number == 7);
+	CHECK(pidtab_counts(&record, &one, &other) == PIDTAB_BUSY && pidtab_worker(&record, 0, &one) == PIDTAB_BUSY);
+	CHECK(pidtab_entry(&record, 0, &one, &call, &reply) == PIDTAB_BUSY);
+	CHECK(pidtab_read(&record, 0, &entry, 1, &size) == PIDTAB_BUSY);
+	CHECK(pidtab_list(&record, room, sizeof room, &size) == PIDTAB_BUSY);
+	CHECK(pidtab_opening(&record, room, sizeof room, &size) == PIDTAB_BUSY);
+	CHECK(pidtab_dump(&record, room, sizeof room, &size) == PIDTAB_BUSY);
 	CHECK(one == 7 && other == 7 && size == 7 && strcmp(room, "kept") == 0 && reply.kind == 77 && entry.worker == 77 && task.count == 77);
 }
 
@@ -344,8 +344,8 @@ static void save_a_call(void)
 	uint64_t ordinal;
 	size_t count;
 
-	CHECK(pidtab_record_call(&record, 0, &call, &reply, &ordinal) == PIDTAB_DONE && reply.first == 1);
-	CHECK(pidtab_record_read(&record, ordinal, &saved, 1, &count) == PIDTAB_DONE && count == 1);
+	CHECK(pidtab_call_by(&record, 0, &call, &reply, &ordinal) == PIDTAB_DONE && reply.first == 1);
+	CHECK(pidtab_read(&record, ordinal, &saved, 1, &count) == PIDTAB_DONE && count == 1);
 }
 
 static void in_the_middle_of_each_of_a_record(void)
