@@ -4,7 +4,6 @@
 #include "test_heap.h"
 
 #include <errno.h>
-#include <pthread.h>
 
 /* The header against the archive, as far as a compiler can see it. */
 _Static_assert(sizeof(struct pidtab) == 32 && offsetof(struct pidtab, at) == 0, "pidtab");

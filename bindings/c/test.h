@@ -1,9 +1,11 @@
 /* What the tests share. */
 #include "pidtab.h"
 
+#include <pthread.h>
 #include <stdio.h>
 #include <stdlib.h>
 #include <string.h>
+#include <time.h>
 
 #define CHECK(what) check((what), #what, __FILE__, __LINE__)
 

@@ -2,8 +2,6 @@
 #include "test.h"
 #include "test_heap.h"
 
-#include <pthread.h>
-
 #define MOST 512
 #define WORKERS 4
 #define TURNS 300
@@ -34,11 +32,11 @@ static bool is_filled(const void *room, size_t size)
 	return size == 0;
 }
 
-static void counts_are(struct pidtab *record, uint64_t first_kept, uint64_t recorded)
+static void counts_are(struct pidtab *table, uint64_t first_kept, uint64_t recorded)
 {
 	uint64_t first = first_kept + 1, all = recorded + 1;
 
-	CHECK(pidtab_counts(record, &first, &all) == PIDTAB_DONE && first == first_kept && all == recorded);
+	CHECK(pidtab_counts(table, &first, &all) == PIDTAB_DONE && first == first_kept && all == recorded);
 }
 
 /* Lists, texts and entries are the same. */
@@ -46,24 +44,24 @@ static void same(struct pidtab *one, struct pidtab *other)
 {
 	static char texts[2][1 << 17];
 	size_t sizes[2] = { 0, 1 }, counts[2] = { 0, 1 };
-	struct pidtab *records[] = { one, other };
+	struct pidtab *tables[] = { one, other };
 
 	memset(entries, 0, sizeof entries);
 	for (int i = 0; i < 2; i++) {
-		CHECK(pidtab_dump(records[i], texts[i], sizeof texts[0], &sizes[i]) == PIDTAB_DONE);
-		CHECK(pidtab_read(records[i], 0, entries[i], MOST, &counts[i]) == PIDTAB_DONE);
+		CHECK(pidtab_dump(tables[i], texts[i], sizeof texts[0], &sizes[i]) == PIDTAB_DONE);
+		CHECK(pidtab_read(tables[i], 0, entries[i], MOST, &counts[i]) == PIDTAB_DONE);
 	}
 	CHECK(sizes[0] == sizes[1] && memcmp(texts[0], texts[1], sizes[0]) == 0);
 	CHECK(counts[0] == counts[1] && memcmp(entries[0], entries[1], counts[0] * sizeof entries[0][0]) == 0);
 }
 
-static void opened(struct pidtab *record)
+static void opened(struct pidtab *table)
 {
-	*record = (struct pidtab)PIDTAB_INIT;
-	CHECK(open_history(record, 32768, 1, WORKERS) == PIDTAB_DONE);
+	*table = (struct pidtab)PIDTAB_INIT;
+	CHECK(open_history(table, 32768, 1, WORKERS) == PIDTAB_DONE);
 }
 
-/* Turns of 0 to 40 calls on one record, and each call alone on the other. */
+/* Turns of 0 to 40 calls on one table, and each call alone on the other. */
 static void as_single_calls(void)
 {
 	struct pidtab one, other;
@@ -94,67 +92,67 @@ static void as_single_calls(void)
 }
 
 /* What a turn that makes no call leaves as it is. */
-static void makes_none(struct pidtab *record, uint32_t worker, size_t count, size_t room, uint32_t status)
+static void makes_none(struct pidtab *table, uint32_t worker, size_t count, size_t room, uint32_t status)
 {
 	size_t made = 77;
 	uint64_t ordinal = 77;
 
 	fill(replies, sizeof replies);
-	CHECK(pidtab_calls(record, worker, calls, count, replies, room, &made, &ordinal) == status);
+	CHECK(pidtab_calls(table, worker, calls, count, replies, room, &made, &ordinal) == status);
 	CHECK(made == 0 && ordinal == 77 && is_filled(replies, sizeof replies));
 }
 
 static void none_is_made(void)
 {
-	struct pidtab record = PIDTAB_INIT;
+	struct pidtab table = PIDTAB_INIT;
 
 	for (size_t i = 0; i < 5; i++)
 		calls[i] = (struct pidtab_call){ .operation = PIDTAB_FORK, .caller = 1 };
-	makes_none(&record, 0, 5, 5, PIDTAB_CLOSED);
-	opened(&record);
-	record.in_use = UINT8_MAX;
-	makes_none(&record, 0, 5, 5, PIDTAB_BUSY);
-	record.in_use = 1;
-	makes_none(&record, 0, 5, 5, PIDTAB_BUSY);
-	record.in_use = 0;
-	makes_none(&record, WORKERS, 5, 5, PIDTAB_OUT_OF_RANGE);
-	makes_none(&record, WORKERS, 0, 0, PIDTAB_OUT_OF_RANGE);
-	makes_none(&record, 0, 0, 0, PIDTAB_DONE);
-	makes_none(&record, 0, 0, 5, PIDTAB_DONE);
-	makes_none(&record, 0, 5, 4, PIDTAB_NO_ROOM);
-	makes_none(&record, 0, 1, 0, PIDTAB_NO_ROOM);
+	makes_none(&table, 0, 5, 5, PIDTAB_CLOSED);
+	opened(&table);
+	table.in_use = UINT8_MAX;
+	makes_none(&table, 0, 5, 5, PIDTAB_BUSY);
+	table.in_use = 1;
+	makes_none(&table, 0, 5, 5, PIDTAB_BUSY);
+	table.in_use = 0;
+	makes_none(&table, WORKERS, 5, 5, PIDTAB_OUT_OF_RANGE);
+	makes_none(&table, WORKERS, 0, 0, PIDTAB_OUT_OF_RANGE);
+	makes_none(&table, 0, 0, 0, PIDTAB_DONE);
+	makes_none(&table, 0, 0, 5, PIDTAB_DONE);
+	makes_none(&table, 0, 5, 4, PIDTAB_NO_ROOM);
+	makes_none(&table, 0, 1, 0, PIDTAB_NO_ROOM);
 	for (size_t i = 0; i < 5; i++) {
 		struct pidtab_call bad[] = { { .operation = 19, .caller = 1 }, { .operation = PIDTAB_FORK, .caller = 1, .choice = 2 },
 			{ .operation = PIDTAB_EXIT, .caller = 1, .number = 256 }, { .operation = PIDTAB_WAIT, .caller = 1, .choice = 4 } };
 		struct pidtab_call good = calls[i];
 		calls[i] = bad[i % 4];
-		makes_none(&record, 0, 5, 5, PIDTAB_OUT_OF_RANGE);
-		makes_none(&record, 0, 5, 0, PIDTAB_OUT_OF_RANGE);
+		makes_none(&table, 0, 5, 5, PIDTAB_OUT_OF_RANGE);
+		makes_none(&table, 0, 5, 0, PIDTAB_OUT_OF_RANGE);
 		calls[i] = good;
 	}
-	counts_are(&record, 0, 0);
-	pidtab_close(&record);
+	counts_are(&table, 0, 0);
+	pidtab_close(&table);
 }
 
 /* There is room for more replies than calls, and stamps for fewer. */
 static void the_last_stamps(void)
 {
-	struct pidtab record = PIDTAB_INIT;
+	struct pidtab table = PIDTAB_INIT;
 	size_t made = 77;
 	uint64_t ordinal = 77;
 
-	CHECK(open_history(&record, 32768, UINT64_MAX - 3, 2) == PIDTAB_DONE);
+	CHECK(open_history(&table, 32768, UINT64_MAX - 3, 2) == PIDTAB_DONE);
 	fill(replies, sizeof replies);
-	CHECK(pidtab_calls(&record, 1, calls, 5, replies, 9, &made, &ordinal) == PIDTAB_SPENT && made == 3 && ordinal == 2);
+	CHECK(pidtab_calls(&table, 1, calls, 5, replies, 9, &made, &ordinal) == PIDTAB_SPENT && made == 3 && ordinal == 2);
 	for (size_t i = 0; i < 3; i++)
 		CHECK(replies[i].kind == PIDTAB_FORKED && replies[i].first == i + 2);
 	CHECK(is_filled(replies + 3, sizeof replies - 3 * sizeof replies[0]));
-	makes_none(&record, 1, 5, 5, PIDTAB_SPENT);
-	makes_none(&record, 1, 0, 0, PIDTAB_DONE);
+	makes_none(&table, 1, 5, 5, PIDTAB_SPENT);
+	makes_none(&table, 1, 0, 0, PIDTAB_DONE);
 	calls[4].operation = 99;
-	makes_none(&record, 1, 5, 5, PIDTAB_OUT_OF_RANGE);
-	counts_are(&record, 0, 3);
-	pidtab_close(&record);
+	makes_none(&table, 1, 5, 5, PIDTAB_OUT_OF_RANGE);
+	counts_are(&table, 0, 3);
+	pidtab_close(&table);
 }
 
 /* Forks, groups and queries: each finds no memory in turn, and the calls before it were made. The rest is made later. */

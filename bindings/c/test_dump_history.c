@@ -3,8 +3,6 @@
 #include "test_dump.h"
 #include "test_heap.h"
 
-#include <pthread.h>
-
 /* A fault that nothing has written. */
 #define UNTOLD (struct pidtab_fault){ 77, 77 }
 

@@ -140,7 +140,7 @@ static void refuses(void)
 	pidtab_close(&shared);
 }
 
-/* A replica that begins as a loaded record does, by the same text. */
+/* A replica that begins as a loaded table does, by the same text. */
 static void goes_on_from_a_text(void)
 {
 	const struct pidtab_call fork_1 = { .operation = PIDTAB_FORK, .caller = 1 };

@@ -310,33 +310,33 @@ static void are_as_searched(void)
 
 static void of_a_record(void)
 {
-	struct pidtab record = PIDTAB_INIT;
+	struct pidtab kept = PIDTAB_INIT;
 	struct pidtab_call fork = { .operation = PIDTAB_FORK, .caller = 1 };
 	uint64_t ordinal, first_kept, recorded;
 	struct pidtab_reply reply;
 	struct page it;
 
 	clear(&it);
-	CHECK(pidtab_page(&record, 1, PIDTAB_CHILDREN, 0, 0, it.numbers, MOST, &it.reply) == PIDTAB_CLOSED);
-	CHECK(open_history(&record, 32768, UINT64_MAX - 2, 1) == PIDTAB_DONE);
-	CHECK(pidtab_page(&record, 1, 5, 0, 0, it.numbers, MOST, &it.reply) == PIDTAB_OUT_OF_RANGE);
+	CHECK(pidtab_page(&kept, 1, PIDTAB_CHILDREN, 0, 0, it.numbers, MOST, &it.reply) == PIDTAB_CLOSED);
+	CHECK(open_history(&kept, 32768, UINT64_MAX - 2, 1) == PIDTAB_DONE);
+	CHECK(pidtab_page(&kept, 1, 5, 0, 0, it.numbers, MOST, &it.reply) == PIDTAB_OUT_OF_RANGE);
 	is_untold(&it);
-	CHECK(pidtab_call_by(&record, 0, &fork, &reply, &ordinal) == PIDTAB_DONE && pidtab_call_by(&record, 0, &fork, &reply, &ordinal) == PIDTAB_DONE);
+	CHECK(pidtab_call_by(&kept, 0, &fork, &reply, &ordinal) == PIDTAB_DONE && pidtab_call_by(&kept, 0, &fork, &reply, &ordinal) == PIDTAB_DONE);
 	/* The stamps are used up, and a page uses none. */
-	CHECK(pidtab_call_by(&record, 0, &fork, &reply, &ordinal) == PIDTAB_SPENT);
+	CHECK(pidtab_call_by(&kept, 0, &fork, &reply, &ordinal) == PIDTAB_SPENT);
 	for (int turn = 0; turn < 2; turn++) {
 		clear(&it);
-		CHECK(pidtab_page(&record, 1, PIDTAB_CHILDREN, 0, 0, it.numbers, MOST, &it.reply) == PIDTAB_DONE);
+		CHECK(pidtab_page(&kept, 1, PIDTAB_CHILDREN, 0, 0, it.numbers, MOST, &it.reply) == PIDTAB_DONE);
 		has_told(&it, MOST, (const uint32_t[]){ 2, 3 }, 2);
 		clear(&it);
 		refuse_at = 1;
-		CHECK(pidtab_page(&record, 1, PIDTAB_GROUP_MEMBERS, 0, 0, it.numbers, MOST, &it.reply) == PIDTAB_NO_MEMORY);
+		CHECK(pidtab_page(&kept, 1, PIDTAB_GROUP_MEMBERS, 0, 0, it.numbers, MOST, &it.reply) == PIDTAB_NO_MEMORY);
 		CHECK(refuse_at == 0);
 		is_untold(&it);
 	}
-	CHECK(pidtab_page(&record, 4, PIDTAB_CHILDREN, 0, 0, it.numbers, MOST, &it.reply) == PIDTAB_DONE && it.reply.refusal == PIDTAB_NO_CALLER);
-	CHECK(pidtab_counts(&record, &first_kept, &recorded) == PIDTAB_DONE && recorded == 2);
-	CHECK(pidtab_close(&record) == PIDTAB_DONE);
+	CHECK(pidtab_page(&kept, 4, PIDTAB_CHILDREN, 0, 0, it.numbers, MOST, &it.reply) == PIDTAB_DONE && it.reply.refusal == PIDTAB_NO_CALLER);
+	CHECK(pidtab_counts(&kept, &first_kept, &recorded) == PIDTAB_DONE && recorded == 2);
+	CHECK(pidtab_close(&kept) == PIDTAB_DONE);
 }
 
 static struct pidtab shared;

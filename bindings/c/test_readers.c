@@ -1,11 +1,12 @@
-/* Tests of queries at the same time: each is answered while another is in the middle of one, a call is not; a change of a shared record
+/* Tests of queries at the same time: each is answered while another is in the middle of one, a call is not; a change of a table with threads
  * waits for them, and none passes it; many beside a writer see whole states; and none writes to the memory of a table. Built with and
  * without the sanitizer for threads. */
+#include "threads.h"
+
 #include "test.h"
 #include "test_hold.h"
 
 #include <sys/mman.h>
-#include <time.h>
 #include <unistd.h>
 
 /* The heap that heap.c is built with here. One use waits until it is told to go on, where that is wanted. At first it is of two parts, which
@@ -70,7 +71,7 @@ static const struct pidtab_call getpid_1 = { .operation = PIDTAB_GETPID, .caller
 	count_all = { .operation = PIDTAB_COUNT };
 
 static struct pidtab table = PIDTAB_INIT;
-static struct pidtab record = PIDTAB_INIT;
+static struct pidtab kept = PIDTAB_INIT;
 static struct pidtab shared;
 
 /* Room for a list or a text, one for each thread. */
@@ -86,10 +87,10 @@ static void *lists(void *at)
 	return NULL;
 }
 
-static void *lists_record(void *at)
+static void *lists_recorded(void *at)
 {
 	struct text *text = at;
-	CHECK(pidtab_list(&record, text->bytes, sizeof text->bytes, &text->size) == PIDTAB_DONE);
+	CHECK(pidtab_list(&kept, text->bytes, sizeof text->bytes, &text->size) == PIDTAB_DONE);
 	return NULL;
 }
 
@@ -100,7 +101,7 @@ static void *lists_shared(void *at)
 	return NULL;
 }
 
-/* Each query of a table, and of a record: two tasks are there. */
+/* Each query of a table, without a history and with one: two tasks are there. */
 static void ask_table(const struct pidtab *it)
 {
 	struct pidtab_reply reply;
@@ -121,7 +122,7 @@ static void ask_table(const struct pidtab *it)
 	CHECK(pidtab_dump(it, text.bytes, sizeof text.bytes, &text.size) == PIDTAB_DONE && strncmp(text.bytes, "pidtab table 1 ", 15) == 0);
 }
 
-static void ask_record(const struct pidtab *it)
+static void ask_recorded(const struct pidtab *it)
 {
 	struct pidtab_reply reply;
 	struct pidtab_task task;
@@ -154,8 +155,8 @@ static void open_both(void)
 	uint64_t ordinal;
 
 	CHECK(pidtab_open(&table, 32768) == PIDTAB_DONE && pidtab_fork(&table, 1, false, NULL) == 2);
-	CHECK(open_history(&record, 32768, 1, 2) == PIDTAB_DONE);
-	CHECK(pidtab_call_by(&record, 0, &fork_1, &reply, &ordinal) == PIDTAB_DONE && reply.first == 2);
+	CHECK(open_history(&kept, 32768, 1, 2) == PIDTAB_DONE);
+	CHECK(pidtab_call_by(&kept, 0, &fork_1, &reply, &ordinal) == PIDTAB_DONE && reply.first == 2);
 }
 
 static pthread_t begin_held(void *(*works)(void *), struct text *text)
@@ -189,13 +190,13 @@ static void beside_a_query(void)
 	CHECK(first.size == second.size && memcmp(first.bytes, second.bytes, first.size) == 0);
 	CHECK(pidtab_fork(&table, 1, false, NULL) == 3 && table.in_use == 0);
 
-	other = begin_held(lists_record, &first);
-	ask_record(&record);
-	CHECK(pidtab_call_by(&record, 0, &fork_1, &reply, &ordinal) == PIDTAB_BUSY && reply.kind == 77 && ordinal == 77);
-	CHECK(pidtab_checkpoint(&record) == PIDTAB_BUSY && pidtab_close(&record) == PIDTAB_BUSY);
+	other = begin_held(lists_recorded, &first);
+	ask_recorded(&kept);
+	CHECK(pidtab_call_by(&kept, 0, &fork_1, &reply, &ordinal) == PIDTAB_BUSY && reply.kind == 77 && ordinal == 77);
+	CHECK(pidtab_checkpoint(&kept) == PIDTAB_BUSY && pidtab_close(&kept) == PIDTAB_BUSY);
 	end_held(other);
-	CHECK(pidtab_checkpoint(&record) == PIDTAB_DONE && record.in_use == 0);
-	CHECK(pidtab_close(&table) == PIDTAB_DONE && pidtab_close(&record) == PIDTAB_DONE);
+	CHECK(pidtab_checkpoint(&kept) == PIDTAB_DONE && kept.in_use == 0);
+	CHECK(pidtab_close(&table) == PIDTAB_DONE && pidtab_close(&kept) == PIDTAB_DONE);
 }
 
 /* Each query, where a write to what the table has taken of the heap would end this process. */
@@ -205,7 +206,7 @@ static void none_writes_to_the_table(void)
 	CHECK(mprotect(parts[0], PART, PROT_READ) == 0);
 	sealed = true;
 	ask_table(&table);
-	ask_record(&record);
+	ask_recorded(&kept);
 	sealed = false;
 	CHECK(mprotect(parts[0], PART, PROT_READ | PROT_WRITE) == 0);
 	beside_a_query();
@@ -250,7 +251,7 @@ static void a_change_waits(void)
 	CHECK(seen == 1 && pidtab_stat(&shared, 1, 0, &task) == PIDTAB_DONE);
 	CHECK(pidtab_counts(&shared, &first_kept, &recorded) == PIDTAB_DONE && recorded == 0);
 	CHECK(pthread_create(&caller, NULL, calls_shared, NULL) == 0);
-	while (__atomic_load_n(&shared.queries, __ATOMIC_RELAXED) == 1)
+	while (__atomic_load_n(&threads_of(&shared)->queries, __ATOMIC_RELAXED) == 1)
 		rest(50);
 	CHECK(pthread_create(&asker, NULL, asks_shared, &seen) == 0);
 	rest(50);
@@ -320,7 +321,7 @@ static void many_beside_a_writer(void)
 	is_over = true;
 	for (int i = 0; i < READERS; i++)
 		CHECK(pthread_join(readers[i], NULL) == 0);
-	CHECK(shared.queries == 0);
+	CHECK(threads_of(&shared)->queries == 0);
 	pidtab_close(&shared);
 	free(texts);
 }

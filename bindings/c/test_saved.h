@@ -16,6 +16,11 @@ static inline int new_file(void)
 static const struct pidtab_settings of_one = { .keep = PIDTAB_KEEP_ALL };
 static const struct pidtab_settings of_many = { .keep = PIDTAB_KEEP_ALL, .threads = true };
 
+static inline struct pidtab_settings settings_of(const struct pidtab_saved_head *head, uint64_t keep, bool threads)
+{
+	return (struct pidtab_settings){ head->pid_max, head->workers, head->first_stamp, keep, threads };
+}
+
 static inline bool same_call(const struct pidtab_call *a, const struct pidtab_call *b)
 {
 	return a->operation == b->operation && a->caller == b->caller && a->id == b->id && a->number == b->number && a->choice == b->choice

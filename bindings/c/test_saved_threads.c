@@ -1,4 +1,4 @@
-/* Sixteen threads make calls on a record, and one saves them meanwhile; what it has saved, loaded again, leaves the same list. */
+/* Sixteen threads make calls on a table, and one saves them meanwhile; what it has saved, loaded again, leaves the same list. */
 #include "test_saved.h"
 
 #include <stdatomic.h>

@@ -1,4 +1,4 @@
-/* The saver of a shared record: who waits for it, whom it holds up, and that busy threads let it have the lock. */
+/* The saver of a table with threads: who waits for it, whom it holds up, and that busy threads let it have the lock. */
 #include "test_saved.h"
 
 #include <errno.h>
@@ -323,13 +323,13 @@ static void *counts(void *found)
 /* All busy threads wait for the lock, and after them one that counts: how many calls come before it. */
 static uint64_t calls_before_the_count(void)
 {
-	struct pidtab *record = pidtab_lock(&shared);
+	struct pidtab *table = pidtab_lock(&shared);
 	uint64_t first_kept, before, found;
 	pthread_t thread;
 
 	for (int i = 0; i < THREADS; i++)
 		wait_until_asleep(&tasks[i]);
-	CHECK(pidtab_counts(record, &first_kept, &before) == PIDTAB_DONE);
+	CHECK(pidtab_counts(table, &first_kept, &before) == PIDTAB_DONE);
 	atomic_store(&tasks[THREADS], 0);
 	CHECK(pthread_create(&thread, NULL, counts, &found) == 0);
 	wait_until_asleep(&tasks[THREADS]);

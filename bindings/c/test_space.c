@@ -502,32 +502,32 @@ static void are_as_listed(void)
 
 static void of_a_record(void)
 {
-	struct pidtab record = PIDTAB_INIT;
+	struct pidtab kept = PIDTAB_INIT;
 	struct pidtab_call fork = { .operation = PIDTAB_FORK, .caller = 1, .choice = 1 };
 	struct pidtab_space was = blank(), told = blank(), wanted = { UINT64_MAX - 2, 0, 1, 2, 0 };
 	uint64_t ordinal, first_kept, recorded, ids[3] = { 7, 7, 7 }, count;
 	struct pidtab_reply reply;
 
-	CHECK(pidtab_space(&record, 0, &told) == PIDTAB_CLOSED && pidtab_inside(&record, PIDTAB_SPACES, 0, 0, ids, 3, &count) == PIDTAB_CLOSED);
-	CHECK(open_history(&record, 32768, UINT64_MAX - 2, 1) == PIDTAB_DONE);
-	CHECK(pidtab_space(&record, UINT64_MAX - 2, &told) == PIDTAB_OUT_OF_RANGE && is_same(&told, &was));
-	CHECK(pidtab_call_by(&record, 0, &fork, &reply, &ordinal) == PIDTAB_DONE && pidtab_call_by(&record, 0, &fork, &reply, &ordinal) == PIDTAB_DONE);
+	CHECK(pidtab_space(&kept, 0, &told) == PIDTAB_CLOSED && pidtab_inside(&kept, PIDTAB_SPACES, 0, 0, ids, 3, &count) == PIDTAB_CLOSED);
+	CHECK(open_history(&kept, 32768, UINT64_MAX - 2, 1) == PIDTAB_DONE);
+	CHECK(pidtab_space(&kept, UINT64_MAX - 2, &told) == PIDTAB_OUT_OF_RANGE && is_same(&told, &was));
+	CHECK(pidtab_call_by(&kept, 0, &fork, &reply, &ordinal) == PIDTAB_DONE && pidtab_call_by(&kept, 0, &fork, &reply, &ordinal) == PIDTAB_DONE);
 	/* The stamps are used up, and a read uses none. */
-	CHECK(pidtab_call_by(&record, 0, &fork, &reply, &ordinal) == PIDTAB_SPENT);
+	CHECK(pidtab_call_by(&kept, 0, &fork, &reply, &ordinal) == PIDTAB_SPENT);
 	for (int turn = 0; turn < 2; turn++) {
 		told = blank();
-		CHECK(pidtab_space(&record, UINT64_MAX - 2, &told) == PIDTAB_DONE && is_same(&told, &wanted));
+		CHECK(pidtab_space(&kept, UINT64_MAX - 2, &told) == PIDTAB_DONE && is_same(&told, &wanted));
 		wanted = (struct pidtab_space){ UINT64_MAX - 1, 0, 1, 3, 0 };
-		CHECK(pidtab_space(&record, UINT64_MAX - 1, &told) == PIDTAB_DONE && is_same(&told, &wanted));
+		CHECK(pidtab_space(&kept, UINT64_MAX - 1, &told) == PIDTAB_DONE && is_same(&told, &wanted));
 		wanted = (struct pidtab_space){ UINT64_MAX - 2, 0, 1, 2, 0 };
 	}
-	CHECK(pidtab_inside(&record, PIDTAB_SPACES, 0, 0, ids, 3, &count) == PIDTAB_DONE && count == 2 && ids[0] == UINT64_MAX - 2 && ids[1] == UINT64_MAX - 1 && ids[2] == 7);
-	CHECK(pidtab_counts(&record, &first_kept, &recorded) == PIDTAB_DONE && recorded == 2);
-	record.in_use = UINT8_MAX;
+	CHECK(pidtab_inside(&kept, PIDTAB_SPACES, 0, 0, ids, 3, &count) == PIDTAB_DONE && count == 2 && ids[0] == UINT64_MAX - 2 && ids[1] == UINT64_MAX - 1 && ids[2] == 7);
+	CHECK(pidtab_counts(&kept, &first_kept, &recorded) == PIDTAB_DONE && recorded == 2);
+	kept.in_use = UINT8_MAX;
 	told = blank();
-	CHECK(pidtab_space(&record, 0, &told) == PIDTAB_BUSY && is_same(&told, &was));
-	record.in_use = 0;
-	CHECK(pidtab_close(&record) == PIDTAB_DONE);
+	CHECK(pidtab_space(&kept, 0, &told) == PIDTAB_BUSY && is_same(&told, &was));
+	kept.in_use = 0;
+	CHECK(pidtab_close(&kept) == PIDTAB_DONE);
 }
 
 static struct pidtab shared;

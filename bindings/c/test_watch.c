@@ -1,5 +1,5 @@
 /* Who waits until a call is recorded: one or many, beside a saver, with a deadline, and until the waits end. While threads make calls, a
- * replica follows them by such waits to the end, and has the text of the record. */
+ * replica follows them by such waits to the end, and has the text of the table. */
 #include "test_saved.h"
 
 #include <limits.h>
@@ -131,7 +131,7 @@ static void calls_of_each_kind(void)
 {
 	const struct pidtab_call call = { .operation = PIDTAB_GETPID, .caller = 1 };
 	char answer[PIDTAB_LONGEST_ANSWER];
-	struct pidtab *record;
+	struct pidtab *table;
 	struct pidtab_effect effects[1];
 	struct pidtab_reply reply;
 	struct waiter waiter;
@@ -141,9 +141,9 @@ static void calls_of_each_kind(void)
 	begin();
 	start(&waiter, 1);
 	let_sleep();
-	record = pidtab_lock(&shared);
+	table = pidtab_lock(&shared);
 	for (int i = 0; i < 3; i++)
-		CHECK(pidtab_call_by(record, 1, &call, &reply, &ordinal) == PIDTAB_DONE);
+		CHECK(pidtab_call_by(table, 1, &call, &reply, &ordinal) == PIDTAB_DONE);
 	pidtab_unlock(&shared);
 	told(&waiter, PIDTAB_DONE, 3);
 	start(&waiter, 3);

@@ -1,5 +1,5 @@
-/* A record that sixteen threads share: each worker's receipts are the entries of its calls, in order; the counts add up; and the
- * history, replayed on a second record, has the same replies and leaves the same list. */
+/* A table that sixteen threads share: each worker's receipts are the entries of its calls, in order; the counts add up; and the
+ * history, replayed on a second table, has the same replies and leaves the same list. */
 #include "test.h"
 
 #include <errno.h>
@@ -11,11 +11,7 @@ static struct pidtab shared;
 
 /* The layout that the proved functions have. */
 _Static_assert(sizeof(struct pidtab_entry) == 208 && offsetof(struct pidtab_entry, call) == 8 && offsetof(struct pidtab_entry, reply) == 40, "an entry");
-_Static_assert(offsetof(struct pidtab, record) == sizeof(pthread_mutex_t), "pidtab_shared");
-_Static_assert(offsetof(struct pidtab, queries) == sizeof(pthread_mutex_t) + 16, "pidtab_shared");
-_Static_assert(offsetof(struct pidtab, gate) == sizeof(pthread_mutex_t) + 40, "pidtab_shared");
-_Static_assert(offsetof(struct pidtab, saved) == 3 * sizeof(pthread_mutex_t) + 3 * sizeof(pthread_cond_t) + 40, "pidtab_shared");
-_Static_assert(offsetof(struct pidtab, at) == 0 && offsetof(struct pidtab, is_open) == sizeof(void *), "a record");
+_Static_assert(offsetof(struct pidtab, at) == 0 && offsetof(struct pidtab, is_open) == sizeof(void *), "a table");
 
 struct receipt {
 	uint64_t ordinal;
@@ -130,7 +126,7 @@ static void same_lists(struct pidtab *one, struct pidtab *other)
 	CHECK(sizes[0] > 100 && sizes[0] == sizes[1] && memcmp(texts[0], texts[1], sizes[0]) == 0);
 }
 
-/* On a second record: the whole history, and then one with a reply that is not that of its call. */
+/* On a second table: the whole history, and then one with a reply that is not that of its call. */
 static void the_history_replays(void)
 {
 	struct pidtab again = PIDTAB_INIT;

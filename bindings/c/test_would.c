@@ -2,8 +2,6 @@
 #include "test.h"
 #include "test_heap.h"
 
-#include <pthread.h>
-
 #define CALLS 20000
 #define WORKERS 4
 #define FORKS 500
@@ -170,61 +168,61 @@ static void want_of_memory(void)
 
 static struct pidtab opened(uint64_t first_stamp)
 {
-	struct pidtab record = PIDTAB_INIT;
+	struct pidtab kept = PIDTAB_INIT;
 
-	CHECK(open_history(&record, 32768, first_stamp, 2) == PIDTAB_DONE);
-	return record;
+	CHECK(open_history(&kept, 32768, first_stamp, 2) == PIDTAB_DONE);
+	return kept;
 }
 
-static void recorded_is(struct pidtab *record, uint64_t wanted)
+static void recorded_is(struct pidtab *kept, uint64_t wanted)
 {
 	uint64_t first_kept, recorded;
 
-	CHECK(pidtab_counts(record, &first_kept, &recorded) == PIDTAB_DONE && first_kept == 0 && recorded == wanted);
+	CHECK(pidtab_counts(kept, &first_kept, &recorded) == PIDTAB_DONE && first_kept == 0 && recorded == wanted);
 }
 
-static void record_fork_is(struct pidtab *record, uint32_t worker, uint32_t new_space, uint32_t status)
+static void record_fork_is(struct pidtab *kept, uint32_t worker, uint32_t new_space, uint32_t status)
 {
 	struct pidtab_reply reply = blank();
 	uint64_t ordinal = 77;
 
-	CHECK(pidtab_fork_at_by(record, worker, 1, new_space, 2, 2, &reply, &ordinal) == status && ordinal == 77);
+	CHECK(pidtab_fork_at_by(kept, worker, 1, new_space, 2, 2, &reply, &ordinal) == status && ordinal == 77);
 	is_untold(&reply);
 }
 
 static void each_status_of_a_record(void)
 {
-	struct pidtab record = PIDTAB_INIT;
+	struct pidtab kept = PIDTAB_INIT;
 	struct pidtab_reply reply = blank();
 	struct pidtab_call call;
 	uint64_t ordinal = 77, worker;
 
-	CHECK(pidtab_would(&record, &fork_1, &reply) == PIDTAB_CLOSED);
-	record_fork_is(&record, 0, 0, PIDTAB_CLOSED);
-	record = opened(1);
-	CHECK(pidtab_would(&record, &bad[0], &reply) == PIDTAB_OUT_OF_RANGE);
+	CHECK(pidtab_would(&kept, &fork_1, &reply) == PIDTAB_CLOSED);
+	record_fork_is(&kept, 0, 0, PIDTAB_CLOSED);
+	kept = opened(1);
+	CHECK(pidtab_would(&kept, &bad[0], &reply) == PIDTAB_OUT_OF_RANGE);
 	is_untold(&reply);
-	record_fork_is(&record, 0, 2, PIDTAB_OUT_OF_RANGE);
-	record_fork_is(&record, 2, 0, PIDTAB_OUT_OF_RANGE);
-	CHECK(pidtab_would(&record, &fork_1, &reply) == PIDTAB_DONE && reply.kind == PIDTAB_FORKED && reply.first == 2 && reply.second == 2);
-	recorded_is(&record, 0);
-	CHECK(pidtab_fork_at_by(&record, 1, 1, 0, 3, 2, &reply, &ordinal) == PIDTAB_DIFFERS && ordinal == 77 && reply.first == 2);
-	recorded_is(&record, 0);
-	CHECK(pidtab_fork_at_by(&record, 1, 1, 0, 2, 2, &reply, &ordinal) == PIDTAB_DONE && ordinal == 0 && reply.first == 2 && reply.second == 2);
-	recorded_is(&record, 1);
-	CHECK(pidtab_entry(&record, 0, &worker, &call, &reply) == PIDTAB_DONE && worker == 1 && call.operation == PIDTAB_FORK && reply.first == 2);
-	pidtab_close(&record);
+	record_fork_is(&kept, 0, 2, PIDTAB_OUT_OF_RANGE);
+	record_fork_is(&kept, 2, 0, PIDTAB_OUT_OF_RANGE);
+	CHECK(pidtab_would(&kept, &fork_1, &reply) == PIDTAB_DONE && reply.kind == PIDTAB_FORKED && reply.first == 2 && reply.second == 2);
+	recorded_is(&kept, 0);
+	CHECK(pidtab_fork_at_by(&kept, 1, 1, 0, 3, 2, &reply, &ordinal) == PIDTAB_DIFFERS && ordinal == 77 && reply.first == 2);
+	recorded_is(&kept, 0);
+	CHECK(pidtab_fork_at_by(&kept, 1, 1, 0, 2, 2, &reply, &ordinal) == PIDTAB_DONE && ordinal == 0 && reply.first == 2 && reply.second == 2);
+	recorded_is(&kept, 1);
+	CHECK(pidtab_entry(&kept, 0, &worker, &call, &reply) == PIDTAB_DONE && worker == 1 && call.operation == PIDTAB_FORK && reply.first == 2);
+	pidtab_close(&kept);
 	/* One stamp is left: a refused fork takes none, and what is told takes none. */
-	record = opened(UINT64_MAX - 1);
-	CHECK(pidtab_fork_at_by(&record, 0, 1, 0, 9, 9, &reply, &ordinal) == PIDTAB_DIFFERS);
-	CHECK(pidtab_fork_at_by(&record, 0, 1, 0, 2, 2, &reply, &ordinal) == PIDTAB_DONE);
+	kept = opened(UINT64_MAX - 1);
+	CHECK(pidtab_fork_at_by(&kept, 0, 1, 0, 9, 9, &reply, &ordinal) == PIDTAB_DIFFERS);
+	CHECK(pidtab_fork_at_by(&kept, 0, 1, 0, 2, 2, &reply, &ordinal) == PIDTAB_DONE);
 	reply = blank();
-	CHECK(pidtab_would(&record, &fork_1, &reply) == PIDTAB_SPENT);
+	CHECK(pidtab_would(&kept, &fork_1, &reply) == PIDTAB_SPENT);
 	is_untold(&reply);
-	record_fork_is(&record, 0, 0, PIDTAB_SPENT);
-	record_fork_is(&record, 2, 0, PIDTAB_OUT_OF_RANGE);
-	recorded_is(&record, 1);
-	pidtab_close(&record);
+	record_fork_is(&kept, 0, 0, PIDTAB_SPENT);
+	record_fork_is(&kept, 2, 0, PIDTAB_OUT_OF_RANGE);
+	recorded_is(&kept, 1);
+	pidtab_close(&kept);
 }
 
 static struct pidtab shared;
