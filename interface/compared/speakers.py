@@ -14,7 +14,7 @@ HARNESS = "linux/harness/world.py"
 CHOOSER = "linux/harness/chooser.py"
 LINUX = "linux/README.md"
 GVISOR = "linux/gvisor/calls.go"
-OF_BOX = tuple(f"box/src/{name}.c" for name in ("calls", "controls", "forks", "groups", "main", "table", "tracer"))
+OF_BOX = tuple(f"box/src/{name}.c" for name in ("controls", "forks", "groups", "table", "tracer"))
 PATHS = (COMMANDS, RIGHTS, RANDOM, WORLD, HARNESS, CHOOSER, LINUX, GVISOR, *OF_BOX)
 
 # What a command of the service takes for an argument, by its kind.
