@@ -4,8 +4,9 @@ ghost use Rattle.replica.specs.{Applied.{IsNewLog}, Snapshots.{IsSnapshot, head_
 ghost use Rattle.foreign_calls.specs.Held.{IsDoneOr, Takes};
 ghost use Rattle.foreign_calls.specs.Replicas.{AppliesEntry, ReadsHead, TellsFound, digest_at, last_of};
 
-use foreign_handles::handle::{Handle, null};
+use foreign_handles::handle::null;
 use foreign_handles::loose::Loose;
+use foreign_handles::replica_handle::ReplicaHandle;
 use foreign_numbers::replicas::{
     AppliedNumbers, DigestBytes, status_of_entry, status_of_head, tell_applied,
 };
@@ -20,7 +21,7 @@ use std::mem;
 #[repr(C)]
 #[derive(Drop)]
 pub struct PidtabReplica {
-    pub handle: Handle<Host>,
+    pub handle: ReplicaHandle,
     pub is_open: bool,
     ghost linked: { is_some handle.held ≡ is_open },
 }
@@ -33,7 +34,7 @@ impl PidtabReplica {
         let PidtabReplica { handle, is_open } = mem::replace(
             self,
             PidtabReplica {
-                handle: Handle::empty(alloc, null()),
+                handle: ReplicaHandle::empty(alloc, null()),
                 is_open: false,
             },
         );
@@ -49,7 +50,7 @@ impl PidtabReplica {
         ensures { self.new.handle.held ≡ Some held.value }
     {
         *self = PidtabReplica {
-            handle: Handle::of(Loose::of(held)),
+            handle: ReplicaHandle::of(Loose::of(held)),
             is_open: true,
         };
     }

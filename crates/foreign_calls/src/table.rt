@@ -38,7 +38,7 @@ pub struct TableSettings {
 #[repr(C)]
 #[derive(Drop)]
 pub struct Pidtab {
-    pub handle: Handle<Held>,
+    pub handle: Handle,
     pub is_open: bool,
     ghost linked: { is_some handle.held ≡ is_open },
 }

@@ -1,34 +1,23 @@
 -- What an address in C is to the prover: the machine values of a loose box and of a handle. Assumes `Logic`.
-use Rattle.std.proofs.Common.{◌≡◌, ℕ, List, [], ◌∷◌, ◌++◌, refl, subst}
+use Rattle.foreign_handles.proofs.Walking.{Goal, Item, List, Logic, None, Option, Ptr, RattleType, Seq, Some, Step, Ura, Val, Valss, [], and_tt, block_ptr}
+use Rattle.foreign_handles.proofs.Walking.{box_owns, dnil, drop, feq_i, feq_l, fjoin, fpack, fpick, fsplit, fst∗, ghosts, handle_tells, has_ty, in_a_block}
+use Rattle.foreign_handles.proofs.Walking.{layout, lone, move, never, nothing, null_ptr, of_list, ptr_val, refl, rewrite, sem, shape, step, subst, vcons}
+use Rattle.foreign_handles.proofs.Walking.{vnil, vptr, vstruct, within, ‵, ℕ, ◌$◌, ◌++◌, ◌∷◌, ◌≡◌}
 use mathlib.Core.Bool.{true, ◌&&◌}
-use Rattle.std.specs.Prelude.{Option, Some, None}
 use lib.Dec.{T}
-use seplogic.Ra.Ura.{Ura}
 use mir.Raw.{raw as bare}
-use mir.Syntax.{impl, tnil, dnil}
-use mir.Val.{Val, vptr, vstruct, vcons, vnil, of_list, has_ty, WT}
-use base.Logic.{never, fst∗}
-use types.Logic.{Logic, sem}
-use types.Kit.{Item, Goal, Seq, Step, step, ‵, ◌$◌, move, drop, fsplit, fjoin, fpick, fpack, rewrite, feq_i, feq_l}
-use denote.RattleType.{RattleType, Valss}
+use mir.Syntax.{impl, tnil}
+use mir.Val.{WT}
 use denote.Builtin.{RawPtr}
-use denote.Memory.{lone}
-use denote.RawPtr.{Ptr, block_ptr, null_ptr, ptr_val, in_a_block}
-use denote.Steps.{nothing}
-use denote.Param.{layout}
 use denote.Param.Laws.{Laws}
-use denote.Struct.Struct.{within}
-use denote.Struct.Owning.{shape}
 use Rattle.std.specs.declared.alloc.Allocator.{Ghosts}
-use Rattle.std.proofs.alloc.Calls.{Al, handle_tells}
+use Rattle.std.proofs.alloc.Calls.{Al}
 use Rattle.std.proofs.cell.Inside.{Good}
-use Rattle.std.specs.Box.Ownership.{box_owns}
-use Rattle.std.proofs.ResultValues.{and_tt}
 use Rattle.foreign_handles.specs.Owned.{IfHeld}
 use Rattle.foreign_handles.specs.contracts.handle.Handle as handle
 use Rattle.foreign_handles.specs.contracts.loose.Loose as loose
+use Rattle.foreign_handles.specs.contracts.held.Held as table
 use Rattle.std.specs.contracts.alloc.Global as heap
-use Rattle.std.specs.contracts.impls.GlobalAllocator.TheImpl.{ghosts}
 
 -- an address and a handle to an allocator
 abbrev pub beside : ℕ → ℕ → Val → Val
@@ -69,32 +58,28 @@ module _ (R Z : RattleType) (L : Laws Z) (g : Ghosts Z.Denot) where
 abbrev pub alone : ℕ → ℕ → Val
 alone b o = vstruct (vcons (vptr b o) vnil)
 
-module _ (R : RattleType) where
-  abbrev pub Handle : RattleType
-  Handle = handle.the_row R
+module _ {M : Type 1} {𝓤 : Ura M} {𝓛 : Logic 𝓤} {K : Type 0} {Γ : List (Item 𝓤)} {G : Goal 𝓤 𝓛.H} where
+  -- what is at an address is what a handle with that address owns
+  pub handle_closes : K → (b o : ℕ) (x : table.the_row.Denot) (a : heap.the_row.Denot)
+      → Step K 𝓛 (‵ (handle.the_row.own_val (record { at = block_ptr b o; held = Some x; heap = a }) (alone b o ∷ [])) ∷ Γ) G (‵ (box_owns (ghosts.dealloc_token a) table.the_row (block_ptr b o) x) ∷ Γ) G
+  handle_closes t b o x a = step (λ next.
+      nothing t $ feq_i t (List Val) (vptr b o ∷ []) (vptr b o ∷ []) refl $ fjoin t $ feq_i t (List Val) (alone b o ∷ []) (alone b o ∷ []) refl $ fjoin t $
+      fpack t (Valss (RawPtr ∷ [])) (within (shape handle.the_type) (block_ptr b o, tt) (alone b o ∷ [])) (vptr b o ∷ [], tt) $ fjoin t $ next)
 
-  module _ {M : Type 1} {𝓤 : Ura M} {𝓛 : Logic 𝓤} {K : Type 0} {Γ : List (Item 𝓤)} {G : Goal 𝓤 𝓛.H} where
-    -- what is at an address is what a handle with that address owns
-    pub handle_closes : K → (b o : ℕ) (x : R.Denot) (a : heap.the_row.Denot)
-        → Step K 𝓛 (‵ (Handle.own_val (record { at = block_ptr b o; held = Some x; heap = a }) (alone b o ∷ [])) ∷ Γ) G (‵ (box_owns (ghosts.dealloc_token a) R (block_ptr b o) x) ∷ Γ) G
-    handle_closes t b o x a = step (λ next.
-        nothing t $ feq_i t (List Val) (vptr b o ∷ []) (vptr b o ∷ []) refl $ fjoin t $ feq_i t (List Val) (alone b o ∷ []) (alone b o ∷ []) refl $ fjoin t $
-        fpack t (Valss (RawPtr ∷ [])) (within (shape (handle.the_type R)) (block_ptr b o, tt) (alone b o ∷ [])) (vptr b o ∷ [], tt) $ fjoin t $ next)
+  -- a handle without a table owns nothing, whatever its address is
+  pub handle_of_none : K → (p : Ptr) (a : heap.the_row.Denot)
+      → Step K 𝓛 (‵ (handle.the_row.own_val (record { at = p; held = None; heap = a }) (vstruct (vcons (ptr_val p) vnil) ∷ [])) ∷ Γ) G Γ G
+  handle_of_none t p a = step (λ next. let word : Val = vstruct (vcons (ptr_val p) vnil) in
+      nothing t $ nothing t $ feq_i t (List Val) (ptr_val p ∷ []) (ptr_val p ∷ []) refl $ fjoin t $ feq_i t (List Val) (word ∷ []) (word ∷ []) refl $ fjoin t $
+      fpack t (Valss (RawPtr ∷ [])) (within (shape handle.the_type) (p, tt) (word ∷ [])) (ptr_val p ∷ [], tt) $ fjoin t $ next)
 
-    -- a handle that holds nothing owns nothing, whatever its address is
-    pub handle_of_none : K → (p : Ptr) (a : heap.the_row.Denot)
-        → Step K 𝓛 (‵ (Handle.own_val (record { at = p; held = None; heap = a }) (vstruct (vcons (ptr_val p) vnil) ∷ [])) ∷ Γ) G Γ G
-    handle_of_none t p a = step (λ next. let word : Val = vstruct (vcons (ptr_val p) vnil) in
-        nothing t $ nothing t $ feq_i t (List Val) (ptr_val p ∷ []) (ptr_val p ∷ []) refl $ fjoin t $ feq_i t (List Val) (word ∷ []) (word ∷ []) refl $ fjoin t $
-        fpack t (Valss (RawPtr ∷ [])) (within (shape (handle.the_type R)) (p, tt) (word ∷ [])) (ptr_val p ∷ [], tt) $ fjoin t $ next)
-
-    -- what a handle owns that holds something is what is at its address
-    pub handle_opens : K → (d : Handle.Denot) (x : R.Denot) (vs : List Val) → d.held ≡ Some x
-        → ((b o : ℕ) → d.at ≡ block_ptr b o → vs ≡ alone b o ∷ [] → Seq K 𝓛 (‵ (box_owns (ghosts.dealloc_token d.heap) R (block_ptr b o) x) ∷ Γ) G)
-        → Seq K 𝓛 (‵ (Handle.own_val d vs) ∷ Γ) G
-    handle_opens t d x vs holds next =
-        fsplit t $ fpick t (λ parts. fsplit t $ feq_l t (λ whole. fsplit t $ feq_l t (λ address. drop t $
-        rewrite t 0 (λ (m : Option R.Denot). ‵ (IfHeld m (box_owns (ghosts.dealloc_token d.heap) R d.at))) holds refl $
-        in_a_block t d.at (λ p. box_owns (ghosts.dealloc_token d.heap) R p x) (fst∗ 𝓤 (never 𝓤) (sem 𝓛 (ghosts.dealloc_token d.heap (bare (lone R.mir)) null_ptr))) (λ b o here.
-        let with_address = subst (λ (us : List Val). vs ≡ vstruct (of_list (us ++ [])) ∷ []) address whole in
-        next b o here (subst (λ (p : Ptr). vs ≡ vstruct (of_list (ptr_val p ∷ [])) ∷ []) here with_address)))))
+  -- what a handle with a table owns is what is at its address
+  pub handle_opens : K → (d : handle.the_row.Denot) (x : table.the_row.Denot) (vs : List Val) → d.held ≡ Some x
+      → ((b o : ℕ) → d.at ≡ block_ptr b o → vs ≡ alone b o ∷ [] → Seq K 𝓛 (‵ (box_owns (ghosts.dealloc_token d.heap) table.the_row (block_ptr b o) x) ∷ Γ) G)
+      → Seq K 𝓛 (‵ (handle.the_row.own_val d vs) ∷ Γ) G
+  handle_opens t d x vs holds next =
+      fsplit t $ fpick t (λ parts. fsplit t $ feq_l t (λ whole. fsplit t $ feq_l t (λ address. drop t $
+      rewrite t 0 (λ (m : Option table.the_row.Denot). ‵ (IfHeld m (box_owns (ghosts.dealloc_token d.heap) table.the_row d.at))) holds refl $
+      in_a_block t d.at (λ p. box_owns (ghosts.dealloc_token d.heap) table.the_row p x) (fst∗ 𝓤 (never 𝓤) (sem 𝓛 (ghosts.dealloc_token d.heap (bare (lone table.the_row.mir)) null_ptr))) (λ b o here.
+      let with_address = subst (λ (us : List Val). vs ≡ vstruct (of_list (us ++ [])) ∷ []) address whole in
+      next b o here (subst (λ (p : Ptr). vs ≡ vstruct (of_list (ptr_val p ∷ [])) ∷ []) here with_address)))))

@@ -2,9 +2,10 @@
 //! handle owns.
 //!
 //! What is held is lent in place, so nothing is taken out of a handle but to free it. Each proof about an address is
-//! here, by hand, over a value of any type.
+//! here, by hand.
 #![tactic(auto)]
 
 pub mod handle;
 pub mod held;
 pub mod loose;
+pub mod replica_handle;

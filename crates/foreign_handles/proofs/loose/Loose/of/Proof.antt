@@ -1,18 +1,26 @@
 -- `of` takes the box apart, and keeps its address and its allocator.
-use Rattle.std.proofs.boxed.Box.into_raw_with_allocator.Met.{met}
+use Rattle.foreign_handles.proofs.Walking.{!, Goes-blank, List, Ptr, RattleType, SProp, Stays, Val, WpFn, [], a_type, agg, alloc_all, and_then, await}
+use Rattle.foreign_handles.proofs.Walking.{block_ptr, bounded, box_owns, by, dcons, dnil, drop, emp, ent, enter, fact, fact_i, feq_l, fjoin, fld, flft, fpick}
+use Rattle.foreign_handles.proofs.Walking.{framed, free_all, fsep, fsplit, fst∗, ftrue, get, get_in, handle_tells, heard, id⊢, in_a_block, inst_fn, join}
+use Rattle.foreign_handles.proofs.Walking.{keep, later, layout, look_at, move, never, no, no_more, nothing, null_ptr, of_list, of_opd, owns, param}
+use Rattle.foreign_handles.proofs.Walking.{param_laws, pass_all, pick, plain, proved_at, ptr_val, qed, raw, refl, returns, rewrite, sem, sets, some, split}
+use Rattle.foreign_handles.proofs.Walking.{split3, stay_dropped, stop, sub, subst, suffices, sym, tables, triple_of, types_at, use0, use1, vstruct, walk_of}
+use Rattle.foreign_handles.proofs.Walking.{‵, ◌$◌, ◌++◌, ◌∵◌, ◌∷◌, ◌≡◌, ◌⊛◌}
+use Rattle.std.proofs.Common.{ap, ◌∙◌}
 use mir.Raw.{raw as bare}
-use Rattle.foreign_handles.proofs.Walking.{!, Goes-blank, List, Ptr, RattleType, RawPtr, SProp, Stays, Tuple, Val, WpFn, [], a_type, agg, alloc_all, and_then}
-use Rattle.foreign_handles.proofs.Walking.{ap, await, block_ptr, bounded, box_owns, by, calls_at, dcons, dnil, drop, emp, ent, enter, fact, fact_i, feq_l}
-use Rattle.foreign_handles.proofs.Walking.{fjoin, fld, flft, fpick, framed, free_all, fsep, fsplit, fst∗, ftrue, get, get_in, handle_tells, heard, id⊢}
-use Rattle.foreign_handles.proofs.Walking.{in_a_block, inst_fn, join, keep, lands_as, later, layout, leaves, look_at, move, never, no, no_more, nothing}
-use Rattle.foreign_handles.proofs.Walking.{null_ptr, of_list, of_opd, one, only, owns, param, param_laws, pass_all, pick, plain, proved_at, ptr_val, qed, raw}
-use Rattle.foreign_handles.proofs.Walking.{refl, returns, rewrite, sem, sets, some, split, split3, stay_dropped, stop, sub, subst, suffices, sym}
-use Rattle.foreign_handles.proofs.Walking.{tables, triple_of, types_at, use0, use1, vstruct, walk_of, whole as whole-of, ‵, ◌$◌, ◌++◌, ◌∙◌, ◌∵◌, ◌∷◌, ◌≡◌}
-use Rattle.foreign_handles.proofs.Walking.{◌⊛◌}
+use types.ByLocal.{lands_as}
+use types.Part.{whole as whole-of}
+use denote.Builtin.{RawPtr}
+use denote.Steps.{only}
+use denote.Struct.Tuple.{Tuple}
+use denote.Triple.Call.{calls_at}
+use Rattle.std.proofs.cell.Inside.{one}
 use Rattle.std.specs.contracts.boxed.Box as box
 use Rattle.std.proofs.boxed.Box.TheLaws as box_laws
+use Rattle.std.proofs.raw_atomic.Walks.{leaves}
 use Rattle.foreign_handles.proofs.Words.{beside, beside_fits, allocator, loose_closes}
 use Rattle.std.specs.contracts.boxed.Box.into_raw_with_allocator as callee
+use Rattle.std.proofs.boxed.Box.into_raw_with_allocator.Met.{met}
 use Rattle.foreign_handles.specs.contracts.loose.Loose.of as f
 use Rattle.foreign_handles.proofs.loose.Loose.of.Statement.{statement}
 use Rattle.foreign_handles.proofs.loose.Loose.of.Code as code
