@@ -16,18 +16,18 @@ pub struct Head {
 /// How far the blocks go that were written or read: their running checksum.
 ///
 /// ```
-/// use pidtab::{Blocks, Call, Calls, Head, Table};
+/// use pidtab::{Blocks, Call, Head, Table};
 ///
 /// let head = Head { pid_max: 32768, workers: 1, first_stamp: 1 };
-/// let (mut table, mut bytes) = (Table::open(head.pid_max)?, Vec::new());
+/// let (table, mut bytes) = (Table::open(head.pid_max)?, Vec::new());
 /// let mut blocks = Blocks::begin(&head, &mut bytes)?;
 /// let call = Call::Fork { caller: 1, new_space: true };
 /// let reply = table.call(call)?;
 /// blocks.put(0, call, &reply, &mut bytes)?;
 ///
 /// let (read, mut blocks) = Blocks::read_head(&bytes)?;
-/// let mut again = Table::open(read.pid_max)?;
-/// let made = again.replay(&mut blocks, &bytes[Blocks::HEAD..])?;
+/// let again = Table::open(read.pid_max)?;
+/// let made = blocks.replay(&again, &bytes[Blocks::HEAD..])?;
 /// assert_eq!((made.call, made.reply, made.size), (call, reply, 48));
 /// # Ok::<(), Box<dyn std::error::Error>>(())
 /// ```
@@ -83,7 +83,7 @@ impl Note {
     }
 
     fn entry(&self) -> raw::Entry {
-        let mut entry = raw::Entry::blank();
+        let mut entry = raw::Entry::BLANK;
         (entry.call.operation, entry.call.choice) = (u32::from(self.kind), self.text.len() as u32);
         (entry.call.caller, entry.call.number, entry.call.id) = (self.numbers[0], self.numbers[1], self.id);
         if !self.text.is_empty() {
@@ -114,7 +114,7 @@ pub struct Made {
 
 impl Default for Made {
     fn default() -> Made {
-        let entry = raw::Entry::blank();
+        let entry = raw::Entry::BLANK;
         Made { entry }
     }
 }
@@ -252,27 +252,17 @@ impl Blocks {
     }
 }
 
-impl Table {
-    /// Makes a call of a worker, whose number is only written down, with its reply in the place of the last one.
-    ///
-    /// # Errors
-    /// Those of [`Calls::call`](crate::Calls::call); then what was made is that call, without a reply.
-    pub fn make(&mut self, worker: u32, call: Call, made: &mut Made) -> Result<(), Error> {
-        made.entry.worker = u64::from(worker);
-        made.entry.call = call.numbers();
-        Error::unless_done(self.raw.call(&made.entry.call, &mut made.entry.reply))
-    }
-
-    /// Makes the saved call at the front of the bytes again, and compares the reply with the saved one.
+impl Blocks {
+    /// Has a table make the saved call at the front of the bytes again, and compares the reply with the saved one.
     ///
     /// # Errors
     /// `Torn` where the bytes end within it; `WrongByte`, and [`Blocks::wrong`] says where. After these the table and the blocks are as they
     /// were. `Table(Differs)`: the call was made, and has another reply. `Table(OutOfRange)` where there is no such call, `Table(NoMemory)`,
-    /// `Table(Spent)`, `Table(Busy)`.
-    pub fn replay(&mut self, blocks: &mut Blocks, bytes: &[u8]) -> Result<Replayed, SavedFault> {
-        let (entry, size) = blocks.take(bytes)?;
+    /// `Table(Spent)`, `Table(Busy)`, `Table(Unsaved)`.
+    pub fn replay(&mut self, table: &Table, bytes: &[u8]) -> Result<Replayed, SavedFault> {
+        let (entry, size) = self.take(bytes)?;
         let mut reply = raw::Reply::BLANK;
-        Error::unless_done(self.raw.call(&entry.call, &mut reply))?;
+        table.make_as_it_is(&entry.call, &mut reply)?;
         if reply != entry.reply {
             return Err(Error::Differs.into());
         }
@@ -285,10 +275,26 @@ impl Table {
     }
 }
 
+impl Table {
+    /// Makes a call, as of a worker whose number is only written down, with its reply in the place of the last one. Labels stay as they are.
+    ///
+    /// # Errors
+    /// Those of [`Table::call`]; then what was made is that call, without a reply.
+    pub fn make(&self, worker: u32, call: Call, made: &mut Made) -> Result<(), Error> {
+        made.entry.worker = u64::from(worker);
+        made.entry.call = call.numbers();
+        self.make_as_it_is(&made.entry.call, &mut made.entry.reply)
+    }
+
+    fn make_as_it_is(&self, call: &raw::Call, reply: &mut raw::Reply) -> Result<(), Error> {
+        let _turn = self.for_calls(1)?;
+        Error::unless_done(self.raw.call(call, reply))
+    }
+}
+
 #[cfg(test)]
 mod tests {
     use super::*;
-    use crate::Calls;
 
     /// The worked example of docs/SAVED.md, without the first block.
     fn example() -> (Vec<u8>, Vec<Call>) {

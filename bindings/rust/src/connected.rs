@@ -1,6 +1,7 @@
 //! The table of a service, `pidtabd`, by its socket: requests of RESP, and their answers.
-use crate::calls::sealed::Sealed;
-use crate::{Argument, Call, Calls, Child, Ended, Error, Listing, Reaped, Refusal, Reply};
+use crate::{
+    Argument, Call, Child, Ended, Error, Kind, Listing, Reaped, Refusal, Reply, Which,
+};
 use std::io::{self, BufRead, BufReader, Read, Write};
 use std::os::unix::net::UnixStream;
 use std::path::Path;
@@ -19,10 +20,10 @@ const NO_SERVICE: &str = "what answers is no service of pidtab";
 /// A connection to a service, `pidtabd`: its calls are those of the one table of all clients, and are saved there as the service is told to save.
 ///
 /// ```no_run
-/// use pidtab::{Calls, Connected, Error};
+/// use pidtab::{Connected, Error};
 ///
 /// let mut table = Connected::connect("unix:/run/pidtab.sock")?;
-/// let child = table.fork(1, true)?;
+/// let child = table.fork_new(1)?;
 /// match table.exit(child.root, 7) {
 ///     Err(Error::NotServed) => println!("{}", table.why()),
 ///     done => done?,
@@ -168,10 +169,13 @@ impl fmt::Debug for Connected {
     }
 }
 
-impl Sealed for Connected {}
-
-impl Calls for Connected {
-    fn call(&mut self, call: Call) -> Result<Reply, Error> {
+/// The calls, of the table of the service.
+impl Connected {
+    /// As [`Table::call`](crate::Table::call).
+    ///
+    /// # Errors
+    /// `NoMemory`, `Spent`, `NotServed`, `Disconnected`.
+    pub fn call(&mut self, call: Call) -> Result<Reply, Error> {
         let line = call.line();
         let words: Vec<_> = ["PIDTAB.CALL"].into_iter().chain(line.split(' ')).collect();
         let answer = match self.exchange(&words)? {
@@ -180,9 +184,10 @@ impl Calls for Connected {
         };
         reply_of(call, answer).ok_or_else(|| self.end(NO_SERVICE))
     }
-}
 
-impl Connected {
+    // Written by tools/interface: methods.
+    // The end of methods.
+
     /// A refusal of the table, or why the call was not made.
     fn refused(&mut self, said: String) -> Result<Reply, Error> {
         match (read_refusal(&said), said.as_str()) {
@@ -451,7 +456,7 @@ mod tests {
             assert_eq!(table.position(), Err(Error::Disconnected));
         }
         let mut table = sent(b"$2\r\nOK\r\n");
-        assert_eq!(table.fork(1, false), Err(Error::Disconnected));
+        assert_eq!(table.fork(1), Err(Error::Disconnected));
     }
 
     /// Arrays in arrays end after eight.
@@ -468,9 +473,9 @@ mod tests {
     #[test]
     fn who_is_turned_away_is_told_why() {
         let mut table = sent(b"-ERR max number of clients reached\r\n");
-        assert_eq!(table.fork(1, false), Err(Error::NotServed));
+        assert_eq!(table.fork(1), Err(Error::NotServed));
         assert_eq!(table.why(), "ERR max number of clients reached");
-        assert_eq!(table.fork(1, false), Err(Error::Disconnected));
+        assert_eq!(table.fork(1), Err(Error::Disconnected));
         assert!(table.set_timeout(None).is_err());
     }
 

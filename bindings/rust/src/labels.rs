@@ -1,5 +1,5 @@
 //! Names of tasks, which are outside of the table.
-use crate::{raw, Call, Error, Record, Reply, Shared, Table};
+use crate::{raw, Call, Error, Reply, Table};
 use std::collections::HashMap;
 
 /// The root init, which sees all tasks by their root numbers.
@@ -19,21 +19,9 @@ impl Labels {
             .map(|(root, label)| (*root, label.as_str()))
     }
 
-    /// Notes the new task that a reply may tell.
-    pub(crate) fn replied(&mut self, reply: &Reply) {
-        if let Reply::Forked(child) = reply {
-            self.by_root.remove(&child.root);
-        }
-    }
-
-    /// The same of an answer, as `child 2 root 3`.
-    pub(crate) fn answered(&mut self, answer: &str) {
-        if self.by_root.is_empty() || !answer.starts_with("child ") {
-            return;
-        }
-        if let Some(Ok(root)) = answer.rsplit(' ').next().map(str::parse) {
-            self.by_root.remove(&root);
-        }
+    /// Takes the label away of who had the number before.
+    pub(crate) fn forget(&mut self, root: u32) {
+        self.by_root.remove(&root);
     }
 
     /// Notes calls that were made again. Where they stopped, nobody is told which number a fork with another reply has drawn.
@@ -42,9 +30,8 @@ impl Labels {
             self.by_root.clear();
         }
         if !self.by_root.is_empty() {
-            for it in entries {
-                self.replied(&Reply::of(&it.reply));
-            }
+            let new = entries.iter().filter_map(|it| new_task(&Reply::of(&it.reply)));
+            new.for_each(|root| self.forget(root));
         }
     }
 
@@ -58,15 +45,29 @@ impl Labels {
     }
 }
 
+/// The root number of the new task that a reply may tell.
+pub(crate) fn new_task(reply: &Reply) -> Option<u32> {
+    match reply {
+        Reply::Forked(child) => Some(child.root),
+        _ => None,
+    }
+}
+
+/// The same of an answer, as `child 2 root 3`.
+pub(crate) fn new_task_of(answer: &str) -> Option<u32> {
+    let numbers = answer.strip_prefix("child ")?;
+    numbers.rsplit(' ').next()?.parse().ok()
+}
+
 impl Table {
     /// Names a task, by its root number, in [`Table::listing`] and in its JSON; an empty label takes the name away. It is no call: the table, its
-    /// text and its history know nothing of it. The name goes when the number is another task's.
+    /// text and its history know nothing of it. The name goes when the number is another task's; a replay that stops takes all names away.
     ///
     /// ```
-    /// use pidtab::{Calls, Table};
+    /// use pidtab::Table;
     ///
-    /// let mut table = Table::open(32768)?;
-    /// let child = table.fork(1, true)?;
+    /// let table = Table::open(32768)?;
+    /// let child = table.fork_new(1)?;
     /// table.label(child.root, "nginx")?;
     /// assert_eq!(table.listing()?.tasks[1].label.as_deref(), Some("nginx"));
     /// # Ok::<(), pidtab::Error>(())
@@ -74,34 +75,15 @@ impl Table {
     ///
     /// # Errors
     /// `Refused` as `NoTask`; `BadLabel`, `Busy`.
-    pub fn label(&mut self, task: u32, label: &str) -> Result<(), Error> {
-        check(label)?;
-        let found = self.ask(find(task))?;
-        self.labels.put(root_of(task, &found)?, label);
-        Ok(())
-    }
-}
-
-impl Record {
-    /// As [`Table::label`]: names a task in [`Record::listing`]. A replay that stops takes all names away.
-    ///
-    /// # Errors
-    /// `Refused` as `NoTask`; `BadLabel`, `Busy`.
-    pub fn label(&mut self, task: u32, label: &str) -> Result<(), Error> {
-        check(label)?;
-        let found = self.ask(find(task))?;
-        self.labels.put(root_of(task, &found)?, label);
-        Ok(())
-    }
-}
-
-impl Shared {
-    /// As [`Record::label`]: names a task for all who list the table.
-    ///
-    /// # Errors
-    /// `Refused` as `NoTask`; `BadLabel`, `Busy`.
     pub fn label(&self, task: u32, label: &str) -> Result<(), Error> {
-        self.lock().label(task, label)
+        check(label)?;
+        // No fork takes the number meanwhile.
+        let _shared = self.for_read();
+        let mut found = raw::Reply::BLANK;
+        Error::unless_done(self.raw.ask(&find(task).numbers(), &mut found))?;
+        let root = root_of(task, &Reply::of(&found))?;
+        self.labels().put(root, label);
+        Ok(())
     }
 }
 

@@ -2,12 +2,13 @@
 //! that is opened and closed. All unsafe code of the crate is here.
 #![allow(unsafe_code)]
 
+use std::cell::UnsafeCell;
 use std::ffi::c_void;
 use std::mem::size_of;
+use std::panic::RefUnwindSafe;
 use std::ptr;
-use std::sync::atomic::AtomicU8;
 #[cfg(test)]
-use std::sync::atomic::Ordering;
+use std::sync::atomic::{AtomicU8, Ordering};
 
 // Written by tools/interface: statuses.
 /// What the functions answer.
@@ -122,26 +123,6 @@ mod bounds {
 }
 pub(crate) use bounds::*;
 // The end of bounds.
-
-/// A table, or none, or a record, or none: it begins as zeroes. The two structs of the header are alike.
-#[repr(C)]
-struct Held {
-    at: *mut c_void,
-    is_open: bool,
-    /// The mark, which a query changes too.
-    in_use: AtomicU8,
-}
-
-impl Held {
-    /// None, on the heap, so that it stays where it is when it is open.
-    fn none() -> Box<Held> {
-        Box::new(Held {
-            at: ptr::null_mut(),
-            is_open: false,
-            in_use: AtomicU8::new(0),
-        })
-    }
-}
 
 // Written by tools/interface: structs.
 /// `struct pidtab_call`.
@@ -318,23 +299,15 @@ impl SavedHead {
 }
 // The end of structs.
 
-impl Entry {
-    /// The room for an entry.
-    pub(crate) fn blank() -> Entry {
-        Entry::BLANK
-    }
-}
-
-// The sizes are those that test.c, test_shared.c and test_saved.c of bindings/c assert.
+// The sizes are those that the tests of bindings/c assert.
 const _: () = {
-    assert!(size_of::<Held>() == 16 && size_of::<Call>() == 32);
+    assert!(size_of::<Held>() == 32 && size_of::<Settings>() == 32 && size_of::<Call>() == 32);
     assert!(size_of::<Reply>() == 168 && size_of::<Task>() == 192);
     assert!(size_of::<Entry>() == 208 && size_of::<SavedHead>() == 16);
     assert!(size_of::<Effect>() == 16);
 };
 
 // Written by tools/interface: functions.
-#[allow(dead_code)] // Not each is used here.
 extern "C" {
     fn pidtab_version() -> u32;
     fn pidtab_open(table: *mut Held, pid_max: u32) -> u32;
@@ -596,7 +569,7 @@ extern "C" {
 
 // What the head of the header asks of a caller, and why each function below may be called:
 //
-// - A struct begins as zeroes, and stays on the heap until it is dropped. It has one owner, whose methods take it by `&mut`.
+// - A struct begins as zeroes, and stays on the heap until it is dropped. It has one owner.
 // - Each pointer is a reference's or a slice's. None is null, not even to 0 bytes, and the compiler lets no two of them overlap.
 // - The library takes its memory from malloc, which any thread may free.
 // - No function here is called from a signal handler, as that would be unsafe code of the caller's.
@@ -619,18 +592,60 @@ pub(crate) fn done<T>(status: u32, value: T) -> Result<T, u32> {
 
 /// An open table.
 pub(crate) struct Table {
-    held: Box<Held>,
+    held: Box<UnsafeCell<Held>>,
 }
 
 // SAFETY: the table's memory is reached by this owner alone, the library has no state beside it, and it comes from malloc, which any
 // thread may free. That the handle may go to another thread is proved: crates/foreign_handles/proofs/handle/Handle/TheSendSync.
 unsafe impl Send for Table {}
 
-// SAFETY: a `&` reaches queries alone. Each works on a copy of the handle, which guard.c makes, and proved code has the table there by a `&`.
-// That such functions may overlap is not proved, and tested: docs/PROVED.md.
+// SAFETY: each function marks the table before it looks at it, and is BUSY where a mark of another thread is there that keeps it out: guard.c. Queries
+// alone overlap. Each works on a copy of the handle, and proved code has the table there by a `&`. That such functions may overlap is not proved, and
+// tested: docs/PROVED.md.
 unsafe impl Sync for Table {}
 
+// What panics is this crate alone, and no function of the library is under way then.
+impl RefUnwindSafe for Table {}
+
 impl Table {
+    /// A struct of zeroes, which is no open table yet.
+    fn none() -> Table {
+        compare_versions();
+        Table {
+            held: Box::new(UnsafeCell::new(Held::BLANK)),
+        }
+    }
+
+    pub(crate) fn open_with(settings: &Settings) -> Result<Table, u32> {
+        let table = Table::none();
+        // SAFETY: the first pointer is to a struct of zeroes that is this call's alone, and the other one that of a reference.
+        let status = unsafe { pidtab_open_with(table.held.get(), settings) };
+        done(status, table)
+    }
+
+    /// There is a count for each worker of the settings.
+    pub(crate) fn load_with(
+        text: &[u8],
+        settings: &Settings,
+        counts: &[u64],
+        fault: &mut Fault,
+    ) -> Result<Table, u32> {
+        assert_eq!(counts.len(), settings.workers as usize, "the counts");
+        let table = Table::none();
+        // SAFETY: as above; `counts` has as many as the function reads.
+        let status = unsafe {
+            pidtab_load_with(
+                table.held.get(),
+                text.as_ptr().cast(),
+                text.len(),
+                settings,
+                counts.as_ptr(),
+                fault,
+            )
+        };
+        done(status, table)
+    }
+
     // Written by tools/interface: methods of a table.
     pub(crate) fn open(pid_max: u32) -> Result<Table, u32> {
         compare_versions();
@@ -802,14 +817,16 @@ impl Table {
     #[cfg(test)]
     pub(crate) fn mark(&self, in_call: bool) {
         let mark = if in_call { u8::MAX } else { 0 };
-        self.held.in_use.store(mark, Ordering::Relaxed);
+        // SAFETY: the mark is changed as guard.c changes it.
+        let in_use = unsafe { AtomicU8::from_ptr(ptr::addr_of_mut!((*self.held.get()).in_use)) };
+        in_use.store(mark, Ordering::Relaxed);
     }
 }
 
 impl Drop for Table {
     fn drop(&mut self) {
         // SAFETY: the table is lent to this call alone; one that is not open stays so. No other thread is in it, so it is closed.
-        unsafe { pidtab_close(&mut *self.held) };
+        unsafe { pidtab_close(self.held.get()) };
     }
 }
 
@@ -823,323 +840,6 @@ pub(crate) fn reply_line(reply: &Reply, answer: &mut [u8], size: &mut usize) -> 
 pub(crate) fn call_line(call: &Call, line: &mut [u8], size: &mut usize) -> u32 {
     // SAFETY: as in `reply_line`.
     unsafe { pidtab_call_line(call, line.as_mut_ptr().cast(), line.len(), size) }
-}
-
-/// An open record: a table with its history.
-pub(crate) struct Record {
-    held: Box<Held>,
-}
-
-// SAFETY: as a table. That the handle may go to another thread is proved: crates/foreign_handles/proofs/record_handle.
-unsafe impl Send for Record {}
-
-// SAFETY: as a table.
-unsafe impl Sync for Record {}
-
-impl Record {
-    // Written by tools/interface: methods of a record.
-    pub(crate) fn open(pid_max: u32, first_stamp: u64, workers: u32) -> Result<Record, u32> {
-        compare_versions();
-        let mut held = Held::none();
-        // SAFETY: the first pointer is to a struct of zeroes that is this call's alone; each other is that of a reference or of a slice.
-        let status = unsafe { pidtab_record_open(&mut *held, pid_max, first_stamp, workers) };
-        done(status, Record { held })
-    }
-
-    pub(crate) fn call(
-        &mut self,
-        worker: u32,
-        call: &Call,
-        reply: &mut Reply,
-        ordinal: &mut u64,
-    ) -> u32 {
-        // SAFETY: it is open and lent to this call alone; each pointer is that of a reference or of a slice with that length.
-        unsafe { pidtab_record_call(&mut *self.held, worker, call, reply, ordinal) }
-    }
-
-    pub(crate) fn calls(
-        &mut self,
-        worker: u32,
-        calls: &[Call],
-        replies: &mut [Reply],
-        made: &mut usize,
-        ordinal: &mut u64,
-    ) -> u32 {
-        // SAFETY: it is open and lent to this call alone; each pointer is that of a reference or of a slice with that length.
-        unsafe {
-            pidtab_record_calls(
-                &mut *self.held,
-                worker,
-                calls.as_ptr(),
-                calls.len(),
-                replies.as_mut_ptr(),
-                replies.len(),
-                made,
-                ordinal,
-            )
-        }
-    }
-
-    pub(crate) fn line(
-        &mut self,
-        worker: u32,
-        line: &[u8],
-        answer: &mut [u8],
-        size: &mut usize,
-        ordinal: &mut u64,
-    ) -> u32 {
-        // SAFETY: it is open and lent to this call alone; each pointer is that of a reference or of a slice with that length.
-        unsafe {
-            pidtab_record_line(
-                &mut *self.held,
-                worker,
-                line.as_ptr().cast(),
-                line.len(),
-                answer.as_mut_ptr().cast(),
-                answer.len(),
-                size,
-                ordinal,
-            )
-        }
-    }
-
-    pub(crate) fn ask(&self, call: &Call, reply: &mut Reply) -> u32 {
-        // SAFETY: it is open and lent to queries alone; each pointer is that of a reference or of a slice with that length.
-        unsafe { pidtab_record_ask(&*self.held, call, reply) }
-    }
-
-    pub(crate) fn stat(&self, caller: u32, number: u32, task: &mut Task) -> u32 {
-        // SAFETY: it is open and lent to queries alone; each pointer is that of a reference or of a slice with that length.
-        unsafe { pidtab_record_stat(&*self.held, caller, number, task) }
-    }
-
-    pub(crate) fn page(
-        &self,
-        caller: u32,
-        whom: u32,
-        number: u32,
-        from: u32,
-        numbers: &mut [u32],
-        reply: &mut Reply,
-    ) -> u32 {
-        // SAFETY: it is open and lent to queries alone; each pointer is that of a reference or of a slice with that length.
-        unsafe {
-            pidtab_record_page(
-                &*self.held,
-                caller,
-                whom,
-                number,
-                from,
-                numbers.as_mut_ptr(),
-                numbers.len(),
-                reply,
-            )
-        }
-    }
-
-    pub(crate) fn space(&self, id: u64, space: &mut Space) -> u32 {
-        // SAFETY: it is open and lent to queries alone; each pointer is that of a reference or of a slice with that length.
-        unsafe { pidtab_record_space(&*self.held, id, space) }
-    }
-
-    pub(crate) fn inside(
-        &self,
-        tree: u32,
-        id: u64,
-        from: u64,
-        ids: &mut [u64],
-        count: &mut u64,
-    ) -> u32 {
-        // SAFETY: it is open and lent to queries alone; each pointer is that of a reference or of a slice with that length.
-        unsafe {
-            pidtab_record_inside(
-                &*self.held,
-                tree,
-                id,
-                from,
-                ids.as_mut_ptr(),
-                ids.len(),
-                count,
-            )
-        }
-    }
-
-    pub(crate) fn control_tasks(
-        &self,
-        caller: u32,
-        control: u64,
-        from: u32,
-        numbers: &mut [u32],
-        reply: &mut Reply,
-    ) -> u32 {
-        // SAFETY: it is open and lent to queries alone; each pointer is that of a reference or of a slice with that length.
-        unsafe {
-            pidtab_record_control_tasks(
-                &*self.held,
-                caller,
-                control,
-                from,
-                numbers.as_mut_ptr(),
-                numbers.len(),
-                reply,
-            )
-        }
-    }
-
-    pub(crate) fn would(&self, call: &Call, reply: &mut Reply) -> u32 {
-        // SAFETY: it is open and lent to queries alone; each pointer is that of a reference or of a slice with that length.
-        unsafe { pidtab_record_would(&*self.held, call, reply) }
-    }
-
-    pub(crate) fn fork_at(
-        &mut self,
-        worker: u32,
-        caller: u32,
-        new_space: u32,
-        child: u32,
-        root: u32,
-        reply: &mut Reply,
-        ordinal: &mut u64,
-    ) -> u32 {
-        // SAFETY: it is open and lent to this call alone; each pointer is that of a reference or of a slice with that length.
-        unsafe {
-            pidtab_record_fork_at(
-                &mut *self.held,
-                worker,
-                caller,
-                new_space,
-                child,
-                root,
-                reply,
-                ordinal,
-            )
-        }
-    }
-
-    pub(crate) fn call_told(
-        &mut self,
-        worker: u32,
-        call: &Call,
-        reply: &mut Reply,
-        ordinal: &mut u64,
-        effects: &mut [Effect],
-        count: &mut u64,
-    ) -> u32 {
-        // SAFETY: it is open and lent to this call alone; each pointer is that of a reference or of a slice with that length.
-        unsafe {
-            pidtab_record_call_told(
-                &mut *self.held,
-                worker,
-                call,
-                reply,
-                ordinal,
-                effects.as_mut_ptr(),
-                effects.len(),
-                count,
-            )
-        }
-    }
-
-    pub(crate) fn counts(&self, first_kept: &mut u64, recorded: &mut u64) -> u32 {
-        // SAFETY: it is open and lent to queries alone; each pointer is that of a reference or of a slice with that length.
-        unsafe { pidtab_record_counts(&*self.held, first_kept, recorded) }
-    }
-
-    pub(crate) fn worker(&self, worker: u32, calls: &mut u64) -> u32 {
-        // SAFETY: it is open and lent to queries alone; each pointer is that of a reference or of a slice with that length.
-        unsafe { pidtab_record_worker(&*self.held, worker, calls) }
-    }
-
-    pub(crate) fn entry(
-        &self,
-        ordinal: u64,
-        worker: &mut u64,
-        call: &mut Call,
-        reply: &mut Reply,
-    ) -> u32 {
-        // SAFETY: it is open and lent to queries alone; each pointer is that of a reference or of a slice with that length.
-        unsafe { pidtab_record_entry(&*self.held, ordinal, worker, call, reply) }
-    }
-
-    pub(crate) fn read(&self, from: u64, entries: &mut [Entry], count: &mut usize) -> u32 {
-        // SAFETY: it is open and lent to queries alone; each pointer is that of a reference or of a slice with that length.
-        unsafe {
-            pidtab_record_read(
-                &*self.held,
-                from,
-                entries.as_mut_ptr(),
-                entries.len(),
-                count,
-            )
-        }
-    }
-
-    pub(crate) fn replay(&mut self, saved: &[Entry], place: &mut usize) -> u32 {
-        // SAFETY: it is open and lent to this call alone; each pointer is that of a reference or of a slice with that length.
-        unsafe { pidtab_record_replay(&mut *self.held, saved.as_ptr(), saved.len(), place) }
-    }
-
-    pub(crate) fn keep(&mut self, keep: u64) -> u32 {
-        // SAFETY: it is open and lent to this call alone; each pointer is that of a reference or of a slice with that length.
-        unsafe { pidtab_record_keep(&mut *self.held, keep) }
-    }
-
-    pub(crate) fn checkpoint(&mut self) -> u32 {
-        // SAFETY: it is open and lent to this call alone; each pointer is that of a reference or of a slice with that length.
-        unsafe { pidtab_record_checkpoint(&mut *self.held) }
-    }
-
-    pub(crate) fn checkpoint_at(&mut self, seen: u64) -> u32 {
-        // SAFETY: it is open and lent to this call alone; each pointer is that of a reference or of a slice with that length.
-        unsafe { pidtab_record_checkpoint_at(&mut *self.held, seen) }
-    }
-
-    pub(crate) fn list(&self, bytes: &mut [u8], size: &mut usize) -> u32 {
-        // SAFETY: it is open and lent to queries alone; each pointer is that of a reference or of a slice with that length.
-        unsafe { pidtab_record_list(&*self.held, bytes.as_mut_ptr().cast(), bytes.len(), size) }
-    }
-
-    pub(crate) fn opening(&self, bytes: &mut [u8], size: &mut usize) -> u32 {
-        // SAFETY: it is open and lent to queries alone; each pointer is that of a reference or of a slice with that length.
-        unsafe { pidtab_record_opening(&*self.held, bytes.as_mut_ptr().cast(), bytes.len(), size) }
-    }
-
-    pub(crate) fn dump(&self, bytes: &mut [u8], size: &mut usize) -> u32 {
-        // SAFETY: it is open and lent to queries alone; each pointer is that of a reference or of a slice with that length.
-        unsafe { pidtab_record_dump(&*self.held, bytes.as_mut_ptr().cast(), bytes.len(), size) }
-    }
-
-    pub(crate) fn load(text: &[u8], counts: &[u64], fault: &mut Fault) -> Result<Record, u32> {
-        compare_versions();
-        let mut held = Held::none();
-        // SAFETY: the first pointer is to a struct of zeroes that is this call's alone; each other is that of a reference or of a slice.
-        let status = unsafe {
-            pidtab_record_load(
-                &mut *held,
-                text.as_ptr().cast(),
-                text.len(),
-                counts.as_ptr(),
-                counts.len(),
-                fault,
-            )
-        };
-        done(status, Record { held })
-    }
-    // The end of methods of a record.
-
-    /// As in a forked child, where the thread whose call was under way is not.
-    #[cfg(test)]
-    pub(crate) fn mark(&self, in_call: bool) {
-        let mark = if in_call { u8::MAX } else { 0 };
-        self.held.in_use.store(mark, Ordering::Relaxed);
-    }
-}
-
-impl Drop for Record {
-    fn drop(&mut self) {
-        // SAFETY: the record is lent to this call alone; one that is not open stays so. No other thread is in it, so it is closed.
-        unsafe { pidtab_record_close(&mut *self.held) };
-    }
 }
 
 /// Writes the head of a saved history: how many bytes it has. It begins the running checksum.
@@ -1168,7 +868,7 @@ pub(crate) fn take_head(bytes: &[u8], size: &mut usize, sum: &mut u64) -> Result
 
 /// Reads an entry of a saved history from the front of the bytes, with the place for its size, or for that of its first wrong block.
 pub(crate) fn take_entry(bytes: &[u8], size: &mut usize, sum: &mut u64) -> Result<Entry, u32> {
-    let (at, length, mut entry) = (bytes.as_ptr().cast(), bytes.len(), Entry::blank());
+    let (at, length, mut entry) = (bytes.as_ptr().cast(), bytes.len(), Entry::BLANK);
     // SAFETY: as above.
     let status = unsafe { pidtab_saved_take(at, length, &mut entry, size, sum) };
     done(status, entry)
@@ -1182,7 +882,7 @@ pub(crate) fn next_entry(
     sum: &mut u64,
     left_out: &mut u64,
 ) -> Result<Entry, u32> {
-    let (at, length, mut entry) = (bytes.as_ptr().cast(), bytes.len(), Entry::blank());
+    let (at, length, mut entry) = (bytes.as_ptr().cast(), bytes.len(), Entry::BLANK);
     // SAFETY: as above.
     let status = unsafe { pidtab_saved_next(at, length, is_end, &mut entry, size, sum, left_out) };
     done(status, entry)

@@ -1,0 +1,273 @@
+//! The lock of a table that was opened with `threads`: any number of them use it, and one waits for another.
+//!
+//! It is std's, and not the one of the library: a pthread mutex that its own thread takes again has no defined behaviour. The mark of the library is
+//! below it, so a table without a lock is `Busy` to a second thread, and never wrong.
+use crate::{Error, SavedError, Table};
+use std::ops::Deref;
+use std::sync::atomic::{AtomicBool, AtomicUsize, Ordering};
+use std::sync::{
+    Condvar, LockResult, Mutex, MutexGuard, PoisonError, RwLock, RwLockReadGuard, RwLockWriteGuard,
+    TryLockError,
+};
+use std::time::Duration;
+use std::{fmt, mem, ptr};
+
+/// How far the saver of a table is, as it has told.
+#[derive(Default)]
+pub(crate) struct Saving {
+    /// So many calls are saved.
+    pub(crate) saved: u64,
+    /// As many may be recorded and not saved; 0: any number.
+    pub(crate) most: u64,
+    /// Why the saver's last turn failed, or that it has ended.
+    pub(crate) fault: Option<SavedError>,
+    pub(crate) has_ended: bool,
+    /// Nobody waits for a call any more, except a saver.
+    pub(crate) is_over: bool,
+    /// A saver, or another, waits for a call.
+    sleeps: bool,
+}
+
+/// What is locked. A panic cannot leave a table half written: its functions are the library's, and each ends before this crate goes on.
+fn whole<T>(locked: LockResult<T>) -> T {
+    locked.unwrap_or_else(PoisonError::into_inner)
+}
+
+/// A number that no other thread has while this one lives: the place of a variable of its own.
+fn this_thread() -> usize {
+    thread_local!(static PLACE: u8 = const { 0 });
+    PLACE.with(|it| ptr::from_ref(it) as usize)
+}
+
+#[derive(Default)]
+pub(crate) struct Lock {
+    /// Queries share it, and a change has it alone. On Linux no query passes a change that waits: std's lock has it so.
+    queries: RwLock<()>,
+    /// Whose turn it is to change the table: so one change at a time waits for the queries. Who sleeps has it.
+    turn: Mutex<Saving>,
+    /// Who goes before the calls of other threads, and whether that waits for the turn: std's mutex is for whoever comes first when it is free, which is
+    /// a busy thread that has just given it back. So each thread makes one more call at most before it waits here too.
+    gate: Mutex<()>,
+    is_awaited: AtomicBool,
+    /// The thread that has a [`Locked`]; 0: none.
+    holder: AtomicUsize,
+    /// A saver has told how far it is.
+    told: Condvar,
+    /// A call was recorded while somebody slept.
+    recorded: Condvar,
+}
+
+impl Lock {
+    /// Whether this thread has a [`Locked`].
+    fn is_mine(&self) -> bool {
+        let holder = self.holder.load(Ordering::Relaxed);
+        holder != 0 && holder == this_thread()
+    }
+
+    fn let_others_go_first(&self) {
+        if self.is_awaited.load(Ordering::Relaxed) {
+            drop(whole(self.gate.lock()));
+        }
+    }
+
+    fn before_calls<T>(&self, take: impl FnOnce() -> T) -> T {
+        let _first = whole(self.gate.lock());
+        self.is_awaited.store(true, Ordering::Relaxed);
+        let taken = take();
+        self.is_awaited.store(false, Ordering::Relaxed);
+        taken
+    }
+
+    fn turn_of_call(&self) -> MutexGuard<'_, Saving> {
+        self.let_others_go_first();
+        whole(self.turn.lock())
+    }
+
+    /// The turn, before the calls of busy threads.
+    pub(crate) fn turn(&self) -> MutexGuard<'_, Saving> {
+        self.before_calls(|| whole(self.turn.lock()))
+    }
+
+    /// Who has the turn waits for the queries, and then changes the table.
+    fn alone<'a>(&'a self, turn: MutexGuard<'a, Saving>) -> Turn<'a> {
+        Turn {
+            held: Some((whole(self.queries.write()), turn)),
+            lock: self,
+        }
+    }
+
+    /// Who has the turn gives it back until a call is recorded, or the time is over.
+    pub(crate) fn sleep<'a>(
+        &self,
+        mut turn: MutexGuard<'a, Saving>,
+        time: Option<Duration>,
+    ) -> MutexGuard<'a, Saving> {
+        turn.sleeps = true;
+        match time {
+            Some(time) => whole(self.recorded.wait_timeout(turn, time)).0,
+            None => whole(self.recorded.wait(turn)),
+        }
+    }
+
+    /// Who has the turn gives it back until a saver tells how far it is.
+    pub(crate) fn wait_for_saver<'a>(
+        &self,
+        turn: MutexGuard<'a, Saving>,
+    ) -> MutexGuard<'a, Saving> {
+        whole(self.told.wait(turn))
+    }
+
+    /// Has those that wait for the saver look again at what is changed.
+    pub(crate) fn tell(&self, change: impl FnOnce(&mut Saving)) {
+        change(&mut self.turn());
+        self.told.notify_all();
+    }
+
+    /// Wakes a saver that sleeps, and who waits for a call.
+    pub(crate) fn wake(&self) {
+        self.recorded.notify_all();
+    }
+}
+
+/// The table is this thread's alone.
+pub(crate) struct Turn<'a> {
+    // None only amid the drop. Queries that wait are let in before the next change has its turn.
+    held: Option<(RwLockWriteGuard<'a, ()>, MutexGuard<'a, Saving>)>,
+    lock: &'a Lock,
+}
+
+impl Drop for Turn<'_> {
+    fn drop(&mut self) {
+        let Some((queries, mut turn)) = self.held.take() else {
+            return;
+        };
+        let wakes = mem::take(&mut turn.sleeps);
+        drop(queries);
+        drop(turn);
+        if wakes {
+            self.lock.wake();
+        }
+    }
+}
+
+/// The lock of a table, by [`Table::lock`]. It derefs to the table, which is this thread's until this is dropped.
+///
+/// It stays in its thread:
+///
+/// ```compile_fail,E0277
+/// fn sent<T: Send>() {}
+/// sent::<pidtab::Locked<'static>>();
+/// ```
+pub struct Locked<'a> {
+    table: &'a Table,
+    turn: Turn<'a>,
+}
+
+impl Deref for Locked<'_> {
+    type Target = Table;
+
+    fn deref(&self) -> &Table {
+        self.table
+    }
+}
+
+impl Drop for Locked<'_> {
+    fn drop(&mut self) {
+        self.turn.lock.holder.store(0, Ordering::Relaxed);
+    }
+}
+
+impl fmt::Debug for Locked<'_> {
+    fn fmt(&self, to: &mut fmt::Formatter<'_>) -> fmt::Result {
+        to.debug_struct("Locked").finish_non_exhaustive()
+    }
+}
+
+impl Table {
+    /// The lock of a table that was opened with `threads`, for several functions in one go: a list and the counts that it belongs to, or calls with none of
+    /// another thread between them. All others wait while the guard lives. This thread calls the guard's functions, the table's or those of its
+    /// seats, which are the same now; its calls wait for no saver.
+    ///
+    /// ```
+    /// use pidtab::Table;
+    ///
+    /// let table = Table::options().keep(4096).threads().open()?;
+    /// let held = table.lock()?;
+    /// let child = held.fork(1)?;
+    /// held.exit(child.root, 0)?;
+    /// assert_eq!(held.counts()?.recorded, 2);
+    /// # Ok::<(), pidtab::Error>(())
+    /// ```
+    ///
+    /// It goes before the calls of busy threads: each makes one more at most.
+    ///
+    /// # Errors
+    /// `NoThreads`; `Busy` where this thread has the lock already.
+    pub fn lock(&self) -> Result<Locked<'_>, Error> {
+        let lock = self.threads()?;
+        let turn = lock.alone(lock.turn());
+        lock.holder.store(this_thread(), Ordering::Relaxed);
+        Ok(Locked { table: self, turn })
+    }
+
+    /// The lock, of which this thread has no guard: what waits with one would wait for ever.
+    pub(crate) fn threads(&self) -> Result<&Lock, Error> {
+        let lock = self.lock.as_ref().ok_or(Error::NoThreads)?;
+        if lock.is_mine() {
+            return Err(Error::Busy);
+        }
+        Ok(lock)
+    }
+
+    /// The lock that a function takes: none where there is none, or this thread has it.
+    fn to_take(&self) -> Option<&Lock> {
+        self.lock.as_ref().filter(|it| !it.is_mine())
+    }
+
+    /// A query's share, which lets those go before that are no calls.
+    pub(crate) fn for_query(&self) -> Option<RwLockReadGuard<'_, ()>> {
+        let lock = self.to_take()?;
+        lock.let_others_go_first();
+        Some(whole(lock.queries.read()))
+    }
+
+    /// The share of a function that goes before the calls and their like where it has to wait.
+    pub(crate) fn for_read(&self) -> Option<RwLockReadGuard<'_, ()>> {
+        let lock = self.to_take()?;
+        Some(match lock.queries.try_read() {
+            Ok(shared) => shared,
+            Err(TryLockError::Poisoned(shared)) => shared.into_inner(),
+            Err(TryLockError::WouldBlock) => lock.before_calls(|| whole(lock.queries.read())),
+        })
+    }
+
+    /// The turn of a change that is no call.
+    pub(crate) fn for_change(&self) -> Option<Turn<'_>> {
+        let lock = self.to_take()?;
+        Some(lock.alone(lock.turn()))
+    }
+
+    /// The turn of so many calls that keep the bound: it waits until the saver is near enough.
+    pub(crate) fn for_calls(&self, calls: usize) -> Result<Option<Turn<'_>>, Error> {
+        let Some(lock) = self.to_take() else {
+            return Ok(None);
+        };
+        let mut turn = lock.turn_of_call();
+        while self.is_too_far(&turn, calls as u64)? {
+            if turn.fault.is_some() {
+                return Err(Error::Unsaved);
+            }
+            turn = lock.wait_for_saver(turn);
+        }
+        Ok(Some(lock.alone(turn)))
+    }
+
+    /// Whether with so many calls more would be recorded and not saved than the bound lets there be. More than the bound follow where all are saved.
+    fn is_too_far(&self, saving: &Saving, calls: u64) -> Result<bool, Error> {
+        if saving.most == 0 {
+            return Ok(false);
+        }
+        let ahead = self.recorded()?.saturating_sub(saving.saved);
+        Ok(ahead != 0 && ahead.saturating_add(calls) > saving.most)
+    }
+}
