@@ -11,12 +11,11 @@ IN_MEMORY = ("saved_put_head", "saved_put", "saved_take_head", "saved_take", "sa
 # What the package for Rust has besides, and the functions of pidtab.h that it does without: worker 0's, for which others have a worker, and those
 # of the lock, as it has one of its own.
 OF_RUST = ("settings",)
-UNUSED = ("open", "load", "line", "fork_at", "call_told", "keep", "lock", "unlock", "follow", "await", "end", "seat")
+UNUSED = ("open", "load", "line", "fork_at", "call_told", "lock", "unlock", "follow", "await", "end")
 # Those on a table that are no methods: what opens it, and what closes it where its owner is dropped.
 BY_HAND = ("open_with", "load_with", "close")
 
 NUMBERS = {"uint32_t": "u32", "uint64_t": "u64", "int32_t": "i32", "uint8_t": "u8", "size_t": "usize", "bool": "bool", "int": "i32"}
-BLANKS = {"bool": "false", "*mut c_void": "ptr::null_mut()"}
 
 
 def camel_struct(kind):
@@ -52,9 +51,10 @@ def functions_of(tables):
 
 def functions(tables):
     """Their declarations."""
-    lines = ['extern "C" {']
+    lines = ["#[rustfmt::skip]", 'extern "C" {']
     for it in functions_of(tables):
-        lines += broken("    ", f"fn pidtab_{it.name}", [f"{name}: {rust_type(kind)}" for kind, name, _ in it.arguments], f" -> {rust_type(it.result)};")
+        taken = ", ".join(f"{name}: {rust_type(kind)}" for kind, name, _ in it.arguments)
+        lines.append(f"    fn pidtab_{it.name}({taken}) -> {rust_type(it.result)};")
     return [*lines, "}"]
 
 
@@ -64,28 +64,21 @@ def field_type(field):
     return f"[{kind}; LEVELS_MAX]" if field.many else kind
 
 
-def blank(field):
-    """A field with zeroes."""
-    kind = field_type(field)
-    return "[0; LEVELS_MAX]" if field.many else f"{kind}::BLANK" if kind[0].isupper() else BLANKS.get(kind, "0")
-
-
 def struct(tables, name, derived=(), access="pub(crate) "):
-    """A struct, and one with nothing except zeroes."""
-    fields, camel = tables["headers"].structs[name], camel_struct(f"struct {name}")
-    lines = ["", f"/// `struct {name}`.", "#[repr(C)]", *derived, f"{access}struct {camel} {{"]
-    lines += [f"    {access}{it.name}: {field_type(it)}," for it in fields]
-    told = [f"{it.name}: {blank(it)}" for it in fields]
-    many = [f"{camel} {{", *[f"        {it}," for it in told], "    };"]
-    begin, *rest = [f"{camel} {{ {', '.join(told)} }};"] if len(", ".join(told)) <= 18 else many
-    return [*lines, "}", "", f"impl {camel} {{", f"    {access}const BLANK: {camel} = {begin}", *rest, "}"]
+    """A struct."""
+    fields = tables["headers"].structs[name]
+    lines = ["", f"/// `struct {name}`.", "#[repr(C)]", *derived, f"{access}struct {camel_struct(f'struct {name}')} {{"]
+    return [*lines, *[f"    {access}{it.name}: {field_type(it)}," for it in fields], "}"]
 
 
 def structs(tables):
-    """The structs. A table has one owner, and its fields are the library's."""
-    lines = struct(tables, "pidtab", access="")
-    for name in (*STRUCTS, *OF_RUST):
-        lines += struct(tables, f"pidtab_{name}", ["#[derive(Clone, Copy, Debug, PartialEq)]"])
+    """The structs, and each of zeroes. A table has one owner, and its fields are the library's."""
+    lines, names = struct(tables, "pidtab", access=""), [f"pidtab_{it}" for it in STRUCTS]
+    for name in (*names, *[f"pidtab_{it}" for it in OF_RUST]):
+        lines += struct(tables, name, ["#[derive(Clone, Copy, Debug, PartialEq)]"])
+    for name in ("pidtab", *names):
+        camel = camel_struct(f"struct {name}")
+        lines += ["", f"impl {camel} {{", "    // SAFETY: each field may be zero.", f"    pub(crate) const BLANK: {camel} = unsafe {{ zeroed() }};", "}"]
     return lines[1:]
 
 
@@ -113,11 +106,9 @@ def methods(tables):
         if owner is None or owner.kind.replace("const ", "") != "struct pidtab *" or it.name in BY_HAND:
             continue
         taken, passed = lent(arguments)
-        call = broken("            ", f"pidtab_{it.name}", ["self.held.get()", *passed], "", 60)
-        one = f"        unsafe {{ {call[0].strip()} }}"
-        lines += ["", *broken("    ", f"pub(crate) fn {it.name}", ["&self", *taken], " -> u32 {")]
+        lines += ["", f"    pub(crate) fn {it.name}({', '.join(['&self', *taken])}) -> u32 {{"]
         lines += ["        // SAFETY: the table is open, and each other pointer is that of a reference or of a slice with that length."]
-        lines += [one, "    }"] if len(call) == 1 and len(one) <= 100 else ["        unsafe {", *call, "        }", "    }"]
+        lines += [f"        unsafe {{ pidtab_{it.name}({', '.join(['self.held.get()', *passed])}) }}", "    }"]
     return lines[1:]
 
 

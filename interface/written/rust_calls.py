@@ -5,7 +5,6 @@ import textwrap
 
 from arguments import arguments_of, queries, refused, said, tells
 from names import camel, capitals, strings
-from written.foreign import broken
 
 CALLS = "bindings/rust/src/calls.rs"
 SEAT = "bindings/rust/src/seat.rs"
@@ -95,7 +94,7 @@ def of_table(row, name):
 
 def as_of_table(_, name):
     """The documentation of a method that a table has too."""
-    return [f"    /// As [`Table::{name}`], with its errors."]
+    return [f"    /// As [`Table::{name}`](crate::Table::{name}), with its errors."]
 
 
 def methods(itself, documentation):
@@ -107,19 +106,11 @@ def methods(itself, documentation):
             (answer, reader), fixed = ANSWERS[told(row)], switch(row)
             taken = ", ".join([itself, *[f"{it.name}: {TYPES[it.kind]}" for it in arguments_of(row) if it.name != fixed]])
             for name, made in ways(row):
-                lines += ["", *documentation(row, name), *broken("    ", f"pub fn {name}", [*taken.split(", ")], f" -> Result<{answer}, Error> {{")]
-                lines += [*call_of(made), f"        self.call(call)?.{reader}(call)", "    }"]
+                lines += ["", *documentation(row, name), f"    pub fn {name}({taken}) -> Result<{answer}, Error> {{"]
+                lines += [f"        self.made({made}, Reply::{reader})", "    }"]
         return lines[1:]
 
     return part
-
-
-def call_of(made):
-    """The call with its fields: short ones in one line, as rustfmt has it."""
-    head, _, fields = made.partition(" { ")
-    if len(fields) - 2 <= 60 and len(made) <= 50:
-        return [f"        let call = {made};"]
-    return [f"        let call = {head} {{", *[f"            {it}," for it in fields[:-2].split(", ")], "        };"]
 
 
 def literal(head, fields):

@@ -1,5 +1,5 @@
 //! A saved history, by a supervisor that lives twice: `cargo run --offline --example saved` prints what is said at the end.
-use pidtab::{Calls, Shared};
+use pidtab::Shared;
 use std::fs::{self, File};
 use std::io;
 
@@ -18,7 +18,7 @@ fn live(path: &str) -> io::Result<()> {
         saved.calls(),
         saved.left_out()
     );
-    let child = shared.seat()?.fork(1, false)?;
+    let child = shared.seat()?.fork(1)?;
     shared.save(&mut saved, &file)?;
     file.sync_data()?;
     println!("child {}", child.number);

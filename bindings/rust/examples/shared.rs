@@ -1,13 +1,13 @@
 //! A table for many threads, with its history: `cargo run --offline --example shared` prints what is said at the end.
-use pidtab::{Call, Calls, Error, Shared, Which};
+use pidtab::{Call, Error, Shared, Which};
 use std::thread;
 
 /// A container of the worker's own, and in it one process after the other.
 fn serve(shared: &Shared) -> Result<(), Error> {
     let mut seat = shared.seat()?;
-    let container = seat.fork(1, true)?;
+    let container = seat.fork_new(1)?;
     for status in 0..100 {
-        let process = seat.fork(container.root, false)?;
+        let process = seat.fork(container.root)?;
         seat.exit(process.root, status)?;
         seat.wait(container.root, Which::Pid(process.number))?;
     }

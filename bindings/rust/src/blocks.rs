@@ -313,7 +313,7 @@ mod tests {
                 pgid: -1,
             },
         ];
-        let mut table = Table::open(head.pid_max).expect("a table");
+        let table = Table::open(head.pid_max).expect("a table");
         let mut bytes = Vec::new();
         let mut blocks = Blocks::begin(&head, &mut bytes).expect("a head");
         for (place, call) in calls.iter().enumerate() {
@@ -348,11 +348,11 @@ mod tests {
     fn each_call_again_and_each_end() {
         let (bytes, calls) = example();
         let (_, mut blocks) = Blocks::read_head(&bytes).expect("a head");
-        let (mut table, mut at) = (Table::open(32768).expect("a table"), Blocks::HEAD);
+        let (table, mut at) = (Table::open(32768).expect("a table"), Blocks::HEAD);
         for call in calls {
-            let torn = table.replay(&mut blocks, &bytes[at..at + 47]);
+            let torn = blocks.replay(&table, &bytes[at..at + 47]);
             assert!(matches!(torn, Err(SavedFault::Torn)));
-            let made = table.replay(&mut blocks, &bytes[at..]).expect("a call");
+            let made = blocks.replay(&table, &bytes[at..]).expect("a call");
             assert_eq!(made.call, call);
             at += made.size;
         }
@@ -371,8 +371,8 @@ mod tests {
         for place in 0..48 {
             let mut entry = bytes[Blocks::HEAD..].to_vec();
             entry[place] ^= 1;
-            let (mut table, mut blocks) = (Table::open(32768).expect("a table"), begun);
-            let wrong = table.replay(&mut blocks, &entry);
+            let (table, mut blocks) = (Table::open(32768).expect("a table"), begun);
+            let wrong = blocks.replay(&table, &entry);
             assert!(matches!(wrong, Err(SavedFault::WrongByte)), "{place}");
             assert_eq!((blocks.wrong(), blocks.sum()), (0, begun.sum()));
         }
@@ -389,8 +389,8 @@ mod tests {
             assert!(bytes.len() % Blocks::HEAD == 0 && bytes.len() <= Blocks::LONGEST);
             let mut read = Blocks::behind(5);
             assert!(matches!(read.take_note(&bytes[..bytes.len() - 1]), Err(SavedFault::Torn)));
-            let mut table = Table::open(32768).expect("a table");
-            let made = table.replay(&mut read.clone(), &bytes);
+            let table = Table::open(32768).expect("a table");
+            let made = read.clone().replay(&table, &bytes);
             assert!(matches!(made, Err(SavedFault::Table(Error::OutOfRange))));
             let size = bytes.len();
             assert!(matches!(read.take_note(&bytes), Ok(Some((it, of))) if it == note && of == size));
@@ -420,15 +420,15 @@ mod tests {
     fn another_reply() {
         let (bytes, _) = example();
         let (_, mut blocks) = Blocks::read_head(&bytes).expect("a head");
-        let mut table = Table::open(32768).expect("a table");
+        let table = Table::open(32768).expect("a table");
         table.getpid(1).expect("a number");
-        let differs = table.replay(&mut blocks, &bytes[Blocks::HEAD..]);
+        let differs = blocks.replay(&table, &bytes[Blocks::HEAD..]);
         // The namespace's id is another, and the reply is the same; a task's number is another after one more fork.
         assert!(differs.is_ok());
         let (_, mut blocks) = Blocks::read_head(&bytes).expect("a head");
-        let mut table = Table::open(32768).expect("a table");
-        table.fork(1, false).expect("a child");
-        let differs = table.replay(&mut blocks, &bytes[Blocks::HEAD..]);
+        let table = Table::open(32768).expect("a table");
+        table.fork(1).expect("a child");
+        let differs = blocks.replay(&table, &bytes[Blocks::HEAD..]);
         assert!(matches!(differs, Err(SavedFault::Table(Error::Differs))));
     }
 

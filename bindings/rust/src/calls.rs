@@ -36,43 +36,43 @@ pub enum Kind {
 #[allow(missing_docs)] // A field has its words at its call.
 pub enum Call {
     // Written by tools/interface: values.
-    /// [`Calls::fork`].
+    /// [`Table::fork`], [`Table::fork_new`].
     Fork { caller: u32, new_space: bool },
-    /// [`Calls::getpid`]; a query.
+    /// [`Table::getpid`]; a query.
     Getpid { caller: u32 },
-    /// [`Calls::nspid`]; a query.
+    /// [`Table::nspid`]; a query.
     Nspid { caller: u32, number: u32 },
-    /// [`Calls::exec`].
+    /// [`Table::exec`].
     Exec { caller: u32 },
-    /// [`Calls::exit`].
+    /// [`Table::exit`].
     Exit { caller: u32, status: u8 },
-    /// [`Calls::wait`].
+    /// [`Table::wait`].
     Wait { caller: u32, which: Which },
-    /// [`Calls::getppid`]; a query.
+    /// [`Table::getppid`]; a query.
     Getppid { caller: u32 },
-    /// [`Calls::setpgid`].
+    /// [`Table::setpgid`].
     Setpgid { caller: u32, pid: i32, pgid: i32 },
-    /// [`Calls::setsid`].
+    /// [`Table::setsid`].
     Setsid { caller: u32 },
-    /// [`Calls::mk`].
+    /// [`Table::mk`].
     Mk { parent: u64 },
-    /// [`Calls::rm`].
+    /// [`Table::rm`].
     Rm { id: u64 },
-    /// [`Calls::limit`].
+    /// [`Table::limit`].
     Limit { id: u64, limit: Option<u32> },
-    /// [`Calls::move_task`].
+    /// [`Table::move_task`].
     Move { task: u32, id: u64 },
-    /// [`Calls::count`]; a query.
+    /// [`Table::count`]; a query.
     Count { id: u64 },
-    /// [`Calls::getpgid`]; a query.
+    /// [`Table::getpgid`]; a query.
     Getpgid { caller: u32, pid: u32 },
-    /// [`Calls::getsid`]; a query.
+    /// [`Table::getsid`]; a query.
     Getsid { caller: u32, pid: u32 },
-    /// [`Calls::next`]; a query.
+    /// [`Table::next`]; a query.
     Next { caller: u32, kind: Kind, from: u32 },
-    /// [`Calls::join`].
+    /// [`Table::join`].
     Join { caller: u32, number: u32 },
-    /// [`Calls::subreaper`].
+    /// [`Table::subreaper`].
     Subreaper { caller: u32, on: bool },
     // The end of values.
 }
@@ -141,7 +141,6 @@ impl Reply {
     }
 }
 
-/// What a call is told by its reply, or why it was refused.
 impl Reply {
     /// The error of a reply that is none of the call's others, so a refusal; of a read there is no call.
     pub(crate) fn refused<T>(self, call: Option<Call>) -> Result<T, Error> {
@@ -155,67 +154,240 @@ impl Reply {
         }
     }
 
-    pub(crate) fn child(self, call: Call) -> Result<Child, Error> {
+    /// What a reply tells that is not refused. What is none of a call's replies is given back.
+    pub(crate) fn child(self) -> Result<Child, Reply> {
         match self {
             Reply::Forked(child) => Ok(child),
-            other => other.refused(Some(call)),
+            other => Err(other),
         }
     }
 
-    pub(crate) fn nothing(self, call: Call) -> Result<(), Error> {
+    pub(crate) fn nothing(self) -> Result<(), Reply> {
         match self {
             Reply::Done => Ok(()),
-            other => other.refused(Some(call)),
+            other => Err(other),
         }
     }
 
-    pub(crate) fn number(self, call: Call) -> Result<u32, Error> {
+    pub(crate) fn number(self) -> Result<u32, Reply> {
         match self {
             Reply::Number(number) => Ok(number),
-            other => other.refused(Some(call)),
+            other => Err(other),
         }
     }
 
-    pub(crate) fn number_or_end(self, call: Call) -> Result<Option<u32>, Error> {
+    pub(crate) fn number_or_end(self) -> Result<Option<u32>, Reply> {
         match self {
-            Reply::Number(number) => Ok(Some(number)),
             Reply::End => Ok(None),
-            other => other.refused(Some(call)),
+            other => other.number().map(Some),
         }
     }
 
-    pub(crate) fn levels(self, call: Call) -> Result<Vec<u32>, Error> {
+    pub(crate) fn levels(self) -> Result<Vec<u32>, Reply> {
         match self {
             Reply::Levels(numbers) => Ok(numbers),
-            other => other.refused(Some(call)),
+            other => Err(other),
         }
     }
 
-    pub(crate) fn reaped(self, call: Call) -> Result<Option<Reaped>, Error> {
+    pub(crate) fn reaped(self) -> Result<Option<Reaped>, Reply> {
         match self {
             Reply::Reaped(reaped) => Ok(Some(reaped)),
             Reply::NoneYet => Ok(None),
-            other => other.refused(Some(call)),
+            other => Err(other),
         }
     }
 
-    pub(crate) fn counted(self, call: Call) -> Result<u64, Error> {
+    pub(crate) fn counted(self) -> Result<u64, Reply> {
         match self {
             Reply::Counted(count) => Ok(count),
-            other => other.refused(Some(call)),
+            other => Err(other),
         }
     }
 
-    pub(crate) fn control(self, call: Call) -> Result<u64, Error> {
+    pub(crate) fn control(self) -> Result<u64, Reply> {
         match self {
             Reply::Control(id) => Ok(id),
-            other => other.refused(Some(call)),
+            other => Err(other),
         }
     }
 }
 
+impl Call {
+    /// What the call is told by its reply, or why it was refused.
+    pub(crate) fn told<T>(self, reply: Reply, read: fn(Reply) -> Result<T, Reply>) -> Result<T, Error> {
+        read(reply).or_else(|other| other.refused(Some(self)))
+    }
+}
+
+impl Table {
+    fn made<T>(&self, call: Call, read: fn(Reply) -> Result<T, Reply>) -> Result<T, Error> {
+        call.told(self.call(call)?, read)
+    }
+}
+
 /// The calls, which are made for worker 0.
+#[rustfmt::skip]
 impl Table {
     // Written by tools/interface: methods.
+    /// `fork(2)`: a child in the namespace for the caller's children.
+    ///
+    /// # Errors
+    /// `Refused` as `NoCaller`, `TooDeep`, `Elsewhere`, `SpaceFallen`, `NoNumber`, `PidsLimit`; `NoMemory`.
+    pub fn fork(&self, caller: u32) -> Result<Child, Error> {
+        self.made(Call::Fork { caller, new_space: false }, Reply::child)
+    }
+
+    /// `clone(2)` with `CLONE_NEWPID`: as [`Table::fork`], and the child is the init of a new namespace.
+    ///
+    /// # Errors
+    /// `Refused` as `NoCaller`, `TooDeep`, `Elsewhere`, `SpaceFallen`, `NoNumber`, `PidsLimit`; `NoMemory`.
+    pub fn fork_new(&self, caller: u32) -> Result<Child, Error> {
+        self.made(Call::Fork { caller, new_space: true }, Reply::child)
+    }
+
+    /// `getpid(2)`: the caller's number in its own namespace.
+    ///
+    /// # Errors
+    /// `Refused` as `NoCaller`.
+    pub fn getpid(&self, caller: u32) -> Result<u32, Error> {
+        self.made(Call::Getpid { caller }, Reply::number)
+    }
+
+    /// NSpid of `proc(5)`: the numbers of the task `number` from the caller's namespace inwards, outermost first: 1 to 33 of them.
+    ///
+    /// # Errors
+    /// `Refused` as `NoCaller`, `NoTask`.
+    pub fn nspid(&self, caller: u32, number: u32) -> Result<Vec<u32>, Error> {
+        self.made(Call::Nspid { caller, number }, Reply::levels)
+    }
+
+    /// `execve(2)`: the caller executes a program.
+    ///
+    /// # Errors
+    /// `Refused` as `NoCaller`.
+    pub fn exec(&self, caller: u32) -> Result<(), Error> {
+        self.made(Call::Exec { caller }, Reply::nothing)
+    }
+
+    /// `_exit(2)`: the caller ends, and its namespace falls if it is the init there; `status` is 0 to 255.
+    ///
+    /// # Errors
+    /// `Refused` as `NoCaller`, `RootInit`.
+    pub fn exit(&self, caller: u32, status: u8) -> Result<(), Error> {
+        self.made(Call::Exit { caller, status }, Reply::nothing)
+    }
+
+    /// `waitpid(2)` with `WNOHANG`: takes an ended child away; none where children match and none of them has ended.
+    ///
+    /// # Errors
+    /// `Refused` as `NoCaller`, `NoChild`.
+    pub fn wait(&self, caller: u32, which: Which) -> Result<Option<Reaped>, Error> {
+        self.made(Call::Wait { caller, which }, Reply::reaped)
+    }
+
+    /// `getppid(2)`: the number of the caller's parent, 0 for one that it cannot see.
+    ///
+    /// # Errors
+    /// `Refused` as `NoCaller`.
+    pub fn getppid(&self, caller: u32) -> Result<u32, Error> {
+        self.made(Call::Getppid { caller }, Reply::number)
+    }
+
+    /// `setpgid(2)`: the task `pid` goes into the group `pgid`; 0 is the caller, and the task.
+    ///
+    /// # Errors
+    /// `Refused` as `NoCaller`, `BadGroup`, `NoTask`, `OtherSession`, `Executed`, `IsLeader`, `NoGroup`.
+    pub fn setpgid(&self, caller: u32, pid: i32, pgid: i32) -> Result<(), Error> {
+        self.made(Call::Setpgid { caller, pid, pgid }, Reply::nothing)
+    }
+
+    /// `setsid(2)`: the caller leads a new session and a new group; its number.
+    ///
+    /// # Errors
+    /// `Refused` as `NoCaller`, `IsLeader`.
+    pub fn setsid(&self, caller: u32) -> Result<u32, Error> {
+        self.made(Call::Setsid { caller }, Reply::number)
+    }
+
+    /// A new control group below the one with the id `parent`, of which 0 is the root: its id.
+    ///
+    /// # Errors
+    /// `Refused` as `NoControl`, `ControlDepth`; `NoMemory`.
+    pub fn mk(&self, parent: u64) -> Result<u64, Error> {
+        self.made(Call::Mk { parent }, Reply::control)
+    }
+
+    /// Removes a control group without live tasks and children.
+    ///
+    /// # Errors
+    /// `Refused` as `NoControl`, `RootControl`, `ControlBusy`.
+    pub fn rm(&self, id: u64) -> Result<(), Error> {
+        self.made(Call::Rm { id }, Reply::nothing)
+    }
+
+    /// How many tasks the control group may have, 0 to 4194304, or none for no limit.
+    ///
+    /// # Errors
+    /// `Refused` as `NoControl`, `RootControl`, `BadLimit`.
+    pub fn limit(&self, id: u64, limit: Option<u32>) -> Result<(), Error> {
+        self.made(Call::Limit { id, limit }, Reply::nothing)
+    }
+
+    /// The task, by its root number, goes into the control group.
+    ///
+    /// # Errors
+    /// `Refused` as `NoTask`, `NoControl`.
+    pub fn move_task(&self, task: u32, id: u64) -> Result<(), Error> {
+        self.made(Call::Move { task, id }, Reply::nothing)
+    }
+
+    /// How many tasks the control group and those below it have.
+    ///
+    /// # Errors
+    /// `Refused` as `NoControl`.
+    pub fn count(&self, id: u64) -> Result<u64, Error> {
+        self.made(Call::Count { id }, Reply::counted)
+    }
+
+    /// `getpgid(2)`: the process group of the task `pid`, where 0 is the caller; 0 where it cannot be seen.
+    ///
+    /// # Errors
+    /// `Refused` as `NoCaller`, `NoTask`.
+    pub fn getpgid(&self, caller: u32, pid: u32) -> Result<u32, Error> {
+        self.made(Call::Getpgid { caller, pid }, Reply::number)
+    }
+
+    /// `getsid(2)`: the session of the task `pid`, where 0 is the caller; 0 where it cannot be seen.
+    ///
+    /// # Errors
+    /// `Refused` as `NoCaller`, `NoTask`.
+    pub fn getsid(&self, caller: u32, pid: u32) -> Result<u32, Error> {
+        self.made(Call::Getsid { caller, pid }, Reply::number)
+    }
+
+    /// The least number from `from` on that is in use as that kind in the caller's namespace.
+    ///
+    /// # Errors
+    /// `Refused` as `NoCaller`.
+    pub fn next(&self, caller: u32, kind: Kind, from: u32) -> Result<Option<u32>, Error> {
+        self.made(Call::Next { caller, kind, from }, Reply::number_or_end)
+    }
+
+    /// `setns(2)` with `CLONE_NEWPID`: the caller's later children go into the namespace of the task `number`.
+    ///
+    /// # Errors
+    /// `Refused` as `NoCaller`, `NoTask`.
+    pub fn join(&self, caller: u32, number: u32) -> Result<(), Error> {
+        self.made(Call::Join { caller, number }, Reply::nothing)
+    }
+
+    /// `PR_SET_CHILD_SUBREAPER` of `prctl(2)`: the caller takes orphans of its namespace, or no more.
+    ///
+    /// # Errors
+    /// `Refused` as `NoCaller`.
+    pub fn subreaper(&self, caller: u32, on: bool) -> Result<(), Error> {
+        self.made(Call::Subreaper { caller, on }, Reply::nothing)
+    }
     // The end of methods.
 }

@@ -18,7 +18,7 @@ impl Keep {
         match self {
             Keep::Nothing => 0,
             Keep::AtMost(entries) => entries,
-            Keep::All => raw::KEEP_ALL,
+            Keep::All => u64::MAX,
         }
     }
 }
@@ -148,11 +148,11 @@ impl Options {
             given => given,
         };
         self.workers(counts.len() as u32)
-            .load(text.as_ref(), counts)
+            .open_counted(text.as_ref(), counts)
     }
 
     /// The same with a count for each worker.
-    fn load(self, text: &[u8], counts: &[u64]) -> Result<Table, TextError> {
+    fn open_counted(self, text: &[u8], counts: &[u64]) -> Result<Table, TextError> {
         let mut fault = raw::Fault::BLANK;
         let loaded = raw::Table::load_with(text, &self.numbers(), counts, &mut fault);
         let raw = loaded.map_err(|status| match status {

@@ -4,8 +4,9 @@
 
 use std::cell::UnsafeCell;
 use std::ffi::c_void;
-use std::mem::size_of;
+use std::mem::{size_of, zeroed};
 use std::panic::RefUnwindSafe;
+#[cfg(test)]
 use std::ptr;
 #[cfg(test)]
 use std::sync::atomic::{AtomicU8, Ordering};
@@ -28,6 +29,7 @@ mod statuses {
     pub(crate) const NOT_KEPT: u32 = 2;
     pub(crate) const AGAIN: u32 = 11;
     pub(crate) const NO_HISTORY: u32 = 95;
+    pub(crate) const NO_THREADS: u32 = 37;
     pub(crate) const DEVICE: u32 = 5;
     pub(crate) const NOT_SAVED: u32 = 8;
     pub(crate) const NOT_EMPTY: u32 = 17;
@@ -125,6 +127,19 @@ pub(crate) use bounds::*;
 // The end of bounds.
 
 // Written by tools/interface: structs.
+/// `struct pidtab`.
+#[repr(C)]
+struct Held {
+    at: *mut c_void,
+    is_open: bool,
+    in_use: u8,
+    has_settings: bool,
+    workers: u8,
+    seated: u8,
+    keep: u64,
+    threads: *mut c_void,
+}
+
 /// `struct pidtab_call`.
 #[repr(C)]
 #[derive(Clone, Copy, Debug, PartialEq)]
@@ -138,28 +153,12 @@ pub(crate) struct Call {
     pub(crate) pgid: i32,
 }
 
-impl Call {
-    pub(crate) const BLANK: Call = Call {
-        operation: 0,
-        caller: 0,
-        id: 0,
-        number: 0,
-        choice: 0,
-        pid: 0,
-        pgid: 0,
-    };
-}
-
 /// `struct pidtab_fault`.
 #[repr(C)]
 #[derive(Clone, Copy, Debug, PartialEq)]
 pub(crate) struct Fault {
     pub(crate) line: u64,
     pub(crate) kind: u32,
-}
-
-impl Fault {
-    pub(crate) const BLANK: Fault = Fault { line: 0, kind: 0 };
 }
 
 /// `struct pidtab_reply`.
@@ -173,18 +172,6 @@ pub(crate) struct Reply {
     pub(crate) first: u64,
     pub(crate) second: u64,
     pub(crate) levels: [u32; LEVELS_MAX],
-}
-
-impl Reply {
-    pub(crate) const BLANK: Reply = Reply {
-        kind: 0,
-        error: 0,
-        refusal: 0,
-        count: 0,
-        first: 0,
-        second: 0,
-        levels: [0; LEVELS_MAX],
-    };
 }
 
 /// `struct pidtab_task`.
@@ -207,25 +194,6 @@ pub(crate) struct Task {
     pub(crate) levels: [u32; LEVELS_MAX],
 }
 
-impl Task {
-    pub(crate) const BLANK: Task = Task {
-        error: 0,
-        refusal: 0,
-        count: 0,
-        parent: 0,
-        group: 0,
-        session: 0,
-        ended: 0,
-        status: 0,
-        executed: 0,
-        subreaper: 0,
-        space: 0,
-        control: 0,
-        root: 0,
-        levels: [0; LEVELS_MAX],
-    };
-}
-
 /// `struct pidtab_space`.
 #[repr(C)]
 #[derive(Clone, Copy, Debug, PartialEq)]
@@ -237,16 +205,6 @@ pub(crate) struct Space {
     pub(crate) fallen: u32,
 }
 
-impl Space {
-    pub(crate) const BLANK: Space = Space {
-        id: 0,
-        parent: 0,
-        level: 0,
-        init: 0,
-        fallen: 0,
-    };
-}
-
 /// `struct pidtab_effect`.
 #[repr(C)]
 #[derive(Clone, Copy, Debug, PartialEq)]
@@ -254,14 +212,6 @@ pub(crate) struct Effect {
     pub(crate) what: u32,
     pub(crate) number: u32,
     pub(crate) value: u64,
-}
-
-impl Effect {
-    pub(crate) const BLANK: Effect = Effect {
-        what: 0,
-        number: 0,
-        value: 0,
-    };
 }
 
 /// `struct pidtab_entry`.
@@ -273,14 +223,6 @@ pub(crate) struct Entry {
     pub(crate) reply: Reply,
 }
 
-impl Entry {
-    pub(crate) const BLANK: Entry = Entry {
-        worker: 0,
-        call: Call::BLANK,
-        reply: Reply::BLANK,
-    };
-}
-
 /// `struct pidtab_saved_head`.
 #[repr(C)]
 #[derive(Clone, Copy, Debug, PartialEq)]
@@ -290,12 +232,60 @@ pub(crate) struct SavedHead {
     pub(crate) first_stamp: u64,
 }
 
+/// `struct pidtab_settings`.
+#[repr(C)]
+#[derive(Clone, Copy, Debug, PartialEq)]
+pub(crate) struct Settings {
+    pub(crate) pid_max: u32,
+    pub(crate) workers: u32,
+    pub(crate) first_stamp: u64,
+    pub(crate) keep: u64,
+    pub(crate) threads: bool,
+}
+
+impl Held {
+    // SAFETY: each field may be zero.
+    pub(crate) const BLANK: Held = unsafe { zeroed() };
+}
+
+impl Call {
+    // SAFETY: each field may be zero.
+    pub(crate) const BLANK: Call = unsafe { zeroed() };
+}
+
+impl Fault {
+    // SAFETY: each field may be zero.
+    pub(crate) const BLANK: Fault = unsafe { zeroed() };
+}
+
+impl Reply {
+    // SAFETY: each field may be zero.
+    pub(crate) const BLANK: Reply = unsafe { zeroed() };
+}
+
+impl Task {
+    // SAFETY: each field may be zero.
+    pub(crate) const BLANK: Task = unsafe { zeroed() };
+}
+
+impl Space {
+    // SAFETY: each field may be zero.
+    pub(crate) const BLANK: Space = unsafe { zeroed() };
+}
+
+impl Effect {
+    // SAFETY: each field may be zero.
+    pub(crate) const BLANK: Effect = unsafe { zeroed() };
+}
+
+impl Entry {
+    // SAFETY: each field may be zero.
+    pub(crate) const BLANK: Entry = unsafe { zeroed() };
+}
+
 impl SavedHead {
-    pub(crate) const BLANK: SavedHead = SavedHead {
-        pid_max: 0,
-        workers: 0,
-        first_stamp: 0,
-    };
+    // SAFETY: each field may be zero.
+    pub(crate) const BLANK: SavedHead = unsafe { zeroed() };
 }
 // The end of structs.
 
@@ -308,262 +298,44 @@ const _: () = {
 };
 
 // Written by tools/interface: functions.
+#[rustfmt::skip]
 extern "C" {
     fn pidtab_version() -> u32;
-    fn pidtab_open(table: *mut Held, pid_max: u32) -> u32;
+    fn pidtab_open_with(table: *mut Held, settings: *const Settings) -> u32;
     fn pidtab_close(table: *mut Held) -> u32;
-    fn pidtab_line(
-        table: *mut Held,
-        line: *const c_void,
-        length: usize,
-        answer: *mut c_void,
-        room: usize,
-        size: *mut usize,
-    ) -> u32;
     fn pidtab_list(table: *const Held, bytes: *mut c_void, room: usize, size: *mut usize) -> u32;
     fn pidtab_dump(table: *const Held, bytes: *mut c_void, room: usize, size: *mut usize) -> u32;
-    fn pidtab_load(table: *mut Held, text: *const c_void, length: usize, fault: *mut Fault) -> u32;
+    fn pidtab_load_with(table: *mut Held, text: *const c_void, length: usize, settings: *const Settings, counts: *const u64, fault: *mut Fault) -> u32;
     fn pidtab_call(table: *mut Held, call: *const Call, reply: *mut Reply) -> u32;
-    fn pidtab_getpid_of(table: *mut Held, caller: u32, number: *mut u64) -> u32;
-    fn pidtab_getppid_of(table: *mut Held, caller: u32, number: *mut u64) -> u32;
-    fn pidtab_getpgid_of(table: *mut Held, caller: u32, pid: u32, number: *mut u64) -> u32;
-    fn pidtab_getsid_of(table: *mut Held, caller: u32, pid: u32, number: *mut u64) -> u32;
-    fn pidtab_next_of(table: *mut Held, caller: u32, kind: u32, from: u32, number: *mut u64)
-        -> u32;
-    fn pidtab_count_of(table: *mut Held, id: u64, number: *mut u64) -> u32;
     fn pidtab_ask(table: *const Held, call: *const Call, reply: *mut Reply) -> u32;
     fn pidtab_stat(table: *const Held, caller: u32, number: u32, task: *mut Task) -> u32;
-    fn pidtab_page(
-        table: *const Held,
-        caller: u32,
-        whom: u32,
-        number: u32,
-        from: u32,
-        numbers: *mut u32,
-        room: usize,
-        reply: *mut Reply,
-    ) -> u32;
+    fn pidtab_page(table: *const Held, caller: u32, whom: u32, number: u32, from: u32, numbers: *mut u32, room: usize, reply: *mut Reply) -> u32;
     fn pidtab_space(table: *const Held, id: u64, space: *mut Space) -> u32;
-    fn pidtab_inside(
-        table: *const Held,
-        tree: u32,
-        id: u64,
-        from: u64,
-        ids: *mut u64,
-        room: usize,
-        count: *mut u64,
-    ) -> u32;
-    fn pidtab_control_tasks(
-        table: *const Held,
-        caller: u32,
-        control: u64,
-        from: u32,
-        numbers: *mut u32,
-        room: usize,
-        reply: *mut Reply,
-    ) -> u32;
+    fn pidtab_inside(table: *const Held, tree: u32, id: u64, from: u64, ids: *mut u64, room: usize, count: *mut u64) -> u32;
+    fn pidtab_control_tasks(table: *const Held, caller: u32, control: u64, from: u32, numbers: *mut u32, room: usize, reply: *mut Reply) -> u32;
     fn pidtab_would(table: *const Held, call: *const Call, reply: *mut Reply) -> u32;
-    fn pidtab_fork_at(
-        table: *mut Held,
-        caller: u32,
-        new_space: u32,
-        child: u32,
-        root: u32,
-        reply: *mut Reply,
-    ) -> u32;
-    fn pidtab_call_told(
-        table: *mut Held,
-        call: *const Call,
-        reply: *mut Reply,
-        effects: *mut Effect,
-        room: usize,
-        count: *mut u64,
-    ) -> u32;
-    fn pidtab_call_line(call: *const Call, line: *mut c_void, room: usize, size: *mut usize)
-        -> u32;
-    fn pidtab_reply_line(
-        reply: *const Reply,
-        answer: *mut c_void,
-        room: usize,
-        size: *mut usize,
-    ) -> u32;
-    fn pidtab_record_open(record: *mut Held, pid_max: u32, first_stamp: u64, workers: u32) -> u32;
-    fn pidtab_record_close(record: *mut Held) -> u32;
-    fn pidtab_record_call(
-        record: *mut Held,
-        worker: u32,
-        call: *const Call,
-        reply: *mut Reply,
-        ordinal: *mut u64,
-    ) -> u32;
-    fn pidtab_record_call_keeping(
-        record: *mut Held,
-        worker: u32,
-        call: *const Call,
-        keep: u64,
-        reply: *mut Reply,
-        ordinal: *mut u64,
-    ) -> u32;
-    fn pidtab_record_calls(
-        record: *mut Held,
-        worker: u32,
-        calls: *const Call,
-        count: usize,
-        replies: *mut Reply,
-        room: usize,
-        made: *mut usize,
-        ordinal: *mut u64,
-    ) -> u32;
-    fn pidtab_record_line(
-        record: *mut Held,
-        worker: u32,
-        line: *const c_void,
-        length: usize,
-        answer: *mut c_void,
-        room: usize,
-        size: *mut usize,
-        ordinal: *mut u64,
-    ) -> u32;
-    fn pidtab_record_ask(record: *const Held, call: *const Call, reply: *mut Reply) -> u32;
-    fn pidtab_record_stat(record: *const Held, caller: u32, number: u32, task: *mut Task) -> u32;
-    fn pidtab_record_page(
-        record: *const Held,
-        caller: u32,
-        whom: u32,
-        number: u32,
-        from: u32,
-        numbers: *mut u32,
-        room: usize,
-        reply: *mut Reply,
-    ) -> u32;
-    fn pidtab_record_space(record: *const Held, id: u64, space: *mut Space) -> u32;
-    fn pidtab_record_inside(
-        record: *const Held,
-        tree: u32,
-        id: u64,
-        from: u64,
-        ids: *mut u64,
-        room: usize,
-        count: *mut u64,
-    ) -> u32;
-    fn pidtab_record_control_tasks(
-        record: *const Held,
-        caller: u32,
-        control: u64,
-        from: u32,
-        numbers: *mut u32,
-        room: usize,
-        reply: *mut Reply,
-    ) -> u32;
-    fn pidtab_record_would(record: *const Held, call: *const Call, reply: *mut Reply) -> u32;
-    fn pidtab_record_fork_at(
-        record: *mut Held,
-        worker: u32,
-        caller: u32,
-        new_space: u32,
-        child: u32,
-        root: u32,
-        reply: *mut Reply,
-        ordinal: *mut u64,
-    ) -> u32;
-    fn pidtab_record_call_told(
-        record: *mut Held,
-        worker: u32,
-        call: *const Call,
-        reply: *mut Reply,
-        ordinal: *mut u64,
-        effects: *mut Effect,
-        room: usize,
-        count: *mut u64,
-    ) -> u32;
-    fn pidtab_record_counts(record: *const Held, first_kept: *mut u64, recorded: *mut u64) -> u32;
-    fn pidtab_record_worker(record: *const Held, worker: u32, calls: *mut u64) -> u32;
-    fn pidtab_record_entry(
-        record: *const Held,
-        ordinal: u64,
-        worker: *mut u64,
-        call: *mut Call,
-        reply: *mut Reply,
-    ) -> u32;
-    fn pidtab_record_read(
-        record: *const Held,
-        from: u64,
-        entries: *mut Entry,
-        room: usize,
-        count: *mut usize,
-    ) -> u32;
-    fn pidtab_record_replay(
-        record: *mut Held,
-        saved: *const Entry,
-        count: usize,
-        place: *mut usize,
-    ) -> u32;
-    fn pidtab_record_keep(record: *mut Held, keep: u64) -> u32;
-    fn pidtab_record_checkpoint(record: *mut Held) -> u32;
-    fn pidtab_record_checkpoint_at(record: *mut Held, seen: u64) -> u32;
-    fn pidtab_record_list(
-        record: *const Held,
-        bytes: *mut c_void,
-        room: usize,
-        size: *mut usize,
-    ) -> u32;
-    fn pidtab_record_opening(
-        record: *const Held,
-        bytes: *mut c_void,
-        room: usize,
-        size: *mut usize,
-    ) -> u32;
-    fn pidtab_record_dump(
-        record: *const Held,
-        bytes: *mut c_void,
-        room: usize,
-        size: *mut usize,
-    ) -> u32;
-    fn pidtab_record_load(
-        record: *mut Held,
-        text: *const c_void,
-        length: usize,
-        counts: *const u64,
-        workers: usize,
-        fault: *mut Fault,
-    ) -> u32;
-    fn pidtab_saved_put_head(
-        head: *const SavedHead,
-        bytes: *mut c_void,
-        room: usize,
-        size: *mut usize,
-        sum: *mut u64,
-    ) -> u32;
-    fn pidtab_saved_put(
-        entry: *const Entry,
-        bytes: *mut c_void,
-        room: usize,
-        size: *mut usize,
-        sum: *mut u64,
-    ) -> u32;
-    fn pidtab_saved_take_head(
-        bytes: *const c_void,
-        length: usize,
-        head: *mut SavedHead,
-        size: *mut usize,
-        sum: *mut u64,
-    ) -> u32;
-    fn pidtab_saved_take(
-        bytes: *const c_void,
-        length: usize,
-        entry: *mut Entry,
-        size: *mut usize,
-        sum: *mut u64,
-    ) -> u32;
-    fn pidtab_saved_next(
-        bytes: *const c_void,
-        length: usize,
-        is_end: bool,
-        entry: *mut Entry,
-        size: *mut usize,
-        sum: *mut u64,
-        left_out: *mut u64,
-    ) -> u32;
+    fn pidtab_call_line(call: *const Call, line: *mut c_void, room: usize, size: *mut usize) -> u32;
+    fn pidtab_reply_line(reply: *const Reply, answer: *mut c_void, room: usize, size: *mut usize) -> u32;
+    fn pidtab_call_by(table: *mut Held, worker: u32, call: *const Call, reply: *mut Reply, ordinal: *mut u64) -> u32;
+    fn pidtab_calls(table: *mut Held, worker: u32, calls: *const Call, count: usize, replies: *mut Reply, room: usize, made: *mut usize, ordinal: *mut u64) -> u32;
+    fn pidtab_line_by(table: *mut Held, worker: u32, line: *const c_void, length: usize, answer: *mut c_void, room: usize, size: *mut usize, ordinal: *mut u64) -> u32;
+    fn pidtab_fork_at_by(table: *mut Held, worker: u32, caller: u32, new_space: u32, child: u32, root: u32, reply: *mut Reply, ordinal: *mut u64) -> u32;
+    fn pidtab_call_told_by(table: *mut Held, worker: u32, call: *const Call, reply: *mut Reply, ordinal: *mut u64, effects: *mut Effect, room: usize, count: *mut u64) -> u32;
+    fn pidtab_seat(table: *mut Held, worker: *mut u32) -> u32;
+    fn pidtab_counts(table: *const Held, first_kept: *mut u64, recorded: *mut u64) -> u32;
+    fn pidtab_worker(table: *const Held, worker: u32, calls: *mut u64) -> u32;
+    fn pidtab_entry(table: *const Held, ordinal: u64, worker: *mut u64, call: *mut Call, reply: *mut Reply) -> u32;
+    fn pidtab_read(table: *const Held, from: u64, entries: *mut Entry, room: usize, count: *mut usize) -> u32;
+    fn pidtab_replay(table: *mut Held, saved: *const Entry, count: usize, place: *mut usize) -> u32;
+    fn pidtab_keep(table: *mut Held, keep: u64) -> u32;
+    fn pidtab_checkpoint(table: *mut Held) -> u32;
+    fn pidtab_checkpoint_at(table: *mut Held, seen: u64) -> u32;
+    fn pidtab_opening(table: *const Held, bytes: *mut c_void, room: usize, size: *mut usize) -> u32;
+    fn pidtab_saved_put_head(head: *const SavedHead, bytes: *mut c_void, room: usize, size: *mut usize, sum: *mut u64) -> u32;
+    fn pidtab_saved_put(entry: *const Entry, bytes: *mut c_void, room: usize, size: *mut usize, sum: *mut u64) -> u32;
+    fn pidtab_saved_take_head(bytes: *const c_void, length: usize, head: *mut SavedHead, size: *mut usize, sum: *mut u64) -> u32;
+    fn pidtab_saved_take(bytes: *const c_void, length: usize, entry: *mut Entry, size: *mut usize, sum: *mut u64) -> u32;
+    fn pidtab_saved_next(bytes: *const c_void, length: usize, is_end: bool, entry: *mut Entry, size: *mut usize, sum: *mut u64, left_out: *mut u64) -> u32;
 }
 // The end of functions.
 
@@ -646,175 +418,141 @@ impl Table {
         done(status, table)
     }
 
+}
+
+#[rustfmt::skip]
+impl Table {
     // Written by tools/interface: methods of a table.
-    pub(crate) fn open(pid_max: u32) -> Result<Table, u32> {
-        compare_versions();
-        let mut held = Held::none();
-        // SAFETY: the first pointer is to a struct of zeroes that is this call's alone; each other is that of a reference or of a slice.
-        let status = unsafe { pidtab_open(&mut *held, pid_max) };
-        done(status, Table { held })
-    }
-
-    pub(crate) fn line(&mut self, line: &[u8], answer: &mut [u8], size: &mut usize) -> u32 {
-        // SAFETY: it is open and lent to this call alone; each pointer is that of a reference or of a slice with that length.
-        unsafe {
-            pidtab_line(
-                &mut *self.held,
-                line.as_ptr().cast(),
-                line.len(),
-                answer.as_mut_ptr().cast(),
-                answer.len(),
-                size,
-            )
-        }
-    }
-
     pub(crate) fn list(&self, bytes: &mut [u8], size: &mut usize) -> u32 {
-        // SAFETY: it is open and lent to queries alone; each pointer is that of a reference or of a slice with that length.
-        unsafe { pidtab_list(&*self.held, bytes.as_mut_ptr().cast(), bytes.len(), size) }
+        // SAFETY: the table is open, and each other pointer is that of a reference or of a slice with that length.
+        unsafe { pidtab_list(self.held.get(), bytes.as_mut_ptr().cast(), bytes.len(), size) }
     }
 
     pub(crate) fn dump(&self, bytes: &mut [u8], size: &mut usize) -> u32 {
-        // SAFETY: it is open and lent to queries alone; each pointer is that of a reference or of a slice with that length.
-        unsafe { pidtab_dump(&*self.held, bytes.as_mut_ptr().cast(), bytes.len(), size) }
+        // SAFETY: the table is open, and each other pointer is that of a reference or of a slice with that length.
+        unsafe { pidtab_dump(self.held.get(), bytes.as_mut_ptr().cast(), bytes.len(), size) }
     }
 
-    pub(crate) fn load(text: &[u8], fault: &mut Fault) -> Result<Table, u32> {
-        compare_versions();
-        let mut held = Held::none();
-        // SAFETY: the first pointer is to a struct of zeroes that is this call's alone; each other is that of a reference or of a slice.
-        let status = unsafe { pidtab_load(&mut *held, text.as_ptr().cast(), text.len(), fault) };
-        done(status, Table { held })
-    }
-
-    pub(crate) fn call(&mut self, call: &Call, reply: &mut Reply) -> u32 {
-        // SAFETY: it is open and lent to this call alone; each pointer is that of a reference or of a slice with that length.
-        unsafe { pidtab_call(&mut *self.held, call, reply) }
+    pub(crate) fn call(&self, call: &Call, reply: &mut Reply) -> u32 {
+        // SAFETY: the table is open, and each other pointer is that of a reference or of a slice with that length.
+        unsafe { pidtab_call(self.held.get(), call, reply) }
     }
 
     pub(crate) fn ask(&self, call: &Call, reply: &mut Reply) -> u32 {
-        // SAFETY: it is open and lent to queries alone; each pointer is that of a reference or of a slice with that length.
-        unsafe { pidtab_ask(&*self.held, call, reply) }
+        // SAFETY: the table is open, and each other pointer is that of a reference or of a slice with that length.
+        unsafe { pidtab_ask(self.held.get(), call, reply) }
     }
 
     pub(crate) fn stat(&self, caller: u32, number: u32, task: &mut Task) -> u32 {
-        // SAFETY: it is open and lent to queries alone; each pointer is that of a reference or of a slice with that length.
-        unsafe { pidtab_stat(&*self.held, caller, number, task) }
+        // SAFETY: the table is open, and each other pointer is that of a reference or of a slice with that length.
+        unsafe { pidtab_stat(self.held.get(), caller, number, task) }
     }
 
-    pub(crate) fn page(
-        &self,
-        caller: u32,
-        whom: u32,
-        number: u32,
-        from: u32,
-        numbers: &mut [u32],
-        reply: &mut Reply,
-    ) -> u32 {
-        // SAFETY: it is open and lent to queries alone; each pointer is that of a reference or of a slice with that length.
-        unsafe {
-            pidtab_page(
-                &*self.held,
-                caller,
-                whom,
-                number,
-                from,
-                numbers.as_mut_ptr(),
-                numbers.len(),
-                reply,
-            )
-        }
+    pub(crate) fn page(&self, caller: u32, whom: u32, number: u32, from: u32, numbers: &mut [u32], reply: &mut Reply) -> u32 {
+        // SAFETY: the table is open, and each other pointer is that of a reference or of a slice with that length.
+        unsafe { pidtab_page(self.held.get(), caller, whom, number, from, numbers.as_mut_ptr(), numbers.len(), reply) }
     }
 
     pub(crate) fn space(&self, id: u64, space: &mut Space) -> u32 {
-        // SAFETY: it is open and lent to queries alone; each pointer is that of a reference or of a slice with that length.
-        unsafe { pidtab_space(&*self.held, id, space) }
+        // SAFETY: the table is open, and each other pointer is that of a reference or of a slice with that length.
+        unsafe { pidtab_space(self.held.get(), id, space) }
     }
 
-    pub(crate) fn inside(
-        &self,
-        tree: u32,
-        id: u64,
-        from: u64,
-        ids: &mut [u64],
-        count: &mut u64,
-    ) -> u32 {
-        // SAFETY: it is open and lent to queries alone; each pointer is that of a reference or of a slice with that length.
-        unsafe {
-            pidtab_inside(
-                &*self.held,
-                tree,
-                id,
-                from,
-                ids.as_mut_ptr(),
-                ids.len(),
-                count,
-            )
-        }
+    pub(crate) fn inside(&self, tree: u32, id: u64, from: u64, ids: &mut [u64], count: &mut u64) -> u32 {
+        // SAFETY: the table is open, and each other pointer is that of a reference or of a slice with that length.
+        unsafe { pidtab_inside(self.held.get(), tree, id, from, ids.as_mut_ptr(), ids.len(), count) }
     }
 
-    pub(crate) fn control_tasks(
-        &self,
-        caller: u32,
-        control: u64,
-        from: u32,
-        numbers: &mut [u32],
-        reply: &mut Reply,
-    ) -> u32 {
-        // SAFETY: it is open and lent to queries alone; each pointer is that of a reference or of a slice with that length.
-        unsafe {
-            pidtab_control_tasks(
-                &*self.held,
-                caller,
-                control,
-                from,
-                numbers.as_mut_ptr(),
-                numbers.len(),
-                reply,
-            )
-        }
+    pub(crate) fn control_tasks(&self, caller: u32, control: u64, from: u32, numbers: &mut [u32], reply: &mut Reply) -> u32 {
+        // SAFETY: the table is open, and each other pointer is that of a reference or of a slice with that length.
+        unsafe { pidtab_control_tasks(self.held.get(), caller, control, from, numbers.as_mut_ptr(), numbers.len(), reply) }
     }
 
     pub(crate) fn would(&self, call: &Call, reply: &mut Reply) -> u32 {
-        // SAFETY: it is open and lent to queries alone; each pointer is that of a reference or of a slice with that length.
-        unsafe { pidtab_would(&*self.held, call, reply) }
+        // SAFETY: the table is open, and each other pointer is that of a reference or of a slice with that length.
+        unsafe { pidtab_would(self.held.get(), call, reply) }
     }
 
-    pub(crate) fn fork_at(
-        &mut self,
-        caller: u32,
-        new_space: u32,
-        child: u32,
-        root: u32,
-        reply: &mut Reply,
-    ) -> u32 {
-        // SAFETY: it is open and lent to this call alone; each pointer is that of a reference or of a slice with that length.
-        unsafe { pidtab_fork_at(&mut *self.held, caller, new_space, child, root, reply) }
+    pub(crate) fn call_by(&self, worker: u32, call: &Call, reply: &mut Reply, ordinal: &mut u64) -> u32 {
+        // SAFETY: the table is open, and each other pointer is that of a reference or of a slice with that length.
+        unsafe { pidtab_call_by(self.held.get(), worker, call, reply, ordinal) }
     }
 
-    pub(crate) fn call_told(
-        &mut self,
-        call: &Call,
-        reply: &mut Reply,
-        effects: &mut [Effect],
-        count: &mut u64,
-    ) -> u32 {
-        // SAFETY: it is open and lent to this call alone; each pointer is that of a reference or of a slice with that length.
-        unsafe {
-            pidtab_call_told(
-                &mut *self.held,
-                call,
-                reply,
-                effects.as_mut_ptr(),
-                effects.len(),
-                count,
-            )
-        }
+    pub(crate) fn calls(&self, worker: u32, calls: &[Call], replies: &mut [Reply], made: &mut usize, ordinal: &mut u64) -> u32 {
+        // SAFETY: the table is open, and each other pointer is that of a reference or of a slice with that length.
+        unsafe { pidtab_calls(self.held.get(), worker, calls.as_ptr(), calls.len(), replies.as_mut_ptr(), replies.len(), made, ordinal) }
+    }
+
+    pub(crate) fn line_by(&self, worker: u32, line: &[u8], answer: &mut [u8], size: &mut usize, ordinal: &mut u64) -> u32 {
+        // SAFETY: the table is open, and each other pointer is that of a reference or of a slice with that length.
+        unsafe { pidtab_line_by(self.held.get(), worker, line.as_ptr().cast(), line.len(), answer.as_mut_ptr().cast(), answer.len(), size, ordinal) }
+    }
+
+    pub(crate) fn fork_at_by(&self, worker: u32, caller: u32, new_space: u32, child: u32, root: u32, reply: &mut Reply, ordinal: &mut u64) -> u32 {
+        // SAFETY: the table is open, and each other pointer is that of a reference or of a slice with that length.
+        unsafe { pidtab_fork_at_by(self.held.get(), worker, caller, new_space, child, root, reply, ordinal) }
+    }
+
+    pub(crate) fn call_told_by(&self, worker: u32, call: &Call, reply: &mut Reply, ordinal: &mut u64, effects: &mut [Effect], count: &mut u64) -> u32 {
+        // SAFETY: the table is open, and each other pointer is that of a reference or of a slice with that length.
+        unsafe { pidtab_call_told_by(self.held.get(), worker, call, reply, ordinal, effects.as_mut_ptr(), effects.len(), count) }
+    }
+
+    pub(crate) fn seat(&self, worker: &mut u32) -> u32 {
+        // SAFETY: the table is open, and each other pointer is that of a reference or of a slice with that length.
+        unsafe { pidtab_seat(self.held.get(), worker) }
+    }
+
+    pub(crate) fn counts(&self, first_kept: &mut u64, recorded: &mut u64) -> u32 {
+        // SAFETY: the table is open, and each other pointer is that of a reference or of a slice with that length.
+        unsafe { pidtab_counts(self.held.get(), first_kept, recorded) }
+    }
+
+    pub(crate) fn worker(&self, worker: u32, calls: &mut u64) -> u32 {
+        // SAFETY: the table is open, and each other pointer is that of a reference or of a slice with that length.
+        unsafe { pidtab_worker(self.held.get(), worker, calls) }
+    }
+
+    pub(crate) fn entry(&self, ordinal: u64, worker: &mut u64, call: &mut Call, reply: &mut Reply) -> u32 {
+        // SAFETY: the table is open, and each other pointer is that of a reference or of a slice with that length.
+        unsafe { pidtab_entry(self.held.get(), ordinal, worker, call, reply) }
+    }
+
+    pub(crate) fn read(&self, from: u64, entries: &mut [Entry], count: &mut usize) -> u32 {
+        // SAFETY: the table is open, and each other pointer is that of a reference or of a slice with that length.
+        unsafe { pidtab_read(self.held.get(), from, entries.as_mut_ptr(), entries.len(), count) }
+    }
+
+    pub(crate) fn replay(&self, saved: &[Entry], place: &mut usize) -> u32 {
+        // SAFETY: the table is open, and each other pointer is that of a reference or of a slice with that length.
+        unsafe { pidtab_replay(self.held.get(), saved.as_ptr(), saved.len(), place) }
+    }
+
+    pub(crate) fn keep(&self, keep: u64) -> u32 {
+        // SAFETY: the table is open, and each other pointer is that of a reference or of a slice with that length.
+        unsafe { pidtab_keep(self.held.get(), keep) }
+    }
+
+    pub(crate) fn checkpoint(&self) -> u32 {
+        // SAFETY: the table is open, and each other pointer is that of a reference or of a slice with that length.
+        unsafe { pidtab_checkpoint(self.held.get()) }
+    }
+
+    pub(crate) fn checkpoint_at(&self, seen: u64) -> u32 {
+        // SAFETY: the table is open, and each other pointer is that of a reference or of a slice with that length.
+        unsafe { pidtab_checkpoint_at(self.held.get(), seen) }
+    }
+
+    pub(crate) fn opening(&self, bytes: &mut [u8], size: &mut usize) -> u32 {
+        // SAFETY: the table is open, and each other pointer is that of a reference or of a slice with that length.
+        unsafe { pidtab_opening(self.held.get(), bytes.as_mut_ptr().cast(), bytes.len(), size) }
     }
     // The end of methods of a table.
+}
 
+#[cfg(test)]
+impl Table {
     /// As in a forked child, where the thread whose call was under way is not.
-    #[cfg(test)]
     pub(crate) fn mark(&self, in_call: bool) {
         let mark = if in_call { u8::MAX } else { 0 };
         // SAFETY: the mark is changed as guard.c changes it.

@@ -271,3 +271,171 @@ impl Table {
         Ok(ahead != 0 && ahead.saturating_add(calls) > saving.most)
     }
 }
+
+#[cfg(test)]
+mod tests {
+    use super::*;
+    use crate::{Call, Child, Keep, LineError, Reply, Saved, SavedFault};
+    use std::thread;
+
+    const FORK: Call = Call::Fork {
+        caller: 1,
+        new_space: false,
+    };
+
+    fn open() -> Table {
+        let options = Table::options().keep(Keep::All).workers(4).threads();
+        options.open().expect("a table")
+    }
+
+    /// Each thread forks with the numbers that it was told, or is told anew where another was faster.
+    #[test]
+    fn threads_fork_as_told() {
+        const FORKS: usize = 200;
+        let options = Table::options().keep(10).workers(4).threads();
+        let table = options.open().expect("a table");
+        thread::scope(|scope| {
+            for _ in 0..4 {
+                let mut seat = table.seat().expect("a seat");
+                let table = &table;
+                scope.spawn(move || {
+                    let mut made = 0;
+                    while made < FORKS {
+                        let told = match table.would(FORK) {
+                            Ok(Reply::Forked(child)) => child,
+                            other => panic!("{other:?}"),
+                        };
+                        made += usize::from(seat.fork_at(1, told).expect("a fork"));
+                    }
+                });
+            }
+        });
+        assert_eq!(table.counts().expect("counts").recorded, 4 * FORKS as u64);
+        assert_eq!(
+            table.ask(Call::Count { id: 0 }),
+            Ok(Reply::Counted(4 * FORKS as u64 + 1))
+        );
+    }
+
+    /// A fork with other numbers is none: it is not recorded, and has no ordinal.
+    #[test]
+    fn a_fork_with_other_numbers() {
+        let table = open();
+        let mut seat = table.seat().expect("a seat");
+        let other = Child { number: 3, root: 2 };
+        assert_eq!(seat.fork_at(1, other), Ok(false));
+        assert_eq!(seat.fork_at(9, other), Ok(false));
+        assert_eq!(
+            (seat.ordinal(), table.counts().map(|it| it.recorded)),
+            (None, Ok(0))
+        );
+        let child = Child { number: 2, root: 2 };
+        assert_eq!(seat.fork_new_at(1, child), Ok(true));
+        assert_eq!((seat.ordinal(), seat.getpid(2)), (Some(0), Ok(1)));
+    }
+
+    /// What asks is `Busy`, and so is what calls.
+    fn is_busy(table: &Table) {
+        assert_eq!(table.getpid(1), Err(Error::Busy));
+        assert_eq!(table.line("getpid 1"), Err(LineError::Busy));
+        assert_eq!(table.told(FORK), Err(Error::Busy));
+        let child = Child { number: 2, root: 2 };
+        assert_eq!(table.fork_at(1, child), Err(Error::Busy));
+        assert_eq!(table.calls(&[FORK], &mut Vec::new()), Err(Error::Busy));
+        assert_eq!(table.seat().err(), Some(Error::Busy));
+        assert_eq!(table.ask(Call::Getpid { caller: 1 }), Err(Error::Busy));
+        assert_eq!(table.would(FORK), Err(Error::Busy));
+        assert_eq!(table.stat(1, 0), Err(Error::Busy));
+        assert_eq!(table.children(1, 0, 0), Err(Error::Busy));
+        assert_eq!(table.control_tasks(1, 0, 0), Err(Error::Busy));
+        assert_eq!(table.space(0), Err(Error::Busy));
+        assert_eq!(table.spaces_inside(0, 0), Err(Error::Busy));
+        assert_eq!(table.list(), Err(Error::Busy));
+        assert_eq!(table.dump(), Err(Error::Busy));
+        assert_eq!(table.label(1, "init"), Err(Error::Busy));
+    }
+
+    /// As in a forked child, where the thread whose call was under way is not.
+    #[test]
+    fn a_call_that_does_not_end() {
+        let (bare, recorded) = (Table::open(32768).expect("a table"), open());
+        for table in [&bare, &recorded] {
+            table.raw.mark(true);
+            is_busy(table);
+        }
+        let mut seat = Err(Error::Busy);
+        assert_eq!(recorded.counts(), Err(Error::Busy));
+        assert_eq!(recorded.worker(0), Err(Error::Busy));
+        assert_eq!(recorded.entry(0), Err(Error::Busy));
+        assert_eq!(recorded.entries(0, 1), Err(Error::Busy));
+        assert_eq!(recorded.checkpoint(), Err(Error::Busy));
+        assert_eq!(recorded.checkpoint_at(0), Err(Error::Busy));
+        assert_eq!(recorded.opening(), Err(Error::Busy));
+        let (mut saved, mut bytes) = (Saved::new(), Vec::new());
+        let busy = recorded.save(&mut saved, &mut bytes);
+        let busy = busy.expect_err("busy").fault;
+        assert!(matches!(busy, SavedFault::Table(Error::Busy)) && bytes.is_empty());
+        for table in [&bare, &recorded] {
+            table.raw.mark(false);
+            seat = table.seat();
+        }
+        let mut seat = seat.expect("a seat");
+        assert_eq!((seat.ordinal(), seat.getpid(1)), (None, Ok(1)));
+    }
+
+    /// While a query is under way another one is answered, and a call waits. Then a query waits after the call, and sees what it has done.
+    #[test]
+    fn queries_at_once() {
+        let (table, all) = (open(), Call::Count { id: 0 });
+        let is_made = AtomicBool::new(false);
+        thread::scope(|scope| {
+            let query = table.for_query().expect("a share");
+            let other = scope.spawn(|| (table.ask(all), table.stat(1, 0).is_ok(), table.list()));
+            let (counted, is_found, list) = other.join().expect("no panic");
+            assert_eq!((counted, is_found), (Ok(Reply::Counted(1)), true));
+            assert!(list.is_ok_and(|it| it.contains("count 1\n")));
+            scope.spawn(|| {
+                assert_eq!(table.fork(1).map(|it| it.number), Ok(2));
+                is_made.store(true, Ordering::SeqCst);
+            });
+            let lock = table.lock.as_ref().expect("a lock");
+            while lock.queries.try_read().is_ok() {
+                thread::yield_now();
+            }
+            let after = scope.spawn(|| table.ask(all));
+            thread::sleep(Duration::from_millis(50));
+            assert!(!is_made.load(Ordering::SeqCst) && !after.is_finished());
+            drop(query);
+            assert_eq!(after.join().expect("no panic"), Ok(Reply::Counted(2)));
+        });
+    }
+
+    /// What the thread that has the lock does works, but for what waits for another thread.
+    #[test]
+    fn who_has_the_lock() {
+        let table = open();
+        let mut seat = table.seat().expect("a seat");
+        let held = table.lock().expect("the lock");
+        assert_eq!(held.fork(1), table.fork(2).map(|it| Child { number: it.number - 1, root: it.root - 1 }));
+        assert_eq!((seat.fork(3).is_ok(), seat.ordinal()), (true, Some(2)));
+        assert!(table.list() == held.list() && table.checkpoint_at(3).is_ok());
+        assert_eq!(table.lock().err(), Some(Error::Busy));
+        assert_eq!(table.wait_changed(0, None), Err(Error::Busy));
+        assert_eq!((table.end_waiting(), table.end_saving()), (Err(Error::Busy), Err(Error::Busy)));
+        assert_eq!(table.bound_unsaved(1), Err(Error::Busy));
+        let is_busy = |done: Result<(), SavedError>| {
+            matches!(done, Err(SavedError { fault: SavedFault::Table(Error::Busy), .. }))
+        };
+        assert!(is_busy(table.wait_saved(0)));
+        assert!(is_busy(table.save(&mut Saved::new(), &mut Vec::new())));
+        assert!(is_busy(table.serve(&mut Saved::new(), &mut Vec::new(), 0, || Ok(()))));
+        thread::scope(|scope| {
+            let other = scope.spawn(|| table.getpid(1));
+            thread::sleep(Duration::from_millis(50));
+            assert!(!other.is_finished());
+            drop(held);
+            assert_eq!(other.join().expect("no panic"), Ok(1));
+        });
+        assert!(table.lock().is_ok());
+    }
+}

@@ -1,5 +1,5 @@
 //! A table that is made of a text, beside the one that was never saved. What is written and loaded is in interface/cases.
-use pidtab::{Calls, Error, Saved, SavedFault, Shared, Table};
+use pidtab::{Error, Saved, SavedFault, Shared, Table};
 
 const TEXT: &str = "pidtab table 1 pid-max 32768 stamp 7
 task 1@0 parent - group 1@0 session 1@0 control 0 children 0 live
@@ -43,7 +43,7 @@ impl Chance {
 fn calls_behind_it() {
     let mut chance = Chance(40);
     for _ in 0..10 {
-        let mut table = Table::open(301).expect("a table");
+        let table = Table::open(301).expect("a table");
         for _ in 0..300 {
             table.line(chance.line()).expect("an answer");
         }

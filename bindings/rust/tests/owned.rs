@@ -1,5 +1,5 @@
 //! A seat that owns its table, and what an argument at fault says.
-use pidtab::{Call, Calls, Child, Error, OwnedSeat, Reply, Shared, Table, TextError};
+use pidtab::{Call, Child, Error, OwnedSeat, Reply, Shared, Table, TextError};
 use std::sync::Arc;
 use std::thread;
 
@@ -20,7 +20,7 @@ fn threads_own_their_seats() {
             assert_eq!((seat.worker(), seat.ordinal()), (worker, None));
             thread::spawn(move || {
                 for _ in 0..FORKS {
-                    seat.fork(1, false).expect("a fork");
+                    seat.fork(1).expect("a fork");
                 }
                 seat
             })
@@ -66,9 +66,9 @@ fn the_functions_of_a_seat() {
     assert_eq!(seat.calls(&calls, &mut replies), Ok(()));
     assert_eq!((replies.len(), seat.ordinal()), (2, Some(2)));
     let (stranger, next) = (Child { number: 7, root: 7 }, Child { number: 3, root: 3 });
-    assert_eq!(seat.fork_at(1, false, stranger), Ok(false));
+    assert_eq!(seat.fork_at(1, stranger), Ok(false));
     assert_eq!(seat.ordinal(), Some(2));
-    assert_eq!(seat.fork_at(1, false, next), Ok(true));
+    assert_eq!(seat.fork_at(1, next), Ok(true));
     let exit = Call::Exit {
         caller: 2,
         status: 7,

@@ -44,7 +44,7 @@ fn play(scripts: &str) -> String {
     for script in scripts.split("# ").skip(1) {
         let (head, lines) = script.split_once('\n').expect("a head");
         let words: Vec<_> = head.split(' ').collect();
-        let mut table = Table::open(words[1].parse().expect("pid_max")).expect("a table");
+        let table = Table::open(words[1].parse().expect("pid_max")).expect("a table");
         told += &format!("# {head}\n");
         for line in lines.lines() {
             match table.line(line) {

@@ -1,6 +1,6 @@
 //! A saved history: its bytes are those of docs/SAVED.md, it loads as what was saved, and what is wrong with it is said with its place. The
 //! writers and readers are short, interrupted, and fail after each byte.
-use pidtab::{Calls, Entry, Error, Saved, SavedError, SavedFault, Seat, Shared};
+use pidtab::{Entry, Error, Saved, SavedError, SavedFault, Seat, Shared};
 use std::fs::{self, File, OpenOptions};
 use std::io::{self, Read, Seek, SeekFrom, Write};
 use std::net::Shutdown;
@@ -134,7 +134,7 @@ fn whole() -> (Shared, Vec<u8>) {
     let shared = open(2);
     let mut seat = shared.seat().expect("a seat");
     for number in 1..DEEP {
-        seat.fork(number, true).expect("a child");
+        seat.fork_new(number).expect("a child");
     }
     ask(&mut shared.seat().expect("a seat"), &LINES);
     let bytes = bytes_of(&shared);
@@ -272,7 +272,7 @@ fn what_goes_on_is_what_one_table_saves() {
     let (one, mut saved, mut file) = (open(2), Saved::new(), Vec::new());
     let (mut seat, mut other) = (one.seat().expect("a seat"), one.seat().expect("a seat"));
     for number in 1..DEEP {
-        seat.fork(number, true).expect("a child");
+        seat.fork_new(number).expect("a child");
         save(&one, &mut saved, &mut file);
         save(&one, &mut saved, &mut file);
     }

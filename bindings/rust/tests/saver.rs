@@ -1,5 +1,5 @@
 //! The saver of a table that threads work on: who waits for it, whom it holds up, and that busy threads let it have the lock.
-use pidtab::{Call, Calls, Error, LineError, Saved, SavedFault, Seat, Shared};
+use pidtab::{Call, Error, LineError, Saved, SavedFault, Seat, Shared};
 use std::fs;
 use std::io::{self, Write};
 use std::sync::atomic::{AtomicBool, AtomicU32, AtomicU64, Ordering};

@@ -1,7 +1,7 @@
 //! A table that threads share, and its history: sixteen threads, whose receipts are compared with the history; bounds, replays and locks. What
 //! each function answers is in interface/cases.
 use pidtab::{
-    Call, Calls, Child, Counts, Ended, Entry, Error, Reaped, ReplayError, Reply, Seat, Shared,
+    Call, Child, Counts, Ended, Entry, Error, Reaped, ReplayError, Reply, Seat, Shared,
     Table, Which,
 };
 use std::sync::atomic::{AtomicBool, Ordering};
@@ -117,7 +117,7 @@ fn the_history_replays(history: &[Entry], list: &str) {
     assert_eq!(again.replay(history), Ok(()));
     assert_eq!(counts(&again), (0, ALL));
     assert_eq!(again.list().as_deref(), Ok(list));
-    let mut table = Table::open(32768).expect("a table");
+    let table = Table::open(32768).expect("a table");
     for entry in history {
         assert_eq!(table.call(entry.call).as_ref(), Ok(&entry.reply));
     }
@@ -149,7 +149,7 @@ fn a_bound_behind_a_replay() {
     let shared = open(1);
     let mut seat = shared.seat().expect("a seat");
     for _ in 0..26 {
-        seat.fork(1, false).expect("a child");
+        seat.fork(1).expect("a child");
     }
     let saved = shared.entries(20, usize::MAX).expect("entries");
     let again = Shared::options(32768, 1).keep(5).open().expect("a table");
@@ -167,21 +167,21 @@ fn a_bound_behind_a_replay() {
 fn a_table_that_follows() {
     let shared = Shared::options(32768, 1).keep(80).open().expect("a table");
     let mut seat = shared.seat().expect("a seat");
-    let mut replica = Table::open(32768).expect("a table");
+    let replica = Table::open(32768).expect("a table");
     let mut next = 0;
     for _ in 0..70 {
-        assert!(seat.fork(1, false).is_ok());
+        assert!(seat.fork(1).is_ok());
     }
     assert_eq!((shared.follow(&mut replica, &mut next), next), (Ok(()), 70));
     let before = shared.dump().expect("a text");
     assert_eq!(replica.dump(), Ok(before.clone()));
-    assert!(seat.fork(1, true).is_ok());
+    assert!(seat.fork_new(1).is_ok());
     assert_eq!(replica.dump(), Ok(before));
     assert_eq!((shared.follow(&mut replica, &mut next), next), (Ok(()), 71));
     assert_eq!(replica.dump(), shared.dump());
-    assert!(replica.fork(1, false).is_ok());
+    assert!(replica.fork(1).is_ok());
     for _ in 0..20 {
-        assert!(seat.fork(1, false).is_ok());
+        assert!(seat.fork(1).is_ok());
     }
     let differs = Err(Error::Differs);
     assert_eq!(
@@ -285,7 +285,7 @@ fn several_calls_in_one_go() {
 fn fork_and_reap(seat: &mut Seat<'_>) {
     let mut turn = seat.lock();
     let before = turn.counts().expect("counts").recorded;
-    let child = turn.fork(1, false).expect("a child");
+    let child = turn.fork(1).expect("a child");
     assert_eq!(
         turn.line(format!("exit {} 3", child.root)),
         Ok("ok".to_owned())
@@ -300,7 +300,7 @@ fn a_list_and_the_counts_that_it_belongs_to() {
     let shared = open(1);
     let mut seat = shared.seat().expect("a seat");
     for _ in 0..200 {
-        seat.fork(1, false).expect("a child");
+        seat.fork(1).expect("a child");
     }
     let mut record = shared.lock();
     let (listing, recorded) = (record.listing().expect("a list"), record.counts());
@@ -323,7 +323,7 @@ fn a_thread_that_panics_gives_the_lock_back() {
     let panicked = thread::spawn(move || {
         let mut seat = other.seat().expect("a seat");
         let mut turn = seat.lock();
-        turn.fork(1, false).expect("a child");
+        turn.fork(1).expect("a child");
         panic!("on purpose, with the lock");
     });
     assert!(panicked.join().is_err());
@@ -361,7 +361,7 @@ fn readers_beside_a_writer() {
         }
         let mut seat = shared.seat().expect("a seat");
         for _ in 0..200 {
-            let child = seat.fork(1, false).expect("a child");
+            let child = seat.fork(1).expect("a child");
             seat.exit(child.root, 7).expect("an exit");
             seat.wait(1, Which::Any).expect("a child that ended");
         }

@@ -1,5 +1,5 @@
 //! Who waits until a call is recorded: one or many, beside a saver, with a timeout, and until the waits end.
-use pidtab::{Call, Calls, Error, Saved, Seat, Shared, Table, Which};
+use pidtab::{Call, Error, Saved, Seat, Shared, Table, Which};
 use std::io;
 use std::sync::atomic::{AtomicU64, Ordering};
 use std::thread;
@@ -175,7 +175,7 @@ fn the_end_of_the_saver_ends_no_wait() {
 /// Children that end. One of three is left a zombie.
 fn work(mut seat: Seat<'_>) {
     for number in 0..EACH {
-        let child = seat.fork(1, false).expect("a child");
+        let child = seat.fork(1).expect("a child");
         seat.exit(child.root, 7).expect("its end");
         if number % 3 != 0 {
             let reaped = seat.call(Call::Wait {
@@ -189,7 +189,7 @@ fn work(mut seat: Seat<'_>) {
 
 /// Follows to the end of the waits: the replica's text, and how many calls it has made.
 fn follow(shared: &Shared) -> (String, u64) {
-    let mut replica = Table::open(32768).expect("a table");
+    let replica = Table::open(32768).expect("a table");
     let mut next = 0;
     loop {
         match shared.wait_changed(next, None) {
