@@ -1,18 +1,18 @@
 //! A table as text, and a table of that text: `cargo run --offline --example dump` prints what is said at the end.
-use pidtab::{Shared, Table};
+use pidtab::{Keep, Table};
 
 fn main() -> Result<(), Box<dyn std::error::Error>> {
     let table = Table::open(32768)?;
     let init = table.fork_new(1)?.root;
     let text = table.dump()?;
 
-    let mut again = Table::from_dump(&text)?;
+    let again = Table::from_dump(&text)?;
     println!("{:?}", again.fork(init)?);
     println!("{:?}", table.fork(init)?);
 
-    // For threads, with a history that begins there: one worker, which has made one call before.
-    let shared = Shared::from_dump(&text, &[1], 0)?;
-    let mut seat = shared.seat()?;
+    // With a history that begins there: one worker, which has made one call before.
+    let recorded = Table::options().keep(Keep::All).open_dump(&text, &[1])?;
+    let mut seat = recorded.seat()?;
     seat.fork(init)?;
     println!("{:?}", seat.ordinal());
 

@@ -257,7 +257,7 @@ impl Table {
     /// # Errors
     /// `NoMemory`, `Busy`.
     pub fn list(&self) -> Result<String, Error> {
-        let _shared = self.for_read();
+        let _shared = self.for_read()?;
         texts::whole(|room, size| self.raw.list(room, size))
     }
 
@@ -266,7 +266,7 @@ impl Table {
     /// # Errors
     /// `NoMemory`, `Busy`.
     pub fn listing(&self) -> Result<Listing, Error> {
-        let _shared = self.for_read();
+        let _shared = self.for_read()?;
         let list = texts::whole(|room, size| self.raw.list(room, size))?;
         Ok(Listing::of(&list).with_labels(self.labels().iter()))
     }
@@ -277,7 +277,7 @@ impl Table {
     /// # Errors
     /// `NoMemory`, `Busy`.
     pub fn dump(&self) -> Result<String, Error> {
-        let _shared = self.for_read();
+        let _shared = self.for_read()?;
         texts::whole(|room, size| self.raw.dump(room, size))
     }
 }

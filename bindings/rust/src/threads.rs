@@ -7,10 +7,10 @@ use std::ops::Deref;
 use std::sync::atomic::{AtomicBool, AtomicUsize, Ordering};
 use std::sync::{
     Condvar, LockResult, Mutex, MutexGuard, PoisonError, RwLock, RwLockReadGuard, RwLockWriteGuard,
-    TryLockError,
+    TryLockError, TryLockResult,
 };
 use std::time::Duration;
-use std::{fmt, mem, ptr};
+use std::{fmt, mem, process, ptr};
 
 /// How far the saver of a table is, as it has told.
 #[derive(Default)]
@@ -39,7 +39,6 @@ fn this_thread() -> usize {
     PLACE.with(|it| ptr::from_ref(it) as usize)
 }
 
-#[derive(Default)]
 pub(crate) struct Lock {
     /// Queries share it, and a change has it alone. On Linux no query passes a change that waits: std's lock has it so.
     queries: RwLock<()>,
@@ -55,45 +54,78 @@ pub(crate) struct Lock {
     told: Condvar,
     /// A call was recorded while somebody slept.
     recorded: Condvar,
+    /// Where it was made. A forked child is another process.
+    process: u32,
+}
+
+impl Default for Lock {
+    fn default() -> Lock {
+        Lock {
+            queries: RwLock::default(),
+            turn: Mutex::default(),
+            gate: Mutex::default(),
+            is_awaited: AtomicBool::new(false),
+            holder: AtomicUsize::new(0),
+            told: Condvar::new(),
+            recorded: Condvar::new(),
+            process: process::id(),
+        }
+    }
 }
 
 impl Lock {
+    /// What was tried, or what waits for it. In a forked child nobody gives back what another thread had at the fork, so that is `Busy` there.
+    fn take<T>(&self, tried: TryLockResult<T>, wait: impl FnOnce() -> LockResult<T>) -> Result<T, Error> {
+        match tried {
+            Ok(taken) => Ok(taken),
+            Err(TryLockError::Poisoned(taken)) => Ok(taken.into_inner()),
+            Err(TryLockError::WouldBlock) if process::id() != self.process => Err(Error::Busy),
+            Err(TryLockError::WouldBlock) => Ok(whole(wait())),
+        }
+    }
+
     /// Whether this thread has a [`Locked`].
     fn is_mine(&self) -> bool {
         let holder = self.holder.load(Ordering::Relaxed);
         holder != 0 && holder == this_thread()
     }
 
-    fn let_others_go_first(&self) {
+    fn let_others_go_first(&self) -> Result<(), Error> {
         if self.is_awaited.load(Ordering::Relaxed) {
-            drop(whole(self.gate.lock()));
+            drop(self.take(self.gate.try_lock(), || self.gate.lock())?);
         }
+        Ok(())
     }
 
-    fn before_calls<T>(&self, take: impl FnOnce() -> T) -> T {
-        let _first = whole(self.gate.lock());
+    fn before_calls<T>(&self, take: impl FnOnce() -> Result<T, Error>) -> Result<T, Error> {
+        let _first = self.take(self.gate.try_lock(), || self.gate.lock())?;
         self.is_awaited.store(true, Ordering::Relaxed);
         let taken = take();
         self.is_awaited.store(false, Ordering::Relaxed);
         taken
     }
 
-    fn turn_of_call(&self) -> MutexGuard<'_, Saving> {
-        self.let_others_go_first();
-        whole(self.turn.lock())
+    fn turn_of_call(&self) -> Result<MutexGuard<'_, Saving>, Error> {
+        self.let_others_go_first()?;
+        self.take(self.turn.try_lock(), || self.turn.lock())
     }
 
     /// The turn, before the calls of busy threads.
-    pub(crate) fn turn(&self) -> MutexGuard<'_, Saving> {
-        self.before_calls(|| whole(self.turn.lock()))
+    pub(crate) fn turn(&self) -> Result<MutexGuard<'_, Saving>, Error> {
+        self.before_calls(|| self.take(self.turn.try_lock(), || self.turn.lock()))
+    }
+
+    fn share(&self) -> Result<RwLockReadGuard<'_, ()>, Error> {
+        self.take(self.queries.try_read(), || self.queries.read())
     }
 
     /// Who has the turn waits for the queries, and then changes the table.
-    fn alone<'a>(&'a self, turn: MutexGuard<'a, Saving>) -> Turn<'a> {
-        Turn {
-            held: Some((whole(self.queries.write()), turn)),
+    fn alone<'a>(&'a self, turn: MutexGuard<'a, Saving>) -> Result<Turn<'a>, Error> {
+        let queries = self.take(self.queries.try_write(), || self.queries.write())?;
+        Ok(Turn {
+            held: Some((queries, turn)),
             lock: self,
-        }
+        })
     }
 
     /// Who has the turn gives it back until a call is recorded, or the time is over.
@@ -118,9 +150,10 @@ impl Lock {
     }
 
     /// Has those that wait for the saver look again at what is changed.
-    pub(crate) fn tell(&self, change: impl FnOnce(&mut Saving)) {
-        change(&mut self.turn());
+    pub(crate) fn tell(&self, change: impl FnOnce(&mut Saving)) -> Result<(), Error> {
+        change(&mut *self.turn()?);
         self.told.notify_all();
+        Ok(())
     }
 
     /// Wakes a saver that sleeps, and who waits for a call.
@@ -205,7 +238,7 @@ impl Table {
     /// `NoThreads`; `Busy` where this thread has the lock already.
     pub fn lock(&self) -> Result<Locked<'_>, Error> {
         let lock = self.threads()?;
-        let turn = lock.alone(lock.turn());
+        let turn = lock.alone(lock.turn()?)?;
         lock.holder.store(this_thread(), Ordering::Relaxed);
         Ok(Locked { table: self, turn })
     }
@@ -225,26 +258,31 @@ impl Table {
     }
 
     /// A query's share, which lets those go before that are no calls.
-    pub(crate) fn for_query(&self) -> Option<RwLockReadGuard<'_, ()>> {
-        let lock = self.to_take()?;
-        lock.let_others_go_first();
-        Some(whole(lock.queries.read()))
+    pub(crate) fn for_query(&self) -> Result<Option<RwLockReadGuard<'_, ()>>, Error> {
+        let Some(lock) = self.to_take() else {
+            return Ok(None);
+        };
+        lock.let_others_go_first()?;
+        lock.share().map(Some)
     }
 
     /// The share of a function that goes before the calls and their like where it has to wait.
-    pub(crate) fn for_read(&self) -> Option<RwLockReadGuard<'_, ()>> {
-        let lock = self.to_take()?;
-        Some(match lock.queries.try_read() {
-            Ok(shared) => shared,
-            Err(TryLockError::Poisoned(shared)) => shared.into_inner(),
-            Err(TryLockError::WouldBlock) => lock.before_calls(|| whole(lock.queries.read())),
-        })
+    pub(crate) fn for_read(&self) -> Result<Option<RwLockReadGuard<'_, ()>>, Error> {
+        let Some(lock) = self.to_take() else {
+            return Ok(None);
+        };
+        match lock.queries.try_read() {
+            Err(TryLockError::WouldBlock) => lock.before_calls(|| lock.share()).map(Some),
+            free => lock.take(free, || lock.queries.read()).map(Some),
+        }
     }
 
     /// The turn of a change that is no call.
-    pub(crate) fn for_change(&self) -> Option<Turn<'_>> {
-        let lock = self.to_take()?;
-        Some(lock.alone(lock.turn()))
+    pub(crate) fn for_change(&self) -> Result<Option<Turn<'_>>, Error> {
+        let Some(lock) = self.to_take() else {
+            return Ok(None);
+        };
+        lock.alone(lock.turn()?).map(Some)
     }
 
     /// The turn of so many calls that keep the bound: it waits until the saver is near enough.
@@ -252,14 +290,14 @@ impl Table {
         let Some(lock) = self.to_take() else {
             return Ok(None);
         };
-        let mut turn = lock.turn_of_call();
+        let mut turn = lock.turn_of_call()?;
         while self.is_too_far(&turn, calls as u64)? {
             if turn.fault.is_some() {
                 return Err(Error::Unsaved);
             }
             turn = lock.wait_for_saver(turn);
         }
-        Ok(Some(lock.alone(turn)))
+        lock.alone(turn).map(Some)
     }
 
     /// Whether with so many calls more would be recorded and not saved than the bound lets there be. More than the bound follow where all are saved.
@@ -389,7 +427,7 @@ mod tests {
         let (table, all) = (open(), Call::Count { id: 0 });
         let is_made = AtomicBool::new(false);
         thread::scope(|scope| {
-            let query = table.for_query().expect("a share");
+            let query = table.for_query();
             let other = scope.spawn(|| (table.ask(all), table.stat(1, 0).is_ok(), table.list()));
             let (counted, is_found, list) = other.join().expect("no panic");
             assert_eq!((counted, is_found), (Ok(Reply::Counted(1)), true));

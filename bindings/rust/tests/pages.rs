@@ -104,7 +104,7 @@ fn the_example_of_the_page() {
 
 #[test]
 fn the_examples_print_what_is_said_at_their_ends() {
-    for name in ["dump", "saved", "shared"] {
+    for name in ["dump", "saved", "threads"] {
         let code = read(&format!("bindings/rust/examples/{name}.rs"));
         let (_, end) = code
             .split_once("\n// It prints\n//\n")

@@ -45,7 +45,7 @@ fn a_table_goes_to_another_thread() {
         assert_eq!(table.fork(2), child(3, 3));
         table
     });
-    let mut table = other.join().expect("no panic");
+    let table = other.join().expect("no panic");
     assert_eq!(table.getppid(3), Ok(2));
     thread::spawn(move || drop(table)).join().expect("no panic");
 }
@@ -68,7 +68,7 @@ fn eight_threads_take_turns() {
     let mut given = given.into_inner().expect("the list");
     given.sort_unstable();
     assert_eq!(given, (2..=1601).collect::<Vec<_>>());
-    let mut table = table.into_inner().expect("the table");
+    let table = table.into_inner().expect("the table");
     assert_eq!(table.count(0), Ok(1601));
 }
 
