@@ -215,7 +215,11 @@ impl Reply {
 
 impl Call {
     /// What the call is told by its reply, or why it was refused.
-    pub(crate) fn told<T>(self, reply: Reply, read: fn(Reply) -> Result<T, Reply>) -> Result<T, Error> {
+    pub(crate) fn told<T>(
+        self,
+        reply: Reply,
+        read: fn(Reply) -> Result<T, Reply>,
+    ) -> Result<T, Error> {
         read(reply).or_else(|other| other.refused(Some(self)))
     }
 }

@@ -70,7 +70,9 @@ impl World {
         let [pid_max, workers, stamp, keep] = settings else {
             panic!("{settings:?}")
         };
-        let options = kept(*keep).pid_max(*pid_max as u32).workers(*workers as u32);
+        let options = kept(*keep)
+            .pid_max(*pid_max as u32)
+            .workers(*workers as u32);
         let recorded = options.first_stamp(*stamp).open();
         let mut tables = Vec::new();
         if settings[1..] == [1, 1, 0] {
@@ -216,9 +218,10 @@ impl World {
                 .entries(*from, *most as usize)
                 .map(|it| it.len().to_string()),
             ("checkpoint", []) => self.recorded.checkpoint().map(|()| "DONE".to_owned()),
-            ("checkpoint_at", [seen]) => {
-                self.recorded.checkpoint_at(*seen).map(|()| "DONE".to_owned())
-            }
+            ("checkpoint_at", [seen]) => self
+                .recorded
+                .checkpoint_at(*seen)
+                .map(|()| "DONE".to_owned()),
             _ => panic!("{words:?}"),
         };
         told.unwrap_or_else(|fault| say_error(&fault))

@@ -1,7 +1,5 @@
 //! The table of a service, `pidtabd`, by its socket: requests of RESP, and their answers.
-use crate::{
-    Argument, Call, Child, Ended, Error, Kind, Listing, Reaped, Refusal, Reply, Which,
-};
+use crate::{Argument, Call, Child, Ended, Error, Kind, Listing, Reaped, Refusal, Reply, Which};
 use std::io::{self, BufRead, BufReader, Read, Write};
 use std::os::unix::net::UnixStream;
 use std::path::Path;

@@ -313,9 +313,7 @@ impl fmt::Display for Error {
             Error::Busy => to.write_str("busy"),
             Error::NotKept => to.write_str("no entry with the ordinal is kept"),
             Error::Again => to.write_str("another number of calls was recorded by now"),
-            Error::NoHistory => {
-                to.write_str("this table keeps no history: open it with keep")
-            }
+            Error::NoHistory => to.write_str("this table keeps no history: open it with keep"),
             Error::NoThreads => to.write_str("this table is one thread's: open it with threads"),
             Error::Differs => to.write_str("a reply is not the saved one"),
             Error::Unsaved => {

@@ -30,7 +30,9 @@ impl Labels {
             self.by_root.clear();
         }
         if !self.by_root.is_empty() {
-            let new = entries.iter().filter_map(|it| new_task(&Reply::of(&it.reply)));
+            let new = entries
+                .iter()
+                .filter_map(|it| new_task(&Reply::of(&it.reply)));
             new.for_each(|root| self.forget(root));
         }
     }

@@ -417,7 +417,6 @@ impl Table {
         };
         done(status, table)
     }
-
 }
 
 #[rustfmt::skip]

@@ -2,9 +2,7 @@
 use crate::labels::{self, Labels};
 use crate::options::Options;
 use crate::threads::Lock;
-use crate::{
-    effects, raw, texts, Call, Child, Error, LineError, Listing, Reply, TextError, Told,
-};
+use crate::{effects, raw, texts, Call, Child, Error, LineError, Listing, Reply, TextError, Told};
 use std::fmt;
 use std::sync::atomic::{AtomicU64, Ordering};
 use std::sync::{Mutex, MutexGuard, PoisonError};
@@ -303,9 +301,8 @@ impl Table {
         ordinal: &mut u64,
     ) -> Result<String, LineError> {
         let _turn = self.for_calls(1).map_err(LineError::of_turn)?;
-        let answer = texts::answer(|room, size| {
-            self.raw.line_by(worker, line, room, size, ordinal)
-        })?;
+        let answer =
+            texts::answer(|room, size| self.raw.line_by(worker, line, room, size, ordinal))?;
         self.forget_label(labels::new_task_of(&answer));
         Ok(answer)
     }

@@ -75,7 +75,11 @@ impl Default for Lock {
 
 impl Lock {
     /// What was tried, or what waits for it. In a forked child nobody gives back what another thread had at the fork, so that is `Busy` there.
-    fn take<T>(&self, tried: TryLockResult<T>, wait: impl FnOnce() -> LockResult<T>) -> Result<T, Error> {
+    fn take<T>(
+        &self,
+        tried: TryLockResult<T>,
+        wait: impl FnOnce() -> LockResult<T>,
+    ) -> Result<T, Error> {
         match tried {
             Ok(taken) => Ok(taken),
             Err(TryLockError::Poisoned(taken)) => Ok(taken.into_inner()),
@@ -454,19 +458,39 @@ mod tests {
         let table = open();
         let mut seat = table.seat().expect("a seat");
         let held = table.lock().expect("the lock");
-        assert_eq!(held.fork(1), table.fork(2).map(|it| Child { number: it.number - 1, root: it.root - 1 }));
+        assert_eq!(
+            held.fork(1),
+            table.fork(2).map(|it| Child {
+                number: it.number - 1,
+                root: it.root - 1
+            })
+        );
         assert_eq!((seat.fork(3).is_ok(), seat.ordinal()), (true, Some(2)));
         assert!(table.list() == held.list() && table.checkpoint_at(3).is_ok());
         assert_eq!(table.lock().err(), Some(Error::Busy));
         assert_eq!(table.wait_changed(0, None), Err(Error::Busy));
-        assert_eq!((table.end_waiting(), table.end_saving()), (Err(Error::Busy), Err(Error::Busy)));
+        assert_eq!(
+            (table.end_waiting(), table.end_saving()),
+            (Err(Error::Busy), Err(Error::Busy))
+        );
         assert_eq!(table.bound_unsaved(1), Err(Error::Busy));
         let is_busy = |done: Result<(), SavedError>| {
-            matches!(done, Err(SavedError { fault: SavedFault::Table(Error::Busy), .. }))
+            matches!(
+                done,
+                Err(SavedError {
+                    fault: SavedFault::Table(Error::Busy),
+                    ..
+                })
+            )
         };
         assert!(is_busy(table.wait_saved(0)));
         assert!(is_busy(table.save(&mut Saved::new(), &mut Vec::new())));
-        assert!(is_busy(table.serve(&mut Saved::new(), &mut Vec::new(), 0, || Ok(()))));
+        assert!(is_busy(table.serve(
+            &mut Saved::new(),
+            &mut Vec::new(),
+            0,
+            || Ok(())
+        )));
         thread::scope(|scope| {
             let other = scope.spawn(|| table.getpid(1));
             thread::sleep(Duration::from_millis(50));

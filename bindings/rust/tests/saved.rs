@@ -344,10 +344,7 @@ fn a_file_that_is_cut_at_each_byte_goes_on() {
 }
 
 fn make_again(table: &Table, entries: &[Entry]) {
-    let mut seats = [
-        table.seat().expect("a seat"),
-        table.seat().expect("a seat"),
-    ];
+    let mut seats = [table.seat().expect("a seat"), table.seat().expect("a seat")];
     for entry in entries {
         let _ = seats[entry.worker as usize].call(entry.call);
     }
@@ -361,9 +358,7 @@ fn zeroes_at_the_end() {
         longer.resize(bytes.len() + zeroes, 0);
         assert_eq!(load(&longer).1.left_out(), zeroes as u64);
         let kept = Kept::new(&longer);
-        options(2)
-            .resume(&kept.open())
-            .expect("a table");
+        options(2).resume(&kept.open()).expect("a table");
         assert_eq!(kept.bytes(), bytes);
         if zeroes > 48 {
             longer.push(1);
@@ -583,7 +578,9 @@ fn a_reader_that_fails_after_each_byte() {
         let failed = options(1).load(Device::new(&bytes[..], left)).map(|_| ());
         assert!(is_of_the_device(&failed.expect_err("a fault")));
     }
-    let (again, _) = options(1).load(Device::new(&bytes[..], usize::MAX)).expect("a table");
+    let (again, _) = options(1)
+        .load(Device::new(&bytes[..], usize::MAX))
+        .expect("a table");
     same(&again, &table);
 }
 
@@ -637,9 +634,7 @@ fn files_that_are_begun() {
     assert_eq!(table.seat().expect("a seat").mk(0), Ok(9));
     save(&table, &mut saved, &file);
     // The settings of the file are its own.
-    let (again, saved) = options(2)
-        .resume(&kept.open())
-        .expect("a table");
+    let (again, saved) = options(2).resume(&kept.open()).expect("a table");
     assert_eq!(
         (again.pid_max(), again.workers(), again.first_stamp()),
         (400, 3, 9)

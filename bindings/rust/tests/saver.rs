@@ -257,9 +257,7 @@ fn goes_before_busy_threads() {
             });
         }
         wait_until(|| busy.iter().all(|it| it.load(Ordering::SeqCst) != 0));
-        let found = (0..50)
-            .map(|_| calls_before_the_count(&table, &busy))
-            .max();
+        let found = (0..50).map(|_| calls_before_the_count(&table, &busy)).max();
         is_over.store(true, Ordering::SeqCst);
         found
     });

@@ -1,8 +1,8 @@
 //! A table of many threads, and its history: sixteen threads, whose receipts are compared with the history; bounds, replays and locks. What
 //! each function answers is in interface/cases.
 use pidtab::{
-    Call, Child, Counts, Ended, Entry, Error, Keep, Options, Reaped, ReplayError, Reply, Seat, Table,
-    Which,
+    Call, Child, Counts, Ended, Entry, Error, Keep, Options, Reaped, ReplayError, Reply, Seat,
+    Table, Which,
 };
 use std::sync::atomic::{AtomicBool, Ordering};
 use std::sync::Arc;
@@ -188,15 +188,9 @@ fn a_table_that_follows() {
         assert!(seat.fork(1).is_ok());
     }
     let differs = Err(Error::Differs);
-    assert_eq!(
-        (table.follow(&replica, &mut next), next),
-        (differs, 72)
-    );
+    assert_eq!((table.follow(&replica, &mut next), next), (differs, 72));
     for mut lacking in [0, 92] {
-        assert_eq!(
-            table.follow(&replica, &mut lacking),
-            Err(Error::NotKept)
-        );
+        assert_eq!(table.follow(&replica, &mut lacking), Err(Error::NotKept));
     }
 }
 
@@ -314,10 +308,7 @@ fn a_list_and_the_counts_that_it_belongs_to() {
     );
     assert_eq!((held.worker(0), held.checkpoint()), (Ok(200), Ok(())));
     drop(held);
-    assert_eq!(
-        (counts(&table), table.listing()),
-        ((200, 200), Ok(listing))
-    );
+    assert_eq!((counts(&table), table.listing()), ((200, 200), Ok(listing)));
 }
 
 #[test]
@@ -396,10 +387,7 @@ fn mixed(count: usize) -> Vec<Call> {
 #[test]
 fn turns_as_single_calls() {
     let (table, other) = (open(2), open(2));
-    let (mut seat, mut alone) = (
-        table.seat().expect("a seat"),
-        other.seat().expect("a seat"),
-    );
+    let (mut seat, mut alone) = (table.seat().expect("a seat"), other.seat().expect("a seat"));
     let mut wanted = Vec::new();
     for length in [0, 1, 64, 65, 200] {
         let (calls, mut replies) = (mixed(length), vec![Reply::Done]);
