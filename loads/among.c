@@ -21,7 +21,7 @@ static make_call *opened(const char *table)
 	if (is_word(table, "plain"))
 		return pidtab_open(&plain, 32768) != PIDTAB_DONE ? NULL : on_plain;
 	if (is_word(table, "record"))
-		return pidtab_record_open(&record, 32768, 1, 1) != PIDTAB_DONE ? NULL : on_record;
+		return open_history(&record, 32768, 1, 1) != PIDTAB_DONE ? NULL : on_record;
 	return NULL;
 }
 

@@ -8,13 +8,12 @@
  *   cc -O2 -Iout loads/calls.c out/libpidtab.a -pthread -o out/calls
  *   valgrind --tool=callgrind --callgrind-out-file=/dev/null out/calls record getpid 12000
  */
-#include "pidtab_shared.h"
 #include "tables.h"
 
 #include <stdio.h>
 #include <stdlib.h>
 
-static struct pidtab_shared shared;
+static struct pidtab shared;
 
 /* So many calls are made in a turn. */
 #define A_TURN 100
@@ -25,27 +24,27 @@ static struct pidtab_shared shared;
 static uint32_t on_bounded(const struct pidtab_call *call, struct pidtab_reply *reply)
 {
 	uint64_t ordinal;
-	return pidtab_record_call_keeping(&record, 0, call, KEPT, reply, &ordinal);
+	return BOUNDED_(&record, 0, call, KEPT, reply, &ordinal);
 }
 
 static uint32_t on_shared(const struct pidtab_call *call, struct pidtab_reply *reply)
 {
 	uint64_t ordinal;
-	return pidtab_shared_call(&shared, 0, call, reply, &ordinal);
+	return pidtab_call_by(&shared, 0, call, reply, &ordinal);
 }
 
 static uint32_t turn_on_record(const struct pidtab_call *calls, struct pidtab_reply *replies)
 {
 	uint64_t ordinal;
 	size_t made;
-	return pidtab_record_calls(&record, 0, calls, A_TURN, replies, A_TURN, &made, &ordinal);
+	return pidtab_calls(&record, 0, calls, A_TURN, replies, A_TURN, &made, &ordinal);
 }
 
 static uint32_t turn_on_shared(const struct pidtab_call *calls, struct pidtab_reply *replies)
 {
 	uint64_t ordinal;
 	size_t made;
-	return pidtab_shared_calls(&shared, 0, calls, A_TURN, replies, A_TURN, &made, &ordinal);
+	return pidtab_calls(&shared, 0, calls, A_TURN, replies, A_TURN, &made, &ordinal);
 }
 
 static uint32_t ask_plain(const struct pidtab_call *call, struct pidtab_reply *reply)
@@ -55,12 +54,12 @@ static uint32_t ask_plain(const struct pidtab_call *call, struct pidtab_reply *r
 
 static uint32_t ask_record(const struct pidtab_call *call, struct pidtab_reply *reply)
 {
-	return pidtab_record_ask(&record, call, reply);
+	return pidtab_ask(&record, call, reply);
 }
 
 static uint32_t ask_shared(const struct pidtab_call *call, struct pidtab_reply *reply)
 {
-	return pidtab_shared_ask(&shared, call, reply);
+	return pidtab_ask(&shared, call, reply);
 }
 
 static uint32_t number_of_plain(const struct pidtab_call *call, struct pidtab_reply *reply)
@@ -78,11 +77,11 @@ static make_call *opened(const char *table, const char *load)
 	if (is_word(table, "plain"))
 		return turns || pidtab_open(&plain, 32768) != PIDTAB_DONE ? NULL : asks ? ask_plain : on_plain;
 	if (is_word(table, "record"))
-		return pidtab_record_open(&record, 32768, 1, 16) != PIDTAB_DONE ? NULL : asks ? ask_record : turns ? turn_on_record : on_record;
+		return open_history(&record, 32768, 1, 16) != PIDTAB_DONE ? NULL : asks ? ask_record : turns ? turn_on_record : on_record;
 	if (is_word(table, "bounded"))
-		return asks || turns || pidtab_record_open(&record, 32768, 1, 16) != PIDTAB_DONE ? NULL : on_bounded;
+		return asks || turns || open_history(&record, 32768, 1, 16) != PIDTAB_DONE ? NULL : on_bounded;
 	if (is_word(table, "shared"))
-		return pidtab_shared_open(&shared, 32768, 1, 16, 0) != PIDTAB_DONE ? NULL : asks ? ask_shared : turns ? turn_on_shared : on_shared;
+		return open_threads(&shared, 32768, 1, 16, PIDTAB_KEEP_ALL) != PIDTAB_DONE ? NULL : asks ? ask_shared : turns ? turn_on_shared : on_shared;
 	return NULL;
 }
 

@@ -9,14 +9,13 @@
  *   out/pause 1000000
  */
 #define _POSIX_C_SOURCE 200809L
-#include "pidtab_shared.h"
 
 #include <stdio.h>
 #include <stdlib.h>
 #include <sys/resource.h>
 #include <time.h>
 
-static struct pidtab_shared shared;
+static struct pidtab shared;
 
 static double now(void)
 {
@@ -58,7 +57,7 @@ static double make(struct pidtab_call call, long count, double *each)
 
 	for (long i = 0; i < count; i++) {
 		double before = each ? now() : 0;
-		must(pidtab_shared_call(&shared, 0, &call, &reply, &ordinal));
+		must(pidtab_call_by(&shared, 0, &call, &reply, &ordinal));
 		if (each)
 			each[i] = now() - before;
 	}
@@ -69,7 +68,7 @@ static void time_calls(long live, uint64_t keep, long calls)
 {
 	double *each = malloc((size_t)calls * sizeof *each);
 
-	must(each == NULL ? (uint32_t)PIDTAB_NO_MEMORY : pidtab_shared_open(&shared, 4194304, 1, 1, keep));
+	must(each == NULL ? (uint32_t)PIDTAB_NO_MEMORY : open_threads(&shared, 4194304, 1, 1, keep));
 	double forks = make((struct pidtab_call){ .operation = PIDTAB_FORK, .caller = 1 }, live, NULL);
 	double asks = make((struct pidtab_call){ .operation = PIDTAB_GETPID, .caller = 1 }, calls, each);
 	qsort(each, (size_t)calls, sizeof *each, by_length);
@@ -81,27 +80,27 @@ static void time_calls(long live, uint64_t keep, long calls)
 static void time_loads(long live)
 {
 	const uint64_t counts[1] = { (uint64_t)live };
-	struct pidtab_record record = PIDTAB_RECORD_INIT;
+	struct pidtab record = PIDTAB_INIT;
 	struct pidtab table = PIDTAB_INIT;
 	struct pidtab_fault fault;
 	size_t size = 0;
 
-	must(pidtab_shared_open(&shared, 4194304, 1, 1, 1));
+	must(open_threads(&shared, 4194304, 1, 1, 1));
 	double forks = make((struct pidtab_call){ .operation = PIDTAB_FORK, .caller = 1 }, live, NULL);
-	pidtab_shared_dump(&shared, NULL, 0, &size);
+	pidtab_dump(&shared, NULL, 0, &size);
 	char *text = malloc(size);
 	double begin = now();
-	must(text == NULL ? (uint32_t)PIDTAB_NO_MEMORY : pidtab_shared_dump(&shared, text, size, &size));
+	must(text == NULL ? (uint32_t)PIDTAB_NO_MEMORY : pidtab_dump(&shared, text, size, &size));
 	double dump = now() - begin;
-	pidtab_shared_close(&shared);
+	pidtab_close(&shared);
 	begin = now();
 	must(pidtab_load(&table, text, size, &fault));
 	double one = now() - begin;
 	pidtab_close(&table);
 	begin = now();
-	must(pidtab_record_load(&record, text, size, counts, 1, &fault));
+	must(load_history(&record, text, size, counts, 1, &fault));
 	printf("forks %.2f s, dump %.2f s, load of a table %.2f s, of a record %.2f s, peak %ld MB\n", forks, dump, one, now() - begin, peak_megabytes());
-	pidtab_record_close(&record);
+	pidtab_close(&record);
 	free(text);
 }
 

@@ -9,7 +9,7 @@
 typedef uint32_t make_call(const struct pidtab_call *call, struct pidtab_reply *reply);
 
 static struct pidtab plain;
-static struct pidtab_record record;
+static struct pidtab record;
 
 static inline uint32_t on_plain(const struct pidtab_call *call, struct pidtab_reply *reply)
 {
@@ -19,7 +19,7 @@ static inline uint32_t on_plain(const struct pidtab_call *call, struct pidtab_re
 static inline uint32_t on_record(const struct pidtab_call *call, struct pidtab_reply *reply)
 {
 	uint64_t ordinal;
-	return pidtab_record_call(&record, 0, call, reply, &ordinal);
+	return pidtab_call_by(&record, 0, call, reply, &ordinal);
 }
 
 static inline bool is_word(const char *word, const char *other)

@@ -1,13 +1,12 @@
 /* Threads at one table of the library for C, by the clock: threads N KEEP.
  *
  * Sixteen threads make N calls each: in turn a fork, a getpid, an exit and a wait. First at a shared table that keeps as many
- * entries as pidtab_shared_open is told (0: all), then at a plain table without a history after a pthread_mutex. It prints the calls
+ * entries as pidtab_open is told (0: all), then at a plain table without a history after a pthread_mutex. It prints the calls
  * a second of both, each the median of five runs in turn. The calls are the same, so the difference is the history's.
  *
  *   cc -O2 -Iout loads/threads.c out/libpidtab.a -pthread -o out/threads
  *   out/threads 20000 16384
  */
-#include "pidtab_shared.h"
 
 #include <stdio.h>
 #include <stdlib.h>
@@ -17,7 +16,7 @@
 #define RUNS 5
 
 static struct pidtab plain;
-static struct pidtab_shared shared;
+static struct pidtab shared;
 static pthread_mutex_t lock = PTHREAD_MUTEX_INITIALIZER;
 static long calls;
 static uint64_t keep;
@@ -36,7 +35,7 @@ static uint32_t on_plain(uint32_t worker, const struct pidtab_call *call, struct
 static uint32_t on_shared(uint32_t worker, const struct pidtab_call *call, struct pidtab_reply *reply)
 {
 	uint64_t ordinal;
-	return pidtab_shared_call(&shared, worker, call, reply, &ordinal);
+	return pidtab_call_by(&shared, worker, call, reply, &ordinal);
 }
 
 struct work {
@@ -94,10 +93,10 @@ static double measured(make_call *make)
 
 static double on_new_shared(void)
 {
-	if (pidtab_shared_open(&shared, 32768, 1, THREADS, keep) != PIDTAB_DONE)
+	if (open_threads(&shared, 32768, 1, THREADS, keep) != PIDTAB_DONE)
 		return 0;
 	double rate = measured(on_shared);
-	pidtab_shared_close(&shared);
+	pidtab_close(&shared);
 	return rate;
 }
 
