@@ -452,7 +452,7 @@ mod tests {
         });
     }
 
-    /// What the thread that has the lock does works, but for what waits for another thread.
+    /// What the thread that has the lock does works, except for what waits for another thread.
     #[test]
     fn who_has_the_lock() {
         let table = open();

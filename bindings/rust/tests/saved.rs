@@ -931,7 +931,7 @@ const PYTHON: &str = "
 import sys, pidtab
 path, wanted = sys.argv[1], sys.stdin.buffer.read()
 open(path, 'wb').write(wanted)
-with pidtab.Shared.load(path) as loaded, pidtab.Shared(2) as table:
+with pidtab.Table.load(path) as loaded, pidtab.Table(keep=pidtab.ALL, workers=2) as table:
     seats = [table.seat(), table.seat()]
     for it in loaded.entries():
         seats[it.worker].answers([it.line])
