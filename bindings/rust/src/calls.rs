@@ -218,14 +218,18 @@ impl Call {
     pub(crate) fn told<T>(
         self,
         reply: Reply,
-        read: fn(Reply) -> Result<T, Reply>,
+        read: impl FnOnce(Reply) -> Result<T, Reply>,
     ) -> Result<T, Error> {
         read(reply).or_else(|other| other.refused(Some(self)))
     }
 }
 
 impl Table {
-    fn made<T>(&self, call: Call, read: fn(Reply) -> Result<T, Reply>) -> Result<T, Error> {
+    fn made<T>(
+        &self,
+        call: Call,
+        read: impl FnOnce(Reply) -> Result<T, Reply>,
+    ) -> Result<T, Error> {
         call.told(self.call(call)?, read)
     }
 }

@@ -182,7 +182,11 @@ impl Connected {
         reply_of(call, answer).ok_or_else(|| self.end(NO_SERVICE))
     }
 
-    fn made<T>(&mut self, call: Call, read: fn(Reply) -> Result<T, Reply>) -> Result<T, Error> {
+    fn made<T>(
+        &mut self,
+        call: Call,
+        read: impl FnOnce(Reply) -> Result<T, Reply>,
+    ) -> Result<T, Error> {
         call.told(self.call(call)?, read)
     }
 

@@ -419,6 +419,7 @@ impl Table {
     }
 }
 
+#[allow(clippy::too_many_arguments)] // As the functions have them.
 #[rustfmt::skip]
 impl Table {
     // Written by tools/interface: methods of a table.

@@ -132,7 +132,11 @@ impl<T: Deref<Target = Table>> Seat<T> {
         self.table.told_by(self.worker, call, &mut self.last)
     }
 
-    fn made<R>(&mut self, call: Call, read: fn(Reply) -> Result<R, Reply>) -> Result<R, Error> {
+    fn made<R>(
+        &mut self,
+        call: Call,
+        read: impl FnOnce(Reply) -> Result<R, Reply>,
+    ) -> Result<R, Error> {
         call.told(self.call(call)?, read)
     }
 }

@@ -389,6 +389,7 @@ impl Table {
         reply
     }
 
+    #[inline]
     fn forget_label(&self, new_task: Option<u32>) {
         if let Some(root) = new_task {
             self.labels().forget(root);

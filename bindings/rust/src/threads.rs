@@ -290,18 +290,25 @@ impl Table {
     }
 
     /// The turn of so many calls that keep the bound: it waits until the saver is near enough.
+    #[inline]
     pub(crate) fn for_calls(&self, calls: usize) -> Result<Option<Turn<'_>>, Error> {
-        let Some(lock) = self.to_take() else {
-            return Ok(None);
-        };
+        match self.to_take() {
+            None => Ok(None),
+            Some(lock) => self.turn_in_bound(lock, calls as u64).map(Some),
+        }
+    }
+
+    // Not inline, so that a table without a lock pays for a comparison alone.
+    #[inline(never)]
+    fn turn_in_bound<'a>(&self, lock: &'a Lock, calls: u64) -> Result<Turn<'a>, Error> {
         let mut turn = lock.turn_of_call()?;
-        while self.is_too_far(&turn, calls as u64)? {
+        while self.is_too_far(&turn, calls)? {
             if turn.fault.is_some() {
                 return Err(Error::Unsaved);
             }
             turn = lock.wait_for_saver(turn);
         }
-        lock.alone(turn).map(Some)
+        lock.alone(turn)
     }
 
     /// Whether with so many calls more would be recorded and not saved than the bound lets there be. More than the bound follow where all are saved.
