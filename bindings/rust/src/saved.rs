@@ -237,9 +237,9 @@ impl Table {
     /// Those of the saver's last turn, at once until a turn does better: whether the call is saved is not known. `Ended`; `Table(NoThreads)`; `Table(Busy)`
     /// where this thread has the lock by [`Table::lock`]. Before the first turn it waits.
     pub fn wait_saved(&self, ordinal: u64) -> Result<(), SavedError> {
-        let refused = |error: Error| Saved::new().error(error.into());
-        let lock = self.threads().map_err(refused)?;
-        let mut turn = lock.turn().map_err(refused)?;
+        let lock = self.threads();
+        let lock = lock.map_err(|error| Saved::new().error(error.into()))?;
+        let mut turn = lock.turn();
         loop {
             if turn.saved > ordinal {
                 return Ok(());
@@ -260,7 +260,8 @@ impl Table {
     pub fn bound_unsaved(&self, most: u64) -> Result<(), Error> {
         let lock = self.threads()?;
         self.counts()?;
-        lock.tell(|saving| saving.most = most)
+        lock.tell(|saving| saving.most = most);
+        Ok(())
     }
 
     /// Ends the saver, for good: [`Table::serve`] saves what was recorded, and returns. What waits, or comes to wait, for a call that is not saved
@@ -273,7 +274,7 @@ impl Table {
         lock.tell(|saving| {
             saving.has_ended = true;
             saving.fault = Some(Saved::new().error(SavedFault::Ended));
-        })?;
+        });
         lock.wake();
         Ok(())
     }
@@ -317,7 +318,7 @@ impl Table {
 
     /// Sleeps until a call is recorded that is not among so many. Whether the saver has ended.
     fn sleep_until_call(&self, lock: &Lock, calls: u64) -> Result<bool, Error> {
-        let mut turn = lock.turn()?;
+        let mut turn = lock.turn();
         while !turn.has_ended && self.recorded()? <= calls {
             turn = lock.sleep(turn, None);
         }
@@ -335,7 +336,7 @@ fn told_of(
     let Some(lock) = lock else {
         return done;
     };
-    let told = lock.tell(|saving| {
+    lock.tell(|saving| {
         if done.is_ok() {
             saving.saved = saved.calls;
         }
@@ -343,7 +344,7 @@ fn told_of(
             saving.fault = done.as_ref().err().map(SavedError::again);
         }
     });
-    done.and(told.map_err(|error| saved.error(error.into())))
+    done
 }
 
 impl Options {
@@ -427,7 +428,7 @@ impl Options {
             saved.bytes += size as u64;
         }
         if let Some(lock) = &table.lock {
-            lock.tell(|saving| saving.saved = saved.calls)?;
+            lock.tell(|saving| saving.saved = saved.calls);
         }
         Ok(table)
     }

@@ -255,7 +255,7 @@ impl Table {
     /// # Errors
     /// `NoMemory`, `Busy`.
     pub fn list(&self) -> Result<String, Error> {
-        let _shared = self.for_read()?;
+        let _shared = self.for_read();
         texts::whole(|room, size| self.raw.list(room, size))
     }
 
@@ -264,7 +264,7 @@ impl Table {
     /// # Errors
     /// `NoMemory`, `Busy`.
     pub fn listing(&self) -> Result<Listing, Error> {
-        let _shared = self.for_read()?;
+        let _shared = self.for_read();
         let list = texts::whole(|room, size| self.raw.list(room, size))?;
         Ok(Listing::of(&list).with_labels(self.labels().iter()))
     }
@@ -275,7 +275,7 @@ impl Table {
     /// # Errors
     /// `NoMemory`, `Busy`.
     pub fn dump(&self) -> Result<String, Error> {
-        let _shared = self.for_read()?;
+        let _shared = self.for_read();
         texts::whole(|room, size| self.raw.dump(room, size))
     }
 }

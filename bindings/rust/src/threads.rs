@@ -7,10 +7,10 @@ use std::ops::Deref;
 use std::sync::atomic::{AtomicBool, AtomicUsize, Ordering};
 use std::sync::{
     Condvar, LockResult, Mutex, MutexGuard, PoisonError, RwLock, RwLockReadGuard, RwLockWriteGuard,
-    TryLockError, TryLockResult,
+    TryLockError,
 };
 use std::time::Duration;
-use std::{fmt, mem, process, ptr};
+use std::{fmt, mem, ptr};
 
 /// How far the saver of a table is, as it has told.
 #[derive(Default)]
@@ -39,6 +39,7 @@ fn this_thread() -> usize {
     PLACE.with(|it| ptr::from_ref(it) as usize)
 }
 
+#[derive(Default)]
 pub(crate) struct Lock {
     /// Queries share it, and a change has it alone. On Linux no query passes a change that waits: std's lock has it so.
     queries: RwLock<()>,
@@ -54,82 +55,45 @@ pub(crate) struct Lock {
     told: Condvar,
     /// A call was recorded while somebody slept.
     recorded: Condvar,
-    /// Where it was made. A forked child is another process.
-    process: u32,
-}
-
-impl Default for Lock {
-    fn default() -> Lock {
-        Lock {
-            queries: RwLock::default(),
-            turn: Mutex::default(),
-            gate: Mutex::default(),
-            is_awaited: AtomicBool::new(false),
-            holder: AtomicUsize::new(0),
-            told: Condvar::new(),
-            recorded: Condvar::new(),
-            process: process::id(),
-        }
-    }
 }
 
 impl Lock {
-    /// What was tried, or what waits for it. In a forked child nobody gives back what another thread had at the fork, so that is `Busy` there.
-    fn take<T>(
-        &self,
-        tried: TryLockResult<T>,
-        wait: impl FnOnce() -> LockResult<T>,
-    ) -> Result<T, Error> {
-        match tried {
-            Ok(taken) => Ok(taken),
-            Err(TryLockError::Poisoned(taken)) => Ok(taken.into_inner()),
-            Err(TryLockError::WouldBlock) if process::id() != self.process => Err(Error::Busy),
-            Err(TryLockError::WouldBlock) => Ok(whole(wait())),
-        }
-    }
-
     /// Whether this thread has a [`Locked`].
     fn is_mine(&self) -> bool {
         let holder = self.holder.load(Ordering::Relaxed);
         holder != 0 && holder == this_thread()
     }
 
-    fn let_others_go_first(&self) -> Result<(), Error> {
+    fn let_others_go_first(&self) {
         if self.is_awaited.load(Ordering::Relaxed) {
-            drop(self.take(self.gate.try_lock(), || self.gate.lock())?);
+            drop(whole(self.gate.lock()));
         }
-        Ok(())
     }
 
-    fn before_calls<T>(&self, take: impl FnOnce() -> Result<T, Error>) -> Result<T, Error> {
-        let _first = self.take(self.gate.try_lock(), || self.gate.lock())?;
+    fn before_calls<T>(&self, take: impl FnOnce() -> T) -> T {
+        let _first = whole(self.gate.lock());
         self.is_awaited.store(true, Ordering::Relaxed);
         let taken = take();
         self.is_awaited.store(false, Ordering::Relaxed);
         taken
     }
 
-    fn turn_of_call(&self) -> Result<MutexGuard<'_, Saving>, Error> {
-        self.let_others_go_first()?;
-        self.take(self.turn.try_lock(), || self.turn.lock())
+    fn turn_of_call(&self) -> MutexGuard<'_, Saving> {
+        self.let_others_go_first();
+        whole(self.turn.lock())
     }
 
     /// The turn, before the calls of busy threads.
-    pub(crate) fn turn(&self) -> Result<MutexGuard<'_, Saving>, Error> {
-        self.before_calls(|| self.take(self.turn.try_lock(), || self.turn.lock()))
-    }
-
-    fn share(&self) -> Result<RwLockReadGuard<'_, ()>, Error> {
-        self.take(self.queries.try_read(), || self.queries.read())
+    pub(crate) fn turn(&self) -> MutexGuard<'_, Saving> {
+        self.before_calls(|| whole(self.turn.lock()))
     }
 
     /// Who has the turn waits for the queries, and then changes the table.
-    fn alone<'a>(&'a self, turn: MutexGuard<'a, Saving>) -> Result<Turn<'a>, Error> {
-        let queries = self.take(self.queries.try_write(), || self.queries.write())?;
-        Ok(Turn {
-            held: Some((queries, turn)),
+    fn alone<'a>(&'a self, turn: MutexGuard<'a, Saving>) -> Turn<'a> {
+        Turn {
+            held: Some((whole(self.queries.write()), turn)),
             lock: self,
-        })
+        }
     }
 
     /// Who has the turn gives it back until a call is recorded, or the time is over.
@@ -154,10 +118,9 @@ impl Lock {
     }
 
     /// Has those that wait for the saver look again at what is changed.
-    pub(crate) fn tell(&self, change: impl FnOnce(&mut Saving)) -> Result<(), Error> {
-        change(&mut *self.turn()?);
+    pub(crate) fn tell(&self, change: impl FnOnce(&mut Saving)) {
+        change(&mut self.turn());
         self.told.notify_all();
-        Ok(())
     }
 
     /// Wakes a saver that sleeps, and who waits for a call.
@@ -242,7 +205,7 @@ impl Table {
     /// `NoThreads`; `Busy` where this thread has the lock already.
     pub fn lock(&self) -> Result<Locked<'_>, Error> {
         let lock = self.threads()?;
-        let turn = lock.alone(lock.turn()?)?;
+        let turn = lock.alone(lock.turn());
         lock.holder.store(this_thread(), Ordering::Relaxed);
         Ok(Locked { table: self, turn })
     }
@@ -262,31 +225,26 @@ impl Table {
     }
 
     /// A query's share, which lets those go before that are no calls.
-    pub(crate) fn for_query(&self) -> Result<Option<RwLockReadGuard<'_, ()>>, Error> {
-        let Some(lock) = self.to_take() else {
-            return Ok(None);
-        };
-        lock.let_others_go_first()?;
-        lock.share().map(Some)
+    pub(crate) fn for_query(&self) -> Option<RwLockReadGuard<'_, ()>> {
+        let lock = self.to_take()?;
+        lock.let_others_go_first();
+        Some(whole(lock.queries.read()))
     }
 
     /// The share of a function that goes before the calls and their like where it has to wait.
-    pub(crate) fn for_read(&self) -> Result<Option<RwLockReadGuard<'_, ()>>, Error> {
-        let Some(lock) = self.to_take() else {
-            return Ok(None);
-        };
-        match lock.queries.try_read() {
-            Err(TryLockError::WouldBlock) => lock.before_calls(|| lock.share()).map(Some),
-            free => lock.take(free, || lock.queries.read()).map(Some),
-        }
+    pub(crate) fn for_read(&self) -> Option<RwLockReadGuard<'_, ()>> {
+        let lock = self.to_take()?;
+        Some(match lock.queries.try_read() {
+            Ok(shared) => shared,
+            Err(TryLockError::Poisoned(shared)) => shared.into_inner(),
+            Err(TryLockError::WouldBlock) => lock.before_calls(|| whole(lock.queries.read())),
+        })
     }
 
     /// The turn of a change that is no call.
-    pub(crate) fn for_change(&self) -> Result<Option<Turn<'_>>, Error> {
-        let Some(lock) = self.to_take() else {
-            return Ok(None);
-        };
-        lock.alone(lock.turn()?).map(Some)
+    pub(crate) fn for_change(&self) -> Option<Turn<'_>> {
+        let lock = self.to_take()?;
+        Some(lock.alone(lock.turn()))
     }
 
     /// The turn of so many calls that keep the bound: it waits until the saver is near enough.
@@ -301,14 +259,14 @@ impl Table {
     // Not inline, so that a table without a lock pays for a comparison alone.
     #[inline(never)]
     fn turn_in_bound<'a>(&self, lock: &'a Lock, calls: u64) -> Result<Turn<'a>, Error> {
-        let mut turn = lock.turn_of_call()?;
+        let mut turn = lock.turn_of_call();
         while self.is_too_far(&turn, calls)? {
             if turn.fault.is_some() {
                 return Err(Error::Unsaved);
             }
             turn = lock.wait_for_saver(turn);
         }
-        lock.alone(turn)
+        Ok(lock.alone(turn))
     }
 
     /// Whether with so many calls more would be recorded and not saved than the bound lets there be. More than the bound follow where all are saved.

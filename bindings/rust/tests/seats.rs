@@ -1,5 +1,6 @@
 //! A seat that owns its table.
 use pidtab::{Call, Child, Error, Keep, Reply, Seat, Table};
+use std::panic::{RefUnwindSafe, UnwindSafe};
 use std::sync::Arc;
 use std::thread;
 
@@ -10,6 +11,14 @@ fn open(workers: u32) -> Arc<Table> {
     let options = Table::options().keep(Keep::All).workers(workers);
     Arc::new(options.threads().open().expect("a table"))
 }
+
+/// A table goes to any thread, and any number of threads have it; a panic leaves it whole.
+const _: fn() = || {
+    fn is_shared<T: Send + Sync + UnwindSafe + RefUnwindSafe>() {}
+    is_shared::<Table>();
+    is_shared::<Seat<&Table>>();
+    is_shared::<Seat<Arc<Table>>>();
+};
 
 fn is_send<T: Send + 'static>(it: T) -> T {
     it

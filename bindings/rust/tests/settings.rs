@@ -3,8 +3,8 @@ use pidtab::{
     Call, Child, Error, Keep, Options, Reply, Saved, SavedError, SavedFault, Table, TextError,
 };
 use std::io;
-use std::sync::atomic::{AtomicU64, Ordering};
-use std::sync::{mpsc, Barrier};
+use std::sync::atomic::{AtomicBool, AtomicU64, Ordering};
+use std::sync::Barrier;
 use std::thread;
 use std::time::{Duration, Instant};
 
@@ -306,51 +306,61 @@ mod c {
     }
 }
 
-/// A forked child ends with 0 where this holds there.
-fn holds_in_a_child(holds: impl FnOnce() -> bool) -> bool {
+/// The status of a forked child that does this, -1 where a signal ends it.
+fn status_of_child(does: impl FnOnce() -> i32) -> i32 {
     let mut status = -1;
     // Safety: the child ends before it returns.
     let child = unsafe { c::fork() };
     if child == 0 {
-        let held = holds();
-        unsafe { c::_exit(i32::from(!held)) }
+        let done = does();
+        unsafe { c::_exit(done) }
     }
-    child > 0 && unsafe { c::waitpid(child, &mut status, 0) } == child && status == 0
+    assert_eq!(unsafe { c::waitpid(child, &mut status, 0) }, child);
+    match status & 0x7f {
+        0 => status >> 8,
+        _ => -1,
+    }
 }
 
-/// A forked child has a copy of the table. What another thread had at the fork is `Busy` there, and nobody waits for it.
+/// A forked child has a copy of the table, and goes on with it by threads of its own.
 #[test]
 fn a_forked_child() {
-    let table = recorded().threads().open().expect("a table");
-    assert!(holds_in_a_child(
-        || table.fork(1).is_ok() && table.lock().is_ok()
-    ));
-    let ((begin, begun), (end, ended)) = (mpsc::channel(), mpsc::channel());
-    thread::scope(|scope| {
-        let table = &table;
-        scope.spawn(move || {
-            let held = table.lock().expect("the lock");
-            begin.send(()).expect("a parent");
-            ended.recv().expect("a parent");
-            held.fork(1).expect("a child");
+    let options = recorded().workers(4).threads();
+    let table = options.open().expect("a table");
+    let work = || {
+        thread::scope(|scope| {
+            for _ in 0..4 {
+                scope.spawn(|| (0..100).all(|_| table.fork(1).is_ok()));
+            }
         });
-        begun.recv().expect("a thread");
-        let is_busy = || {
-            let (mut saved, mut bytes) = (Saved::new(), Vec::new());
-            let refused = table.save(&mut saved, &mut bytes);
-            table.fork(1) == Err(Error::Busy)
-                && table.list() == Err(Error::Busy)
-                && table.counts() == Err(Error::Busy)
-                && table.stat(1, 0) == Err(Error::Busy)
-                && table.lock().err() == Some(Error::Busy)
-                && table.wait_changed(0, None) == Err(Error::Busy)
-                && table.seat().err() == Some(Error::Busy)
-                && table.replay(&[]).is_err_and(|it| it.error == Error::Busy)
-                && refused.is_err_and(|it| matches!(it.fault, SavedFault::Table(Error::Busy)))
-        };
-        let holds = holds_in_a_child(is_busy);
-        end.send(()).expect("a thread");
-        assert!(holds);
+        let recorded = table.counts().map(|it| it.recorded);
+        i32::from(recorded != Ok(400) || table.lock().is_err())
+    };
+    assert_eq!(status_of_child(work), 0);
+    assert_eq!(table.counts().map(|it| it.recorded), Ok(0));
+}
+
+/// A call of another thread at the fork never ends in the child: there the table is `Busy`, and nobody waits for it. Else it goes on.
+#[test]
+fn a_child_that_is_forked_amid_a_call() {
+    const CHILDREN: usize = 1000;
+    let table = Table::open(32768).expect("a table");
+    let is_over = AtomicBool::new(false);
+    let ask = || match table.getpid(1) {
+        Ok(1) => 0,
+        Err(Error::Busy) => 1,
+        _ => 2,
+    };
+    let found = thread::scope(|scope| {
+        scope.spawn(|| {
+            while !is_over.load(Ordering::SeqCst) {
+                assert_eq!(ask(), 0);
+            }
+        });
+        let mut children = (0..CHILDREN).map(|_| status_of_child(ask));
+        let found = children.find(|it| *it != 0);
+        is_over.store(true, Ordering::SeqCst);
+        found
     });
-    assert_eq!(table.counts().expect("counts").recorded, 1);
+    assert_eq!(found, Some(1));
 }
