@@ -153,8 +153,10 @@ impl Reply {
             other => unreachable!("the library replies {other:?}"),
         }
     }
+}
 
-    /// What a reply tells that is not refused. What is none of a call's replies is given back.
+/// What a reply of each kind tells. One of another kind is given back.
+impl Reply {
     pub(crate) fn child(self) -> Result<Child, Reply> {
         match self {
             Reply::Forked(child) => Ok(child),
