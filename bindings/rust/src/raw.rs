@@ -133,7 +133,7 @@ struct Held {
     at: *mut c_void,
     is_open: bool,
     in_use: u8,
-    has_settings: bool,
+    way: u8,
     workers: u8,
     seated: u8,
     keep: u64,
