@@ -24,7 +24,7 @@ BESIDES = {"which": "number: which_number({})", "most": "choice: u32::from({}.is
 # What a method answers, by the replies, and which function of a reply reads it.
 ANSWERS = {
     "FORKED": ("Child", "child"), "OK": ("()", "nothing"), "NUMBER": ("u32", "number"), "LEVELS": ("Vec<u32>", "levels"), "CONTROL": ("u64", "control"),
-    "REAPED": ("Option<Reaped>", "reaped"), "COUNTED": ("u64", "counted"), "NUMBER, END": ("Option<u32>", "number_or_end"),
+    "REAPED": ("Option<Reaped>", "reaped"), "COUNTED": ("u64", "counted"), "NUMBER, END": ("Option<u32>", "next_one"),
 }  # fmt: skip
 # The replies that the answers of a method are.
 BACK = {
@@ -92,25 +92,23 @@ def of_table(row, name):
     return [*comment(sentence_of(row, name)), "    ///", "    /// # Errors", f"    /// {errors}"]
 
 
-def as_of_table(_, name):
-    """The documentation of a method that a table has too."""
-    return [f"    /// As [`Table::{name}`](crate::Table::{name}), with its errors."]
+def rows(tables, itself):
+    """The methods of the calls, of what is lent so: the call and the name of each, its head, and its code."""
+    for row in tables["calls"]:
+        (answer, reader), fixed = ANSWERS[told(row)], switch(row)
+        taken = ", ".join([itself, *[f"{it.name}: {TYPES[it.kind]}" for it in arguments_of(row) if it.name != fixed]])
+        for name, made in ways(row):
+            yield row, name, f"    pub fn {name}({taken}) -> Result<{answer}, Error> {{", f"self.made({made}, Reply::{reader})"
 
 
-def methods(itself, documentation):
-    """The methods of the calls, of what is lent so."""
+def methods(tables):
+    """The methods of a table, each with what it does."""
+    return [line for row, name, head, code in rows(tables, "&self") for line in ("", *of_table(row, name), head, f"        {code}", "    }")][1:]
 
-    def part(tables):
-        lines = []
-        for row in tables["calls"]:
-            (answer, reader), fixed = ANSWERS[told(row)], switch(row)
-            taken = ", ".join([itself, *[f"{it.name}: {TYPES[it.kind]}" for it in arguments_of(row) if it.name != fixed]])
-            for name, made in ways(row):
-                lines += ["", *documentation(row, name), f"    pub fn {name}({taken}) -> Result<{answer}, Error> {{"]
-                lines += [f"        self.made({made}, Reply::{reader})", "    }"]
-        return lines[1:]
 
-    return part
+def forwards(tables):
+    """Those of what makes the same calls, a line each."""
+    return [line for _, name, head, code in rows(tables, "&mut self") for line in (f"    /// As [`Table::{name}`](crate::Table::{name}), with its errors.", f"{head} {code} }}")]
 
 
 def literal(head, fields):
@@ -173,9 +171,9 @@ def all_calls(tables):
 
 PARTS = {
     (CALLS, "values"): values,
-    (CALLS, "methods"): methods("&self", of_table),
-    (SEAT, "methods"): methods("&mut self", as_of_table),
-    (CONNECTED, "methods"): methods("&mut self", as_of_table),
+    (CALLS, "methods"): methods,
+    (SEAT, "methods"): forwards,
+    (CONNECTED, "methods"): forwards,
     (NUMBERS, "choices"): choices,
     (NUMBERS, "calls"): numbers,
     (LIB, "calls"): all_calls,

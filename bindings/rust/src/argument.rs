@@ -55,15 +55,15 @@ impl Argument {
     }
 
     /// The number of workers, if no table has so many.
-    pub(crate) fn workers(workers: u64) -> Option<Argument> {
+    pub(crate) fn workers(workers: u32) -> Option<Argument> {
         Argument::outside("workers", workers, 1u32, raw::MOST_WORKERS)
     }
 
     /// So many workers of a table without a history.
-    pub(crate) fn workers_of_no_history(workers: u64) -> Argument {
+    pub(crate) fn workers_of_no_history(workers: u32) -> Argument {
         Argument {
             name: "workers",
-            value: workers,
+            value: workers.into(),
             least: 1,
             most: 1,
             why: "workers count the calls of a history: open it with keep",
@@ -82,10 +82,10 @@ impl Argument {
     }
 
     /// What of the settings no table has.
-    pub(crate) fn settings(pid_max: u32, workers: u32, first_stamp: u64) -> Option<Argument> {
-        Argument::pid_max(pid_max)
-            .or_else(|| Argument::workers(workers.into()))
-            .or_else(|| Argument::outside("first_stamp", first_stamp, 1u32, u64::MAX))
+    pub(crate) fn settings(head: &raw::SavedHead) -> Option<Argument> {
+        Argument::pid_max(head.pid_max)
+            .or_else(|| Argument::workers(head.workers))
+            .or_else(|| Argument::outside("first_stamp", head.first_stamp, 1u32, u64::MAX))
     }
 }
 

@@ -149,7 +149,7 @@ impl Blocks {
             first_stamp: head.first_stamp,
         };
         let (mut block, mut sum) = ([0; raw::SAVED_BLOCK], 0);
-        let outside = || Argument::settings(head.pid_max, head.workers, head.first_stamp);
+        let outside = || Argument::settings(&numbers);
         raw::put_head(&numbers, &mut block, &mut sum)
             .map_err(|status| Error::of_argument(status, outside))?;
         to.extend_from_slice(&block);

@@ -178,7 +178,7 @@ impl Reply {
         }
     }
 
-    pub(crate) fn number_or_end(self) -> Result<Option<u32>, Reply> {
+    pub(crate) fn next_one(self) -> Result<Option<u32>, Reply> {
         match self {
             Reply::End => Ok(None),
             other => other.number().map(Some),
@@ -381,7 +381,7 @@ impl Table {
     /// # Errors
     /// `Refused` as `NoCaller`.
     pub fn next(&self, caller: u32, kind: Kind, from: u32) -> Result<Option<u32>, Error> {
-        self.made(Call::Next { caller, kind, from }, Reply::number_or_end)
+        self.made(Call::Next { caller, kind, from }, Reply::next_one)
     }
 
     /// `setns(2)` with `CLONE_NEWPID`: the caller's later children go into the namespace of the task `number`.

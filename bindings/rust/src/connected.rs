@@ -206,104 +206,45 @@ impl Connected {
 impl Connected {
     // Written by tools/interface: methods.
     /// As [`Table::fork`](crate::Table::fork), with its errors.
-    pub fn fork(&mut self, caller: u32) -> Result<Child, Error> {
-        self.made(Call::Fork { caller, new_space: false }, Reply::child)
-    }
-
+    pub fn fork(&mut self, caller: u32) -> Result<Child, Error> { self.made(Call::Fork { caller, new_space: false }, Reply::child) }
     /// As [`Table::fork_new`](crate::Table::fork_new), with its errors.
-    pub fn fork_new(&mut self, caller: u32) -> Result<Child, Error> {
-        self.made(Call::Fork { caller, new_space: true }, Reply::child)
-    }
-
+    pub fn fork_new(&mut self, caller: u32) -> Result<Child, Error> { self.made(Call::Fork { caller, new_space: true }, Reply::child) }
     /// As [`Table::getpid`](crate::Table::getpid), with its errors.
-    pub fn getpid(&mut self, caller: u32) -> Result<u32, Error> {
-        self.made(Call::Getpid { caller }, Reply::number)
-    }
-
+    pub fn getpid(&mut self, caller: u32) -> Result<u32, Error> { self.made(Call::Getpid { caller }, Reply::number) }
     /// As [`Table::nspid`](crate::Table::nspid), with its errors.
-    pub fn nspid(&mut self, caller: u32, number: u32) -> Result<Vec<u32>, Error> {
-        self.made(Call::Nspid { caller, number }, Reply::levels)
-    }
-
+    pub fn nspid(&mut self, caller: u32, number: u32) -> Result<Vec<u32>, Error> { self.made(Call::Nspid { caller, number }, Reply::levels) }
     /// As [`Table::exec`](crate::Table::exec), with its errors.
-    pub fn exec(&mut self, caller: u32) -> Result<(), Error> {
-        self.made(Call::Exec { caller }, Reply::nothing)
-    }
-
+    pub fn exec(&mut self, caller: u32) -> Result<(), Error> { self.made(Call::Exec { caller }, Reply::nothing) }
     /// As [`Table::exit`](crate::Table::exit), with its errors.
-    pub fn exit(&mut self, caller: u32, status: u8) -> Result<(), Error> {
-        self.made(Call::Exit { caller, status }, Reply::nothing)
-    }
-
+    pub fn exit(&mut self, caller: u32, status: u8) -> Result<(), Error> { self.made(Call::Exit { caller, status }, Reply::nothing) }
     /// As [`Table::wait`](crate::Table::wait), with its errors.
-    pub fn wait(&mut self, caller: u32, which: Which) -> Result<Option<Reaped>, Error> {
-        self.made(Call::Wait { caller, which }, Reply::reaped)
-    }
-
+    pub fn wait(&mut self, caller: u32, which: Which) -> Result<Option<Reaped>, Error> { self.made(Call::Wait { caller, which }, Reply::reaped) }
     /// As [`Table::getppid`](crate::Table::getppid), with its errors.
-    pub fn getppid(&mut self, caller: u32) -> Result<u32, Error> {
-        self.made(Call::Getppid { caller }, Reply::number)
-    }
-
+    pub fn getppid(&mut self, caller: u32) -> Result<u32, Error> { self.made(Call::Getppid { caller }, Reply::number) }
     /// As [`Table::setpgid`](crate::Table::setpgid), with its errors.
-    pub fn setpgid(&mut self, caller: u32, pid: i32, pgid: i32) -> Result<(), Error> {
-        self.made(Call::Setpgid { caller, pid, pgid }, Reply::nothing)
-    }
-
+    pub fn setpgid(&mut self, caller: u32, pid: i32, pgid: i32) -> Result<(), Error> { self.made(Call::Setpgid { caller, pid, pgid }, Reply::nothing) }
     /// As [`Table::setsid`](crate::Table::setsid), with its errors.
-    pub fn setsid(&mut self, caller: u32) -> Result<u32, Error> {
-        self.made(Call::Setsid { caller }, Reply::number)
-    }
-
+    pub fn setsid(&mut self, caller: u32) -> Result<u32, Error> { self.made(Call::Setsid { caller }, Reply::number) }
     /// As [`Table::mk`](crate::Table::mk), with its errors.
-    pub fn mk(&mut self, parent: u64) -> Result<u64, Error> {
-        self.made(Call::Mk { parent }, Reply::control)
-    }
-
+    pub fn mk(&mut self, parent: u64) -> Result<u64, Error> { self.made(Call::Mk { parent }, Reply::control) }
     /// As [`Table::rm`](crate::Table::rm), with its errors.
-    pub fn rm(&mut self, id: u64) -> Result<(), Error> {
-        self.made(Call::Rm { id }, Reply::nothing)
-    }
-
+    pub fn rm(&mut self, id: u64) -> Result<(), Error> { self.made(Call::Rm { id }, Reply::nothing) }
     /// As [`Table::limit`](crate::Table::limit), with its errors.
-    pub fn limit(&mut self, id: u64, limit: Option<u32>) -> Result<(), Error> {
-        self.made(Call::Limit { id, limit }, Reply::nothing)
-    }
-
+    pub fn limit(&mut self, id: u64, limit: Option<u32>) -> Result<(), Error> { self.made(Call::Limit { id, limit }, Reply::nothing) }
     /// As [`Table::move_task`](crate::Table::move_task), with its errors.
-    pub fn move_task(&mut self, task: u32, id: u64) -> Result<(), Error> {
-        self.made(Call::Move { task, id }, Reply::nothing)
-    }
-
+    pub fn move_task(&mut self, task: u32, id: u64) -> Result<(), Error> { self.made(Call::Move { task, id }, Reply::nothing) }
     /// As [`Table::count`](crate::Table::count), with its errors.
-    pub fn count(&mut self, id: u64) -> Result<u64, Error> {
-        self.made(Call::Count { id }, Reply::counted)
-    }
-
+    pub fn count(&mut self, id: u64) -> Result<u64, Error> { self.made(Call::Count { id }, Reply::counted) }
     /// As [`Table::getpgid`](crate::Table::getpgid), with its errors.
-    pub fn getpgid(&mut self, caller: u32, pid: u32) -> Result<u32, Error> {
-        self.made(Call::Getpgid { caller, pid }, Reply::number)
-    }
-
+    pub fn getpgid(&mut self, caller: u32, pid: u32) -> Result<u32, Error> { self.made(Call::Getpgid { caller, pid }, Reply::number) }
     /// As [`Table::getsid`](crate::Table::getsid), with its errors.
-    pub fn getsid(&mut self, caller: u32, pid: u32) -> Result<u32, Error> {
-        self.made(Call::Getsid { caller, pid }, Reply::number)
-    }
-
+    pub fn getsid(&mut self, caller: u32, pid: u32) -> Result<u32, Error> { self.made(Call::Getsid { caller, pid }, Reply::number) }
     /// As [`Table::next`](crate::Table::next), with its errors.
-    pub fn next(&mut self, caller: u32, kind: Kind, from: u32) -> Result<Option<u32>, Error> {
-        self.made(Call::Next { caller, kind, from }, Reply::number_or_end)
-    }
-
+    pub fn next(&mut self, caller: u32, kind: Kind, from: u32) -> Result<Option<u32>, Error> { self.made(Call::Next { caller, kind, from }, Reply::next_one) }
     /// As [`Table::join`](crate::Table::join), with its errors.
-    pub fn join(&mut self, caller: u32, number: u32) -> Result<(), Error> {
-        self.made(Call::Join { caller, number }, Reply::nothing)
-    }
-
+    pub fn join(&mut self, caller: u32, number: u32) -> Result<(), Error> { self.made(Call::Join { caller, number }, Reply::nothing) }
     /// As [`Table::subreaper`](crate::Table::subreaper), with its errors.
-    pub fn subreaper(&mut self, caller: u32, on: bool) -> Result<(), Error> {
-        self.made(Call::Subreaper { caller, on }, Reply::nothing)
-    }
+    pub fn subreaper(&mut self, caller: u32, on: bool) -> Result<(), Error> { self.made(Call::Subreaper { caller, on }, Reply::nothing) }
     // The end of methods.
 }
 

@@ -44,20 +44,21 @@ impl From<u64> for Keep {
 #[derive(Clone, Copy, Debug)]
 #[must_use]
 pub struct Options {
-    pid_max: u32,
+    pub(crate) head: raw::SavedHead,
     pub(crate) keep: Keep,
-    workers: u32,
-    first_stamp: u64,
-    threads: bool,
+    pub(crate) threads: bool,
 }
 
 impl Default for Options {
     fn default() -> Options {
-        Options {
+        let head = raw::SavedHead {
             pid_max: 32768,
-            keep: Keep::Nothing,
             workers: 1,
             first_stamp: 1,
+        };
+        Options {
+            head,
+            keep: Keep::Nothing,
             threads: false,
         }
     }
@@ -65,36 +66,34 @@ impl Default for Options {
 
 impl Options {
     /// Below which all numbers of processes are: 301 to 4194304; 32768 without this.
-    pub fn pid_max(self, pid_max: u32) -> Options {
-        Options { pid_max, ..self }
+    pub fn pid_max(mut self, pid_max: u32) -> Options {
+        self.head.pid_max = pid_max;
+        self
     }
 
     /// How much of its history the table keeps; nothing without this. An entry has 64 bytes.
-    pub fn keep(self, keep: impl Into<Keep>) -> Options {
-        let keep = keep.into();
-        Options { keep, ..self }
+    pub fn keep(mut self, keep: impl Into<Keep>) -> Options {
+        self.keep = keep.into();
+        self
     }
 
     /// How many workers count their calls apart, each by a [`Seat`](crate::Seat): 1 to 16; 1 without this, or without a history.
-    pub fn workers(self, workers: u32) -> Options {
-        Options { workers, ..self }
+    pub fn workers(mut self, workers: u32) -> Options {
+        self.head.workers = workers;
+        self
     }
 
     /// The stamp of the first call, from 1 on; 1 without this. The id of a new namespace or control group is the stamp of its call.
-    pub fn first_stamp(self, first_stamp: u64) -> Options {
-        Options {
-            first_stamp,
-            ..self
-        }
+    pub fn first_stamp(mut self, first_stamp: u64) -> Options {
+        self.head.first_stamp = first_stamp;
+        self
     }
 
     /// Any number of threads use the table at once: one waits for another. Without this a second thread's function is `Busy`, where not both are
     /// queries.
-    pub fn threads(self) -> Options {
-        Options {
-            threads: true,
-            ..self
-        }
+    pub fn threads(mut self) -> Options {
+        self.threads = true;
+        self
     }
 
     /// Opens it, with the root init alone.
@@ -109,7 +108,7 @@ impl Options {
             return Err(Error::Argument(outside));
         }
         let raw = raw::Table::open_with(&self.numbers()).map_err(Error::of)?;
-        Ok(Table::over(raw, self.head(), self.threads))
+        Ok(Table::over(raw, self.head, self.threads))
     }
 
     /// Opens it as a text of [`Table::dump`] says: each later call has the answer, and the stamp, that it would have had there. Any bytes may be given. The
@@ -139,12 +138,12 @@ impl Options {
     /// # Panics
     /// As [`Options::open`].
     pub fn open_dump(self, text: impl AsRef<[u8]>, counts: &[u64]) -> Result<Table, TextError> {
-        if let Some(outside) = self.outside_of_counts(counts.len() as u64) {
+        if let Some(outside) = self.outside_of_counts(counts.len()) {
             return Err(TextError::Argument(outside));
         }
         let zeroes = [0; raw::MOST_WORKERS as usize];
         let counts = match counts {
-            [] => &zeroes[..self.workers as usize],
+            [] => &zeroes[..self.head.workers as usize],
             given => given,
         };
         self.workers(counts.len() as u32)
@@ -162,49 +161,39 @@ impl Options {
         let (pid_max, stamp) = head_of(text);
         let before: u64 = counts.iter().sum();
         let options = self.pid_max(pid_max).first_stamp(stamp - before);
-        let mut table = Table::over(raw, options.head(), self.threads);
+        let mut table = Table::over(raw, options.head, self.threads);
         table.goes_on = true;
         Ok(table)
     }
 
     /// What of these settings no table has.
     fn outside(&self) -> Option<Argument> {
-        Argument::settings(self.pid_max, self.workers, self.first_stamp)
-            .or_else(|| self.outside_of_history(self.workers.into(), 1))
+        Argument::settings(&self.head).or_else(|| self.outside_of_history(self.head.workers, 1))
     }
 
     /// The same of a text, with so many counts: none are as many as the workers.
-    fn outside_of_counts(&self, counts: u64) -> Option<Argument> {
-        let workers = match counts {
-            0 => self.workers.into(),
-            _ => counts,
+    fn outside_of_counts(&self, counts: usize) -> Option<Argument> {
+        let (workers, most) = match counts {
+            0 => (self.head.workers, 1),
+            _ => (u32::try_from(counts).unwrap_or(u32::MAX), 0),
         };
-        let most = u64::from(counts == 0);
         Argument::workers(workers).or_else(|| self.outside_of_history(workers, most))
     }
 
     /// The workers, where no history is kept for so many.
-    fn outside_of_history(&self, workers: u64, most: u64) -> Option<Argument> {
+    fn outside_of_history(&self, workers: u32, most: u32) -> Option<Argument> {
         let keeps = self.keep.entries() != 0;
         (!keeps && workers > most).then(|| Argument::workers_of_no_history(workers))
     }
 
     fn numbers(&self) -> raw::Settings {
         raw::Settings {
-            pid_max: self.pid_max,
-            workers: self.workers,
-            first_stamp: self.first_stamp,
+            pid_max: self.head.pid_max,
+            workers: self.head.workers,
+            first_stamp: self.head.first_stamp,
             keep: self.keep.entries(),
             // The lock is that of this crate.
             threads: false,
-        }
-    }
-
-    fn head(&self) -> raw::SavedHead {
-        raw::SavedHead {
-            pid_max: self.pid_max,
-            workers: self.workers,
-            first_stamp: self.first_stamp,
         }
     }
 }

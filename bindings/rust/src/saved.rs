@@ -417,12 +417,14 @@ impl Options {
             return Err(Error::NoHistory.into());
         }
         let mut input = Input::of(from);
-        let table = self.begun(input.take_head(saved)?).open()?;
+        let head = input.take_head(saved)?;
+        let keep = Keep::All;
+        let table = Options { head, keep, ..self }.open()?;
         saved.table = table.number;
         while let Some((entry, size)) = input.take_entry(saved)? {
             let made = table.make_again(slice::from_ref(&entry));
             made.map_err(|stopped| stopped.error)?;
-            // More than one entry too many there is never.
+            // What keeps the history short is the load alone. More than one entry too many there is never.
             let _ = table.raw.keep(self.keep.entries());
             saved.calls += 1;
             saved.bytes += size as u64;
@@ -431,14 +433,6 @@ impl Options {
             lock.tell(|saving| saving.saved = saved.calls);
         }
         Ok(table)
-    }
-
-    /// With the settings of a head. What keeps the history short is the load alone.
-    fn begun(self, head: raw::SavedHead) -> Options {
-        self.pid_max(head.pid_max)
-            .workers(head.workers)
-            .first_stamp(head.first_stamp)
-            .keep(Keep::All)
     }
 }
 
