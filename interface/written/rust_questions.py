@@ -90,7 +90,7 @@ def methods(tables):
     """The methods of a table. Each waits for its turn as calls do."""
     lines = []
     for row in tables["questions"]:
-        lines += ["", *said(tables, row), *signature(row), "        let _shared = self.for_query();", *body(row, words_of(row.exports)[0]), "    }"]
+        lines += ["", *said(tables, row), *signature(row), "        let _query = self.for_query();", *body(row, words_of(row.exports)[0]), "    }"]
     return lines[1:]
 
 

@@ -416,8 +416,8 @@ impl LineError {
 }
 
 impl LineError {
-    /// Why a call has no turn, before its line is read.
-    pub(crate) fn of_turn(error: Error) -> LineError {
+    /// Why a call is not made, before its line is read.
+    pub(crate) fn of_change(error: Error) -> LineError {
         match error {
             Error::Unsaved => LineError::Unsaved,
             _ => LineError::Busy,

@@ -32,7 +32,7 @@ impl Table {
     /// # Errors
     /// `NoHistory`, `Busy`.
     pub fn counts(&self) -> Result<Counts, Error> {
-        let _shared = self.for_read();
+        let _query = self.for_read();
         let (mut first_kept, mut recorded) = (0, 0);
         Error::unless_done(self.raw.counts(&mut first_kept, &mut recorded))?;
         Ok(Counts {
@@ -41,7 +41,7 @@ impl Table {
         })
     }
 
-    /// How many calls were recorded, for who has the turn or the table.
+    /// How many calls were recorded, for who keeps changes out.
     pub(crate) fn recorded(&self) -> Result<u64, Error> {
         let mut recorded = 0;
         let status = self.raw.counts(&mut 0, &mut recorded);
@@ -53,7 +53,7 @@ impl Table {
     /// # Errors
     /// `Argument` where there are not so many workers: they are numbered from 0 on. `NoHistory`, `Busy`.
     pub fn worker(&self, worker: u32) -> Result<u64, Error> {
-        let _shared = self.for_read();
+        let _query = self.for_read();
         let mut calls = 0;
         let status = self.raw.worker(worker, &mut calls);
         raw::done(status, calls)
@@ -70,7 +70,7 @@ impl Table {
     /// # Errors
     /// `NotKept` where it was cut away or is not reached yet; `NoHistory`, `Busy`.
     pub fn entry(&self, ordinal: u64) -> Result<Entry, Error> {
-        let _shared = self.for_read();
+        let _query = self.for_read();
         let mut entry = raw::Entry::BLANK;
         let (worker, call, reply) = (&mut entry.worker, &mut entry.call, &mut entry.reply);
         Error::unless_done(self.raw.entry(ordinal, worker, call, reply))?;
@@ -84,7 +84,7 @@ impl Table {
     /// # Errors
     /// `NotKept` where `from` is neither a kept entry nor the next call; `NoHistory`, `NoMemory`, `Busy`.
     pub fn entries(&self, from: u64, most: usize) -> Result<Vec<Entry>, Error> {
-        let _shared = self.for_read();
+        let _query = self.for_read();
         let there = usize::try_from(self.recorded()?.saturating_sub(from)).unwrap_or(usize::MAX);
         let mut room = [raw::Entry::BLANK; BATCH];
         // Where `from` is not kept, that is known before there is memory for it.
@@ -113,7 +113,7 @@ impl Table {
 
     /// The same, for who saves them.
     pub(crate) fn read_numbers(&self, from: u64, room: &mut [raw::Entry]) -> Result<usize, Error> {
-        let _shared = self.for_read();
+        let _query = self.for_read();
         self.read(from, room)
     }
 
@@ -122,7 +122,7 @@ impl Table {
     /// # Errors
     /// `NoMemory`, and nothing has changed; `NoHistory`, `Busy`.
     pub fn checkpoint(&self) -> Result<(), Error> {
-        let _turn = self.for_change();
+        let _change = self.for_change();
         Error::unless_done(self.raw.checkpoint())
     }
 
@@ -131,7 +131,7 @@ impl Table {
     /// # Errors
     /// `Again` where it is another number; `NoMemory`, `NoHistory`, `Busy`. Nothing has changed then.
     pub fn checkpoint_at(&self, seen: u64) -> Result<(), Error> {
-        let _turn = self.for_change();
+        let _change = self.for_change();
         Error::unless_done(self.raw.checkpoint_at(seen))
     }
 
@@ -140,7 +140,7 @@ impl Table {
     /// # Errors
     /// `NoHistory`, `NoMemory`, `Busy`.
     pub fn opening(&self) -> Result<String, Error> {
-        let _shared = self.for_read();
+        let _query = self.for_read();
         texts::whole(|room, size| self.raw.opening(room, size))
     }
 
@@ -153,7 +153,7 @@ impl Table {
     /// It stops at the first entry that has another reply, `Differs`, or cannot be made: `Argument` for a worker that is not there;
     /// `NoHistory`, `NoMemory`, `Spent`, `Busy`. What was made before stays made.
     pub fn replay(&self, saved: &[Entry]) -> Result<(), ReplayError> {
-        let _turn = self.for_change();
+        let _change = self.for_change();
         for (batch, entries) in saved.chunks(BATCH).enumerate() {
             let mut room = [raw::Entry::BLANK; BATCH];
             for (numbers, entry) in room.iter_mut().zip(entries) {
@@ -253,20 +253,20 @@ impl Table {
         // A time that the clock does not reach has no end.
         let until = timeout.and_then(|it| Instant::now().checked_add(it));
         let lock = self.threads()?;
-        let mut turn = lock.turn();
+        let mut saving = lock.changes();
         loop {
             let recorded = self.recorded()?;
             if recorded > ordinal {
                 return Ok(recorded);
             }
-            if turn.is_over {
+            if saving.is_over {
                 return Err(Error::Ended);
             }
             let left = until.map(|it| it.saturating_duration_since(Instant::now()));
             if left == Some(Duration::ZERO) {
                 return Ok(recorded);
             }
-            turn = lock.sleep(turn, left);
+            saving = lock.sleep(saving, left);
         }
     }
 
@@ -277,7 +277,7 @@ impl Table {
     /// `NoThreads`; `Busy` where this thread has the lock by [`Table::lock`].
     pub fn end_waiting(&self) -> Result<(), Error> {
         let lock = self.threads()?;
-        lock.turn().is_over = true;
+        lock.changes().is_over = true;
         lock.wake();
         Ok(())
     }

@@ -80,7 +80,7 @@ impl Table {
     pub fn label(&self, task: u32, label: &str) -> Result<(), Error> {
         check(label)?;
         // No fork takes the number meanwhile.
-        let _shared = self.for_read();
+        let _query = self.for_read();
         let mut found = raw::Reply::BLANK;
         Error::unless_done(self.raw.ask(&find(task).numbers(), &mut found))?;
         let root = root_of(task, &Reply::of(&found))?;

@@ -65,7 +65,7 @@ pub use seat::Seat;
 pub use space::SpaceStat;
 pub use stat::Stat;
 pub use table::Table;
-pub use threads::Locked;
+pub use threads::Guard;
 
 /// The numbers of a new task.
 #[derive(Clone, Copy, Debug, PartialEq, Eq, Hash)]

@@ -10,7 +10,7 @@ impl Table {
     /// # Errors
     /// `NoQuery` for each other call, `Busy`.
     pub fn ask(&self, query: Call) -> Result<Reply, Error> {
-        let _shared = self.for_query();
+        let _query = self.for_query();
         let mut reply = raw::Reply::BLANK;
         Error::unless_asked(self.raw.ask(&query.numbers(), &mut reply))?;
         Ok(Reply::of(&reply))
@@ -34,7 +34,7 @@ impl Table {
     /// # Errors
     /// `Refused` as `NoCaller`, `NoTask`; `Busy`.
     pub fn stat(&self, caller: u32, pid: u32) -> Result<Stat, Error> {
-        let _shared = self.for_query();
+        let _query = self.for_query();
         let mut task = raw::Task::BLANK;
         Stat::of(self.raw.stat(caller, pid, &mut task), task)
     }
@@ -75,7 +75,7 @@ impl Table {
     /// # Errors
     /// `Refused` as `NoCaller`; `NoMemory`, `Busy`.
     pub fn children(&self, caller: u32, pid: u32, from: u32) -> Result<Vec<u32>, Error> {
-        let _shared = self.for_query();
+        let _query = self.for_query();
         page::all(|numbers, reply| {
             self.raw
                 .page(caller, raw::CHILDREN, pid, from, numbers, reply)
@@ -90,7 +90,7 @@ impl Table {
     /// # Errors
     /// `Refused` as `NoCaller`; `NoMemory`, `Busy`.
     pub fn group_members(&self, caller: u32, group: u32, from: u32) -> Result<Vec<u32>, Error> {
-        let _shared = self.for_query();
+        let _query = self.for_query();
         page::all(|numbers, reply| {
             self.raw
                 .page(caller, raw::GROUP_MEMBERS, group, from, numbers, reply)
@@ -122,7 +122,7 @@ impl Table {
     /// # Errors
     /// `Refused` as `NoCaller`; `NoMemory`, `Busy`.
     pub fn session_members(&self, caller: u32, session: u32, from: u32) -> Result<Vec<u32>, Error> {
-        let _shared = self.for_query();
+        let _query = self.for_query();
         page::all(|numbers, reply| {
             self.raw
                 .page(caller, raw::SESSION_MEMBERS, session, from, numbers, reply)
@@ -167,7 +167,7 @@ impl Table {
     /// # Errors
     /// `Refused` as `NoCaller`; `NoMemory`, `Busy`.
     pub fn namespace_members(&self, caller: u32, pid: u32, from: u32) -> Result<Vec<u32>, Error> {
-        let _shared = self.for_query();
+        let _query = self.for_query();
         page::all(|numbers, reply| {
             self.raw
                 .page(caller, raw::NAMESPACE_MEMBERS, pid, from, numbers, reply)
@@ -201,7 +201,7 @@ impl Table {
     /// # Errors
     /// `Refused` as `NoCaller`; `NoMemory`, `Busy`.
     pub fn namespace_own(&self, caller: u32, pid: u32, from: u32) -> Result<Vec<u32>, Error> {
-        let _shared = self.for_query();
+        let _query = self.for_query();
         page::all(|numbers, reply| {
             self.raw
                 .page(caller, raw::NAMESPACE_OWN, pid, from, numbers, reply)
@@ -237,7 +237,7 @@ impl Table {
     /// # Errors
     /// `Busy`.
     pub fn space(&self, id: u64) -> Result<Option<SpaceStat>, Error> {
-        let _shared = self.for_query();
+        let _query = self.for_query();
         let mut space = raw::Space::BLANK;
         SpaceStat::of(self.raw.space(id, &mut space), space)
     }
@@ -266,7 +266,7 @@ impl Table {
     /// # Errors
     /// `NoMemory`, `Busy`.
     pub fn spaces_inside(&self, id: u64, from: u64) -> Result<Option<Vec<u64>>, Error> {
-        let _shared = self.for_query();
+        let _query = self.for_query();
         space::inside(|ids, count| self.raw.inside(raw::SPACES, id, from, ids, count))
     }
 
@@ -280,7 +280,7 @@ impl Table {
     /// # Errors
     /// `NoMemory`, `Busy`.
     pub fn controls_inside(&self, id: u64, from: u64) -> Result<Option<Vec<u64>>, Error> {
-        let _shared = self.for_query();
+        let _query = self.for_query();
         space::inside(|ids, count| self.raw.inside(raw::CONTROLS, id, from, ids, count))
     }
 
@@ -319,7 +319,7 @@ impl Table {
     /// # Errors
     /// `Refused` as `NoCaller`, `NoControl`; `NoMemory`, `Busy`.
     pub fn control_tasks(&self, caller: u32, control: u64, from: u32) -> Result<Vec<u32>, Error> {
-        let _shared = self.for_query();
+        let _query = self.for_query();
         page::all(|numbers, reply| {
             self.raw
                 .control_tasks(caller, control, from, numbers, reply)
@@ -334,7 +334,7 @@ impl Table {
     /// # Errors
     /// `Spent`, `Busy`.
     pub fn would(&self, call: Call) -> Result<Reply, Error> {
-        let _shared = self.for_query();
+        let _query = self.for_query();
         let mut reply = raw::Reply::BLANK;
         Error::unless_done(self.raw.would(&call.numbers(), &mut reply))?;
         Ok(Reply::of(&reply))

@@ -239,15 +239,15 @@ impl Table {
     pub fn wait_saved(&self, ordinal: u64) -> Result<(), SavedError> {
         let lock = self.threads();
         let lock = lock.map_err(|error| Saved::new().error(error.into()))?;
-        let mut turn = lock.turn();
+        let mut saving = lock.changes();
         loop {
-            if turn.saved > ordinal {
+            if saving.saved > ordinal {
                 return Ok(());
             }
-            if let Some(fault) = &turn.fault {
+            if let Some(fault) = &saving.fault {
                 return Err(fault.again());
             }
-            turn = lock.wait_for_saver(turn);
+            saving = lock.wait_for_saver(saving);
         }
     }
 
@@ -318,11 +318,11 @@ impl Table {
 
     /// Sleeps until a call is recorded that is not among so many. Whether the saver has ended.
     fn sleep_until_call(&self, lock: &Lock, calls: u64) -> Result<bool, Error> {
-        let mut turn = lock.turn();
-        while !turn.has_ended && self.recorded()? <= calls {
-            turn = lock.sleep(turn, None);
+        let mut saving = lock.changes();
+        while !saving.has_ended && self.recorded()? <= calls {
+            saving = lock.sleep(saving, None);
         }
-        Ok(turn.has_ended)
+        Ok(saving.has_ended)
     }
 }
 

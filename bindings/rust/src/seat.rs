@@ -62,7 +62,7 @@ impl Table {
 
     /// The number of the next worker, if it has no seat yet.
     fn next_worker(&self) -> Result<u32, Error> {
-        let _turn = self.for_change();
+        let _change = self.for_change();
         let mut worker = 0;
         match self.raw.seat(&mut worker) {
             raw::OUT_OF_RANGE => Err(Error::NoSeat),

@@ -154,7 +154,7 @@ impl Table {
     /// # Errors
     /// `NoMemory`, `Spent`, `Busy`, `Unsaved`.
     pub fn call(&self, call: Call) -> Result<Reply, Error> {
-        let _turn = self.for_calls(1)?;
+        let _change = self.for_calls(1)?;
         let mut reply = raw::Reply::BLANK;
         Error::unless_done(self.raw.call(&call.numbers(), &mut reply))?;
         Ok(self.replied(&reply))
@@ -255,7 +255,7 @@ impl Table {
     /// # Errors
     /// `NoMemory`, `Busy`.
     pub fn list(&self) -> Result<String, Error> {
-        let _shared = self.for_read();
+        let _query = self.for_read();
         texts::whole(|room, size| self.raw.list(room, size))
     }
 
@@ -264,7 +264,7 @@ impl Table {
     /// # Errors
     /// `NoMemory`, `Busy`.
     pub fn listing(&self) -> Result<Listing, Error> {
-        let _shared = self.for_read();
+        let _query = self.for_read();
         let list = texts::whole(|room, size| self.raw.list(room, size))?;
         Ok(Listing::of(&list).with_labels(self.labels().iter()))
     }
@@ -275,7 +275,7 @@ impl Table {
     /// # Errors
     /// `NoMemory`, `Busy`.
     pub fn dump(&self) -> Result<String, Error> {
-        let _shared = self.for_read();
+        let _query = self.for_read();
         texts::whole(|room, size| self.raw.dump(room, size))
     }
 }
@@ -288,7 +288,7 @@ impl Table {
         call: Call,
         ordinal: &mut u64,
     ) -> Result<Reply, Error> {
-        let _turn = self.for_calls(1)?;
+        let _change = self.for_calls(1)?;
         let (numbers, mut reply) = (call.numbers(), raw::Reply::BLANK);
         Error::unless_done(self.raw.call_by(worker, &numbers, &mut reply, ordinal))?;
         Ok(self.replied(&reply))
@@ -300,7 +300,7 @@ impl Table {
         line: &[u8],
         ordinal: &mut u64,
     ) -> Result<String, LineError> {
-        let _turn = self.for_calls(1).map_err(LineError::of_turn)?;
+        let _change = self.for_calls(1).map_err(LineError::of_change)?;
         let answer =
             texts::answer(|room, size| self.raw.line_by(worker, line, room, size, ordinal))?;
         self.forget_label(labels::new_task_of(&answer));
@@ -315,7 +315,7 @@ impl Table {
         child: Child,
         ordinal: &mut u64,
     ) -> Result<bool, Error> {
-        let _turn = self.for_calls(1)?;
+        let _change = self.for_calls(1)?;
         let (Child { number, root }, new) = (child, new_space.into());
         let mut reply = raw::Reply::BLANK;
         let status = self
@@ -335,7 +335,7 @@ impl Table {
         call: Call,
         ordinal: &mut u64,
     ) -> Result<Told, Error> {
-        let _turn = self.for_calls(1)?;
+        let _change = self.for_calls(1)?;
         let numbers = call.numbers();
         let told = effects::told(|reply, room, count| {
             self.raw
@@ -352,7 +352,7 @@ impl Table {
         replies: &mut Vec<Reply>,
         ordinal: &mut u64,
     ) -> Result<(), Error> {
-        let _turn = self.for_calls(calls.len())?;
+        let _change = self.for_calls(calls.len())?;
         replies
             .try_reserve(calls.len())
             .map_err(|_| Error::NoMemory)?;

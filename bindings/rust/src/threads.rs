@@ -43,13 +43,13 @@ fn this_thread() -> usize {
 pub(crate) struct Lock {
     /// Queries share it, and a change has it alone. On Linux no query passes a change that waits: std's lock has it so.
     queries: RwLock<()>,
-    /// Whose turn it is to change the table: so one change at a time waits for the queries. Who sleeps has it.
-    turn: Mutex<Saving>,
-    /// Who goes before the calls of other threads, and whether that waits for the turn: std's mutex is for whoever comes first when it is free, which is
+    /// Who changes the table has it: so one change at a time waits for the queries. Who sleeps has had it.
+    changes: Mutex<Saving>,
+    /// Who goes before the calls of other threads, and whether that waits for the mutex above: std's is for whoever comes first when it is free, which is
     /// a busy thread that has just given it back. So each thread makes one more call at most before it waits here too.
     gate: Mutex<()>,
     is_awaited: AtomicBool,
-    /// The thread that has a [`Locked`]; 0: none.
+    /// The thread that has a [`Guard`]; 0: none.
     holder: AtomicUsize,
     /// A saver has told how far it is.
     told: Condvar,
@@ -58,7 +58,7 @@ pub(crate) struct Lock {
 }
 
 impl Lock {
-    /// Whether this thread has a [`Locked`].
+    /// Whether this thread has a [`Guard`].
     fn is_mine(&self) -> bool {
         let holder = self.holder.load(Ordering::Relaxed);
         holder != 0 && holder == this_thread()
@@ -78,48 +78,49 @@ impl Lock {
         taken
     }
 
-    fn turn_of_call(&self) -> MutexGuard<'_, Saving> {
+    /// Keeps other changes out, for a call.
+    fn changes_for_call(&self) -> MutexGuard<'_, Saving> {
         self.let_others_go_first();
-        whole(self.turn.lock())
+        whole(self.changes.lock())
     }
 
-    /// The turn, before the calls of busy threads.
-    pub(crate) fn turn(&self) -> MutexGuard<'_, Saving> {
-        self.before_calls(|| whole(self.turn.lock()))
+    /// Keeps other changes out, before the calls of busy threads.
+    pub(crate) fn changes(&self) -> MutexGuard<'_, Saving> {
+        self.before_calls(|| whole(self.changes.lock()))
     }
 
-    /// Who has the turn waits for the queries, and then changes the table.
-    fn alone<'a>(&'a self, turn: MutexGuard<'a, Saving>) -> Turn<'a> {
-        Turn {
-            held: Some((whole(self.queries.write()), turn)),
+    /// Who keeps other changes out waits for the queries, and then has the table alone.
+    fn alone<'a>(&'a self, saving: MutexGuard<'a, Saving>) -> Change<'a> {
+        Change {
+            held: Some((whole(self.queries.write()), saving)),
             lock: self,
         }
     }
 
-    /// Who has the turn gives it back until a call is recorded, or the time is over.
+    /// Lets changes in until a call is recorded, or the time is over.
     pub(crate) fn sleep<'a>(
         &self,
-        mut turn: MutexGuard<'a, Saving>,
+        mut saving: MutexGuard<'a, Saving>,
         time: Option<Duration>,
     ) -> MutexGuard<'a, Saving> {
-        turn.sleeps = true;
+        saving.sleeps = true;
         match time {
-            Some(time) => whole(self.recorded.wait_timeout(turn, time)).0,
-            None => whole(self.recorded.wait(turn)),
+            Some(time) => whole(self.recorded.wait_timeout(saving, time)).0,
+            None => whole(self.recorded.wait(saving)),
         }
     }
 
-    /// Who has the turn gives it back until a saver tells how far it is.
+    /// Lets changes in until a saver tells how far it is.
     pub(crate) fn wait_for_saver<'a>(
         &self,
-        turn: MutexGuard<'a, Saving>,
+        saving: MutexGuard<'a, Saving>,
     ) -> MutexGuard<'a, Saving> {
-        whole(self.told.wait(turn))
+        whole(self.told.wait(saving))
     }
 
     /// Has those that wait for the saver look again at what is changed.
     pub(crate) fn tell(&self, change: impl FnOnce(&mut Saving)) {
-        change(&mut self.turn());
+        change(&mut self.changes());
         self.told.notify_all();
     }
 
@@ -130,20 +131,20 @@ impl Lock {
 }
 
 /// The table is this thread's alone.
-pub(crate) struct Turn<'a> {
-    // None only amid the drop. Queries that wait are let in before the next change has its turn.
+pub(crate) struct Change<'a> {
+    // None only amid the drop. Queries that wait are let in before the next change.
     held: Option<(RwLockWriteGuard<'a, ()>, MutexGuard<'a, Saving>)>,
     lock: &'a Lock,
 }
 
-impl Drop for Turn<'_> {
+impl Drop for Change<'_> {
     fn drop(&mut self) {
-        let Some((queries, mut turn)) = self.held.take() else {
+        let Some((queries, mut saving)) = self.held.take() else {
             return;
         };
-        let wakes = mem::take(&mut turn.sleeps);
+        let wakes = mem::take(&mut saving.sleeps);
         drop(queries);
-        drop(turn);
+        drop(saving);
         if wakes {
             self.lock.wake();
         }
@@ -156,14 +157,14 @@ impl Drop for Turn<'_> {
 ///
 /// ```compile_fail,E0277
 /// fn sent<T: Send>() {}
-/// sent::<pidtab::Locked<'static>>();
+/// sent::<pidtab::Guard<'static>>();
 /// ```
-pub struct Locked<'a> {
+pub struct Guard<'a> {
     table: &'a Table,
-    turn: Turn<'a>,
+    change: Change<'a>,
 }
 
-impl Deref for Locked<'_> {
+impl Deref for Guard<'_> {
     type Target = Table;
 
     fn deref(&self) -> &Table {
@@ -171,15 +172,15 @@ impl Deref for Locked<'_> {
     }
 }
 
-impl Drop for Locked<'_> {
+impl Drop for Guard<'_> {
     fn drop(&mut self) {
-        self.turn.lock.holder.store(0, Ordering::Relaxed);
+        self.change.lock.holder.store(0, Ordering::Relaxed);
     }
 }
 
-impl fmt::Debug for Locked<'_> {
+impl fmt::Debug for Guard<'_> {
     fn fmt(&self, to: &mut fmt::Formatter<'_>) -> fmt::Result {
-        to.debug_struct("Locked").finish_non_exhaustive()
+        to.debug_struct("Guard").finish_non_exhaustive()
     }
 }
 
@@ -203,11 +204,14 @@ impl Table {
     ///
     /// # Errors
     /// `NoThreads`; `Busy` where this thread has the lock already.
-    pub fn lock(&self) -> Result<Locked<'_>, Error> {
+    pub fn lock(&self) -> Result<Guard<'_>, Error> {
         let lock = self.threads()?;
-        let turn = lock.alone(lock.turn());
+        let change = lock.alone(lock.changes());
         lock.holder.store(this_thread(), Ordering::Relaxed);
-        Ok(Locked { table: self, turn })
+        Ok(Guard {
+            table: self,
+            change,
+        })
     }
 
     /// The lock, of which this thread has no guard: what waits with one would wait for ever.
@@ -235,38 +239,38 @@ impl Table {
     pub(crate) fn for_read(&self) -> Option<RwLockReadGuard<'_, ()>> {
         let lock = self.to_take()?;
         Some(match lock.queries.try_read() {
-            Ok(shared) => shared,
-            Err(TryLockError::Poisoned(shared)) => shared.into_inner(),
+            Ok(query) => query,
+            Err(TryLockError::Poisoned(query)) => query.into_inner(),
             Err(TryLockError::WouldBlock) => lock.before_calls(|| whole(lock.queries.read())),
         })
     }
 
-    /// The turn of a change that is no call.
-    pub(crate) fn for_change(&self) -> Option<Turn<'_>> {
+    /// What a change has that is no call.
+    pub(crate) fn for_change(&self) -> Option<Change<'_>> {
         let lock = self.to_take()?;
-        Some(lock.alone(lock.turn()))
+        Some(lock.alone(lock.changes()))
     }
 
-    /// The turn of so many calls that keep the bound: it waits until the saver is near enough.
+    /// What so many calls have that keep the bound: it waits until the saver is near enough.
     #[inline]
-    pub(crate) fn for_calls(&self, calls: usize) -> Result<Option<Turn<'_>>, Error> {
+    pub(crate) fn for_calls(&self, calls: usize) -> Result<Option<Change<'_>>, Error> {
         match self.to_take() {
             None => Ok(None),
-            Some(lock) => self.turn_in_bound(lock, calls as u64).map(Some),
+            Some(lock) => self.change_in_bound(lock, calls as u64).map(Some),
         }
     }
 
     // Not inline, so that a table without a lock pays for a comparison alone.
     #[inline(never)]
-    fn turn_in_bound<'a>(&self, lock: &'a Lock, calls: u64) -> Result<Turn<'a>, Error> {
-        let mut turn = lock.turn_of_call();
-        while self.is_too_far(&turn, calls)? {
-            if turn.fault.is_some() {
+    fn change_in_bound<'a>(&self, lock: &'a Lock, calls: u64) -> Result<Change<'a>, Error> {
+        let mut saving = lock.changes_for_call();
+        while self.is_too_far(&saving, calls)? {
+            if saving.fault.is_some() {
                 return Err(Error::Unsaved);
             }
-            turn = lock.wait_for_saver(turn);
+            saving = lock.wait_for_saver(saving);
         }
-        Ok(lock.alone(turn))
+        Ok(lock.alone(saving))
     }
 
     /// Whether with so many calls more would be recorded and not saved than the bound lets there be. More than the bound follow where all are saved.

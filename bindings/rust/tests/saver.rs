@@ -112,16 +112,16 @@ fn never_too_far() {
     assert_eq!(calls, u64::from(THREADS) * EACH);
 }
 
-/// The same by turns. One that is longer than the bound is made where all is saved.
+/// The same of many calls in one go. More than the bound are made where all is saved.
 #[test]
-fn no_turn_too_far() {
+fn many_in_one_go_never_too_far() {
     let (table, disk) = (open(), Disk::default());
     table.bound_unsaved(BOUND).expect("a lock");
     let calls = beside_the_saver(&table, &disk, 0, || {
         let (mut seat, mut replies) = (table.seat().expect("a seat"), Vec::new());
         for length in [1, 7, 2 * BOUND, 3].repeat(EACH as usize / 40) {
-            let turn = vec![Call::Getpid { caller: 1 }; length as usize];
-            assert_eq!(seat.calls(&turn, &mut replies), Ok(()));
+            let calls = vec![Call::Getpid { caller: 1 }; length as usize];
+            assert_eq!(seat.calls(&calls, &mut replies), Ok(()));
             let ordinal = seat.ordinal().expect("an ordinal");
             assert!(ordinal < disk.calls() + length.max(BOUND));
         }

@@ -383,9 +383,9 @@ fn mixed(count: usize) -> Vec<Call> {
     calls.into_iter().cycle().take(count).collect()
 }
 
-/// Turns, also longer than what goes to the library at a time, beside as many single calls.
+/// Many calls in one go, also more than go to the library at a time, beside as many single calls.
 #[test]
-fn turns_as_single_calls() {
+fn calls_in_one_go_as_single_calls() {
     let (table, other) = (open(2), open(2));
     let (mut seat, mut alone) = (table.seat().expect("a seat"), other.seat().expect("a seat"));
     let mut wanted = Vec::new();
@@ -415,22 +415,22 @@ fn calls_after_the_last_stamp() {
     assert_eq!((replies.len(), counts(&table)), (70, (0, 70)));
 }
 
-/// No call of another worker comes between those of a turn, and the history keeps its bound.
+/// No call of another worker comes between those in one go, and the history keeps its bound.
 #[test]
-fn turns_of_threads() {
+fn calls_in_one_go_of_threads() {
     let table = options(4).keep(1000).open();
     let table = table.expect("a table");
     thread::scope(|scope| {
         for _ in 0..4 {
             scope.spawn(|| {
                 let (mut seat, calls) = (table.seat().expect("a seat"), mixed(10));
-                for turn in 0..300 {
+                for time in 0..300 {
                     let mut replies = Vec::new();
                     assert_eq!(seat.calls(&calls, &mut replies), Ok(()));
                     assert_eq!(
                         (replies.len(), seat.ordinal().expect("one") % 10),
                         (10, 9),
-                        "{turn}"
+                        "{time}"
                     );
                 }
             });
@@ -438,7 +438,7 @@ fn turns_of_threads() {
     });
     assert_eq!(counts(&table), (11_000, 12_000));
     let entries = table.entries(11_000, 1000).expect("entries");
-    for turn in entries.chunks(10) {
-        assert!(turn.iter().all(|it| it.worker == turn[0].worker));
+    for calls in entries.chunks(10) {
+        assert!(calls.iter().all(|it| it.worker == calls[0].worker));
     }
 }
