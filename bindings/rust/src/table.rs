@@ -15,7 +15,7 @@ static NEXT_NUMBER: AtomicU64 = AtomicU64::new(1);
 /// Its settings, by [`Table::options`], say whether it keeps its history, how much of it, for how many workers, and whether many threads use it:
 ///
 /// ```
-/// use pidtab::{Call, Error, Reply, Table};
+/// use pidtab::{Call, Error, Table};
 /// use std::thread;
 ///
 /// let table = Table::options().keep(4096).workers(2).threads().open()?;
