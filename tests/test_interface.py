@@ -38,7 +38,6 @@ DIFFERENCES = [
      "the order of MakeControl is control-busy, control-depth, and in interface/ no-control, control-depth"),
     ("crates/model_laws/specs/Refusals.antt", "× (p ≡ caller.name.space → ⊥)) Elsewhere", "× (p ≡ caller.name.space → ⊥)) TooDeep", "the order of Fork is"),
     ("crates/pid_script/src/line.rt", "`wait C own`", "`wait C mine`", "the line wait C mine is not in interface/"),
-    ("crates/saved_form/src/numbers.rt", "| 14, 15 | `getpgid`, `getsid` |", "| 14, 15 | `getsid`, `getpgid` |", "the operation 14 getsid is not in interface/"),
     ("crates/saved_form/src/numbers.rt", "pub const SET_PGID: u32 = 7;", "pub const SET_PGID: u32 = 8;", "the operation 8 is not in interface/"),
     ("crates/saved_form/src/numbers.rt", "/// | 5 | `NoneYet`", "/// | 6 | `NoneYet`", "the kind 6 NoneYet is not in interface/"),
     ("crates/saved_form/src/numbers.rt", "pub const LEVELS_KIND: u32 = 3;", "pub const LEVELS_KIND: u32 = 2;", "the kind 2 is not in interface/"),
@@ -95,13 +94,10 @@ DIFFERENCES = [
     ("linux/harness/chooser.py", "['getpgid', 'getsid', 'nspid']", "['getpgid', 'getsid']", "no random line is `nspid`"),
     ("linux/README.md", "| `next` | no call", "| others | no call", "no row says how Linux is asked for `next`"),
     ("linux/gvisor/calls.go", '\t"getsid":  ', '\t"sid":  ', "no form is `getsid`, and linux/README.md does not say that it is answered `n/a`"),
-    ("page/index.html", "getpgid C P, getsid C P</dt>", "getpgid C P</dt>", "none of the lines is `getsid C P`"),
-    ("box/src/calls.c", "QUERY(PIDTAB_GETSID)", "QUERY(PIDTAB_GETPID)", "the box makes no `getsid`"),
-    ("box/src/controls.c", "PIDTAB_COUNT", "PIDTAB_MK", "the box makes no `count`"),
+    ("box/src/controls.c", "PIDTAB_LIMIT", "PIDTAB_MK", "the box makes no `limit`"),
     ("box/src/forks.c", "PIDTAB_JOIN", "PIDTAB_FORK", "the box makes no `join`"),
     ("box/src/groups.c", "PIDTAB_SETSID", "PIDTAB_FORK", "the box makes no `setsid`"),
-    ("box/src/main.c", "PIDTAB_NEXT", "PIDTAB_MK", "the box makes no `next`"),
-    ("box/src/table.c", "pidtab_stat(", "pidtab_task(", "the box makes no `nspid`"),
+    ("box/src/table.c", "PIDTAB_SETPGID", "PIDTAB_EXIT", "the box makes no `setpgid`"),
     ("box/src/tracer.c", "PIDTAB_EXEC", "PIDTAB_FORK", "the box makes no `exec`"),
 ]  # fmt: skip
 
