@@ -305,9 +305,12 @@ impl Table {
         to: &mut impl Write,
         keep: u64,
     ) -> Result<(), SavedFault> {
+        if keep == 0 {
+            return Ok(());
+        }
         let held = self.lock()?;
         let counts = held.counts()?;
-        if keep == 0 || counts.recorded - counts.first_kept < keep {
+        if counts.recorded - counts.first_kept < keep {
             return Ok(());
         }
         let read = |from, room: &mut [raw::Entry]| held.read_numbers(from, room);
