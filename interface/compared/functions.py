@@ -12,7 +12,7 @@ DECLARED = r"^(?!static)\w[\w ]*[ *]pidtab_(\w+)\("
 # The files of each package.
 FILES = {
     "python": tuple(f"bindings/python/pidtab/{name}.py" for name in ("calls", "native", "shared", "table")),
-    "rust": tuple(f"bindings/rust/src/{name}.rs" for name in ("blocks", "calls", "lib", "saved", "shared")),
+    "rust": tuple(f"bindings/rust/src/{name}.rs" for name in ("blocks", "calls", "history", "options", "saved", "seat", "table", "threads")),
     "go": tuple(f"bindings/go/{name}.go" for name in ("calls", "dump", "replica", "saved", "saver", "shared", "table", "values")),
     "javascript": ("bindings/js/pidtab.d.ts",),
 }
