@@ -176,7 +176,7 @@ func TestAReplicaThatIsClosed(t *testing.T) {
 	it.replica.Close()
 	it.replica.Close()
 	for _, replica := range []*Replica{it.replica, new(Replica)} {
-		_, applies := replica.Apply(open(t, 32768), 1, []byte(logSettings))
+		_, applies := replica.Apply(open(t, Settings{}), 1, []byte(logSettings))
 		_, answers := replica.Answers()
 		_, log := replica.Log()
 		_, digest := replica.Digest(1)

@@ -1,0 +1,82 @@
+package pidtab
+
+import (
+	"sync"
+	"sync/atomic"
+)
+
+// A gate is by what goroutines come to a table: queries side by side, and all else alone. With Settings.Threads each waits for its turn. Without, who
+// finds another one there is turned away.
+type gate struct {
+	turnLock
+	waits bool
+}
+
+// enter goes in alone, before those who make calls; false where the table is busy.
+func (it *gate) enter() bool {
+	if !it.waits {
+		return it.lock.TryLock()
+	}
+	it.Lock()
+	return true
+}
+
+// enterForCall goes in alone for a call; false where the table is busy.
+func (it *gate) enterForCall() bool {
+	if !it.waits {
+		return it.lock.TryLock()
+	}
+	it.LockForCall()
+	return true
+}
+
+// share goes in for a query, beside others; false where the table is busy.
+func (it *gate) share() bool {
+	if !it.waits {
+		return it.lock.TryRLock()
+	}
+	it.RLock()
+	return true
+}
+
+// A turnLock is a lock for readers and writers of which whoever calls Lock is before those that call LockForCall: each of these has it once more at
+// most. A sync.RWMutex alone is for the writer who comes first when it is free, which is a goroutine that has just given it back; only after a
+// millisecond it is for one that waits. It lets no reader pass a writer that waits, and has those that wait in before the next writer.
+type turnLock struct {
+	lock      sync.RWMutex
+	gate      sync.Mutex
+	isAwaited atomic.Bool // somebody at the gate waits for the lock
+}
+
+// Lock locks before the calls.
+func (it *turnLock) Lock() {
+	it.gate.Lock()
+	it.isAwaited.Store(true)
+	it.lock.Lock()
+	it.isAwaited.Store(false)
+	it.gate.Unlock()
+}
+
+// LockForCall locks for a call.
+func (it *turnLock) LockForCall() {
+	if it.isAwaited.Load() {
+		it.gate.Lock()
+		it.gate.Unlock()
+	}
+	it.lock.Lock()
+}
+
+// Unlock unlocks.
+func (it *turnLock) Unlock() {
+	it.lock.Unlock()
+}
+
+// RLock locks for a query, beside others.
+func (it *turnLock) RLock() {
+	it.lock.RLock()
+}
+
+// RUnlock unlocks after a query.
+func (it *turnLock) RUnlock() {
+	it.lock.RUnlock()
+}
