@@ -131,7 +131,7 @@ COMPLETIONS = bash-completion/completions/pidtabctl zsh/site-functions/_pidtabct
 # The functions that a manual page names at its head, each of which has a manual page by its name.
 NAMED = sed -n 's/^\.Nm \(pidtab_[a-z_]*\).*/\1/p'
 FUNCTIONS = $(shell $(NAMED) man/*.3)
-HEADERS = pidtab.h pidtab_shared.h pidtab_saved.h pidtab_replica.h
+HEADERS = pidtab.h pidtab_saved.h pidtab_replica.h
 MANUALS = $(foreach page,$(wildcard man/*.$(1)),'$(DESTDIR)$(MANDIR)/man$(1)/$(notdir $(page))')
 BINARIES = $(DESTDIR)$(PREFIX)/bin
 SHARED_FILES = $(DESTDIR)$(PREFIX)/share/pidtab
@@ -256,13 +256,14 @@ try-lib: ## * compiles the library for C without proofs, in out/: do not rely on
 out/liblog_turns.a: crates/log_turns/out/liblog_turns.a
 	cp $< $@
 
-# The proved functions by other names, under which guard.c, guard_record.c and guard_replica.c call them.
+# The proved functions by other names, under which the C around them calls them.
 $(OUT)/proved.a: $(LIBRARY) bindings/c/renamed.syms
 	$(OBJCOPY) --redefine-syms=bindings/c/renamed.syms $(LIBRARY) $@
 
 # One object, of whose symbols only pidtab_.. are seen.
-AROUND = heap guard guard_record guard_replica shared saved_file
-$(OUT)/pidtab.o: $(OUT)/proved.a $(AROUND:%=bindings/c/%.c) bindings/c/proved.h $(HEADERS:%=bindings/c/%)
+INTERNAL = proved.h guard.h threads.h
+AROUND = heap guard guard_replica settings follow threads saved_file
+$(OUT)/pidtab.o: $(OUT)/proved.a $(AROUND:%=bindings/c/%.c) $(INTERNAL:%=bindings/c/%) $(HEADERS:%=bindings/c/%)
 	for it in $(AROUND); do $(CC) -std=c11 -O2 -Wall -Wextra -Werror -fPIC -pthread -c -o $(OUT)/$$it.o bindings/c/$$it.c || exit 1; done
 	$(LD) -r -o $@ --whole-archive $(OUT)/proved.a --no-whole-archive $(AROUND:%=$(OUT)/%.o)
 	$(OBJCOPY) -w --keep-global-symbol='pidtab_*' $@

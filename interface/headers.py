@@ -3,7 +3,7 @@
 import re
 from typing import NamedTuple
 
-HEADERS = ("bindings/c/pidtab.h", "bindings/c/pidtab_shared.h", "bindings/c/pidtab_saved.h", "bindings/c/pidtab_replica.h")
+HEADERS = ("bindings/c/pidtab.h", "bindings/c/pidtab_saved.h", "bindings/c/pidtab_replica.h")
 
 
 class Argument(NamedTuple):

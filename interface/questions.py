@@ -6,9 +6,6 @@ from typing import NamedTuple
 from names import camel
 from tables import Row, TableFault, words_of
 
-# How the names of the functions begin that answer a question: of a table, of a record, and of a shared one.
-OWNERS = ("", "record_", "shared_")
-
 # A question whose answer is the reply of a call is asked by a call, which is a value.
 REPLY = "reply"
 
@@ -44,18 +41,13 @@ def shown(row):
     return [it for it in arguments_of(row) if it.name != "from"]
 
 
-def function(row, owner=""):
-    """The function of C that answers it, for an owner; nothing where there is none."""
-    return next((it for it in words_of(row.exports) if it == owner + words_of(row.exports)[0]), None)
+def with_function(tables, owner=""):
+    """The questions, each with its function of C."""
+    return [] if owner else [(row, row.exports) for row in tables["questions"]]
 
 
-def with_function(tables, owner):
-    """The questions that an owner answers, each with its function."""
-    return [(row, function(row, owner)) for row in tables["questions"] if function(row, owner)]
-
-
-def by_function(tables, owner):
-    """The functions of an owner, each with its questions."""
+def by_function(tables, owner=""):
+    """The functions of C, each with its questions."""
     found = {}
     for row, name in with_function(tables, owner):
         found.setdefault(name, []).append(row)
@@ -82,24 +74,20 @@ def sentences(row, form):
     return f"{said(row.says, form)} {memory(row)}".strip()
 
 
-def packages_of(row, owner):
+def packages_of(row):
     """What has the question in each package."""
-    name, held = row.question, ("Table", "Shared")[owner != ""]
+    name = row.question
     asked = "Table" if row.tells == REPLY else "Ask"
     script = camel(name)[0].lower() + camel(name)[1:]
-    return {"python": f"{asked}.{name}", "rust": f"{held}::{name}", "go": f"{held}.{camel(name)}", "javascript": f"{asked}.{script}"}
+    return {"python": f"{asked}.{name}", "rust": f"Table::{name}", "go": f"Table.{camel(name)}", "javascript": f"{asked}.{script}"}
 
 
 def functions_of(rows):
     """The functions that answer questions, as rows of functions.tbl."""
-    told = []
-    for row in rows:
-        table, *others = words_of(row.exports)
-        for owner, functions in (("", table), ("record_", ", ".join(others))):
-            if functions:
-                cells = {"functions": functions, "since": row.since, **packages_of(row, owner), "statuses": row.statuses, "sentence": row.sentence}
-                told.append(Row(row.at, {**cells, "table": "questions"}))
-    return told
+    return [
+        Row(it.at, {"functions": it.exports, "since": it.since, **packages_of(it), "statuses": it.statuses, "sentence": it.sentence, "table": "questions"})
+        for it in rows
+    ]
 
 
 def check(rows, kinds):

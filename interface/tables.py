@@ -23,7 +23,7 @@ KINDS = {
     "lines": r"[a-z]+( [a-z]+)*(, [a-z]+( [a-z]+)*)*",
     "sentences": r"[A-Z].*\.",
     "words": r"[a-z]+( [a-z]+)*",
-    "owner": r"table|record|saved|replica",
+    "owner": r"table|saved|replica",
     "errno or -": r"E[A-Z]+|-",
     "place": r"1|K|-",
     "part": r"form|table|none",
@@ -58,7 +58,7 @@ COLUMNS = {
         "javascript": "method or -", "statuses": "statuses or -", "sentence": "sentence",
     },
     "questions": {
-        "question": "question", "exports": "functions", "since": "release", "arguments": "question arguments", "tells": "told", "of": "words or -", "refusals": "list or -",
+        "question": "question", "exports": "question", "since": "release", "arguments": "question arguments", "tells": "told", "of": "words or -", "refusals": "list or -",
         "statuses": "statuses or -", "sentence": "sentence", "says": "sentences",
     },
     "lines": {"calls": "lines", "asks": "sentence", "answer": "sentence", "manual": "sentences"},

@@ -1,12 +1,13 @@
 /* pidtab.h - Linux process identifiers as one table, in this process.
  *
- * What each function does to a table is proved (crates/pidtab_c). Around each proved function stand a few lines of C, bindings/c/guard.c and
- * guard_record.c, which mark the table, and are only tested, as the shared and the saved ones are. This header is written to fit, in part
- * by tools/interface; bindings/c/test.c and test_guard compare it.
+ * What each function does to a table is proved (crates/pidtab_c). Around each proved function stand a few lines of C, which mark the table or take its
+ * lock, and are only tested: guard.c, settings.c, follow.c and threads.c of bindings/c. This header is written to fit, in part by tools/interface;
+ * bindings/c/test.c and test_guard compare it.
  *
  * A function that takes a `const` table is a query: it changes nothing, and any number of threads may be in queries of one table at once.
  * Each other function works alone: while one does, each that another thread calls is PIDTAB_BUSY, and does nothing, and so is it where it
- * finds queries at work. Threads that share a lock for readers and writers never see it. Two tables share nothing.
+ * finds queries at work. Threads that share a lock for readers and writers never see it, and a table that is opened with `threads` has such a
+ * lock: there a function waits. Two tables share nothing.
  *
  * Nobody checks that a caller keeps these rules:
  *
@@ -14,7 +15,7 @@
  *   and closing both frees twice. Its fields are not read or written.
  * - No pointer is null, not even to 0 bytes, and no two of those passed overlap.
  * - malloc, realloc and free are one allocator's. No function is called from a signal handler, nor in the forked child of a
- *   process with threads.
+ *   process with threads, and no thread is cancelled in one.
  */
 #ifndef PIDTAB_H
 #define PIDTAB_H
@@ -31,14 +32,30 @@ extern "C" {
 struct pidtab {
 	void *at;
 	bool is_open;
-	uint8_t in_use; /* by queries, or by a call */
+	uint8_t in_use;    /* by queries, or by a call */
+	bool has_settings; /* a bound of its history, or threads */
+	uint8_t workers;
+	uint8_t seated;    /* so many of them have a seat */
+	uint64_t keep;     /* at most so many entries are kept; 0: any number */
+	void *threads;     /* its lock, if it has one */
 };
-#define PIDTAB_INIT { 0, false, 0 }
+#define PIDTAB_INIT { 0, false, 0, false, 0, 0, 0, 0 }
+
+/* What a table is opened with. A field that is 0 is what it says. */
+struct pidtab_settings {
+	uint32_t pid_max;     /* 301 to 4194304: each number is below it; 0: 32768 */
+	uint32_t workers;     /* 1 to 16 count their calls apart, and 1 where no history is kept; 0: 1 */
+	uint64_t first_stamp; /* of the first call, at least 1; 0: 1 */
+	uint64_t keep;        /* 0: no history; PIDTAB_KEEP_ALL: all of it; else at most so many entries */
+	bool threads;         /* any number of threads use the table at once: one waits for another, and no function is PIDTAB_BUSY */
+};
+#define PIDTAB_KEEP_ALL UINT64_MAX
 
 /* Written by tools/interface: statuses. */
-/* What a function answers: 0, or a number of Linux's errno. Any status but PIDTAB_DONE says that the table is as it was.
- * A call that the table refuses, as ESRCH no-caller, is PIDTAB_DONE: its answer or reply says so. Those whose name ends with
- * _of have no reply, and may answer the errno of the refusal: the query was made, and has used a stamp. */
+/* What a function answers: 0, or a number of Linux's errno. Any status but PIDTAB_DONE says that the table is as it was, but of
+ * pidtab_replay, and of pidtab_calls as it says. A call that the table refuses, as ESRCH no-caller, is PIDTAB_DONE: its answer or
+ * reply says so. Those whose name ends with _of have no reply, and may answer the errno of the refusal: the query was made, and
+ * has used a stamp. */
 enum pidtab_status {
 	PIDTAB_DONE = 0,
 	PIDTAB_CLOSED = 9,        /* EBADF: there is no open table */
@@ -50,15 +67,11 @@ enum pidtab_status {
 	PIDTAB_BAD_LINE = 71,     /* EPROTO: the line is none of the script language */
 	PIDTAB_SPENT = 75,        /* EOVERFLOW: after 2^64 - 2 calls */
 	PIDTAB_DIFFERS = 74,      /* EBADMSG: a reply is not the given one */
-	PIDTAB_BAD_TEXT = 117     /* EUCLEAN: the text is that of no table; the fault says why */
-};
-
-/* What the functions of a record answer besides. Any status but PIDTAB_DONE says that the record is as it was, but of
- * pidtab_record_replay, and of pidtab_record_calls as it says. */
-enum pidtab_record_status {
-	PIDTAB_NOT_KEPT = 2,   /* ENOENT: the entry was cut away, or is not reached yet */
-	PIDTAB_AGAIN = 11,     /* EAGAIN: another number of calls was recorded by now */
-	PIDTAB_NO_HISTORY = 95 /* EOPNOTSUPP: the table keeps no history */
+	PIDTAB_BAD_TEXT = 117,    /* EUCLEAN: the text is that of no table; the fault says why */
+	PIDTAB_NOT_KEPT = 2,      /* ENOENT: the entry was cut away, or is not reached yet */
+	PIDTAB_AGAIN = 11,        /* EAGAIN: another number of calls was recorded by now */
+	PIDTAB_NO_HISTORY = 95,   /* EOPNOTSUPP: the table keeps no history */
+	PIDTAB_NO_THREADS = 37    /* ENOLCK: the table was opened without threads */
 };
 
 /* What a status says, as a sentence. */
@@ -92,7 +105,9 @@ static inline const char *pidtab_text(uint32_t status)
 	case PIDTAB_AGAIN:
 		return "another number of calls was recorded by now";
 	case PIDTAB_NO_HISTORY:
-		return "the table keeps no history";
+		return "this table keeps no history: open it with keep";
+	case PIDTAB_NO_THREADS:
+		return "this table is one thread's: open it with threads";
 	}
 	return "no such status";
 }
@@ -110,16 +125,20 @@ static inline const char *pidtab_text(uint32_t status)
 /* The number of the interface that the library has, which is PIDTAB_VERSION of its header. */
 uint32_t pidtab_version(void);
 
-/* Opens a table with process 1 alone; pid_max is 301 to 4194304. DONE, BUSY, OUT_OF_RANGE, NO_MEMORY. Each of the functions below may be
- * BUSY too. */
+/* Opens a table with process 1 alone, for one thread and without a history; pid_max is 301 to 4194304. DONE, BUSY, OUT_OF_RANGE, NO_MEMORY. Each of
+ * the functions below may be BUSY too, where the table has no threads. */
 uint32_t pidtab_open(struct pidtab *table, uint32_t pid_max);
 
-/* Frees the table. A table that is not open stays so. DONE; one that is BUSY is not closed. */
+/* Opens a table by its settings. DONE; BUSY where it is open already; OUT_OF_RANGE; NO_MEMORY. */
+uint32_t pidtab_open_with(struct pidtab *table, const struct pidtab_settings *settings);
+
+/* Frees the table. A table that is not open stays so. DONE; one that is BUSY is not closed. Where the table has threads, no other is in a function of
+ * it, or calls one afterwards: pidtab_end and pidtab_saved_end end what waits before. */
 uint32_t pidtab_close(struct pidtab *table);
 
 /* Makes the call on a line of the script language (docs/SCRIPT.md), which has no newline. The answer has size bytes, no newline
- * and no zero byte after it; its room is at least PIDTAB_LONGEST_ANSWER. DONE, CLOSED, EMPTY_LINE, BAD_LINE, NO_ROOM, SPENT, and
- * NO_MEMORY for fork and mk alone. */
+ * and no zero byte after it; its room is at least PIDTAB_LONGEST_ANSWER. DONE, CLOSED, EMPTY_LINE, BAD_LINE, NO_ROOM, SPENT,
+ * NO_MEMORY; without a history that comes for fork and mk alone. */
 uint32_t pidtab_line(struct pidtab *table, const void *line, size_t length, void *answer, size_t room, size_t *size);
 
 /* Writes the list of the table, as `pidtab list` does. DONE, CLOSED, NO_MEMORY, and NO_ROOM where it is longer than the room; then
@@ -169,6 +188,12 @@ struct pidtab_fault {
 /* Opens a table as a text of pidtab_dump says: each later call has the answer that it would have had there. Any bytes may be given. DONE;
  * BUSY where it is open already; then BAD_TEXT and the fault, which no text of a table has; NO_MEMORY. The fault is zeroes except for BAD_TEXT. */
 uint32_t pidtab_load(struct pidtab *table, const void *text, size_t length, struct pidtab_fault *fault);
+
+/* The same by settings, of which pid_max and first_stamp are not looked at. A history begins with the next call: counts has how many calls of each of
+ * its workers were recorded before, and their sum is the ordinal of that call. Without a history counts is not looked at. No worker has a seat. DONE;
+ * BUSY; OUT_OF_RANGE for the workers; then BAD_TEXT and a fault of kind 1 or 2; then OUT_OF_RANGE where the counts add up to the stamp or more; then
+ * BAD_TEXT and another fault; NO_MEMORY. */
+uint32_t pidtab_load_with(struct pidtab *table, const void *text, size_t length, const struct pidtab_settings *settings, const uint64_t *counts, struct pidtab_fault *fault);
 
 /* Written by tools/interface: operations. */
 /* A call as numbers. What an operation does not take is not looked at; pidtab_ask answers a query too. */
@@ -306,7 +331,7 @@ struct pidtab_reply {
 	uint32_t levels[PIDTAB_LEVELS_MAX];
 };
 
-/* Makes a call. DONE, CLOSED, OUT_OF_RANGE, SPENT, and NO_MEMORY for FORK and MK alone. */
+/* Makes a call. DONE, CLOSED, OUT_OF_RANGE, SPENT, NO_MEMORY; without a history that comes for FORK and MK alone. */
 uint32_t pidtab_call(struct pidtab *table, const struct pidtab_call *call, struct pidtab_reply *reply);
 
 /* Queries that tell one number, made as pidtab_call makes them, for some half of its instructions, as no struct is filled. Each answers DONE, or why
@@ -349,13 +374,13 @@ struct pidtab_space {
 	uint32_t fallen; /* 0; or 1 where its init has ended: it takes no task any more, and is gone with the last number in it */
 };
 
-/* Questions. None is a call: it uses no stamp, and nothing changes. What the table refuses is PIDTAB_DONE: the answer says so. Of each other status, what
+/* Questions. None is a call: it uses no stamp, is not recorded, and nothing changes. What the table refuses is PIDTAB_DONE: the answer says so. Of each other status, what
  * is told stays as it is.
  *
  * A list is told in pages: from `from` on, as many as there is room for; what is after stays. count, or a reply of the kind PIDTAB_COUNTED, says how many
  * there are in all from there on. So the next page begins at the last one + 1, and a room of 0 only counts. */
 
-/* Written by tools/interface: questions of a table. */
+/* Written by tools/interface: questions. */
 /* Answers a query as its call would be answered, refusals too. Nothing changes, and it is not counted. It takes no memory. DONE; CLOSED; OUT_OF_RANGE
  * for a call that is no query. */
 uint32_t pidtab_ask(const struct pidtab *table, const struct pidtab_call *call, struct pidtab_reply *reply);
@@ -400,7 +425,7 @@ uint32_t pidtab_control_tasks(const struct pidtab *table, uint32_t caller, uint6
  * and it is not counted. It takes no memory, and does not tell whether the call would find some. DONE; CLOSED; OUT_OF_RANGE for what is no call;
  * SPENT. */
 uint32_t pidtab_would(const struct pidtab *table, const struct pidtab_call *call, struct pidtab_reply *reply);
-/* The end of questions of a table. */
+/* The end of questions. */
 
 /* Makes a fork if the child's number to the caller is child, and its root number root; else nothing changes. What pidtab_would has told is so made
  * as it was told, or not at all. DONE; CLOSED; OUT_OF_RANGE for a new_space that is neither 0 nor 1; SPENT; DIFFERS where the fork would get another
@@ -427,8 +452,8 @@ struct pidtab_effect {
  * or of its session are in. Four for each task of the table and two for each namespace always do. Where room is less it is NO_ROOM, and count is the
  * room that the call takes; a room of 0 so asks for it. After another call it may take more.
  *
- * DONE, CLOSED, OUT_OF_RANGE, SPENT, NO_ROOM, and NO_MEMORY for FORK, MK, EXIT, WAIT, SETPGID and SETSID alone: the list takes memory, and has it before
- * the call is made. Of each status but DONE, reply and effects are as they were, and count is so too except for NO_ROOM. */
+ * DONE, CLOSED, OUT_OF_RANGE, SPENT, NO_ROOM, NO_MEMORY; without a history that comes for FORK, MK, EXIT, WAIT, SETPGID and SETSID alone. The list takes memory,
+ * and has it before the call is made. Of each status but DONE, reply and effects are as they were, and count is so too except for NO_ROOM. */
 uint32_t pidtab_call_told(struct pidtab *table, const struct pidtab_call *call, struct pidtab_reply *reply, struct pidtab_effect *effects, size_t room, uint64_t *count);
 
 /* Writes the call as a line of the script language, without a newline and a zero byte: pidtab_line makes the same call of it. It needs
@@ -624,87 +649,48 @@ static inline int64_t pidtab_subreaper(struct pidtab *table, uint32_t caller, ui
 }
 /* The end of calls. */
 
-/* A table with its history, or none. Its rules are those of a table.
+/* A worker's calls. Each is one of a worker's number below those of the settings; pidtab_call and all others without a worker are of worker 0. Where
+ * the table keeps a history, a call is recorded with its reply, and ordinal is its place among all recorded calls, from 0 on. Else there is worker 0
+ * alone, and ordinal stays as it is.
  *
- * Each call is made for a worker, a number below those of pidtab_record_open, and recorded with its reply. A call's ordinal is its
- * place among all recorded calls, from 0 on. Between any two functions: the kept history replays, reply for reply, as one thread's,
- * from the opening to the present state; and the calls of all workers add up to the number of recorded calls. That is proved of
- * pidtab_record_counts. The history has 64 bytes a call, until it is cut. What is cut away is made once more on a second table, which
- * lags behind the present one by the kept calls: that is the opening, and no call waits for a copy of the table. */
-struct pidtab_record {
-	void *at;
-	bool is_open;
-	uint8_t in_use; /* by queries, or by a call */
-};
-#define PIDTAB_RECORD_INIT { 0, false, 0 }
+ * Between any two functions: the kept history replays, reply for reply, as one thread's, from the opening to the present state; and the calls of all
+ * workers add up to the number of recorded calls. That is proved of pidtab_counts. The history has 64 bytes a call, until it is cut. What is cut away
+ * is made once more on a second table, which lags behind the present one by the kept calls: that is the opening, and no call waits for a copy of the
+ * table. After each call of a table with a bound first entries are cut, two at most. */
 
+/* Makes a call of the worker. DONE, CLOSED, OUT_OF_RANGE, SPENT, NO_MEMORY; without a history that comes for FORK and MK alone. */
+uint32_t pidtab_call_by(struct pidtab *table, uint32_t worker, const struct pidtab_call *call, struct pidtab_reply *reply, uint64_t *ordinal);
 
-/* Opens a record with process 1 alone, for 1 to 16 workers; first_stamp is at least 1. DONE, BUSY, OUT_OF_RANGE, NO_MEMORY. Each of
- * the functions below may be BUSY too. */
-uint32_t pidtab_record_open(struct pidtab_record *record, uint32_t pid_max, uint64_t first_stamp, uint32_t workers);
-
-/* Frees the record, as pidtab_close does a table. */
-uint32_t pidtab_record_close(struct pidtab_record *record);
-
-/* Makes a call of the worker, and records it. DONE, CLOSED, OUT_OF_RANGE, SPENT, and NO_MEMORY for any call. */
-uint32_t pidtab_record_call(struct pidtab_record *record, uint32_t worker, const struct pidtab_call *call, struct pidtab_reply *reply, uint64_t *ordinal);
-
-/* The same, and then at most `keep` entries are kept: after the call the first ones are cut, two at most. DONE, CLOSED, OUT_OF_RANGE,
- * SPENT, NO_MEMORY. */
-uint32_t pidtab_record_call_keeping(struct pidtab_record *record, uint32_t worker, const struct pidtab_call *call, uint64_t keep, struct pidtab_reply *reply, uint64_t *ordinal);
-
-/* Makes `count` calls of the worker in their order and with none between them, as so many pidtab_record_call would. made is how many were
- * made, and ordinal the place of the last. replies[i] is that to calls[i]; those from made on stay as they are.
+/* Makes `count` calls of the worker in their order and with none between them, as so many pidtab_call_by would. made is how many were made, and
+ * ordinal the place of the last. replies[i] is that to calls[i]; those from made on stay as they are. Entries are cut after the last call.
  *
- * OUT_OF_RANGE, where one of the calls is none or there is no such worker, and NO_ROOM, where room is less than count, are found before any
- * is made. SPENT and NO_MEMORY end it before the call that meets them: the calls before that were made. Of each other status but DONE, made
- * is 0. DONE, CLOSED, OUT_OF_RANGE, NO_ROOM, SPENT, NO_MEMORY. */
-uint32_t pidtab_record_calls(struct pidtab_record *record, uint32_t worker, const struct pidtab_call *calls, size_t count, struct pidtab_reply *replies, size_t room, size_t *made, uint64_t *ordinal);
+ * NO_HISTORY; OUT_OF_RANGE, where one of the calls is none or there is no such worker; and NO_ROOM, where room is less than count, are found before
+ * any is made. SPENT and NO_MEMORY end it before the call that meets them: the calls before that were made. Of each other status but DONE, made is 0.
+ * DONE, CLOSED. */
+uint32_t pidtab_calls(struct pidtab *table, uint32_t worker, const struct pidtab_call *calls, size_t count, struct pidtab_reply *replies, size_t room, size_t *made, uint64_t *ordinal);
 
-/* The same as pidtab_record_call of a line, as pidtab_line has it. DONE, CLOSED, EMPTY_LINE, BAD_LINE, NO_ROOM, OUT_OF_RANGE, SPENT,
- * NO_MEMORY. */
-uint32_t pidtab_record_line(struct pidtab_record *record, uint32_t worker, const void *line, size_t length, void *answer, size_t room, size_t *size, uint64_t *ordinal);
+/* pidtab_line of the worker. DONE, CLOSED, EMPTY_LINE, BAD_LINE, NO_ROOM, OUT_OF_RANGE, SPENT, NO_MEMORY. */
+uint32_t pidtab_line_by(struct pidtab *table, uint32_t worker, const void *line, size_t length, void *answer, size_t room, size_t *size, uint64_t *ordinal);
 
-/* Questions, which are not recorded. */
+/* pidtab_fork_at of the worker. DONE, CLOSED, OUT_OF_RANGE, SPENT, DIFFERS, NO_MEMORY. */
+uint32_t pidtab_fork_at_by(struct pidtab *table, uint32_t worker, uint32_t caller, uint32_t new_space, uint32_t child, uint32_t root, struct pidtab_reply *reply, uint64_t *ordinal);
 
-/* Written by tools/interface: questions of a record. */
-/* As pidtab_ask. DONE; CLOSED; OUT_OF_RANGE for a call that is no query. */
-uint32_t pidtab_record_ask(const struct pidtab_record *record, const struct pidtab_call *call, struct pidtab_reply *reply);
+/* pidtab_call_told of the worker. DONE, CLOSED, OUT_OF_RANGE, SPENT, NO_ROOM, NO_MEMORY. */
+uint32_t pidtab_call_told_by(struct pidtab *table, uint32_t worker, const struct pidtab_call *call, struct pidtab_reply *reply, uint64_t *ordinal, struct pidtab_effect *effects, size_t room, uint64_t *count);
 
-/* As pidtab_stat. DONE; CLOSED. */
-uint32_t pidtab_record_stat(const struct pidtab_record *record, uint32_t caller, uint32_t number, struct pidtab_task *task);
+/* Hands out each worker's number once, from 0 on. DONE; CLOSED; OUT_OF_RANGE where all are taken. */
+uint32_t pidtab_seat(struct pidtab *table, uint32_t *worker);
 
-/* As pidtab_page. DONE; CLOSED; OUT_OF_RANGE for another whom; NO_MEMORY. */
-uint32_t pidtab_record_page(const struct pidtab_record *record, uint32_t caller, uint32_t whom, uint32_t number, uint32_t from, uint32_t *numbers, size_t room, struct pidtab_reply *reply);
-
-/* As pidtab_space. DONE; CLOSED; OUT_OF_RANGE where no namespace has the id, or it is gone. */
-uint32_t pidtab_record_space(const struct pidtab_record *record, uint64_t id, struct pidtab_space *space);
-
-/* As pidtab_inside. DONE; CLOSED; OUT_OF_RANGE for another tree, and where no namespace or no control group has the id, or it is gone; NO_MEMORY. */
-uint32_t pidtab_record_inside(const struct pidtab_record *record, uint32_t tree, uint64_t id, uint64_t from, uint64_t *ids, size_t room, uint64_t *count);
-
-/* As pidtab_control_tasks. DONE; CLOSED; NO_MEMORY. */
-uint32_t pidtab_record_control_tasks(const struct pidtab_record *record, uint32_t caller, uint64_t control, uint32_t from, uint32_t *numbers, size_t room, struct pidtab_reply *reply);
-
-/* As pidtab_would. DONE; CLOSED; OUT_OF_RANGE for what is no call; SPENT. */
-uint32_t pidtab_record_would(const struct pidtab_record *record, const struct pidtab_call *call, struct pidtab_reply *reply);
-/* The end of questions of a record. */
-
-/* Makes a fork as pidtab_fork_at does, for the worker, and records it. DONE, CLOSED, OUT_OF_RANGE, SPENT, DIFFERS, NO_MEMORY. */
-uint32_t pidtab_record_fork_at(struct pidtab_record *record, uint32_t worker, uint32_t caller, uint32_t new_space, uint32_t child, uint32_t root, struct pidtab_reply *reply, uint64_t *ordinal);
-
-/* Makes a call and tells its effects as pidtab_call_told does, for the worker, and records it. DONE, CLOSED, OUT_OF_RANGE, SPENT, NO_ROOM, and NO_MEMORY
- * for any call. */
-uint32_t pidtab_record_call_told(struct pidtab_record *record, uint32_t worker, const struct pidtab_call *call, struct pidtab_reply *reply, uint64_t *ordinal, struct pidtab_effect *effects, size_t room, uint64_t *count);
+/* The history. Each of these is NO_HISTORY where the table keeps none. */
 
 /* The ordinal of the first kept entry, and how many calls were recorded, the cut ones too. DONE, CLOSED. */
-uint32_t pidtab_record_counts(const struct pidtab_record *record, uint64_t *first_kept, uint64_t *recorded);
+uint32_t pidtab_counts(const struct pidtab *table, uint64_t *first_kept, uint64_t *recorded);
 
 /* How many calls of the worker were recorded, the cut ones too. DONE, CLOSED, OUT_OF_RANGE. */
-uint32_t pidtab_record_worker(const struct pidtab_record *record, uint32_t worker, uint64_t *calls);
+uint32_t pidtab_worker(const struct pidtab *table, uint32_t worker, uint64_t *calls);
 
 /* The kept entry with the ordinal. What its call does not take is 0. DONE, CLOSED, NOT_KEPT. */
-uint32_t pidtab_record_entry(const struct pidtab_record *record, uint64_t ordinal, uint64_t *worker, struct pidtab_call *call, struct pidtab_reply *reply);
+uint32_t pidtab_entry(const struct pidtab *table, uint64_t ordinal, uint64_t *worker, struct pidtab_call *call, struct pidtab_reply *reply);
 
 struct pidtab_entry {
 	uint64_t worker;
@@ -714,34 +700,59 @@ struct pidtab_entry {
 
 /* The kept entries from the ordinal on, as many as there are and as there is room for; count is how many. DONE, CLOSED, NOT_KEPT,
  * which says that `from` is neither a kept entry nor the next call. */
-uint32_t pidtab_record_read(const struct pidtab_record *record, uint64_t from, struct pidtab_entry *entries, size_t room, size_t *count);
+uint32_t pidtab_read(const struct pidtab *table, uint64_t from, struct pidtab_entry *entries, size_t room, size_t *count);
 
 /* Makes the calls of saved entries, and compares their replies. It stops at the first that cannot be made, which is OUT_OF_RANGE, SPENT
  * or NO_MEMORY, or has another reply, which is DIFFERS and was made; place is then its place among them. DONE, CLOSED. */
-uint32_t pidtab_record_replay(struct pidtab_record *record, const struct pidtab_entry *saved, size_t count, size_t *place);
+uint32_t pidtab_replay(struct pidtab *table, const struct pidtab_entry *saved, size_t count, size_t *place);
 
-/* Cuts first entries, two at most, where more than `keep` are kept. After each call it bounds the history. DONE, CLOSED. */
-uint32_t pidtab_record_keep(struct pidtab_record *record, uint64_t keep);
+/* Cuts first entries, two at most, where more than `keep` are kept. The bound of the settings stays as it is. DONE, CLOSED. */
+uint32_t pidtab_keep(struct pidtab *table, uint64_t keep);
 
 /* Cuts the history: the present state is the opening, and ordinals go on. It makes each kept call once more. DONE, CLOSED, NO_MEMORY. */
-uint32_t pidtab_record_checkpoint(struct pidtab_record *record);
+uint32_t pidtab_checkpoint(struct pidtab *table);
 
 /* The same where exactly so many calls were recorded, so that none is cut unseen. DONE, CLOSED, AGAIN, NO_MEMORY. */
-uint32_t pidtab_record_checkpoint_at(struct pidtab_record *record, uint64_t seen);
+uint32_t pidtab_checkpoint_at(struct pidtab *table, uint64_t seen);
 
-/* The list of the present state, and of the state that the kept history begins in, as pidtab_list writes it. Where a cut found no memory,
- * the opening has NO_MEMORY until later calls have made up for it. */
-uint32_t pidtab_record_list(const struct pidtab_record *record, void *bytes, size_t room, size_t *size);
-uint32_t pidtab_record_opening(const struct pidtab_record *record, void *bytes, size_t room, size_t *size);
+/* The list of the state that the kept history begins in, as pidtab_list writes that of the present one. Where a cut found no memory, it is NO_MEMORY
+ * until later calls have made up for it. */
+uint32_t pidtab_opening(const struct pidtab *table, void *bytes, size_t room, size_t *size);
 
-/* Writes the text of the present state with the stamp of the next call, as pidtab_dump does. DONE, CLOSED, NO_MEMORY, NO_ROOM. */
-uint32_t pidtab_record_dump(const struct pidtab_record *record, void *bytes, size_t room, size_t *size);
+/* A dump for which no call waits: a table of its own, the replica, follows another one, and pidtab_dump of the replica is made beside the calls. It
+ * begins as the table does, by pidtab_open, or by pidtab_load of what pidtab_dump wrote. Nobody else makes a call on it. `next` is the ordinal of the
+ * call that it lacks first: 0 at first, or what was recorded at that dump. This makes the calls from there on that are recorded when it begins: 64 are
+ * copied at once, and nobody waits while they are made. So the replica's text is that of the state in front of the call `next`.
+ *
+ * DONE where the replica has them all. CLOSED; NO_HISTORY. NOT_KEPT where a call that it lacks was cut away, or `next` was not reached yet: it begins
+ * anew. DIFFERS where a reply is not the recorded one: it was no replica of this table, and is none now. Else the status of a call that was not made on
+ * it, and `next` says which: CLOSED, OUT_OF_RANGE, SPENT, NO_MEMORY, BUSY. It costs the calls once more. */
+uint32_t pidtab_follow(const struct pidtab *table, struct pidtab *replica, uint64_t *next);
 
-/* Opens a record that goes on as a text says: with its state, and its stamp for the next call. counts has how many calls of each of 1 to
- * 16 workers were recorded before; their sum is the ordinal of the next call. The history begins there. DONE; BUSY where it is open
- * already; then OUT_OF_RANGE for the workers; then BAD_TEXT and a fault of kind 1 or 2; then OUT_OF_RANGE where the counts add up to the
- * stamp or more; then BAD_TEXT and another fault; NO_MEMORY. */
-uint32_t pidtab_record_load(struct pidtab_record *record, const void *text, size_t length, const uint64_t *counts, size_t workers, struct pidtab_fault *fault);
+/* Threads. A table that is opened with them has a lock of pthread's around each proved function, by threads.c, which is trusted: each thread has the
+ * answer that one sequential table would give, and a call's ordinal is its place. Queries share the lock, and each other function has it alone. What
+ * changes the table waits for the queries that it finds, and none that comes then passes it. A call, an ask and a stat give way to all other functions:
+ * one that has come for the lock has it after one more of each other thread at most. So a thread that saves the history, or cuts it, keeps up with busy
+ * ones. Each of these is NO_THREADS where the table is open without them. */
+
+/* The table without its lock, for several functions in one go: this thread has the lock until pidtab_unlock of the table. In between it calls functions
+ * on what this answers alone, and does not close it. NULL where the table has no threads. */
+struct pidtab *pidtab_lock(struct pidtab *table);
+void pidtab_unlock(struct pidtab *table);
+
+/* Waits until the call with the ordinal is recorded, so until more than so many calls are: for a viewer, or a thread that ships the history.
+ * It sleeps meanwhile, and any number of threads may. A call pays for it only where somebody waits, whom it wakes. The deadline is a time of
+ * CLOCK_REALTIME, as pthread_cond_timedwait has it, and NULL is none.
+ *
+ * DONE, and `recorded` says how many calls are: no more than `ordinal` only where the deadline has come. NO_HISTORY. CLOSED where they are no more and
+ * pidtab_end has ended the waits. OUT_OF_RANGE for nanoseconds outside 0 to 999,999,999. */
+struct timespec;
+uint32_t pidtab_await(struct pidtab *table, uint64_t ordinal, const struct timespec *until, uint64_t *recorded);
+
+/* Ends these waits, for good: what waits, or comes to wait, for a call that is not recorded is CLOSED. A wait for one that is recorded is DONE,
+ * so who follows the calls has them all first. All else goes on, a saver too. After it and the end of the threads that wait, the table may
+ * be closed. DONE, CLOSED. */
+uint32_t pidtab_end(struct pidtab *table);
 
 #ifdef __cplusplus
 }

@@ -5,13 +5,13 @@
 
 #include "pidtab_replica.h"
 
-uint32_t proved_open(struct pidtab *table, uint32_t pid_max);
+uint32_t proved_open_with(struct pidtab *table, const struct pidtab_settings *settings);
+uint32_t proved_load_with(struct pidtab *table, const void *text, size_t length, const uint64_t *counts, size_t workers, bool keeps_history, struct pidtab_fault *fault);
 void proved_close(struct pidtab *table);
 uint32_t proved_line_by(struct pidtab *table, uint32_t worker, const void *line, size_t length, void *answer, size_t room, size_t *size, uint64_t *ordinal);
 uint32_t proved_list(struct pidtab *table, void *bytes, size_t room, size_t *size);
 uint32_t proved_dump(struct pidtab *table, void *bytes, size_t room, size_t *size);
-uint32_t proved_load(struct pidtab *table, const void *text, size_t length, struct pidtab_fault *fault);
-uint32_t proved_call_by(struct pidtab *table, uint32_t worker, const struct pidtab_call *call, struct pidtab_reply *reply, uint64_t *ordinal);
+uint32_t proved_call(struct pidtab *table, const struct pidtab_call *call, struct pidtab_reply *reply);
 uint32_t proved_getpid_of(struct pidtab *table, uint32_t caller, uint64_t *number);
 uint32_t proved_getppid_of(struct pidtab *table, uint32_t caller, uint64_t *number);
 uint32_t proved_getpgid_of(struct pidtab *table, uint32_t caller, uint32_t pid, uint64_t *number);
@@ -27,8 +27,7 @@ uint32_t proved_control_tasks(struct pidtab *table, uint32_t caller, uint64_t co
 uint32_t proved_would(struct pidtab *table, const struct pidtab_call *call, struct pidtab_reply *reply);
 uint32_t proved_fork_at_by(struct pidtab *table, uint32_t worker, uint32_t caller, uint32_t new_space, uint32_t child, uint32_t root, struct pidtab_reply *reply, uint64_t *ordinal);
 uint32_t proved_call_told_by(struct pidtab *table, uint32_t worker, const struct pidtab_call *call, struct pidtab_reply *reply, uint64_t *ordinal, struct pidtab_effect *effects, size_t room, uint64_t *count);
-uint32_t proved_open_with(struct pidtab *table, uint32_t pid_max, uint64_t first_stamp, uint32_t workers);
-uint32_t proved_call_keeping(struct pidtab *table, uint32_t worker, const struct pidtab_call *call, uint64_t keep, struct pidtab_reply *reply, uint64_t *ordinal);
+uint32_t proved_call_by(struct pidtab *table, uint32_t worker, const struct pidtab_call *call, struct pidtab_reply *reply, uint64_t *ordinal);
 uint32_t proved_calls(struct pidtab *table, uint32_t worker, const struct pidtab_call *calls, size_t count, struct pidtab_reply *replies, size_t room, size_t *made, uint64_t *ordinal);
 uint32_t proved_counts(struct pidtab *table, uint64_t *first_kept, uint64_t *recorded);
 uint32_t proved_worker(struct pidtab *table, uint32_t worker, uint64_t *calls);
@@ -39,7 +38,6 @@ uint32_t proved_keep(struct pidtab *table, uint64_t keep);
 uint32_t proved_checkpoint(struct pidtab *table);
 uint32_t proved_checkpoint_at(struct pidtab *table, uint64_t seen);
 uint32_t proved_opening(struct pidtab *table, void *bytes, size_t room, size_t *size);
-uint32_t proved_load_with(struct pidtab *table, const void *text, size_t length, const uint64_t *counts, size_t workers, struct pidtab_fault *fault);
 uint32_t proved_replica_open(struct pidtab_replica *replica, uint64_t pid_max, uint64_t model);
 void proved_replica_close(struct pidtab_replica *replica);
 uint32_t proved_replica_apply(struct pidtab_replica *replica, struct pidtab *table, uint64_t position, const void *entry, size_t length, struct pidtab_applied *applied);

@@ -1,8 +1,9 @@
-/* A saved history in a file: begun, gone on with, and loaded into a fresh record. */
+/* A saved history in a file: begun, gone on with, and loaded into a fresh table. */
 #define _POSIX_C_SOURCE 200809L
 #define _FILE_OFFSET_BITS 64
 
 #include "pidtab_saved.h"
+#include "threads.h"
 
 #include <errno.h>
 #include <string.h>
@@ -74,41 +75,6 @@ uint32_t pidtab_saved_begin(struct pidtab_saved *saved, int file, const struct p
 	return status;
 }
 
-/* A record, or one behind its lock. */
-struct either {
-	struct pidtab_record *record;
-	struct pidtab_shared *shared;
-};
-
-static uint32_t open_by(const struct either *either, const struct pidtab_saved_head *head)
-{
-	if (either->shared)
-		return pidtab_shared_open(either->shared, head->pid_max, head->first_stamp, head->workers, 0);
-	return pidtab_record_open(either->record, head->pid_max, head->first_stamp, head->workers);
-}
-
-static void close_it(const struct either *either)
-{
-	if (either->shared)
-		pidtab_shared_close(either->shared);
-	else
-		pidtab_record_close(either->record);
-}
-
-static uint32_t count_calls(const struct either *either, uint64_t *first_kept, uint64_t *recorded)
-{
-	if (either->shared)
-		return pidtab_shared_counts(either->shared, first_kept, recorded);
-	return pidtab_record_counts(either->record, first_kept, recorded);
-}
-
-static uint32_t read_entries(const struct either *either, uint64_t from, struct pidtab_entry *entries, size_t *count)
-{
-	if (either->shared)
-		return pidtab_shared_read(either->shared, from, entries, A_TURN, count);
-	return pidtab_record_read(either->record, from, entries, A_TURN, count);
-}
-
 /* Entries as bytes: where each ends, and the checksum there. */
 struct laid_out {
 	size_t ends[A_WRITE];
@@ -153,11 +119,11 @@ static uint32_t write_entries(struct pidtab_saved *saved, const struct pidtab_en
 }
 
 /* Saves the entries of one turn. */
-static uint32_t append_some(struct pidtab_saved *saved, const struct either *either)
+static uint32_t append_some(struct pidtab_saved *saved, const struct pidtab *table)
 {
 	struct pidtab_entry entries[A_TURN];
 	size_t count = 0, most;
-	uint32_t status = read_entries(either, saved->next, entries, &count);
+	uint32_t status = pidtab_read(table, saved->next, entries, A_TURN, &count);
 
 	for (size_t at = 0; at < count && status == PIDTAB_DONE; at += most) {
 		most = count - at < A_WRITE ? count - at : A_WRITE;
@@ -178,66 +144,62 @@ static uint32_t go_to_end(struct pidtab_saved *saved)
 	return PIDTAB_DONE;
 }
 
-static uint32_t append_from(struct pidtab_saved *saved, const struct either *either)
+static uint32_t append_from(struct pidtab_saved *saved, const struct pidtab *table)
 {
 	uint64_t first_kept, recorded;
 	uint32_t status = go_to_end(saved);
 
 	if (status == PIDTAB_DONE)
-		status = count_calls(either, &first_kept, &recorded);
+		status = pidtab_counts(table, &first_kept, &recorded);
 	if (status == PIDTAB_DONE && recorded < saved->next)
 		status = PIDTAB_NOT_KEPT;
 	while (status == PIDTAB_DONE && saved->next < recorded)
-		status = append_some(saved, either);
+		status = append_some(saved, table);
 	return status;
-}
-
-uint32_t pidtab_saved_append(struct pidtab_saved *saved, struct pidtab_record *record)
-{
-	return append_from(saved, &(struct either){ .record = record });
 }
 
 /* Has all that wait look again, and gives the lock back. */
-static void wake_all(struct pidtab_shared *shared)
+static void wake_all(struct pidtab *table)
 {
-	pthread_cond_broadcast(&shared->told);
-	pidtab_shared_unlock(shared);
+	pthread_cond_broadcast(&threads_of(table)->told);
+	pidtab_unlock(table);
 }
 
-/* Of shared.c: sleeps until it is told, without the lock, which this thread has. */
-void sleep_in_pidtab_shared(struct pidtab_shared *shared, pthread_cond_t *told);
-
 /* Tells all that wait how far the file is. What ended is not taken back. */
-static uint32_t tell(const struct pidtab_saved *saved, struct pidtab_shared *shared, uint32_t status)
+static uint32_t tell(const struct pidtab_saved *saved, struct pidtab *table, uint32_t status)
 {
-	pidtab_shared_lock(shared);
+	struct threads *threads = threads_of(table);
+
+	pidtab_lock(table);
 	if (status == PIDTAB_DONE)
-		shared->saved = saved->next;
-	if (shared->saving != PIDTAB_ENDED)
-		shared->saving = status;
-	shared->error = saved->error;
-	wake_all(shared);
+		threads->saved = saved->next;
+	if (threads->saving != PIDTAB_ENDED)
+		threads->saving = status;
+	threads->error = saved->error;
+	wake_all(table);
 	return status;
 }
 
-uint32_t pidtab_saved_append_shared(struct pidtab_saved *saved, struct pidtab_shared *shared)
+uint32_t pidtab_saved_append(struct pidtab_saved *saved, struct pidtab *table)
 {
-	return tell(saved, shared, append_from(saved, &(struct either){ .shared = shared }));
+	uint32_t status = append_from(saved, table);
+
+	return has_threads(table) ? tell(saved, table, status) : status;
 }
 
 /* Cuts the history where it is long enough: all others wait while the last calls are written. Where there is no memory, it grows on. */
-static uint32_t cut_saved(struct pidtab_saved *saved, struct pidtab_shared *shared, uint64_t keep)
+static uint32_t cut_saved(struct pidtab_saved *saved, struct pidtab *table, uint64_t keep)
 {
-	struct pidtab_record *record = pidtab_shared_lock(shared);
+	struct pidtab *held = pidtab_lock(table);
 	uint64_t first_kept, recorded;
-	uint32_t status = pidtab_record_counts(record, &first_kept, &recorded);
+	uint32_t status = pidtab_counts(held, &first_kept, &recorded);
 
 	if (status == PIDTAB_DONE && keep != 0 && recorded - first_kept >= keep) {
-		status = append_from(saved, &(struct either){ .record = record });
+		status = append_from(saved, held);
 		if (status == PIDTAB_DONE)
-			pidtab_record_checkpoint(record);
+			pidtab_checkpoint(held);
 	}
-	pidtab_shared_unlock(shared);
+	pidtab_unlock(table);
 	return status;
 }
 
@@ -251,74 +213,95 @@ static uint32_t sync_file(struct pidtab_saved *saved)
 	return done == 0 ? PIDTAB_DONE : failed(saved, errno);
 }
 
-static uint32_t serve_once(struct pidtab_saved *saved, struct pidtab_shared *shared, uint64_t keep, bool to_disk)
+static uint32_t serve_once(struct pidtab_saved *saved, struct pidtab *table, uint64_t keep, bool to_disk)
 {
-	uint32_t status = append_from(saved, &(struct either){ .shared = shared });
+	uint32_t status = append_from(saved, table);
 
 	if (status == PIDTAB_DONE)
-		status = cut_saved(saved, shared, keep);
+		status = cut_saved(saved, table, keep);
 	if (status == PIDTAB_DONE && to_disk)
 		status = sync_file(saved);
-	return tell(saved, shared, status);
+	return tell(saved, table, status);
 }
 
 /* Sleeps until a call is recorded that the file does not have. Whether the saver has ended. */
-static bool sleep_until_call(const struct pidtab_saved *saved, struct pidtab_shared *shared)
+static bool sleep_until_call(const struct pidtab_saved *saved, struct pidtab *table)
 {
-	struct pidtab_record *record = pidtab_shared_lock(shared);
+	struct threads *threads = threads_of(table);
+	const struct pidtab *held = pidtab_lock(table);
 	uint64_t first_kept, recorded;
 	bool has_ended;
 
-	while (shared->saving != PIDTAB_ENDED && pidtab_record_counts(record, &first_kept, &recorded) == PIDTAB_DONE && recorded <= saved->next) {
-		shared->sleeps = true;
-		sleep_in_pidtab_shared(shared, &shared->recorded);
+	while (threads->saving != PIDTAB_ENDED && pidtab_counts(held, &first_kept, &recorded) == PIDTAB_DONE && recorded <= saved->next) {
+		threads->sleeps = true;
+		sleep_until_told(threads, &threads->recorded);
 	}
-	has_ended = shared->saving == PIDTAB_ENDED;
-	pidtab_shared_unlock(shared);
+	has_ended = threads->saving == PIDTAB_ENDED;
+	pidtab_unlock(table);
 	return has_ended;
 }
 
-uint32_t pidtab_saved_serve(struct pidtab_saved *saved, struct pidtab_shared *shared, uint64_t keep, bool to_disk)
+uint32_t pidtab_saved_serve(struct pidtab_saved *saved, struct pidtab *table, uint64_t keep, bool to_disk)
 {
 	bool has_ended = false, is_last;
-	uint32_t status;
+	uint32_t status = unless_threads(table);
 
+	if (status != PIDTAB_DONE)
+		return status;
 	/* One turn more after the end, for what was recorded before it. */
 	do {
 		is_last = has_ended;
-		status = serve_once(saved, shared, keep, to_disk);
-		has_ended = status == PIDTAB_DONE && sleep_until_call(saved, shared);
+		status = serve_once(saved, table, keep, to_disk);
+		has_ended = status == PIDTAB_DONE && sleep_until_call(saved, table);
 	} while (status == PIDTAB_DONE && !is_last);
 	return status;
 }
 
-uint32_t pidtab_saved_wait(struct pidtab_shared *shared, uint64_t ordinal)
+/* The lock is held. */
+static uint32_t wait_until_saved(struct threads *threads, uint64_t ordinal)
 {
-	uint32_t status = PIDTAB_DONE;
+	while (threads->saved <= ordinal && threads->saving == PIDTAB_DONE)
+		sleep_until_told(threads, &threads->told);
+	return threads->saved <= ordinal ? threads->saving : (uint32_t)PIDTAB_DONE;
+}
 
-	pidtab_shared_lock(shared);
-	while (shared->saved <= ordinal && shared->saving == PIDTAB_DONE)
-		sleep_in_pidtab_shared(shared, &shared->told);
-	if (shared->saved <= ordinal)
-		status = shared->saving;
+uint32_t pidtab_saved_wait(struct pidtab *table, uint64_t ordinal)
+{
+	struct threads *threads = threads_of(table);
+	uint32_t status = unless_threads(table);
+
+	if (status != PIDTAB_DONE)
+		return status;
+	pidtab_lock(table);
+	status = wait_until_saved(threads, ordinal);
 	if (status == PIDTAB_DEVICE)
-		errno = shared->error;
-	pidtab_shared_unlock(shared);
+		errno = threads->error;
+	pidtab_unlock(table);
 	return status;
 }
 
-void pidtab_saved_bound(struct pidtab_shared *shared, uint64_t most)
+uint32_t pidtab_saved_bound(struct pidtab *table, uint64_t most)
 {
-	pidtab_shared_lock(shared);
-	shared->most = most;
-	wake_all(shared);
+	struct threads *threads = threads_of(table);
+
+	if (threads == NULL)
+		return unless_threads(table);
+	pidtab_lock(table);
+	threads->most = most;
+	wake_all(table);
+	return PIDTAB_DONE;
 }
 
-void pidtab_saved_end(struct pidtab_shared *shared)
+uint32_t pidtab_saved_end(struct pidtab *table)
 {
-	pidtab_shared_lock(shared);
-	shared->saving = PIDTAB_ENDED;
-	wake_all(shared);
+	struct threads *threads = threads_of(table);
+
+	if (threads == NULL)
+		return unless_threads(table);
+	pidtab_lock(table);
+	threads->saving = PIDTAB_ENDED;
+	wake_all(table);
+	return PIDTAB_DONE;
 }
 
 /* What was read of the file, and is not taken yet. */
@@ -397,21 +380,19 @@ static uint32_t take_some(struct pidtab_saved *saved, struct input *input, struc
 }
 
 /* A cut that finds no memory is tried again after the next entries. */
-static void cut_behind(struct pidtab_record *record, uint64_t keep)
+static void cut_behind(struct pidtab *table, uint64_t keep)
 {
 	uint64_t first_kept, recorded;
 
-	if (keep == 0 || pidtab_record_counts(record, &first_kept, &recorded) != PIDTAB_DONE)
-		return;
-	if (recorded - first_kept >= keep)
-		pidtab_record_checkpoint(record);
+	if (pidtab_counts(table, &first_kept, &recorded) == PIDTAB_DONE && recorded - first_kept >= keep)
+		pidtab_checkpoint(table);
 }
 
 /* Makes the calls, and counts those that had the saved reply. */
-static uint32_t replay(struct pidtab_saved *saved, struct pidtab_record *record, const struct batch *batch)
+static uint32_t replay(struct pidtab_saved *saved, struct pidtab *table, const struct batch *batch)
 {
 	size_t place = 0;
-	uint32_t status = pidtab_record_replay(record, batch->entries, batch->count, &place);
+	uint32_t status = pidtab_replay(table, batch->entries, batch->count, &place);
 
 	for (size_t i = 0; i < place; i++)
 		saved->bytes += batch->sizes[i];
@@ -420,7 +401,7 @@ static uint32_t replay(struct pidtab_saved *saved, struct pidtab_record *record,
 }
 
 /* Replays the entries after the head to the end of the file. Those before a wrong byte are replayed first. */
-static uint32_t replay_on(struct pidtab_saved *saved, struct input *input, struct pidtab_record *record, uint64_t keep)
+static uint32_t replay_on(struct pidtab_saved *saved, struct input *input, struct pidtab *table, uint64_t keep)
 {
 	struct batch batch = { .is_last = false };
 	uint32_t status = PIDTAB_DONE, taken = PIDTAB_DONE;
@@ -431,59 +412,59 @@ static uint32_t replay_on(struct pidtab_saved *saved, struct input *input, struc
 		if (status != PIDTAB_DONE)
 			return status;
 		taken = take_some(saved, input, &batch);
-		status = replay(saved, record, &batch);
-		cut_behind(record, keep);
+		status = replay(saved, table, &batch);
+		cut_behind(table, keep);
 	}
 	if (status == PIDTAB_DONE && taken == PIDTAB_DONE)
 		return leave_out(saved, input->left_out, PIDTAB_DONE);
 	return status != PIDTAB_DONE ? status : taken;
 }
 
-/* No other thread has the shared record yet, so its lock may be held for all of it. */
-static uint32_t replay_all(struct pidtab_saved *saved, struct input *input, const struct either *either, uint64_t keep)
+/* No other thread has the table yet, so its lock may be held for all of it. */
+static uint32_t replay_all(struct pidtab_saved *saved, struct input *input, struct pidtab *table, uint64_t keep)
 {
 	uint32_t status;
 
-	if (!either->shared)
-		return replay_on(saved, input, either->record, keep);
-	status = replay_on(saved, input, pidtab_shared_lock(either->shared), keep);
-	either->shared->saved = saved->next;
-	pidtab_shared_unlock(either->shared);
+	if (!has_threads(table))
+		return replay_on(saved, input, table, keep);
+	status = replay_on(saved, input, pidtab_lock(table), keep);
+	threads_of(table)->saved = saved->next;
+	pidtab_unlock(table);
 	return status;
 }
 
-/* Closes the record where it is of no use. */
-static uint32_t close_unless_done(struct pidtab_saved *saved, const struct either *either, uint32_t status)
+/* Closes the table where it is of no use. */
+static uint32_t close_unless_done(struct pidtab_saved *saved, struct pidtab *table, uint32_t status)
 {
 	if (status == PIDTAB_DONE)
 		return status;
 	saved->file = NO_FILE;
-	close_it(either);
+	pidtab_close(table);
 	return status;
 }
 
-static uint32_t load_into(struct pidtab_saved *saved, int file, const struct either *either, uint64_t keep)
+/* Opens the table with what the file has to say, and without a bound: no call is cut that is not saved. */
+static uint32_t open_by(struct pidtab *table, const struct pidtab_saved_head *head, bool threads)
+{
+	const struct pidtab_settings settings = { head->pid_max, head->workers, head->first_stamp, PIDTAB_KEEP_ALL, threads };
+
+	return pidtab_open_with(table, &settings);
+}
+
+uint32_t pidtab_saved_load(struct pidtab_saved *saved, int file, struct pidtab *table, const struct pidtab_settings *settings)
 {
 	struct input input = { .has_ended = false };
 	uint32_t status;
 
-	*saved = (struct pidtab_saved){ .file = file };
+	*saved = (struct pidtab_saved){ .file = settings->keep == 0 ? NO_FILE : file };
+	if (settings->keep == 0)
+		return PIDTAB_NO_HISTORY;
 	status = load_head(saved, &input);
 	if (status == PIDTAB_DONE)
-		status = open_by(either, &saved->head);
+		status = open_by(table, &saved->head, settings->threads);
 	if (status != PIDTAB_DONE)
 		return status;
-	return close_unless_done(saved, either, replay_all(saved, &input, either, keep));
-}
-
-uint32_t pidtab_saved_load(struct pidtab_saved *saved, int file, struct pidtab_record *record, uint64_t keep)
-{
-	return load_into(saved, file, &(struct either){ .record = record }, keep);
-}
-
-uint32_t pidtab_saved_load_shared(struct pidtab_saved *saved, int file, struct pidtab_shared *shared, uint64_t keep)
-{
-	return load_into(saved, file, &(struct either){ .shared = shared }, keep);
+	return close_unless_done(saved, table, replay_all(saved, &input, table, settings->keep));
 }
 
 uint32_t pidtab_saved_trim(struct pidtab_saved *saved)
@@ -519,26 +500,18 @@ static uint32_t begin_anew(struct pidtab_saved *saved, const struct pidtab_saved
 	return status;
 }
 
-static uint32_t resume(struct pidtab_saved *saved, int file, const struct pidtab_saved_head *fresh, const struct either *either, uint64_t keep)
+uint32_t pidtab_saved_resume(struct pidtab_saved *saved, int file, struct pidtab *table, const struct pidtab_settings *settings)
 {
-	uint32_t status = load_into(saved, file, either, keep);
+	const struct pidtab_settings filled = with_defaults(settings);
+	const struct pidtab_saved_head fresh = { filled.pid_max, filled.workers, filled.first_stamp };
+	uint32_t status = pidtab_saved_load(saved, file, table, settings);
 
 	if (status == PIDTAB_DONE)
-		return close_unless_done(saved, either, pidtab_saved_trim(saved));
+		return close_unless_done(saved, table, pidtab_saved_trim(saved));
 	if (status == PIDTAB_TORN) {
-		status = open_by(either, fresh);
+		status = open_by(table, &fresh, settings->threads);
 		if (status == PIDTAB_DONE)
-			return close_unless_done(saved, either, begin_anew(saved, fresh));
+			return close_unless_done(saved, table, begin_anew(saved, &fresh));
 	}
 	return status;
-}
-
-uint32_t pidtab_saved_resume(struct pidtab_saved *saved, int file, const struct pidtab_saved_head *fresh, struct pidtab_record *record, uint64_t keep)
-{
-	return resume(saved, file, fresh, &(struct either){ .record = record }, keep);
-}
-
-uint32_t pidtab_saved_resume_shared(struct pidtab_saved *saved, int file, const struct pidtab_saved_head *fresh, struct pidtab_shared *shared, uint64_t keep)
-{
-	return resume(saved, file, fresh, &(struct either){ .shared = shared }, keep);
 }

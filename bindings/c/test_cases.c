@@ -45,6 +45,7 @@ static const struct named statuses[] = {
 	{ PIDTAB_NOT_KEPT, "NOT_KEPT" },
 	{ PIDTAB_AGAIN, "AGAIN" },
 	{ PIDTAB_NO_HISTORY, "NO_HISTORY" },
+	{ PIDTAB_NO_THREADS, "NO_THREADS" },
 	{ 0, NULL }
 };
 

@@ -6,7 +6,7 @@ import re
 from compared.sources import Source
 from tables import words_of
 
-HEADERS = ("bindings/c/pidtab.h", "bindings/c/pidtab_shared.h", "bindings/c/pidtab_saved.h", "bindings/c/pidtab_replica.h")
+HEADERS = ("bindings/c/pidtab.h", "bindings/c/pidtab_saved.h", "bindings/c/pidtab_replica.h")
 DECLARED = r"^(?!static)\w[\w ]*[ *]pidtab_(\w+)\("
 
 # The files of each package.

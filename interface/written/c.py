@@ -1,12 +1,10 @@
 """The headers of C."""
 
 from names import TYPED, capitals, columns, strings, takes, with_id, wrapped
-from questions import by_function
 
 HEADER = "bindings/c/pidtab.h"
 SAVED = "bindings/c/pidtab_saved.h"
 REPLICA = "bindings/c/pidtab_replica.h"
-SHARED = "bindings/c/shared.c"
 
 
 def enum(name, rows):
@@ -52,16 +50,14 @@ def status_text(function, rows, otherwise):
 
 
 def statuses(tables):
-    """What the functions of a table and of a record answer."""
+    """What the functions of a table answer."""
     return [
-        "/* What a function answers: 0, or a number of Linux's errno. Any status but PIDTAB_DONE says that the table is as it was.",
-        " * A call that the table refuses, as ESRCH no-caller, is PIDTAB_DONE: its answer or reply says so. Those whose name ends with",
-        f" * {TYPED} have no reply, and may answer the errno of the refusal: the query was made, and has used a stamp. */",
-        *enum("pidtab_status", status_enum(tables, "table")), "",
-        "/* What the functions of a record answer besides. Any status but PIDTAB_DONE says that the record is as it was, but of",
-        " * pidtab_record_replay, and of pidtab_record_calls as it says. */",
-        *enum("pidtab_record_status", status_enum(tables, "record")), "", "/* What a status says, as a sentence. */",
-        *status_text("pidtab_text", [it for it in tables["statuses"] if it.of in ("table", "record")], '"no such status"'),
+        "/* What a function answers: 0, or a number of Linux's errno. Any status but PIDTAB_DONE says that the table is as it was, but of",
+        " * pidtab_replay, and of pidtab_calls as it says. A call that the table refuses, as ESRCH no-caller, is PIDTAB_DONE: its answer or",
+        f" * reply says so. Those whose name ends with {TYPED} have no reply, and may answer the errno of the refusal: the query was made, and",
+        " * has used a stamp. */",
+        *enum("pidtab_status", status_enum(tables, "table")), "", "/* What a status says, as a sentence. */",
+        *status_text("pidtab_text", [it for it in tables["statuses"] if it.of == "table"], '"no such status"'),
     ]  # fmt: skip
 
 
@@ -129,30 +125,7 @@ def operations(tables):
     return ["/* A call as numbers. What an operation does not take is not looked at; pidtab_ask answers a query too. */", *enum("pidtab_operation", rows)]
 
 
-# What is more than the function of a record behind the lock.
-BY_HAND = ("open", "load", "close", "call", "calls", "line", "fork_at", "call_told")
-
-
-def forwards(tables):
-    """The functions of a shared table that do with its lock what the function of a record does. Questions wait for their turn as calls do; all others go first."""
-    of, questions = tables["headers"], by_function(tables, "record_")
-    known, lines = {it.name for it in of.functions}, []
-    for it in of.of("pidtab_shared.h", "shared_"):
-        ending = it.name[len("shared_") :]
-        if ending in BY_HAND or f"record_{ending}" not in known:
-            continue
-        passed = "".join(f", {argument.name}" for argument in it.arguments[1:])
-        is_query = of.function(f"record_{ending}").arguments[0].kind.startswith("const ")
-        lines += [
-            "", f"uint32_t pidtab_{it.name}({', '.join(str(argument) for argument in it.arguments)})", "{",
-            *([f"\tshare_{'as_call' if f'record_{ending}' in questions else 'before_calls'}(shared);"] if is_query else ["\tlock_before_calls(shared);", "\tbegin_change(shared);"]),
-            f"\treturn {'answered' if is_query else 'changed'}(shared, pidtab_record_{ending}(&shared->record{passed}));", "}",
-        ]  # fmt: skip
-    return lines
-
-
 PARTS = {
-    (SHARED, "forwards"): forwards,
     (HEADER, "operations"): operations,
     (HEADER, "bounds"): lambda tables: bounds_of(tables, "interface"),
     (SAVED, "bounds"): lambda tables: bounds_of(tables, "saved"),

@@ -96,7 +96,7 @@ def names(tables):
     """The names of errors and statuses, and the queries, in the test of the cases."""
     used = {row.error for row in tables["refusals"]}
     errnos = [f'\t{{ {it.name}, "{it.name}" }},' for it in tables["errnos"] if it.name in used]
-    statuses = [f'\t{{ PIDTAB_{it.name}, "{it.name}" }},' for it in tables["statuses"] if it.of in ("table", "record")]
+    statuses = [f'\t{{ PIDTAB_{it.name}, "{it.name}" }},' for it in tables["statuses"] if it.of == "table"]
     end = ["\t{ 0, NULL }", "};"]
     return ["static const struct named errnos[] = {", *errnos, *end, "", "static const struct named statuses[] = {", *statuses, *end,
             "", f"static const char *const queries[] = {{ {strings(queries(tables))}, NULL }};"]  # fmt: skip

@@ -6,10 +6,8 @@ from questions import all_arguments, by_function, memory, said
 from tables import words_of
 
 HEADER = "bindings/c/pidtab.h"
-SHARED = "bindings/c/pidtab_shared.h"
 
-# What each owner is there, an argument of each kind, and the places for what a question tells. Any other is a struct.
-HELD = {"": "const struct pidtab *table", "record_": "const struct pidtab_record *record", "shared_": "struct pidtab_shared *shared"}
+# An argument of each kind, and the places for what a question tells. Any other is a struct.
 KINDS = {"number": "uint32_t {}", "choice": "uint32_t {}", "id": "uint64_t {}", "call": "const struct pidtab_call *{}", "query": "const struct pidtab_call *{}"}
 PLACES = {
     "numbers": ["uint32_t *numbers", "size_t room", "struct pidtab_reply *reply"], "ids": ["uint64_t *ids", "size_t room", "uint64_t *count"],
@@ -19,11 +17,11 @@ PLACES = {
 WIDTH = 150
 
 
-def declared(owner, name, rows):
+def declared(name, rows):
     """The declaration of a function."""
     first = rows[0]
     places = PLACES.get(first.tells, [f"struct pidtab_{first.tells} *{first.tells}"])
-    taken = [HELD[owner], *[KINDS[it.kind].format(it.place) for it in all_arguments(first)], *places]
+    taken = ["const struct pidtab *table", *[KINDS[it.kind].format(it.place) for it in all_arguments(first)], *places]
     return f"uint32_t pidtab_{name}({', '.join(taken)});"
 
 
@@ -51,7 +49,7 @@ def in_words(tables, row):
     """What a question asks, in the words of C: its arguments have other names there, and another question may be a choice."""
     places = {it.name: f"`{it.place}`" for it in all_arguments(row)}
     asked = {it.question: choice_of(it) for it in tables["questions"]}
-    names = {it.question: f"PIDTAB_{asked[it.question].choice}" if asked[it.question] else f"pidtab_{words_of(it.exports)[0]}" for it in tables["questions"]}
+    names = {it.question: f"PIDTAB_{asked[it.question].choice}" if asked[it.question] else f"pidtab_{it.exports}" for it in tables["questions"]}
     return said(row.says, lambda word: places.get(word) or names[word])
 
 
@@ -73,20 +71,9 @@ def paragraphs(tables, rows):
     return [[f"What {choice.name} says, an enum pidtab_{choice.name}."], [f"PIDTAB_{choice_of(it).choice}: {in_words(tables, it)}" for it in rows], [ends]]
 
 
-def of_table(tables):
-    """The functions of a table, each with what it answers."""
-    return [line for name, rows in by_function(tables, "").items() for line in (*comment(paragraphs(tables, rows)), declared("", name, rows), "")][:-1]
+def functions(tables):
+    """The functions, each with what it answers."""
+    return [line for name, rows in by_function(tables).items() for line in (*comment(paragraphs(tables, rows)), declared(name, rows), "")][:-1]
 
 
-def of_record(tables):
-    """Those of a record."""
-    found = by_function(tables, "record_").items()
-    return [line for name, rows in found for line in (*comment([[f"As {name.replace('record_', 'pidtab_', 1)}. {statuses(rows)}"]]), declared("record_", name, rows), "")][:-1]
-
-
-def of_shared(tables):
-    """Those of a shared one."""
-    return [declared("shared_", name, rows) for name, rows in by_function(tables, "shared_").items()]
-
-
-PARTS = {(HEADER, "questions of a table"): of_table, (HEADER, "questions of a record"): of_record, (SHARED, "questions"): of_shared}
+PARTS = {(HEADER, "questions"): functions}

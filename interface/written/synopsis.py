@@ -9,7 +9,7 @@ from written.c_calls import prototype
 
 # The pages, each with its header, how its functions begin, and what is a table there.
 PAGES = {
-    "man/pidtab.3": ("pidtab.h", ""), "man/pidtab_record.3": ("pidtab.h", "record_"), "man/pidtab_shared.3": ("pidtab_shared.h", "shared_"),
+    "man/pidtab.3": ("pidtab.h", ""),
     "man/pidtab_saved.3": ("pidtab_saved.h", "saved_"), "man/pidtab_replica.3": ("pidtab_replica.h", "replica_"),
 }  # fmt: skip
 # The functions of a page that tell words of numbers. They are inline.
@@ -20,7 +20,7 @@ def functions_of(tables, path):
     """The functions of a page, in the order of the header. Those of a record have a page of their own."""
     header, prefix = PAGES[path]
     found = tables["headers"].of(header, prefix)
-    return [it for it in found if prefix or not it.name.startswith("record_")]
+    return found
 
 
 def names(tables, path):
@@ -80,29 +80,24 @@ def sentence_of(tables, status, name):
 
 
 def statuses(tables, function):
-    """The statuses of a function, in the order in which they are looked for. A shared table waits where a record is busy."""
+    """The statuses of a function, in the order in which they are looked for."""
     row = next(it for it in tables["functions"] if function in words_of(it.functions))
-    owner, _, ending = function.partition("_")
-    name = function if owner in ("saved", "replica") else ending
-    waits = owner == "shared" and f"record_{ending}" in words_of(row.functions)
-    found = [it for it in words_of(row.statuses) if not (waits and it == "BUSY")]
     lines = [".Bl -tag -width PIDTAB_OUT_OF_RANGE -compact"]
-    for status in found:
-        lines += [f".It Dv PIDTAB_{status}", *said(sentence_of(tables, status, name))]
+    for status in words_of(row.statuses):
+        lines += [f".It Dv PIDTAB_{status}", *said(sentence_of(tables, status, function))]
     return [*lines, ".El"]
 
 
 # Whose statuses a page has together, and what it calls a table.
-OWNERS = {"man/pidtab.3": (("table",), "table"), "man/pidtab_record.3": (("table", "record"), "record"), "man/pidtab_saved.3": (("saved",), "record"),
-          "man/pidtab_replica.3": (("replica",), "table")}
+OWNERS = {"man/pidtab.3": ("table", "table"), "man/pidtab_saved.3": ("saved", "table"), "man/pidtab_replica.3": ("replica", "table")}
 
 
 def errors(tables, path):
     """All statuses of a page, each with its error. A record has those of a table too, and a saved history only its own."""
-    owners, held = OWNERS[path]
+    owner, held = OWNERS[path]
     lines = [".Bl -tag -width Ds"]
     for it in tables["statuses"]:
-        if it.of in owners or it.error == "-":
+        if it.of == owner or it.error == "-":
             text = (it.sentence if it.when == "-" else it.when).replace("the table", f"the {held}").replace("open table", f"open {held}")
             told = re.sub(r"\b(size|pid_max)\b,?", lambda found: f"{{{found[1]}}}{found[0][len(found[1]):]}", re.sub(r"`(\w+)`", r"[\1]", text))
             lines += [f".It Dv PIDTAB_{it.name}", *(["0."] if it.error == "-" else [f".Er {it.error} :", *said(f"{told}.")])]
@@ -124,7 +119,7 @@ def parts_of(tables):
     for path in PAGES:
         parts |= {(path, "names"): part(names, path), (path, "synopsis"): part(synopsis, path)}
     known = {name: it.statuses for it in tables["functions"] for name in words_of(it.functions)}
-    of_saved = [it.name for it in functions_of(tables, "man/pidtab_saved.3") if known.get(it.name, "-") != "-" and not it.name.endswith("_shared")]
+    of_saved = [it.name for it in functions_of(tables, "man/pidtab_saved.3") if known.get(it.name, "-") != "-"]
     parts |= {("man/pidtab_saved.3", f"statuses of {name}"): part(statuses, name) for name in of_saved}
     of_replica = [it.name for it in functions_of(tables, "man/pidtab_replica.3") if it.name in known]
     return parts | {("man/pidtab_replica.3", f"statuses of {name}"): part(statuses, name) for name in of_replica}

@@ -1,8 +1,7 @@
 -- What C's functions find and leave of a table with its history.
 use Rattle.std.specs.Prelude.{◌≡◌, ◌≢◌, ◌<◌, ◌≤◌, ◌⊎◌, ℕ, length, Option, Some, None, option_map, false}
 use Rattle.pid_types.specs.declared.call.Call.{Call}
-use Rattle.pid_types.specs.Settings.{HasGoodPidMax}
-use Rattle.kept_table.specs.Calls.{after_recorded, begun, cut_at, nothing_spare, to_cut, FewerWait, IsWithoutFirst, NoneWait}
+use Rattle.kept_table.specs.Calls.{after_recorded, cut_at, nothing_spare, to_cut, FewerWait, IsWithoutFirst, NoneWait}
 use Rattle.kept_past.specs.Past.{IsCaughtUp}
 use Rattle.kept_table.specs.Chronicle.{Chronicle, total, recorded}
 use Rattle.foreign_numbers.specs.declared.status.TheConstants.{DONE, NO_MEMORY}
@@ -22,17 +21,6 @@ memoryless c = record c { memory = nothing_spare }
 
 abbrev pub without_memory : Option Chronicle → Option Chronicle
 without_memory held = option_map memoryless held
-
--- what a record can be opened with
-pub record CanOpen (pid_max first_stamp workers : ℕ) : Type 0 where
-  pub bound : HasGoodPidMax pid_max
-  pub stamp : 0 < first_stamp
-  pub some : 0 < workers
-  pub few : workers ≤ 16
-
--- a table with a history, with the root init alone, and no call of any worker
-abbrev pub opened : ℕ → ℕ → ℕ → Chronicle
-opened pid_max first_stamp workers = begun (record { pid_max = pid_max; first_stamp = first_stamp }) workers 0
 
 -- at most so many entries are kept, or fewer than before
 abbrev pub IsBounded : ℕ → Chronicle → Chronicle → Type 0

@@ -1,5 +1,5 @@
 -- What C is told of a text that no table is loaded from, and what a record is that goes on from one.
-use Rattle.std.specs.Prelude.{◌≡◌, ◌≢◌, ◌<◌, ◌≤◌, ℕ, List, length, sum, true}
+use Rattle.std.specs.Prelude.{◌≡◌, ◌≢◌, ◌<◌, ◌≤◌, ℕ, Bool, true, false, List, length, sum, Option}
 use Rattle.pid_types.specs.Sound.{IsBelow}
 use Rattle.pid_types.specs.State.{State}
 use Rattle.table_build.specs.Tables.{IsOfTables}
@@ -11,7 +11,11 @@ use Rattle.table_load.specs.declared.fault.RestoreFault.TheVariants as why
 use Rattle.table_load.specs.Texts.{IsTextOfNoTable}
 use Rattle.kept_table.specs.Calls.{resumed}
 use Rattle.kept_table.specs.Chronicle.{Chronicle, next_stamp}
+use Rattle.stamped_table.specs.Stamped.{Stamped, IsInOrder}
+use Rattle.foreign_handles.specs.declared.held.Held.{Held}
 use Rattle.foreign_numbers.specs.declared.status.TheConstants.{BAD_TEXT}
+use Rattle.foreign_calls.specs.Held.{history, table_alone}
+use Rattle.foreign_calls.specs.Records.{Has}
 use Rattle.foreign_calls.specs.declared.saved_table.FaultNumbers.{FaultNumbers}
 
 -- no fault of a text
@@ -72,3 +76,14 @@ pub record IsResumed (text counts : List ℕ) (c : Chronicle) : Type 0 where
   pub says : text ≡ text_of (next_stamp c) c.present
   pub left : c ≡ record (resumed c.present (next_stamp c) counts c.memory.room) { by_steps = true }
   pub before : sum counts < next_stamp c
+
+-- the table without a history is the one that the text says
+pub record IsLoaded (text : List ℕ) (s : Stamped) : Type 0 where
+  pub says : text ≡ text_of s.stamp s.state
+  pub words : IsWord s.stamp × IsStateOfWords s.state
+  pub sound : IsInOrder s
+
+-- the same of what is held, with a history or without one
+abbrev pub HasLoaded : List ℕ → List ℕ → Bool → Option Held → Type 0
+HasLoaded text counts false held = Has (table_alone held) (λ s. IsLoaded text s)
+HasLoaded text counts true held = Has (history held) (λ c. IsResumed text counts c)

@@ -88,7 +88,7 @@ pub fn call_bare(held: &mut StampedTable, made: Call, reply: &mut ReplyNumbers) 
 
 /// Makes the call that is said as [`call_bare`] does. The status is `OUT_OF_RANGE` too where none is.
 #[inline(always)]
-fn said_bare(held: &mut StampedTable, said: Option<Call>, reply: &mut ReplyNumbers) -> u32
+pub fn said_bare(held: &mut StampedTable, said: Option<Call>, reply: &mut ReplyNumbers) -> u32
     ensures { MakesSaid (Bare held.old) 0 said reply.old reply.new 0 0 result (Bare held.new) }
 {
     let Some(made) = said else {

@@ -1,22 +1,23 @@
 //! Calls on a table with a history or without one, as numbers and as lines.
 //!
 //! A table without a history has one worker, 0, and tells no ordinal.
-ghost use Rattle.std.specs.Prelude.{◌≡◌, ◌≢◌, ◌≤◌, Some, length, take};
+ghost use Rattle.std.specs.Prelude.{◌≡◌, ◌≢◌, ◌≤◌, ℕ, Some, length, take};
 ghost use Rattle.{
   pid_types.specs.declared.call.Call.{Call},
   pid_script.specs.Answers.{reply_text},
-  foreign_handles.specs.Held.{stamped},
+  foreign_handles.specs.{Held.{stamped}, declared.held.Held.TheVariants.{Recorded}},
   foreign_calls.specs.Calls.{visible, HasMadeKeeping, IsSaidStatus, MakesCall, MakesSaid},
   foreign_calls.specs.{Made.{TellsReply}, Rooms.{KeepsRoom}},
   foreign_numbers.specs.Numbers.{call_of, numbers_of},
   stamped_table.specs.Stamped.{reply_to},
 };
 
-use crate::bare_calls::{bare_by_operation, call_bare, line_bare};
+use crate::bare_calls::{bare_by_operation, call_bare, line_bare, said_bare};
 use crate::kept_calls::{call_kept, kept_by_operation, line_kept, said_any_kept};
 use foreign_handles::held::Held;
 use foreign_numbers::numbers::{CallNumbers, ReplyNumbers, read_call};
 use foreign_numbers::status::{DONE, OUT_OF_RANGE, unmade};
+use kept_table::Kept;
 use pid_script::answer::LONGEST_ANSWER;
 use pid_types::call::Call;
 
@@ -40,22 +41,45 @@ pub fn call(
     }
 }
 
-/// Makes the call that the numbers say, and tells its reply and its place.
+/// Makes the call that the numbers say, and tells its reply and its place. A table without a history has its fast way
+/// in [`call_of_worker_0`].
 #[inline(always)]
 pub fn call_by_operation(
     held: &mut Held,
     worker: u32,
-    n: &CallNumbers,
+    said: &CallNumbers,
     reply: &mut ReplyNumbers,
     ordinal: &mut u64,
 ) -> u32
-    ensures { MakesSaid held.old worker (call_of n.now) reply.old reply.new ordinal.old ordinal.new
+    ensures { MakesSaid held.old worker (call_of said.now) reply.old reply.new ordinal.old ordinal.new
         result held.new }
 {
     match held {
         Held::Bare(_) if worker > 0 => unmade(OUT_OF_RANGE),
-        Held::Bare(table) => bare_by_operation(table, n, reply),
-        Held::Recorded(kept) => kept_by_operation(kept, worker, n, reply, ordinal),
+        Held::Bare(table) => said_bare(table, read_call(said), reply),
+        Held::Recorded(kept) => kept_by_operation(kept, worker, said, reply, ordinal),
+    }
+}
+
+/// Makes the call that the numbers say for worker 0, and tells its reply. It is not inlined, so that a table without a
+/// history does not save the registers that a history needs.
+#[inline(never)]
+fn kept_of_worker_0(kept: &mut Kept, said: &CallNumbers, reply: &mut ReplyNumbers) -> u32
+    ensures { (place : ℕ) × MakesSaid (Recorded kept.old) 0 (call_of said.now) reply.old reply.new 0 place
+        result (Recorded kept.new) }
+{
+    let mut place = 0;
+    kept_by_operation(kept, 0, said, reply, &mut place)
+}
+
+/// Makes the call that the numbers say for worker 0, and tells its reply.
+#[inline(always)]
+pub fn call_of_worker_0(held: &mut Held, said: &CallNumbers, reply: &mut ReplyNumbers) -> u32
+    ensures { (place : ℕ) × MakesSaid held.old 0 (call_of said.now) reply.old reply.new 0 place result held.new }
+{
+    match held {
+        Held::Bare(table) => bare_by_operation(table, said, reply),
+        Held::Recorded(kept) => kept_of_worker_0(kept, said, reply),
     }
 }
 
@@ -64,23 +88,23 @@ pub fn call_by_operation(
 pub fn call_keeping(
     held: &mut Held,
     worker: u32,
-    n: &CallNumbers,
+    said: &CallNumbers,
     keep: u64,
     reply: &mut ReplyNumbers,
     ordinal: &mut u64,
 ) -> u32
-    ensures done { result ≡ DONE → (made : Call) × (call_of n.now ≡ Some made)
+    ensures done { result ≡ DONE → (made : Call) × (call_of said.now ≡ Some made)
         × HasMadeKeeping keep held.old worker made ordinal.old ordinal.new held.new
         × (reply.new ≡ numbers_of (reply_to (stamped held.old) made)) }
     ensures not_done { result ≢ DONE
         → (visible held.new ≡ visible held.old) × (reply.new ≡ reply.old) × (ordinal.new ≡ ordinal.old) }
-    ensures status { IsSaidStatus (Some held.old) worker (call_of n.now) result }
+    ensures status { IsSaidStatus (Some held.old) worker (call_of said.now) result }
 {
     match held {
         Held::Bare(_) if worker > 0 => unmade(OUT_OF_RANGE),
-        Held::Bare(table) => bare_by_operation(table, n, reply),
+        Held::Bare(table) => said_bare(table, read_call(said), reply),
         Held::Recorded(kept) => {
-            let status = said_any_kept(kept, worker, read_call(n), reply, ordinal);
+            let status = said_any_kept(kept, worker, read_call(said), reply, ordinal);
             if status == DONE {
                 kept.keep_at_most(keep);
             }

@@ -2,9 +2,9 @@
 ghost use Rattle.std.specs.Prelude.{◌≡◌, ◌≢◌, ◌≤◌, ◌↔◌, ◌⊎◌, [], ◌∷◌, Some, IfOk, IfErr};
 ghost use Rattle.{
   table_load.specs.{declared.fault.RestoreFault.TheVariants.{NoMemory}, Faults.{IsOfForm}, Texts.{IsTextOfNoTable}},
-  table_text.specs.{Ranges.{IsWord, IsStateOfWords}, Reading.{IsNoText}, Texts.{text_of}},
-  foreign_calls.specs.{Held.{table_alone, Opens}, Records.{Has}, Saved.{no_fault, fault_numbers, TellsFault}},
-  stamped_table.specs.Stamped.{IsInOrder},
+  table_text.specs.Reading.{IsNoText},
+  foreign_calls.specs.{Held.{table_alone, Opens}, Records.{Has}},
+  foreign_calls.specs.Saved.{no_fault, fault_numbers, IsLoaded, TellsFault},
 };
 
 use crate::table::{Pidtab, boxed};
@@ -63,10 +63,7 @@ pub fn put_fault(found: RestoreFault, fault: &mut FaultNumbers) -> u32
 
 /// The table on the heap that the text says.
 fn boxed_load(alloc: Global, text: &[u8]) -> Result<Box<Held>, RestoreFault>
-    ensures text { IfOk result (λ held. Has (table_alone (Some held.value)) (λ s. text.now ≡ text_of s.stamp s.state)) }
-    ensures words { IfOk result (λ held.
-        Has (table_alone (Some held.value)) (λ s. IsWord s.stamp × IsStateOfWords s.state)) }
-    ensures sound { IfOk result (λ held. Has (table_alone (Some held.value)) (λ s. IsInOrder s)) }
+    ensures held { IfOk result (λ held. Has (table_alone (Some held.value)) (λ s. IsLoaded text.now s)) }
     ensures form { IfErr result (λ fault. IsOfForm fault → IsNoText text.now) }
     ensures refused { IfErr result (λ fault. fault ≢ RestoreFault.NoMemory → IsTextOfNoTable text.now) }
 {
@@ -81,11 +78,7 @@ impl Pidtab {
     /// Opens a table as the text says. The result is the status: `BUSY`; `BAD_TEXT`, and `fault` says why; `NO_MEMORY`.
     pub fn load(&mut self, alloc: Global, text: &[u8], fault: &mut FaultNumbers) -> u32
         ensures opens { Opens self.old.handle.held self.new.handle.held result (BAD_TEXT ∷ NO_MEMORY ∷ []) }
-        ensures done { result ≡ DONE
-            → Has (table_alone self.new.handle.held) (λ s. text.now ≡ text_of s.stamp s.state) }
-        ensures words { result ≡ DONE
-            → Has (table_alone self.new.handle.held) (λ s. IsWord s.stamp × IsStateOfWords s.state) }
-        ensures sound { result ≡ DONE → Has (table_alone self.new.handle.held) (λ s. IsInOrder s) }
+        ensures done { result ≡ DONE → Has (table_alone self.new.handle.held) (λ s. IsLoaded text.now s) }
         ensures fault { TellsFault text.now fault.new result }
     {
         *fault = FaultNumbers { line: 0, kind: 0 };

@@ -35,6 +35,9 @@ pub const OUT_OF_RANGE: u32 = 22;
 /// `ERANGE`: size says what is needed.
 pub const NO_ROOM: u32 = 34;
 
+/// `ENOLCK`: the table was opened without threads.
+pub const NO_THREADS: u32 = 37;
+
 /// `ENOMSG`: the bytes end before the head, or the entry, does.
 pub const TORN: u32 = 42;
 

@@ -4,7 +4,7 @@
 //! uses which is the caller's affair, and two threads with one number are counted as one worker. Its history grows by
 //! 64 bytes with each recorded call, until a checkpoint cuts it. Any status except `DONE` says that all is as it was,
 //! except the room that is kept for entries, which nothing shows.
-ghost use Rattle.std.specs.Prelude.{◌≡◌, ◌≢◌, ◌<◌, ◌≤◌, ◌↔◌, [], ◌∷◌, IsTrue, Some, length, take};
+ghost use Rattle.std.specs.Prelude.{◌≡◌, ◌≢◌, ℕ, ◌<◌, ◌≤◌, ◌↔◌, [], ◌∷◌, IsTrue, Some, length, take};
 ghost use Rattle.{
   pid_types.specs.{Step.{may_grow}, declared.call.Call.{Call}},
   pid_script.specs.{Answers.{reply_text}, Reading.{parsed}},
@@ -17,7 +17,7 @@ ghost use Rattle.{
 };
 ghost use Rattle.pid_script.specs.declared.line.Line.TheVariants as says;
 
-use foreign_calls::calls::{call_by_operation, call_keeping, line};
+use foreign_calls::calls::{call_by_operation, call_keeping, call_of_worker_0, line};
 use foreign_calls::table::Pidtab;
 use foreign_numbers::numbers::{CallNumbers, ReplyNumbers};
 use foreign_numbers::status::{
@@ -25,6 +25,27 @@ use foreign_numbers::status::{
 };
 use pid_script::answer::LONGEST_ANSWER;
 use pid_script::line::{Line, parse_line};
+
+/// Makes the call that the numbers say for worker 0, and tells the reply as numbers: [`pidtab_call_by`] for those who
+/// need no place, with the same statuses. A table without a history is fastest so.
+#[unsafe(no_mangle)]
+pub extern "C" fn pidtab_call(
+    table: &mut Pidtab,
+    call: &CallNumbers,
+    reply: &mut ReplyNumbers,
+) -> u32
+    ensures done { result ≡ DONE → (made : Call) × (call_of call.now ≡ Some made)
+        × Has table.old.handle.held (λ h. (reply.new ≡ numbers_of (reply_to (stamped h) made))
+        × Has table.new.handle.held (λ h'. (place : ℕ) × HasMade h 0 made 0 place h')) }
+    ensures not_done { result ≢ DONE
+        → (visible_held table.new.handle.held ≡ visible_held table.old.handle.held) × (reply.new ≡ reply.old) }
+    ensures status { IsSaidStatus table.old.handle.held 0 (call_of call.now) result }
+{
+    if !table.is_open {
+        return unmade(CLOSED);
+    }
+    call_of_worker_0(table.handle.lend(), call, reply)
+}
 
 /// Makes the call that the numbers say for the worker, and tells the reply as numbers. Where there is a history it is
 /// recorded with its reply, and `ordinal` is its place there, counted from 0; else `ordinal` stays.

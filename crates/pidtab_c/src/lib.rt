@@ -11,11 +11,10 @@
 
 ghost use Rattle.std.specs.Prelude.{◌≡◌, ◌↔◌, [], ◌∷◌, IfSome, Some, None};
 ghost use Rattle.{
-  pid_types.specs.{Settings.{HasGoodPidMax}, State.{root_state}},
   table_lines.specs.Listed.{list_of_state},
   stamped_table.specs.Stamped.{IsInOrder},
-  foreign_handles.specs.{Held.{stamped}, declared.held.Held.TheVariants.{Bare, Recorded}},
-  foreign_calls.specs.{Calls.{visible_held}, Held.{OnlyReads, Opens}, Records.{CanOpen, opened}, Rooms.{PutsText}},
+  foreign_handles.specs.Held.{stamped},
+  foreign_calls.specs.{Calls.{visible_held}, Held.{OnlyReads, Opens}, Opened.{opened, CanOpen}, Rooms.{PutsText}},
 };
 
 mod ask;
@@ -37,7 +36,7 @@ mod task;
 mod texts;
 mod would;
 
-use foreign_calls::table::{MOST_WORKERS, Pidtab, new_kept, new_table};
+use foreign_calls::table::{MOST_WORKERS, Pidtab, TableSettings, new_held};
 use foreign_calls::table_texts::list_of;
 use foreign_calls::texts::write_text;
 use foreign_numbers::status::{BUSY, CLOSED, DONE, NO_MEMORY, NO_ROOM, OUT_OF_RANGE};
@@ -66,53 +65,27 @@ pub fn bounds_are_literal()
     ensures tables { (LEAST_PID_MAX ≡ 301) × (GREATEST_PID_MAX ≡ 4194304) × (LEVELS ≡ 33) × (MOST_WORKERS ≡ 16) }
 {}
 
-/// Opens a table without a history, with the root init alone, whose numbers are below `pid_max`.
+/// Opens a table with the root init alone. It keeps its history unless `keep` is 0, and then has one worker. The first
+/// call has `first_stamp`, and each one the next.
 ///
-/// `BUSY` where it is open already, then `OUT_OF_RANGE` for a `pid_max` outside 301 to 4194304; `NO_MEMORY`.
-#[unsafe(no_mangle)]
-pub extern "C" fn pidtab_open(alloc: Global, table: &mut Pidtab, pid_max: u32) -> u32
-    ensures opens { Opens table.old.handle.held table.new.handle.held result (OUT_OF_RANGE ∷ NO_MEMORY ∷ []) }
-    ensures done { result ≡ DONE
-        → table.new.handle.held ≡ Some (Bare (record { state = root_state pid_max; stamp = 1 })) }
-    ensures good { result ≡ DONE → HasGoodPidMax pid_max }
-    ensures out_of_range { (result ≡ OUT_OF_RANGE) ↔ (table.old.handle.held ≡ None) × (HasGoodPidMax pid_max → ⊥) }
-{
-    if table.is_open {
-        return BUSY;
-    }
-    match new_table(alloc, pid_max) {
-        Ok(held) => {
-            table.put(held);
-            DONE
-        }
-        Err(status) => status,
-    }
-}
-
-/// Opens a table that keeps its history, with the root init alone, whose numbers are below `pid_max`, for so many
-/// workers. The first recorded call has `first_stamp`, and each one the next.
-///
-/// `BUSY` where it is open already; then `OUT_OF_RANGE` for no worker or more than 16, for a `pid_max` outside 301 to
-/// 4194304, or for a first stamp of 0; `NO_MEMORY`. Whoever opens a table closes it.
+/// `BUSY` where it is open already; then `OUT_OF_RANGE` for no worker or more than 16, or than 1 where `keep` is 0, for
+/// a `pid_max` outside 301 to 4194304, or for a first stamp of 0; `NO_MEMORY`. Whoever opens a table closes it.
 #[unsafe(no_mangle)]
 pub extern "C" fn pidtab_open_with(
     alloc: Global,
     table: &mut Pidtab,
-    pid_max: u32,
-    first_stamp: u64,
-    workers: u32,
+    settings: &TableSettings,
 ) -> u32
     ensures opens { Opens table.old.handle.held table.new.handle.held result (OUT_OF_RANGE ∷ NO_MEMORY ∷ []) }
-    ensures done { result ≡ DONE
-        → visible_held table.new.handle.held ≡ Some (Recorded (opened pid_max first_stamp workers)) }
-    ensures good { result ≡ DONE → CanOpen pid_max first_stamp workers }
+    ensures done { result ≡ DONE → visible_held table.new.handle.held ≡ Some (opened settings.now) }
+    ensures good { result ≡ DONE → CanOpen settings.now }
     ensures out_of_range { (result ≡ OUT_OF_RANGE)
-        ↔ (table.old.handle.held ≡ None) × (CanOpen pid_max first_stamp workers → ⊥) }
+        ↔ (table.old.handle.held ≡ None) × (CanOpen settings.now → ⊥) }
 {
     if table.is_open {
         return BUSY;
     }
-    match new_kept(alloc, pid_max, first_stamp, workers) {
+    match new_held(alloc, settings) {
         Ok(held) => {
             table.put(held);
             DONE

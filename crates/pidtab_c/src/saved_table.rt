@@ -1,11 +1,10 @@
 //! A table as a text, for C: the text is written, and a table is opened as such a text says.
-ghost use Rattle.std.specs.Prelude.{◌≡◌, ◌⊎◌, [], ◌∷◌, None};
+ghost use Rattle.std.specs.Prelude.{◌≡◌, ◌⊎◌, [], ◌∷◌, None, true};
 ghost use Rattle.{
-  table_text.specs.{Ranges.{IsWord, IsStateOfWords}, Texts.{text_of}},
+  table_text.specs.Texts.{text_of},
   foreign_handles.specs.Held.{stamped},
-  foreign_calls.specs.{Held.{table_alone, history, OnlyReads, Opens}, Records.{Has}, Rooms.{PutsText}},
-  foreign_calls.specs.Saved.{HasWorkers, HasTooManyCalls, IsLoadable, IsResumed, TellsFault, TellsTooManyCalls},
-  stamped_table.specs.Stamped.{IsInOrder},
+  foreign_calls.specs.{Held.{OnlyReads, Opens}, Records.{Has}, Rooms.{PutsText}},
+  foreign_calls.specs.Saved.{HasLoaded, HasWorkers, HasTooManyCalls, IsLoadable, TellsFault, TellsTooManyCalls},
 };
 
 use foreign_calls::saved_table::FaultNumbers;
@@ -16,7 +15,7 @@ use foreign_numbers::status::{BAD_TEXT, CLOSED, DONE, NO_MEMORY, NO_ROOM, OUT_OF
 use std::alloc::Global;
 
 /// Puts the text of the table, with the stamp of its next call, at the front of the room; `size` is the text's length.
-/// Bytes of the room behind it stay as they are. [`pidtab_load`] opens a table as the text says, and refuses none of
+/// Bytes of the room behind it stay as they are. [`pidtab_load_with`] opens a table as the text says, and refuses none of
 /// these texts: [`foreign_calls::laws::what_is_dumped_loads`].
 ///
 /// `CLOSED` where there is no open table; `NO_MEMORY`; `NO_ROOM` where the text is longer than the room, and then too
@@ -43,55 +42,40 @@ pub extern "C" fn pidtab_dump(
     }
 }
 
-/// Opens a table as the text says: its state, and the stamp of its next call. Any bytes may be given.
+/// Opens a table as the text says: its state, and the stamp of its next call. Any bytes may be given. Where a history
+/// is to be kept it begins there, after so many recorded calls of each worker as `counts` has: the ordinal of the next
+/// call is their sum. Else `counts` is not looked at.
 ///
-/// `BUSY` where it is open already; then `BAD_TEXT` where the text is that of no table, and `fault` says why; or
-/// `NO_MEMORY`. A fault of kind 1 or 2 comes only where the text is that of no state at all. Where the status is not
-/// `BAD_TEXT`, `fault` is zeroes. It costs some times what the forks cost that made the tasks.
-#[unsafe(no_mangle)]
-pub extern "C" fn pidtab_load(
-    alloc: Global,
-    table: &mut Pidtab,
-    text: &[u8],
-    fault: &mut FaultNumbers,
-) -> u32
-    ensures opens { Opens table.old.handle.held table.new.handle.held result (BAD_TEXT ∷ NO_MEMORY ∷ []) }
-    ensures done { result ≡ DONE
-        → Has (table_alone table.new.handle.held) (λ s. text.now ≡ text_of s.stamp s.state) }
-    ensures words { result ≡ DONE
-        → Has (table_alone table.new.handle.held) (λ s. IsWord s.stamp × IsStateOfWords s.state) }
-    ensures sound { result ≡ DONE → Has (table_alone table.new.handle.held) (λ s. IsInOrder s) }
-    ensures fault { TellsFault text.now fault.new result }
-{
-    table.load(alloc, text, fault)
-}
-
-/// Opens a table with a history that goes on as the text says, after so many recorded calls of each worker as `counts`
-/// has: the present state and the stamp of the next call are those of the text, and its ordinal is the sum of the
-/// counts. The history begins there. Any bytes may be given.
-///
-/// `BUSY` where it is open already; then `OUT_OF_RANGE` for no worker or more than 16; then `BAD_TEXT` where the text
-/// has not the form, and `fault` says why by kind 1 or 2; then `OUT_OF_RANGE` where the counts add up to the stamp of
-/// the text or more, since the first call of all has a stamp of 1 or more; then `BAD_TEXT` where the text is that of no
-/// table, by another kind; `NO_MEMORY`. Where the status is not `BAD_TEXT`, `fault` is zeroes. Whoever opens a table
-/// closes it.
+/// `BUSY` where it is open already; then, of a history alone, `OUT_OF_RANGE` for no worker or more than 16; then
+/// `BAD_TEXT` where the text has not the form, and `fault` says why by kind 1 or 2; then, of a history alone,
+/// `OUT_OF_RANGE` where the counts add up to the stamp of the text or more, since the first call of all has a stamp of 1
+/// or more; then `BAD_TEXT` where the text is that of no table, by another kind; `NO_MEMORY`. Where the status is not
+/// `BAD_TEXT`, `fault` is zeroes. It costs some times what the forks cost that made the tasks, of a history twice.
+/// Whoever opens a table closes it.
 #[unsafe(no_mangle)]
 pub extern "C" fn pidtab_load_with(
     alloc: Global,
     table: &mut Pidtab,
     text: &[u8],
     counts: &[u64],
+    keeps_history: bool,
     fault: &mut FaultNumbers,
 ) -> u32
     ensures opens { Opens table.old.handle.held table.new.handle.held result
         (OUT_OF_RANGE ∷ BAD_TEXT ∷ NO_MEMORY ∷ []) }
-    ensures done { result ≡ DONE → Has (history table.new.handle.held) (λ c. IsResumed text.now counts.now c) }
-    ensures workers { result ≡ DONE → HasWorkers counts.now }
-    ensures no_workers { table.old.handle.held ≡ None → (HasWorkers counts.now → ⊥) → result ≡ OUT_OF_RANGE }
-    ensures out_of_range { result ≡ OUT_OF_RANGE → HasWorkers counts.now → HasTooManyCalls text.now counts.now }
-    ensures too_many { table.old.handle.held ≡ None → HasWorkers counts.now → TellsTooManyCalls text.now counts.now
-        → (result ≡ OUT_OF_RANGE) ⊎ (result ≡ NO_MEMORY) }
+    ensures done { result ≡ DONE → HasLoaded text.now counts.now keeps_history table.new.handle.held }
+    ensures workers { result ≡ DONE → keeps_history ≡ true → HasWorkers counts.now }
+    ensures no_workers { table.old.handle.held ≡ None → keeps_history ≡ true → (HasWorkers counts.now → ⊥)
+        → result ≡ OUT_OF_RANGE }
+    ensures out_of_range { result ≡ OUT_OF_RANGE
+        → (keeps_history ≡ true) × (HasWorkers counts.now → HasTooManyCalls text.now counts.now) }
+    ensures too_many { table.old.handle.held ≡ None → keeps_history ≡ true → HasWorkers counts.now
+        → TellsTooManyCalls text.now counts.now → (result ≡ OUT_OF_RANGE) ⊎ (result ≡ NO_MEMORY) }
     ensures fault { TellsFault text.now fault.new result }
 {
-    table.load_with(alloc, text, counts, fault)
+    if keeps_history {
+        table.load_with(alloc, text, counts, fault)
+    } else {
+        table.load(alloc, text, fault)
+    }
 }
