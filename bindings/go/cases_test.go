@@ -301,6 +301,7 @@ var statusNames = map[error]string{
 	ErrNotKept:    "NOT_KEPT",
 	ErrAgain:      "AGAIN",
 	ErrNoHistory:  "NO_HISTORY",
+	ErrNoThreads:  "NO_THREADS",
 }
 
 var queryWords = []string{"getpid", "nspid", "getppid", "count", "getpgid", "getsid", "next"}

@@ -217,6 +217,8 @@ func faultOf(status uint32) error {
 		return ErrAgain
 	case C.PIDTAB_NO_HISTORY:
 		return ErrNoHistory
+	case C.PIDTAB_NO_THREADS:
+		return ErrNoThreads
 	case C.PIDTAB_NOT_SAVED:
 		return ErrNotSaved
 	case C.PIDTAB_ENDED:

@@ -1,7 +1,7 @@
 """The questions as methods of the package for Go, of a table and of one on many hosts."""
 
 from names import camel
-from questions import REPLY, all_arguments, arguments_of, function, has, sentences
+from questions import REPLY, all_arguments, arguments_of, has, sentences
 from written.go_calls import TYPES, comment, lower, typed
 
 QUESTIONS = "bindings/go/questions.go"
@@ -70,7 +70,7 @@ def absent(row):
 def beside(row, place):
     """The lines that read an answer into its place, beside other queries."""
     return [
-        "\tstatus := table.beside(func(raw *C.struct_pidtab) C.uint32_t {", f"\t\treturn C.pidtab_{function(row)}({passed(row)}, {place})", "\t})",
+        "\tstatus := table.beside(func(raw *C.struct_pidtab) C.uint32_t {", f"\t\treturn C.pidtab_{row.exports}({passed(row)}, {place})", "\t})",
     ]  # fmt: skip
 
 
@@ -85,7 +85,7 @@ def body(row):
     may_be_absent = f"{absent(row)}, " if row.of != "-" else ""
     if row.tells in LISTS:
         _, places, given = LISTS[row.tells]
-        page, call = f"table.{row.tells}({may_be_absent}func(raw *C.struct_pidtab, {places}) C.uint32_t {{", f"\t\treturn C.pidtab_{function(row)}({passed(row)}, {given})"
+        page, call = f"table.{row.tells}({may_be_absent}func(raw *C.struct_pidtab, {places}) C.uint32_t {{", f"\t\treturn C.pidtab_{row.exports}({passed(row)}, {given})"
         return told(row, [f"{page}", call, "\t})"])
     reads = f"{'stat' if row.tells == 'task' else lower(row.tells)}Of({may_be_absent}status, {row.tells})"
     return [f"\t{row.tells} := new(C.struct_pidtab_{row.tells})", *beside(row, row.tells), *told(row, [reads])]

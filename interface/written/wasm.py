@@ -1,13 +1,15 @@
 """The functions that the module for JavaScript exports: the proved ones, whose memory is at fixed places."""
 
+from headers import read_functions
 from names import TYPED
-from proved import BY_WORKER, proved_name
 
 AROUND = "bindings/js/wasm/around.c"
+PROVED = "bindings/c/proved.h"
 
-# What is not called from there, and the structs at fixed places.
-BY_HAND = ("version", "close", "calls", "read", "replay")
-PLACES = ("call", "reply", "task", "space", "fault")
+# What is not called from there, what has its name in pidtab.h, and the structs at fixed places.
+BY_HAND = ("close", "calls", "read", "replay")
+OF_NO_TABLE = ("call_line", "reply_line")
+PLACES = ("call", "reply", "task", "space", "fault", "settings")
 LONGS = ("uint64_t", "uint64_t *", "const uint64_t *")
 
 
@@ -19,7 +21,7 @@ def passed(function):
     while rest:
         kind, name, _ = rest.pop(0)
         struct = kind.replace("const ", "").replace("struct pidtab_", "").strip(" *")
-        if name in ("table", "record"):
+        if name == "table":
             given.append("&held")
         elif struct in PLACES:
             given.append(f"&at.{struct}")
@@ -42,39 +44,27 @@ def passed(function):
     return ", ".join(taken) or "void", ", ".join(given)
 
 
-def proved_functions(tables):
-    """Each proved function once, with one of C that calls it. A record's has the worker."""
-    found = {}
-    for it in tables["headers"].of("pidtab.h"):
-        if proved_name(it.name) not in BY_HAND and not it.name.endswith(TYPED) and it.name not in BY_WORKER:
-            found.setdefault(proved_name(it.name), it)
-    return found
+def of_tables(tables):
+    """The proved functions that work on a table, by the names that C has for them."""
+    text = (tables["top"] / PROVED).read_text(encoding="utf-8").replace("proved_", "pidtab_")
+    return [it for it in read_functions(PROVED, text) if it.name not in BY_HAND and not it.name.endswith(TYPED) and not it.name.startswith("replica_")]
 
 
 def declared(tables):
-    """The declarations of the proved functions that have other names in C."""
-    there = {it.name for it in tables["headers"].of("pidtab.h")}
-    return [
-        f"uint32_t pidtab_{name}({', '.join(f'{kind}{name}' for kind, name in spelled(it))});"
-        for name, it in proved_functions(tables).items()
-        if name not in there
-    ]
+    """The declarations of the proved functions, which have other names in the module."""
+    return [f'uint32_t proved_{it.name}({", ".join(map(str, it.arguments))}) __asm__("pidtab_{it.name}");' for it in of_tables(tables)]
 
 
-def spelled(function):
-    """The type, with a space where none is before a star, and the name of each argument of a proved function."""
-    for kind, name, _ in function.arguments:
-        of_table = kind.replace("struct pidtab_record *", "struct pidtab *")
-        yield of_table if of_table.endswith("*") else f"{of_table} ", "table" if name == "record" else name
+def exported(name, function):
+    """The function that JavaScript calls."""
+    taken, given = passed(function)
+    return ["", f"uint32_t EXPORTED({function.name})({taken})", "{", f"\treturn {name}({given});", "}"]
 
 
 def functions(tables):
-    """The functions of a table, with its history and without."""
-    lines = []
-    for name, it in proved_functions(tables).items():
-        taken, given = passed(it)
-        lines += ["", f"uint32_t EXPORTED({name})({taken})", "{", f"\treturn pidtab_{name}({given});", "}"]
-    return lines[1:]
+    """The functions of a table, and those that need none."""
+    lines = [line for it in of_tables(tables) for line in exported(f"proved_{it.name}", it)]
+    return (lines + [line for name in OF_NO_TABLE for line in exported(f"pidtab_{name}", tables["headers"].function(name))])[1:]
 
 
 PARTS = {(AROUND, "functions"): functions, (AROUND, "declarations"): declared}
