@@ -477,7 +477,7 @@ func TestQueriesAtOnce(t *testing.T) {
 		to <- reply
 	}
 	first, second, made := make(chan Reply), make(chan Reply), make(chan error)
-	held.lock.RLock()
+	held.RLock()
 	go ask(first)
 	want(t, "beside a query", of((<-first).First, nil), uint64(1), nil)
 	if _, err := table.List(); err != nil {
@@ -487,8 +487,8 @@ func TestQueriesAtOnce(t *testing.T) {
 		_, err := seat.Fork(1, false)
 		made <- err
 	}()
-	for held.lock.lock.TryRLock() {
-		held.lock.RUnlock()
+	for held.lock.TryRLock() {
+		held.RUnlock()
 		runtime.Gosched()
 	}
 	go ask(second)
@@ -499,7 +499,7 @@ func TestQueriesAtOnce(t *testing.T) {
 		t.Error("a call was made beside a query")
 	case <-time.After(50 * time.Millisecond):
 	}
-	held.lock.RUnlock()
+	held.RUnlock()
 	if err := <-made; err != nil {
 		t.Error(err)
 	}

@@ -23,7 +23,7 @@ var (
 	ErrNoNamespace = error(&special{"pidtab: no namespace has the id", ErrOutOfRange})
 	ErrEmptyLine   = errors.New("pidtab: an empty line has no answer")
 	ErrBadLine     = errors.New("pidtab: bad line")
-	ErrBusy        = errors.New("pidtab: busy: another goroutine is in the table, which is opened with Threads for that, or a thread that a forked child has not")
+	ErrBusy        = errors.New("pidtab: busy: another goroutine uses the table, which was opened without Threads; or a thread of which a forked child has only the mark")
 	ErrNotKept     = errors.New("pidtab: no entry with the ordinal is kept: it was cut away, or is not reached yet")
 	ErrAgain       = errors.New("pidtab: another number of calls was recorded by now")
 	ErrNoHistory   = errors.New("pidtab: this table keeps no history: open it with keep")

@@ -26,7 +26,7 @@ func openReplica(t *testing.T, pidMax uint32) logWorld {
 		t.Fatal(err)
 	}
 	t.Cleanup(replica.Close)
-	return logWorld{t, replica, open(t, pidMax)}
+	return logWorld{t, replica, open(t, Settings{PidMax: pidMax})}
 }
 
 // apply applies an entry: what became of it, and its answers.

@@ -219,7 +219,7 @@ func TestTheExampleIsWrittenAndRead(t *testing.T) {
 	want(t, "bytes", of(file.Bytes(), nil), pageBytes(t), nil)
 	again, loaded := load(t, pageBytes(t))
 	wantSaved(t, loaded, 3, 192, 0)
-	want(t, "settings", of(again.Settings(), nil), Settings{32768, 2, 1, 0}, nil)
+	want(t, "settings", of(again.Settings(), nil), Settings{32768, 2, 1, KeepAll, true}, nil)
 	if worker := seatOf(t, again).Worker(); worker != 0 {
 		t.Error(worker)
 	}
@@ -290,7 +290,7 @@ func TestAFileThatIsCutGoesOn(t *testing.T) {
 	places, entries := placesOf(wanted), entriesOf(t, table)
 	for length := 0; length < len(wanted); length += 7 {
 		file := fileOf(t, wanted[:length])
-		again, saved := resume(t, file, Settings{PidMax: 32768, Workers: 2})
+		again, saved := resume(t, file, withHistory(2))
 		calls, left := callsBelow(places, length), 0
 		if length >= blockSize {
 			left = places[calls]
@@ -314,7 +314,7 @@ func TestZeroesAtTheEnd(t *testing.T) {
 		_, loaded := load(t, longer)
 		wantSaved(t, loaded, calls, len(saved), zeroes)
 		file := fileOf(t, longer)
-		resume(t, file, Settings{})
+		resume(t, file, Settings{Keep: 1})
 		wantFile(t, file, saved)
 		if zeroes > blockSize {
 			wantFault(t, append(longer, 1), ErrWrongByte, calls, len(saved))
@@ -639,8 +639,8 @@ func (it *slow) Write(from []byte) (int, error) {
 }
 
 func TestASlowWriterStopsNobody(t *testing.T) {
-	it := &slow{kept: example(t)}
-	save(t, it.kept, it, new(Saved))
+	it := &slow{table: example(t)}
+	save(t, it.table, it, new(Saved))
 	want(t, "bytes", of(it.of.Bytes(), nil), pageBytes(t), nil)
 }
 

@@ -202,9 +202,11 @@ func (held *heldTable) tell(saved *Saved, err error) error {
 	return fault
 }
 
-// change changes what all that wait, and the saver, look at again then.
+// change changes what all that wait, and the saver, look at again then. At a busy table without Threads nobody waits.
 func (held *heldTable) change(do func(*saving)) {
-	held.Lock()
+	if !held.enter() {
+		return
+	}
 	defer held.Unlock()
 	do(&held.saving)
 	held.saving.told.Broadcast()

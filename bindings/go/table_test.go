@@ -140,9 +140,9 @@ func forks(t *testing.T, table *Table, roots []int) {
 	}
 }
 
-func TestEightGoroutinesShareATable(t *testing.T) {
+func TestEightGoroutinesUseATable(t *testing.T) {
 	const each = 2000
-	table := open(t, Settings{})
+	table := open(t, Settings{Threads: true})
 	roots := make([]int, 8*each)
 	var workers sync.WaitGroup
 	for i := 0; i < 8; i++ {
