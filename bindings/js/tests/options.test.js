@@ -5,12 +5,12 @@ import { test } from "node:test";
 
 import { Telling, Would } from "../src/calls.js";
 import { STATUS, WHICH } from "../src/header.js";
-import { Record } from "../src/record.js";
 import { Table } from "../src/table.js";
 
 const FORK = "an option is one of newSpace, not ";
 const WAIT = "an option is one of pid, own, group, not ";
-const OPEN = "an option is one of pidMax, not ";
+const OPEN = "an option is one of pidMax, keep, workers, firstStamp, not ";
+const LOAD = "an option is one of keep, workers, recorded, not ";
 const NO_OBJECTS = { "a boolean": true, "a number": 2, "a string": "new", "a bigint": 2n, "a function": () => {}, null: null };
 
 /** A table without a module, and the numbers and choices that its calls were written with: none is made. */
