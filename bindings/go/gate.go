@@ -8,7 +8,7 @@ import (
 // A gate is by what goroutines come to a table: queries side by side, and all else alone. With Settings.Threads each waits for its turn. Without, who
 // finds another one there is turned away.
 type gate struct {
-	turnLock
+	fairLock
 	waits bool
 }
 
@@ -39,17 +39,17 @@ func (it *gate) share() bool {
 	return true
 }
 
-// A turnLock is a lock for readers and writers of which whoever calls Lock is before those that call LockForCall: each of these has it once more at
+// A fairLock is a lock for readers and writers of which whoever calls Lock is before those that call LockForCall: each of these has it once more at
 // most. A sync.RWMutex alone is for the writer who comes first when it is free, which is a goroutine that has just given it back; only after a
 // millisecond it is for one that waits. It lets no reader pass a writer that waits, and has those that wait in before the next writer.
-type turnLock struct {
+type fairLock struct {
 	lock      sync.RWMutex
 	gate      sync.Mutex
 	isAwaited atomic.Bool // somebody at the gate waits for the lock
 }
 
 // Lock locks before the calls.
-func (it *turnLock) Lock() {
+func (it *fairLock) Lock() {
 	it.gate.Lock()
 	it.isAwaited.Store(true)
 	it.lock.Lock()
@@ -58,7 +58,7 @@ func (it *turnLock) Lock() {
 }
 
 // LockForCall locks for a call.
-func (it *turnLock) LockForCall() {
+func (it *fairLock) LockForCall() {
 	if it.isAwaited.Load() {
 		it.gate.Lock()
 		it.gate.Unlock()
@@ -67,16 +67,16 @@ func (it *turnLock) LockForCall() {
 }
 
 // Unlock unlocks.
-func (it *turnLock) Unlock() {
+func (it *fairLock) Unlock() {
 	it.lock.Unlock()
 }
 
 // RLock locks for a query, beside others.
-func (it *turnLock) RLock() {
+func (it *fairLock) RLock() {
 	it.lock.RLock()
 }
 
 // RUnlock unlocks after a query.
-func (it *turnLock) RUnlock() {
+func (it *fairLock) RUnlock() {
 	it.lock.RUnlock()
 }

@@ -357,8 +357,8 @@ func mixed(count int) []Call {
 	return calls
 }
 
-// Turns beside as many single calls.
-func TestTurnsAsSingleCalls(t *testing.T) {
+// Many calls in one go beside as many single ones.
+func TestManyCallsAsSingleOnes(t *testing.T) {
 	kept, other := open(t, withHistory(2)), open(t, withHistory(2))
 	seat, alone := seatOf(t, kept), seatOf(t, other)
 	for _, count := range []int{0, 1, 64, 200} {
@@ -370,12 +370,12 @@ func TestTurnsAsSingleCalls(t *testing.T) {
 			}
 			wanted = append(wanted, reply)
 		}
-		want(t, "a turn", of(seat.Calls(mixed(count))), wanted, nil)
+		want(t, "many calls", of(seat.Calls(mixed(count))), wanted, nil)
 	}
 	wantOrdinal(t, seat, 264)
 	text, err := other.Dump()
 	want(t, "the text", of(kept.Dump()), text, err)
-	want(t, "a turn with what is no call", of(seat.Calls(append(mixed(5), Call{Operation: 99}))), []Reply{}, RangeError{"calls[5].Operation", "99", "0 to 18"})
+	want(t, "many with what is no call", of(seat.Calls(append(mixed(5), Call{Operation: 99}))), []Reply{}, RangeError{"calls[5].Operation", "99", "0 to 18"})
 	wantCounts(t, kept, 0, 265)
 	kept.Close()
 	want(t, "a closed table", of(seat.Calls(nil)), []Reply{}, ErrClosed)
@@ -383,7 +383,7 @@ func TestTurnsAsSingleCalls(t *testing.T) {
 }
 
 // Where the stamps are used up, the calls before are made and told.
-func TestATurnBehindTheLastStamp(t *testing.T) {
+func TestManyCallsBehindTheLastStamp(t *testing.T) {
 	table := open(t, Settings{FirstStamp: math.MaxUint64 - 3, Keep: KeepAll, Threads: true})
 	seat := seatOf(t, table)
 	replies, err := seat.Calls(mixed(9))
@@ -391,8 +391,8 @@ func TestATurnBehindTheLastStamp(t *testing.T) {
 	wantOrdinal(t, seat, 2)
 }
 
-// No call of another worker comes between those of a turn, and the history keeps its bound.
-func TestTurnsOfGoroutines(t *testing.T) {
+// No call of another worker comes between those of many in one go, and the history keeps its bound.
+func TestManyCallsOfGoroutines(t *testing.T) {
 	table := open(t, Settings{Workers: 4, Keep: 1000, Threads: true})
 	var busy sync.WaitGroup
 	for i := 0; i < 4; i++ {

@@ -196,7 +196,7 @@ func TestASaverOfAClosedTable(t *testing.T) {
 
 // Each of the busy goroutines has the lock once more at most, and then waits until the other has had it.
 func TestBusyGoroutinesGiveWay(t *testing.T) {
-	var lock turnLock
+	var lock fairLock
 	var count int
 	var isOver atomic.Bool
 	var busy sync.WaitGroup
