@@ -5,8 +5,8 @@ import (
 	"sync/atomic"
 )
 
-// A gate is by what goroutines come to a table: queries side by side, and all else alone. With Settings.Threads each waits for its turn. Without, who
-// finds another one there is turned away.
+// A gate lets goroutines in to a table: queries side by side, and all else alone. Where it waits, as with Settings.Threads, each comes in at last. Else who
+// finds another one there does not.
 type gate struct {
 	fairLock
 	waits bool

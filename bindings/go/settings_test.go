@@ -20,7 +20,7 @@ func TestWhatStandsForAZero(t *testing.T) {
 // The first call beyond the bound cuts the first one, by whatever way it is made.
 func TestABoundOfATable(t *testing.T) {
 	table, call := open(t, Settings{Keep: 3}), Call{Operation: OpGetpid, Caller: 1}
-	for _, make := range []func() error{
+	for _, way := range []func() error{
 		func() error { _, err := table.Getpid(1); return err },
 		func() error { _, err := table.Line("getpid 1"); return err },
 		func() error { _, _, err := table.Told(call); return err },
@@ -29,7 +29,7 @@ func TestABoundOfATable(t *testing.T) {
 		func() error { return table.Replay([]Entry{{Call: call, Reply: Reply{Kind: ReplyNumber, First: 1}}}) },
 	} {
 		before, err := table.Counts()
-		want(t, "made", told{err, make()}, nil, nil)
+		want(t, "made", told{err, way()}, nil, nil)
 		after, err := table.Counts()
 		if err != nil || after.Recorded == before.Recorded || after.Recorded-after.FirstKept > 3 {
 			t.Error(before, after, err)

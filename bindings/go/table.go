@@ -199,6 +199,16 @@ func (table *Table) text(write func(raw *C.struct_pidtab, room unsafe.Pointer, m
 	})
 }
 
+// Unlock lets the next one in. Where that is deferred, the collector leaves the table until then.
+func (held *heldTable) Unlock() {
+	held.gate.Unlock()
+}
+
+// RUnlock ends a query likewise.
+func (held *heldTable) RUnlock() {
+	held.gate.RUnlock()
+}
+
 // forThreads is why nobody waits at the table; nothing where it was opened with Threads.
 func (held *heldTable) forThreads() error {
 	if held.waits {
