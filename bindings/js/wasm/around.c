@@ -19,6 +19,7 @@ void heap_free(void *at);
 /* Written by tools/interface: declarations. */
 uint32_t proved_open_with(struct pidtab *table, const struct pidtab_settings *settings) __asm__("pidtab_open_with");
 uint32_t proved_load_with(struct pidtab *table, const void *text, size_t length, const uint64_t *counts, size_t workers, bool keeps_history, struct pidtab_fault *fault) __asm__("pidtab_load_with");
+uint32_t proved_call_keeping(struct pidtab *table, uint32_t worker, const struct pidtab_call *call, uint64_t keep, struct pidtab_reply *reply, uint64_t *ordinal) __asm__("pidtab_call_keeping");
 uint32_t proved_line_by(struct pidtab *table, uint32_t worker, const void *line, size_t length, void *answer, size_t room, size_t *size, uint64_t *ordinal) __asm__("pidtab_line_by");
 uint32_t proved_list(struct pidtab *table, void *bytes, size_t room, size_t *size) __asm__("pidtab_list");
 uint32_t proved_dump(struct pidtab *table, void *bytes, size_t room, size_t *size) __asm__("pidtab_dump");
@@ -91,6 +92,11 @@ uint32_t EXPORTED(open_with)(void)
 uint32_t EXPORTED(load_with)(uint32_t text, uint32_t length, uint32_t workers, uint32_t keeps_history)
 {
 	return proved_load_with(&held, pointer(text), length, at.numbers, workers, keeps_history, &at.fault);
+}
+
+uint32_t EXPORTED(call_keeping)(uint32_t worker)
+{
+	return proved_call_keeping(&held, worker, &at.call, at.numbers[1], &at.reply, &at.numbers[0]);
 }
 
 uint32_t EXPORTED(line_by)(uint32_t worker, uint32_t length, uint32_t room)
