@@ -1,14 +1,13 @@
 """The functions that the module for JavaScript exports: the proved ones, whose memory is at fixed places."""
 
-from headers import read_functions
 from names import TYPED
+from proved import BY_WORKER
 
 AROUND = "bindings/js/wasm/around.c"
-PROVED = "bindings/c/proved.h"
 
-# What is not called from there, what has its name in pidtab.h, and the structs at fixed places.
-BY_HAND = ("close", "calls", "read", "replay")
-OF_NO_TABLE = ("call_line", "reply_line")
+# What is not proved, what is not called from there or by hand, and the structs at fixed places.
+AROUND_IT = ("version", "open", "load", "seat", "lock", "unlock", "follow", "await", "end", *BY_WORKER)
+BY_HAND = ("load_with", "close", "calls", "read", "replay")
 PLACES = ("call", "reply", "task", "space", "fault", "settings")
 LONGS = ("uint64_t", "uint64_t *", "const uint64_t *")
 
@@ -44,27 +43,14 @@ def passed(function):
     return ", ".join(taken) or "void", ", ".join(given)
 
 
-def of_tables(tables):
-    """The proved functions that work on a table, by the names that C has for them."""
-    text = (tables["top"] / PROVED).read_text(encoding="utf-8").replace("proved_", "pidtab_")
-    return [it for it in read_functions(PROVED, text) if it.name not in BY_HAND and not it.name.endswith(TYPED) and not it.name.startswith("replica_")]
-
-
-def declared(tables):
-    """The declarations of the proved functions, which have other names in the module."""
-    return [f'uint32_t proved_{it.name}({", ".join(map(str, it.arguments))}) __asm__("pidtab_{it.name}");' for it in of_tables(tables)]
-
-
-def exported(name, function):
-    """The function that JavaScript calls."""
-    taken, given = passed(function)
-    return ["", f"uint32_t EXPORTED({function.name})({taken})", "{", f"\treturn {name}({given});", "}"]
-
-
 def functions(tables):
-    """The functions of a table, and those that need none."""
-    lines = [line for it in of_tables(tables) for line in exported(f"proved_{it.name}", it)]
-    return (lines + [line for name in OF_NO_TABLE for line in exported(f"pidtab_{name}", tables["headers"].function(name))])[1:]
+    """The proved functions of pidtab.h. That of a worker's call serves where there is one."""
+    lines = []
+    for it in tables["headers"].of("pidtab.h"):
+        if it.name not in AROUND_IT + BY_HAND and not it.name.endswith(TYPED):
+            taken, given = passed(it)
+            lines += ["", f"uint32_t EXPORTED({it.name})({taken})", "{", f"\treturn pidtab_{it.name}({given});", "}"]
+    return lines[1:]
 
 
-PARTS = {(AROUND, "functions"): functions, (AROUND, "declarations"): declared}
+PARTS = {(AROUND, "functions"): functions}

@@ -15,33 +15,10 @@ void heap_free(void *at);
 /* A function that the build exports. By an attribute, the compiler would ask for a table of functions, which wasm-opt cannot lower. */
 #define EXPORTED(name) name
 
-/* The proved functions by the names that proved.h has for them: some of pidtab.h with those of the module take something else. */
-/* Written by tools/interface: declarations. */
-uint32_t proved_open_with(struct pidtab *table, const struct pidtab_settings *settings) __asm__("pidtab_open_with");
-uint32_t proved_load_with(struct pidtab *table, const void *text, size_t length, const uint64_t *counts, size_t workers, bool keeps_history, struct pidtab_fault *fault) __asm__("pidtab_load_with");
-uint32_t proved_call_keeping(struct pidtab *table, uint32_t worker, const struct pidtab_call *call, uint64_t keep, struct pidtab_reply *reply, uint64_t *ordinal) __asm__("pidtab_call_keeping");
-uint32_t proved_line_by(struct pidtab *table, uint32_t worker, const void *line, size_t length, void *answer, size_t room, size_t *size, uint64_t *ordinal) __asm__("pidtab_line_by");
-uint32_t proved_list(struct pidtab *table, void *bytes, size_t room, size_t *size) __asm__("pidtab_list");
-uint32_t proved_dump(struct pidtab *table, void *bytes, size_t room, size_t *size) __asm__("pidtab_dump");
-uint32_t proved_call(struct pidtab *table, const struct pidtab_call *call, struct pidtab_reply *reply) __asm__("pidtab_call");
-uint32_t proved_ask(struct pidtab *table, const struct pidtab_call *call, struct pidtab_reply *reply) __asm__("pidtab_ask");
-uint32_t proved_stat(struct pidtab *table, uint32_t caller, uint32_t number, struct pidtab_task *task) __asm__("pidtab_stat");
-uint32_t proved_page(struct pidtab *table, uint32_t caller, uint32_t whom, uint32_t number, uint32_t from, uint32_t *numbers, size_t room, struct pidtab_reply *reply) __asm__("pidtab_page");
-uint32_t proved_space(struct pidtab *table, uint64_t id, struct pidtab_space *space) __asm__("pidtab_space");
-uint32_t proved_inside(struct pidtab *table, uint32_t tree, uint64_t id, uint64_t from, uint64_t *ids, size_t room, uint64_t *count) __asm__("pidtab_inside");
-uint32_t proved_control_tasks(struct pidtab *table, uint32_t caller, uint64_t control, uint32_t from, uint32_t *numbers, size_t room, struct pidtab_reply *reply) __asm__("pidtab_control_tasks");
-uint32_t proved_would(struct pidtab *table, const struct pidtab_call *call, struct pidtab_reply *reply) __asm__("pidtab_would");
-uint32_t proved_fork_at_by(struct pidtab *table, uint32_t worker, uint32_t caller, uint32_t new_space, uint32_t child, uint32_t root, struct pidtab_reply *reply, uint64_t *ordinal) __asm__("pidtab_fork_at_by");
-uint32_t proved_call_told_by(struct pidtab *table, uint32_t worker, const struct pidtab_call *call, struct pidtab_reply *reply, uint64_t *ordinal, struct pidtab_effect *effects, size_t room, uint64_t *count) __asm__("pidtab_call_told_by");
-uint32_t proved_call_by(struct pidtab *table, uint32_t worker, const struct pidtab_call *call, struct pidtab_reply *reply, uint64_t *ordinal) __asm__("pidtab_call_by");
-uint32_t proved_counts(struct pidtab *table, uint64_t *first_kept, uint64_t *recorded) __asm__("pidtab_counts");
-uint32_t proved_worker(struct pidtab *table, uint32_t worker, uint64_t *calls) __asm__("pidtab_worker");
-uint32_t proved_entry(struct pidtab *table, uint64_t ordinal, uint64_t *worker, struct pidtab_call *call, struct pidtab_reply *reply) __asm__("pidtab_entry");
-uint32_t proved_keep(struct pidtab *table, uint64_t keep) __asm__("pidtab_keep");
-uint32_t proved_checkpoint(struct pidtab *table) __asm__("pidtab_checkpoint");
-uint32_t proved_checkpoint_at(struct pidtab *table, uint64_t seen) __asm__("pidtab_checkpoint_at");
-uint32_t proved_opening(struct pidtab *table, void *bytes, size_t room, size_t *size) __asm__("pidtab_opening");
-/* The end of declarations. */
+/* A proved function that takes something else than that of pidtab.h with its name, and one that pidtab.h has not. */
+uint32_t proved_load_with(struct pidtab *table, const void *text, size_t length, const uint64_t *counts, size_t workers, bool keeps_history, struct pidtab_fault *fault)
+	__asm__("pidtab_load_with");
+uint32_t pidtab_call_keeping(struct pidtab *table, uint32_t worker, const struct pidtab_call *call, uint64_t keep, struct pidtab_reply *reply, uint64_t *ordinal);
 
 static struct pidtab held;
 
@@ -83,12 +60,6 @@ void EXPORTED(give)(uint32_t address)
 /* Each number of 64 bits that a function takes or tells is one of the numbers, in their order, and an ordinal the first: where one is given, the
  * worker of its entry stands in its place. A room for the answer that is short is refused. */
 
-/* Written by tools/interface: functions. */
-uint32_t EXPORTED(open_with)(void)
-{
-	return proved_open_with(&held, &at.settings);
-}
-
 uint32_t EXPORTED(load_with)(uint32_t text, uint32_t length, uint32_t workers, uint32_t keeps_history)
 {
 	return proved_load_with(&held, pointer(text), length, at.numbers, workers, keeps_history, &at.fault);
@@ -96,112 +67,63 @@ uint32_t EXPORTED(load_with)(uint32_t text, uint32_t length, uint32_t workers, u
 
 uint32_t EXPORTED(call_keeping)(uint32_t worker)
 {
-	return proved_call_keeping(&held, worker, &at.call, at.numbers[1], &at.reply, &at.numbers[0]);
+	return pidtab_call_keeping(&held, worker, &at.call, at.numbers[1], &at.reply, &at.numbers[0]);
 }
 
-uint32_t EXPORTED(line_by)(uint32_t worker, uint32_t length, uint32_t room)
+/* Written by tools/interface: functions. */
+uint32_t EXPORTED(open_with)(void)
 {
-	return proved_line_by(&held, worker, at.line, length, at.answer, room < ANSWER_ROOM ? room : ANSWER_ROOM, &at.size, &at.numbers[0]);
+	return pidtab_open_with(&held, &at.settings);
 }
 
 uint32_t EXPORTED(list)(uint32_t bytes, uint32_t room)
 {
-	return proved_list(&held, pointer(bytes), room, &at.size);
+	return pidtab_list(&held, pointer(bytes), room, &at.size);
 }
 
 uint32_t EXPORTED(dump)(uint32_t bytes, uint32_t room)
 {
-	return proved_dump(&held, pointer(bytes), room, &at.size);
+	return pidtab_dump(&held, pointer(bytes), room, &at.size);
 }
 
 uint32_t EXPORTED(call)(void)
 {
-	return proved_call(&held, &at.call, &at.reply);
+	return pidtab_call(&held, &at.call, &at.reply);
 }
 
 uint32_t EXPORTED(ask)(void)
 {
-	return proved_ask(&held, &at.call, &at.reply);
+	return pidtab_ask(&held, &at.call, &at.reply);
 }
 
 uint32_t EXPORTED(stat)(uint32_t caller, uint32_t number)
 {
-	return proved_stat(&held, caller, number, &at.task);
+	return pidtab_stat(&held, caller, number, &at.task);
 }
 
 uint32_t EXPORTED(page)(uint32_t caller, uint32_t whom, uint32_t number, uint32_t from, uint32_t numbers, uint32_t room)
 {
-	return proved_page(&held, caller, whom, number, from, pointer(numbers), room, &at.reply);
+	return pidtab_page(&held, caller, whom, number, from, pointer(numbers), room, &at.reply);
 }
 
 uint32_t EXPORTED(space)(void)
 {
-	return proved_space(&held, at.numbers[0], &at.space);
+	return pidtab_space(&held, at.numbers[0], &at.space);
 }
 
 uint32_t EXPORTED(inside)(uint32_t tree, uint32_t ids, uint32_t room)
 {
-	return proved_inside(&held, tree, at.numbers[0], at.numbers[1], pointer(ids), room, &at.numbers[2]);
+	return pidtab_inside(&held, tree, at.numbers[0], at.numbers[1], pointer(ids), room, &at.numbers[2]);
 }
 
 uint32_t EXPORTED(control_tasks)(uint32_t caller, uint32_t from, uint32_t numbers, uint32_t room)
 {
-	return proved_control_tasks(&held, caller, at.numbers[0], from, pointer(numbers), room, &at.reply);
+	return pidtab_control_tasks(&held, caller, at.numbers[0], from, pointer(numbers), room, &at.reply);
 }
 
 uint32_t EXPORTED(would)(void)
 {
-	return proved_would(&held, &at.call, &at.reply);
-}
-
-uint32_t EXPORTED(fork_at_by)(uint32_t worker, uint32_t caller, uint32_t new_space, uint32_t child, uint32_t root)
-{
-	return proved_fork_at_by(&held, worker, caller, new_space, child, root, &at.reply, &at.numbers[0]);
-}
-
-uint32_t EXPORTED(call_told_by)(uint32_t worker, uint32_t effects, uint32_t room)
-{
-	return proved_call_told_by(&held, worker, &at.call, &at.reply, &at.numbers[0], pointer(effects), room, &at.numbers[1]);
-}
-
-uint32_t EXPORTED(call_by)(uint32_t worker)
-{
-	return proved_call_by(&held, worker, &at.call, &at.reply, &at.numbers[0]);
-}
-
-uint32_t EXPORTED(counts)(void)
-{
-	return proved_counts(&held, &at.numbers[0], &at.numbers[1]);
-}
-
-uint32_t EXPORTED(worker)(uint32_t worker)
-{
-	return proved_worker(&held, worker, &at.numbers[0]);
-}
-
-uint32_t EXPORTED(entry)(void)
-{
-	return proved_entry(&held, at.numbers[0], &at.numbers[0], &at.call, &at.reply);
-}
-
-uint32_t EXPORTED(keep)(void)
-{
-	return proved_keep(&held, at.numbers[0]);
-}
-
-uint32_t EXPORTED(checkpoint)(void)
-{
-	return proved_checkpoint(&held);
-}
-
-uint32_t EXPORTED(checkpoint_at)(void)
-{
-	return proved_checkpoint_at(&held, at.numbers[0]);
-}
-
-uint32_t EXPORTED(opening)(uint32_t bytes, uint32_t room)
-{
-	return proved_opening(&held, pointer(bytes), room, &at.size);
+	return pidtab_would(&held, &at.call, &at.reply);
 }
 
 uint32_t EXPORTED(call_line)(void)
@@ -212,5 +134,60 @@ uint32_t EXPORTED(call_line)(void)
 uint32_t EXPORTED(reply_line)(uint32_t room)
 {
 	return pidtab_reply_line(&at.reply, at.answer, room < ANSWER_ROOM ? room : ANSWER_ROOM, &at.size);
+}
+
+uint32_t EXPORTED(call_by)(uint32_t worker)
+{
+	return pidtab_call_by(&held, worker, &at.call, &at.reply, &at.numbers[0]);
+}
+
+uint32_t EXPORTED(line_by)(uint32_t worker, uint32_t length, uint32_t room)
+{
+	return pidtab_line_by(&held, worker, at.line, length, at.answer, room < ANSWER_ROOM ? room : ANSWER_ROOM, &at.size, &at.numbers[0]);
+}
+
+uint32_t EXPORTED(fork_at_by)(uint32_t worker, uint32_t caller, uint32_t new_space, uint32_t child, uint32_t root)
+{
+	return pidtab_fork_at_by(&held, worker, caller, new_space, child, root, &at.reply, &at.numbers[0]);
+}
+
+uint32_t EXPORTED(call_told_by)(uint32_t worker, uint32_t effects, uint32_t room)
+{
+	return pidtab_call_told_by(&held, worker, &at.call, &at.reply, &at.numbers[0], pointer(effects), room, &at.numbers[1]);
+}
+
+uint32_t EXPORTED(counts)(void)
+{
+	return pidtab_counts(&held, &at.numbers[0], &at.numbers[1]);
+}
+
+uint32_t EXPORTED(worker)(uint32_t worker)
+{
+	return pidtab_worker(&held, worker, &at.numbers[0]);
+}
+
+uint32_t EXPORTED(entry)(void)
+{
+	return pidtab_entry(&held, at.numbers[0], &at.numbers[0], &at.call, &at.reply);
+}
+
+uint32_t EXPORTED(keep)(void)
+{
+	return pidtab_keep(&held, at.numbers[0]);
+}
+
+uint32_t EXPORTED(checkpoint)(void)
+{
+	return pidtab_checkpoint(&held);
+}
+
+uint32_t EXPORTED(checkpoint_at)(void)
+{
+	return pidtab_checkpoint_at(&held, at.numbers[0]);
+}
+
+uint32_t EXPORTED(opening)(uint32_t bytes, uint32_t room)
+{
+	return pidtab_opening(&held, pointer(bytes), room, &at.size);
 }
 /* The end of functions. */
