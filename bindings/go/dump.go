@@ -86,8 +86,8 @@ func FromDump(text string, settings Settings, counts ...uint64) (*Table, error) 
 		before += count
 	}
 	numbers, fault, bytes := settings.numbers(), new(C.struct_pidtab_fault), withByte(text)
-	table, err := openBy(settings, func(raw *C.struct_pidtab) error {
-		status := C.pidtab_load_with(raw, unsafe.Pointer(&bytes[0]), C.size_t(len(text)), &numbers, &recorded[0], fault)
+	table, err := openBy(settings, func(held *heldTable) error {
+		status := C.pidtab_load_with(&held.raw, unsafe.Pointer(&bytes[0]), C.size_t(len(text)), &numbers, &recorded[0], fault)
 		if status == C.PIDTAB_OUT_OF_RANGE {
 			return RangeError{"the sum of counts", fmt.Sprint(before), "less than the stamp of the text"}
 		}
@@ -119,8 +119,8 @@ func (settings Settings) countsFault(counts []uint64) error {
 // Dump is all that there is to know of the table, as text, without its history: docs/SCRIPT.md has the form. One table has one text, on every machine. It
 // costs a copy of the whole table, and two where it is longer than 4,096 bytes. ErrNoMemory.
 func (table *Table) Dump() (string, error) {
-	return table.text(func(raw *C.struct_pidtab, room unsafe.Pointer, most C.size_t, size *C.size_t) C.uint32_t {
-		return C.pidtab_dump(raw, room, most, size)
+	return table.text(func(held *heldTable, room unsafe.Pointer, most C.size_t, size *C.size_t) C.uint32_t {
+		return C.pidtab_dump(&held.raw, room, most, size)
 	})
 }
 

@@ -87,6 +87,26 @@ func ExampleOpen() {
 	// pidtab: no entry with the ordinal is kept: it was cut away, or is not reached yet
 }
 
+// A fork and a move of its child in one go: no other goroutine finds the child in another control group.
+func ExampleTable_Lock() {
+	table, err := pidtab.Open(pidtab.Settings{Threads: true})
+	if err != nil {
+		log.Fatal(err)
+	}
+	defer table.Close()
+	group, _ := table.Mk(0)
+	held, err := table.Lock()
+	if err != nil {
+		log.Fatal(err)
+	}
+	child, _ := held.Fork(1, pidtab.NoNewNamespace)
+	held.Move(child.Root, group)
+	held.Unlock()
+	fmt.Println(table.ControlTasks(1, group, 0))
+	// Output:
+	// [2] <nil>
+}
+
 // live is a supervisor's life: it goes on where the file ends, forks, and saves that.
 func live(path string) error {
 	file, err := os.OpenFile(path, os.O_RDWR|os.O_CREATE, 0o600)

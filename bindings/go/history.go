@@ -29,7 +29,7 @@ func (table *Table) Counts() (Counts, error) {
 // from 0 on.
 func (table *Table) Worker(worker uint32) (uint64, error) {
 	made := new(C.uint64_t)
-	status := table.beside(func(raw *C.struct_pidtab) C.uint32_t { return C.pidtab_worker(raw, C.uint32_t(worker), made) })
+	status := table.beside(func(held *heldTable) C.uint32_t { return C.pidtab_worker(&held.raw, C.uint32_t(worker), made) })
 	return uint64(*made), named(status, func() error { return table.Settings().workerFault("worker", worker) })
 }
 
@@ -44,8 +44,8 @@ type Entry struct {
 // Entry is the kept entry with the ordinal. ErrNotKept where it was cut away or is not reached yet.
 func (table *Table) Entry(ordinal uint64) (Entry, error) {
 	numbers := new(C.struct_pidtab_entry)
-	status := table.beside(func(raw *C.struct_pidtab) C.uint32_t {
-		return C.pidtab_entry(raw, C.uint64_t(ordinal), &numbers.worker, &numbers.call, &numbers.reply)
+	status := table.beside(func(held *heldTable) C.uint32_t {
+		return C.pidtab_entry(&held.raw, C.uint64_t(ordinal), &numbers.worker, &numbers.call, &numbers.reply)
 	})
 	if err := faultOf(uint32(status)); err != nil {
 		return Entry{}, err
@@ -177,20 +177,20 @@ func (held *heldTable) isRecorded(ctx context.Context, ordinal uint64) (uint64, 
 // Checkpoint cuts the history: the present state is the opening from now on, and ordinals go on. It costs each kept call once more.
 // ErrNoMemory, and nothing has changed.
 func (table *Table) Checkpoint() error {
-	return table.alone(func(raw *C.struct_pidtab) C.uint32_t { return C.pidtab_checkpoint(raw) })
+	return table.alone(func(held *heldTable) C.uint32_t { return C.pidtab_checkpoint(&held.raw) })
 }
 
 // CheckpointAt is the same where exactly so many calls were recorded, so that no call is cut that nobody has read. ErrAgain where it is another
 // number, ErrNoMemory; nothing has changed then.
 func (table *Table) CheckpointAt(seen uint64) error {
-	return table.alone(func(raw *C.struct_pidtab) C.uint32_t { return C.pidtab_checkpoint_at(raw, C.uint64_t(seen)) })
+	return table.alone(func(held *heldTable) C.uint32_t { return C.pidtab_checkpoint_at(&held.raw, C.uint64_t(seen)) })
 }
 
 // Opening is the list of the state that the kept history begins in: that of the first opening, or of the last cut. It costs as much as List.
 // ErrNoMemory.
 func (table *Table) Opening() (string, error) {
-	return table.text(func(raw *C.struct_pidtab, room unsafe.Pointer, most C.size_t, size *C.size_t) C.uint32_t {
-		return C.pidtab_opening(raw, room, most, size)
+	return table.text(func(held *heldTable, room unsafe.Pointer, most C.size_t, size *C.size_t) C.uint32_t {
+		return C.pidtab_opening(&held.raw, room, most, size)
 	})
 }
 
@@ -219,7 +219,7 @@ func (table *Table) Replay(saved []Entry) error {
 func (held *heldTable) replay(saved []Entry, first int) error {
 	room := numbersOf(saved[first:least(first+batch, len(saved))])
 	var place C.size_t
-	status := C.pidtab_replay(held.raw, &room[0], C.size_t(len(room)), &place)
+	status := C.pidtab_replay(&held.raw, &room[0], C.size_t(len(room)), &place)
 	held.wakeSleepers()
 	at := first + int(place)
 	if err := named(status, func() error { return held.settings.entryFault(saved[at]) }); err != nil {
@@ -236,14 +236,14 @@ func (held *heldTable) replay(saved []Entry, first int) error {
 // counts is how far the history goes. The table is taken.
 func (held *heldTable) counts() (Counts, error) {
 	var firstKept, recorded C.uint64_t
-	err := faultOf(uint32(C.pidtab_counts(held.raw, &firstKept, &recorded)))
+	err := faultOf(uint32(C.pidtab_counts(&held.raw, &firstKept, &recorded)))
 	return Counts{uint64(firstKept), uint64(recorded)}, err
 }
 
 // read reads the kept entries from the ordinal on: how many. The table is taken.
 func (held *heldTable) read(from uint64, room []C.struct_pidtab_entry) (int, error) {
 	var count C.size_t
-	status := C.pidtab_read(held.raw, C.uint64_t(from), &room[0], C.size_t(len(room)), &count)
+	status := C.pidtab_read(&held.raw, C.uint64_t(from), &room[0], C.size_t(len(room)), &count)
 	return int(count), faultOf(uint32(status))
 }
 

@@ -22,7 +22,7 @@ func (table *Table) Label(task uint32, text string) error {
 	}
 	defer held.Unlock()
 	err := held.labels.put(text, func(found *C.struct_pidtab_task) C.uint32_t {
-		return C.pidtab_stat(held.raw, 1, C.uint32_t(task), found)
+		return C.pidtab_stat(&held.raw, 1, C.uint32_t(task), found)
 	})
 	return withCall(err, "label", uint64(task))
 }

@@ -10,7 +10,7 @@ const shortPage = 64
 
 // numbers are all numbers of a function of the library that writes as many as there is room for, and whose reply counts all. Nothing changes between
 // two tries.
-func (table *Table) numbers(page func(raw *C.struct_pidtab, numbers *C.uint32_t, room C.size_t, reply *C.struct_pidtab_reply) C.uint32_t) ([]uint32, error) {
+func (table *Table) numbers(page func(held *heldTable, numbers *C.uint32_t, room C.size_t, reply *C.struct_pidtab_reply) C.uint32_t) ([]uint32, error) {
 	held, reply := table.held(), new(C.struct_pidtab_reply)
 	if !held.share() {
 		return nil, ErrBusy
@@ -18,7 +18,7 @@ func (table *Table) numbers(page func(raw *C.struct_pidtab, numbers *C.uint32_t,
 	defer held.RUnlock()
 	for there := shortPage; ; {
 		numbers := make([]uint32, there)
-		status := page(held.raw, (*C.uint32_t)(unsafe.Pointer(&numbers[0])), C.size_t(there), reply)
+		status := page(held, (*C.uint32_t)(unsafe.Pointer(&numbers[0])), C.size_t(there), reply)
 		if err := faultOf(uint32(status)); err != nil {
 			return nil, err
 		}

@@ -9,8 +9,8 @@ import "C"
 // operations say which are queries; ErrOutOfRange for each other call. ErrClosed, ErrBusy.
 func (table *Table) Ask(query Call) (Reply, error) {
 	numbers, reply := query.numbers(), new(C.struct_pidtab_reply)
-	status := table.beside(func(raw *C.struct_pidtab) C.uint32_t {
-		return C.pidtab_ask(raw, &numbers, reply)
+	status := table.beside(func(held *heldTable) C.uint32_t {
+		return C.pidtab_ask(&held.raw, &numbers, reply)
 	})
 	if err := named(status, query.queryFault); err != nil {
 		return Reply{}, err
@@ -22,8 +22,8 @@ func (table *Table) Ask(query Call) (Reply, error) {
 // costs. It is no call, as Ask makes none. Refused as no-caller, no-task. ErrClosed, ErrBusy.
 func (table *Table) Stat(caller, pid uint32) (Stat, error) {
 	task := new(C.struct_pidtab_task)
-	status := table.beside(func(raw *C.struct_pidtab) C.uint32_t {
-		return C.pidtab_stat(raw, C.uint32_t(caller), C.uint32_t(pid), task)
+	status := table.beside(func(held *heldTable) C.uint32_t {
+		return C.pidtab_stat(&held.raw, C.uint32_t(caller), C.uint32_t(pid), task)
 	})
 	found, err := statOf(status, task)
 	return found, withCall(err, "stat", uint64(caller), uint64(pid))
@@ -33,8 +33,8 @@ func (table *Table) Stat(caller, pid uint32) (Stat, error) {
 // and not below from. Who is not visible there is left out, and a number that is nobody's has none. It costs what is read of each of them.
 // It takes memory for a list. It is no call, as Ask makes none. Refused as no-caller. ErrNoMemory, ErrClosed, ErrBusy.
 func (table *Table) Children(caller, pid, from uint32) ([]uint32, error) {
-	found, err := table.numbers(func(raw *C.struct_pidtab, numbers *C.uint32_t, room C.size_t, reply *C.struct_pidtab_reply) C.uint32_t {
-		return C.pidtab_page(raw, C.uint32_t(caller), C.PIDTAB_CHILDREN, C.uint32_t(pid), C.uint32_t(from), numbers, room, reply)
+	found, err := table.numbers(func(held *heldTable, numbers *C.uint32_t, room C.size_t, reply *C.struct_pidtab_reply) C.uint32_t {
+		return C.pidtab_page(&held.raw, C.uint32_t(caller), C.PIDTAB_CHILDREN, C.uint32_t(pid), C.uint32_t(from), numbers, room, reply)
 	})
 	return found, withCall(err, "children", uint64(caller), uint64(pid), uint64(from))
 }
@@ -42,8 +42,8 @@ func (table *Table) Children(caller, pid, from uint32) ([]uint32, error) {
 // GroupMembers tells the members of the process group with the number group, where 0 is the caller's own, as Children has those of a task.
 // It takes memory for a list. It is no call, as Ask makes none. Refused as no-caller. ErrNoMemory, ErrClosed, ErrBusy.
 func (table *Table) GroupMembers(caller, group, from uint32) ([]uint32, error) {
-	found, err := table.numbers(func(raw *C.struct_pidtab, numbers *C.uint32_t, room C.size_t, reply *C.struct_pidtab_reply) C.uint32_t {
-		return C.pidtab_page(raw, C.uint32_t(caller), C.PIDTAB_GROUP_MEMBERS, C.uint32_t(group), C.uint32_t(from), numbers, room, reply)
+	found, err := table.numbers(func(held *heldTable, numbers *C.uint32_t, room C.size_t, reply *C.struct_pidtab_reply) C.uint32_t {
+		return C.pidtab_page(&held.raw, C.uint32_t(caller), C.PIDTAB_GROUP_MEMBERS, C.uint32_t(group), C.uint32_t(from), numbers, room, reply)
 	})
 	return found, withCall(err, "group members", uint64(caller), uint64(group), uint64(from))
 }
@@ -51,8 +51,8 @@ func (table *Table) GroupMembers(caller, group, from uint32) ([]uint32, error) {
 // SessionMembers tells the members of the session with the number session, where 0 is the caller's own, as Children has those of a task. It
 // takes memory for a list. It is no call, as Ask makes none. Refused as no-caller. ErrNoMemory, ErrClosed, ErrBusy.
 func (table *Table) SessionMembers(caller, session, from uint32) ([]uint32, error) {
-	found, err := table.numbers(func(raw *C.struct_pidtab, numbers *C.uint32_t, room C.size_t, reply *C.struct_pidtab_reply) C.uint32_t {
-		return C.pidtab_page(raw, C.uint32_t(caller), C.PIDTAB_SESSION_MEMBERS, C.uint32_t(session), C.uint32_t(from), numbers, room, reply)
+	found, err := table.numbers(func(held *heldTable, numbers *C.uint32_t, room C.size_t, reply *C.struct_pidtab_reply) C.uint32_t {
+		return C.pidtab_page(&held.raw, C.uint32_t(caller), C.PIDTAB_SESSION_MEMBERS, C.uint32_t(session), C.uint32_t(from), numbers, room, reply)
 	})
 	return found, withCall(err, "session members", uint64(caller), uint64(session), uint64(from))
 }
@@ -61,8 +61,8 @@ func (table *Table) SessionMembers(caller, session, from uint32) ([]uint32, erro
 // Children has those of a task. Of the caller's own namespace these are all that it sees: whom kill(2) of -1 reaches. It takes memory for a
 // list. It is no call, as Ask makes none. Refused as no-caller. ErrNoMemory, ErrClosed, ErrBusy.
 func (table *Table) NamespaceMembers(caller, pid, from uint32) ([]uint32, error) {
-	found, err := table.numbers(func(raw *C.struct_pidtab, numbers *C.uint32_t, room C.size_t, reply *C.struct_pidtab_reply) C.uint32_t {
-		return C.pidtab_page(raw, C.uint32_t(caller), C.PIDTAB_NAMESPACE_MEMBERS, C.uint32_t(pid), C.uint32_t(from), numbers, room, reply)
+	found, err := table.numbers(func(held *heldTable, numbers *C.uint32_t, room C.size_t, reply *C.struct_pidtab_reply) C.uint32_t {
+		return C.pidtab_page(&held.raw, C.uint32_t(caller), C.PIDTAB_NAMESPACE_MEMBERS, C.uint32_t(pid), C.uint32_t(from), numbers, room, reply)
 	})
 	return found, withCall(err, "namespace members", uint64(caller), uint64(pid), uint64(from))
 }
@@ -70,8 +70,8 @@ func (table *Table) NamespaceMembers(caller, pid, from uint32) ([]uint32, error)
 // NamespaceOwn tells of NamespaceMembers those that are in no namespace inside it. It takes memory for a list. It is no call, as Ask makes
 // none. Refused as no-caller. ErrNoMemory, ErrClosed, ErrBusy.
 func (table *Table) NamespaceOwn(caller, pid, from uint32) ([]uint32, error) {
-	found, err := table.numbers(func(raw *C.struct_pidtab, numbers *C.uint32_t, room C.size_t, reply *C.struct_pidtab_reply) C.uint32_t {
-		return C.pidtab_page(raw, C.uint32_t(caller), C.PIDTAB_NAMESPACE_OWN, C.uint32_t(pid), C.uint32_t(from), numbers, room, reply)
+	found, err := table.numbers(func(held *heldTable, numbers *C.uint32_t, room C.size_t, reply *C.struct_pidtab_reply) C.uint32_t {
+		return C.pidtab_page(&held.raw, C.uint32_t(caller), C.PIDTAB_NAMESPACE_OWN, C.uint32_t(pid), C.uint32_t(from), numbers, room, reply)
 	})
 	return found, withCall(err, "namespace own", uint64(caller), uint64(pid), uint64(from))
 }
@@ -80,8 +80,8 @@ func (table *Table) NamespaceOwn(caller, pid, from uint32) ([]uint32, error) {
 // as Ask makes none. ErrNoNamespace, by errors.Is, where no namespace has the id, or it is gone. ErrClosed, ErrBusy.
 func (table *Table) Space(id uint64) (SpaceStat, error) {
 	space := new(C.struct_pidtab_space)
-	status := table.beside(func(raw *C.struct_pidtab) C.uint32_t {
-		return C.pidtab_space(raw, C.uint64_t(id), space)
+	status := table.beside(func(held *heldTable) C.uint32_t {
+		return C.pidtab_space(&held.raw, C.uint64_t(id), space)
 	})
 	return spaceOf(noSpace(id), status, space)
 }
@@ -90,8 +90,8 @@ func (table *Table) Space(id uint64) (SpaceStat, error) {
 // that has fallen is among them as long as Space reads it. It costs what is read of each of them. It takes memory for a list. It is no
 // call, as Ask makes none. ErrNoNamespace, by errors.Is, where no namespace has the id, or it is gone. ErrNoMemory, ErrClosed, ErrBusy.
 func (table *Table) SpacesInside(id, from uint64) ([]uint64, error) {
-	return table.ids(noSpace(id), func(raw *C.struct_pidtab, ids *C.uint64_t, room C.size_t, count *C.uint64_t) C.uint32_t {
-		return C.pidtab_inside(raw, C.PIDTAB_SPACES, C.uint64_t(id), C.uint64_t(from), ids, room, count)
+	return table.ids(noSpace(id), func(held *heldTable, ids *C.uint64_t, room C.size_t, count *C.uint64_t) C.uint32_t {
+		return C.pidtab_inside(&held.raw, C.PIDTAB_SPACES, C.uint64_t(id), C.uint64_t(from), ids, room, count)
 	})
 }
 
@@ -99,8 +99,8 @@ func (table *Table) SpacesInside(id, from uint64) ([]uint64, error) {
 // namespace. It takes memory for a list. It is no call, as Ask makes none. ErrNoControl, by errors.Is, where no control group has the id,
 // or it is gone. ErrNoMemory, ErrClosed, ErrBusy.
 func (table *Table) ControlsInside(id, from uint64) ([]uint64, error) {
-	return table.ids(noControl(id), func(raw *C.struct_pidtab, ids *C.uint64_t, room C.size_t, count *C.uint64_t) C.uint32_t {
-		return C.pidtab_inside(raw, C.PIDTAB_CONTROLS, C.uint64_t(id), C.uint64_t(from), ids, room, count)
+	return table.ids(noControl(id), func(held *heldTable, ids *C.uint64_t, room C.size_t, count *C.uint64_t) C.uint32_t {
+		return C.pidtab_inside(&held.raw, C.PIDTAB_CONTROLS, C.uint64_t(id), C.uint64_t(from), ids, room, count)
 	})
 }
 
@@ -108,8 +108,8 @@ func (table *Table) ControlsInside(id, from uint64) ([]uint64, error) {
 // task: cgroup.procs, in which no zombie appears. It takes memory for a list. It is no call, as Ask makes none. Refused as no-caller,
 // no-control. ErrNoMemory, ErrClosed, ErrBusy.
 func (table *Table) ControlTasks(caller uint32, control uint64, from uint32) ([]uint32, error) {
-	found, err := table.numbers(func(raw *C.struct_pidtab, numbers *C.uint32_t, room C.size_t, reply *C.struct_pidtab_reply) C.uint32_t {
-		return C.pidtab_control_tasks(raw, C.uint32_t(caller), C.uint64_t(control), C.uint32_t(from), numbers, room, reply)
+	found, err := table.numbers(func(held *heldTable, numbers *C.uint32_t, room C.size_t, reply *C.struct_pidtab_reply) C.uint32_t {
+		return C.pidtab_control_tasks(&held.raw, C.uint32_t(caller), C.uint64_t(control), C.uint32_t(from), numbers, room, reply)
 	})
 	return found, withCall(err, "control tasks", uint64(caller), control, uint64(from))
 }
@@ -119,8 +119,8 @@ func (table *Table) ControlTasks(caller uint32, control uint64, from uint32) ([]
 // as Ask makes none. ErrOutOfRange for what is no call. ErrSpent, ErrClosed, ErrBusy.
 func (table *Table) Would(call Call) (Reply, error) {
 	numbers, reply := call.numbers(), new(C.struct_pidtab_reply)
-	status := table.beside(func(raw *C.struct_pidtab) C.uint32_t {
-		return C.pidtab_would(raw, &numbers, reply)
+	status := table.beside(func(held *heldTable) C.uint32_t {
+		return C.pidtab_would(&held.raw, &numbers, reply)
 	})
 	if err := named(status, call.rangeFault); err != nil {
 		return Reply{}, err

@@ -111,7 +111,7 @@ func (replica *Replica) Apply(table *Table, position uint64, entry []byte) (Appl
 		return Applied{}, ErrBusy
 	}
 	defer of.Unlock()
-	status := C.pidtab_replica_apply(&held.raw, of.raw, C.uint64_t(position), unsafe.Pointer(&bytes[0]), C.size_t(len(entry)), applied)
+	status := C.pidtab_replica_apply(&held.raw, &of.raw, C.uint64_t(position), unsafe.Pointer(&bytes[0]), C.size_t(len(entry)), applied)
 	if err := replicaFaultOf(status); err != nil {
 		return Applied{}, err
 	}

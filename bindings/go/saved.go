@@ -330,12 +330,12 @@ func (held *heldTable) makeAgain(saved *Saved, in *input, keep uint64) error {
 			return err
 		}
 		var place C.size_t
-		status := C.pidtab_replay(held.raw, &entry, 1, &place)
+		status := C.pidtab_replay(&held.raw, &entry, 1, &place)
 		if err := faultOf(uint32(status)); err != nil {
 			return err
 		}
 		if keep != KeepAll {
-			C.pidtab_keep(held.raw, C.uint64_t(keep))
+			C.pidtab_keep(&held.raw, C.uint64_t(keep))
 		}
 		saved.calls++
 		saved.bytes += uint64(size)

@@ -184,7 +184,7 @@ func (held *heldTable) cutSaved(to io.Writer, saved *Saved, keep uint64) error {
 	if err := saved.writeUpTo(counts.Recorded, to, held.read); err != nil {
 		return err
 	}
-	C.pidtab_checkpoint(held.raw)
+	C.pidtab_checkpoint(&held.raw)
 	return nil
 }
 

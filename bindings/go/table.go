@@ -50,23 +50,19 @@ type heldTable struct {
 	settings Settings
 }
 
-// A body is a table of the library, with what the package knows of it, which the gate guards. What C is given has no pointer of Go in it. The
-// collector ends nothing that has a pointer into itself, so the gate is none of its parts.
+// A body is a table of the library, with what the package knows of it, which the gate guards. The collector ends nothing that has a pointer into itself,
+// so the gate is none of its parts.
 type body struct {
-	raw     *C.struct_pidtab
-	ordinal *C.uint64_t
+	raw     C.struct_pidtab
+	ordinal C.uint64_t // of the call that is made
 	saving  saving
 	labels  labels
 	goesOn  bool // made of the text of another table, so that its history does not begin with the root init alone
 }
 
-func newBody() *body {
-	return &body{raw: new(C.struct_pidtab), ordinal: new(C.uint64_t)}
-}
-
 // newHeld is a table that is not open yet.
 func newHeld(settings Settings) *heldTable {
-	held := &heldTable{&gate{waits: settings.Threads}, newBody(), settings}
+	held := &heldTable{&gate{waits: settings.Threads}, new(body), settings}
 	held.saving.told.L, held.saving.recorded.L = held.gate, held.gate
 	return held
 }
@@ -78,16 +74,16 @@ func Open(settings Settings) (*Table, error) {
 		return nil, err
 	}
 	numbers := settings.numbers()
-	return openBy(settings, func(raw *C.struct_pidtab) error { return faultOf(uint32(C.pidtab_open_with(raw, &numbers))) })
+	return openBy(settings, func(held *heldTable) error { return faultOf(uint32(C.pidtab_open_with(&held.raw, &numbers))) })
 }
 
 // openBy is a table that a function of the library opens.
-func openBy(settings Settings, open func(*C.struct_pidtab) error) (*Table, error) {
+func openBy(settings Settings, open func(*heldTable) error) (*Table, error) {
 	if err := compareVersions(); err != nil {
 		return nil, err
 	}
 	held := newHeld(settings)
-	if err := open(held.raw); err != nil {
+	if err := open(held); err != nil {
 		return nil, err
 	}
 	runtime.SetFinalizer(held.body, (*body).close)
@@ -144,8 +140,8 @@ func (table *Table) Settings() Settings {
 
 // List is the list of the table, as `pidtab list` writes it. It costs the text, and twice that where it is longer than 4,096 bytes. ErrNoMemory.
 func (table *Table) List() (string, error) {
-	return table.text(func(raw *C.struct_pidtab, room unsafe.Pointer, most C.size_t, size *C.size_t) C.uint32_t {
-		return C.pidtab_list(raw, room, most, size)
+	return table.text(func(held *heldTable, room unsafe.Pointer, most C.size_t, size *C.size_t) C.uint32_t {
+		return C.pidtab_list(&held.raw, room, most, size)
 	})
 }
 
@@ -157,7 +153,7 @@ func (table *Table) Listing() (Listing, error) {
 	}
 	defer held.RUnlock()
 	list, err := wholeText(func(room unsafe.Pointer, most C.size_t, size *C.size_t) C.uint32_t {
-		return C.pidtab_list(held.raw, room, most, size)
+		return C.pidtab_list(&held.raw, room, most, size)
 	})
 	return held.labels.listing(list, err)
 }
@@ -168,34 +164,34 @@ func (table *Table) held() *heldTable {
 }
 
 // beside does a query of the library, beside others.
-func (table *Table) beside(do func(*C.struct_pidtab) C.uint32_t) C.uint32_t {
+func (table *Table) beside(do func(*heldTable) C.uint32_t) C.uint32_t {
 	held := table.held()
 	if !held.share() {
 		return C.PIDTAB_BUSY
 	}
 	defer held.RUnlock()
-	return do(held.raw)
+	return do(held)
 }
 
 // alone does a function of the library that changes the table.
-func (table *Table) alone(do func(*C.struct_pidtab) C.uint32_t) error {
+func (table *Table) alone(do func(*heldTable) C.uint32_t) error {
 	held := table.held()
 	if !held.enter() {
 		return ErrBusy
 	}
 	defer held.Unlock()
-	return faultOf(uint32(do(held.raw)))
+	return faultOf(uint32(do(held)))
 }
 
 // text is what a function of the library writes of the table.
-func (table *Table) text(write func(raw *C.struct_pidtab, room unsafe.Pointer, most C.size_t, size *C.size_t) C.uint32_t) (string, error) {
+func (table *Table) text(write func(held *heldTable, room unsafe.Pointer, most C.size_t, size *C.size_t) C.uint32_t) (string, error) {
 	held := table.held()
 	if !held.share() {
 		return "", ErrBusy
 	}
 	defer held.RUnlock()
 	return wholeText(func(room unsafe.Pointer, most C.size_t, size *C.size_t) C.uint32_t {
-		return write(held.raw, room, most, size)
+		return write(held, room, most, size)
 	})
 }
 
@@ -223,5 +219,5 @@ func (held *heldTable) forThreads() error {
 }
 
 func (it *body) close() {
-	C.pidtab_close(it.raw)
+	C.pidtab_close(&it.raw)
 }

@@ -44,9 +44,9 @@ func (it *workplace) place() *place {
 // ErrEmptyLine, ErrBadLine, and ErrNoMemory for fork and mk.
 func (it *workplace) Line(line string) (string, error) {
 	at, said := it.place(), ""
-	err := at.make(1, func(raw *C.struct_pidtab, worker C.uint32_t, ordinal *C.uint64_t) (err error) {
+	err := at.make(1, func(held *heldTable, worker C.uint32_t) (err error) {
 		said, err = answer(line, func(line unsafe.Pointer, length C.size_t, room unsafe.Pointer, size *C.size_t) C.uint32_t {
-			return C.pidtab_line_by(raw, worker, line, length, room, C.PIDTAB_LONGEST_ANSWER, size, ordinal)
+			return C.pidtab_line_by(&held.raw, worker, line, length, room, C.PIDTAB_LONGEST_ANSWER, size, &held.ordinal)
 		})
 		at.held.labels.answered(said)
 		return err
@@ -59,8 +59,8 @@ func (it *workplace) Line(line string) (string, error) {
 func (it *workplace) ForkAt(caller uint32, newSpace bool, child Child) (bool, error) {
 	at, reply := it.place(), new(C.struct_pidtab_reply)
 	numbers := [...]C.uint32_t{C.uint32_t(caller), number(newSpace), C.uint32_t(child.Number), C.uint32_t(child.Root)}
-	err := at.make(1, func(raw *C.struct_pidtab, worker C.uint32_t, ordinal *C.uint64_t) error {
-		status := C.pidtab_fork_at_by(raw, worker, numbers[0], numbers[1], numbers[2], numbers[3], reply, ordinal)
+	err := at.make(1, func(held *heldTable, worker C.uint32_t) error {
+		status := C.pidtab_fork_at_by(&held.raw, worker, numbers[0], numbers[1], numbers[2], numbers[3], reply, &held.ordinal)
 		return faultOf(uint32(at.noted(status, reply)))
 	})
 	if err == ErrDiffers {
@@ -79,9 +79,9 @@ func (it *workplace) ForkAt(caller uint32, newSpace bool, child Child) (bool, er
 func (it *workplace) Told(call Call) (Reply, []Effect, error) {
 	at, numbers, reply := it.place(), call.numbers(), new(C.struct_pidtab_reply)
 	var told []Effect
-	err := at.make(1, func(raw *C.struct_pidtab, worker C.uint32_t, ordinal *C.uint64_t) error {
+	err := at.make(1, func(held *heldTable, worker C.uint32_t) error {
 		effects, status := tellEffects(func(effects *C.struct_pidtab_effect, room C.size_t, count *C.uint64_t) C.uint32_t {
-			return C.pidtab_call_told_by(raw, worker, &numbers, reply, ordinal, effects, room, count)
+			return C.pidtab_call_told_by(&held.raw, worker, &numbers, reply, &held.ordinal, effects, room, count)
 		})
 		told = effects
 		return named(at.noted(status, reply), call.rangeFault)
@@ -103,10 +103,10 @@ func (it *workplace) Calls(calls []Call) ([]Reply, error) {
 	for i, call := range calls {
 		numbers[i] = call.numbers()
 	}
-	err := at.make(len(calls), func(raw *C.struct_pidtab, worker C.uint32_t, ordinal *C.uint64_t) error {
+	err := at.make(len(calls), func(held *heldTable, worker C.uint32_t) error {
 		var made C.size_t
 		count := C.size_t(len(calls))
-		status := C.pidtab_calls(raw, worker, &numbers[0], count, &told[0], count, &made, ordinal)
+		status := C.pidtab_calls(&held.raw, worker, &numbers[0], count, &told[0], count, &made, &held.ordinal)
 		for i := range told[:made] {
 			at.held.labels.replied(&told[i])
 			replies = append(replies, replyOf(&told[i]))
@@ -118,9 +118,12 @@ func (it *workplace) Calls(calls []Call) ([]Reply, error) {
 
 // step makes a call.
 func (at *place) step(call *C.struct_pidtab_call, reply *C.struct_pidtab_reply) error {
-	return at.make(1, func(raw *C.struct_pidtab, worker C.uint32_t, ordinal *C.uint64_t) error {
-		status := C.pidtab_call_by(raw, worker, call, reply, ordinal)
-		return named(at.noted(status, reply), callOf(call).rangeFault)
+	return at.make(1, func(held *heldTable, worker C.uint32_t) error {
+		status := at.noted(C.pidtab_call_by(&held.raw, worker, call, reply, &held.ordinal), reply)
+		if status == C.PIDTAB_DONE {
+			return nil
+		}
+		return named(status, callOf(call).rangeFault)
 	})
 }
 
@@ -128,7 +131,7 @@ func (at *place) step(call *C.struct_pidtab_call, reply *C.struct_pidtab_reply) 
 const noOrdinal = math.MaxUint64
 
 // make makes so many calls by a function of the library, once the saver is near enough for them, and keeps the ordinal of the last one that was recorded.
-func (at *place) make(calls int, do func(raw *C.struct_pidtab, worker C.uint32_t, ordinal *C.uint64_t) error) error {
+func (at *place) make(calls int, do func(held *heldTable, worker C.uint32_t) error) error {
 	held := at.held
 	if !held.enterForCall() {
 		return ErrBusy
@@ -137,10 +140,10 @@ func (at *place) make(calls int, do func(raw *C.struct_pidtab, worker C.uint32_t
 	if err := held.waitForSaver(at.ctx, calls); err != nil {
 		return err
 	}
-	*held.ordinal = noOrdinal
-	err := do(held.raw, C.uint32_t(at.worker), held.ordinal)
-	if *held.ordinal != noOrdinal {
-		at.next.Store(uint64(*held.ordinal) + 1)
+	held.ordinal = noOrdinal
+	err := do(held, C.uint32_t(at.worker))
+	if held.ordinal != noOrdinal {
+		at.next.Store(uint64(held.ordinal) + 1)
 		held.wakeSleepers()
 	}
 	return err
@@ -163,7 +166,7 @@ type Seat struct {
 // Seat is a seat for the next worker. Each worker's number is given once, from 0 on. ErrNoSeat where all are given.
 func (table *Table) Seat() (*Seat, error) {
 	var worker C.uint32_t
-	err := table.alone(func(raw *C.struct_pidtab) C.uint32_t { return C.pidtab_seat(raw, &worker) })
+	err := table.alone(func(held *heldTable) C.uint32_t { return C.pidtab_seat(&held.raw, &worker) })
 	if err == ErrOutOfRange {
 		return nil, ErrNoSeat
 	}
@@ -228,7 +231,7 @@ func (held *Held) Unlock() {
 	inside.Lock()
 	defer inside.Unlock()
 	if held.outside != nil {
-		inside.body = newBody()
+		inside.body = new(body)
 		held.outside.Unlock()
 		held.outside = nil
 	}

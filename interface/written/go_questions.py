@@ -31,7 +31,7 @@ def taken(row):
 def passed(row):
     """What the function of the library takes."""
     casts = {"number": "C.uint32_t({})", "id": "C.uint64_t({})", "call": "&numbers", "query": "&numbers"}
-    return ", ".join(["raw", *[f"C.PIDTAB_{it.choice}" if it.choice else casts[it.kind].format(lower(it.name)) for it in all_arguments(row)]])
+    return ", ".join(["&held.raw", *[f"C.PIDTAB_{it.choice}" if it.choice else casts[it.kind].format(lower(it.name)) for it in all_arguments(row)]])
 
 
 def begin(text):
@@ -70,7 +70,7 @@ def absent(row):
 def beside(row, place):
     """The lines that read an answer into its place, beside other queries."""
     return [
-        "\tstatus := table.beside(func(raw *C.struct_pidtab) C.uint32_t {", f"\t\treturn C.pidtab_{row.exports}({passed(row)}, {place})", "\t})",
+        "\tstatus := table.beside(func(held *heldTable) C.uint32_t {", f"\t\treturn C.pidtab_{row.exports}({passed(row)}, {place})", "\t})",
     ]  # fmt: skip
 
 
@@ -85,7 +85,7 @@ def body(row):
     may_be_absent = f"{absent(row)}, " if row.of != "-" else ""
     if row.tells in LISTS:
         _, places, given = LISTS[row.tells]
-        page, call = f"table.{row.tells}({may_be_absent}func(raw *C.struct_pidtab, {places}) C.uint32_t {{", f"\t\treturn C.pidtab_{row.exports}({passed(row)}, {given})"
+        page, call = f"table.{row.tells}({may_be_absent}func(held *heldTable, {places}) C.uint32_t {{", f"\t\treturn C.pidtab_{row.exports}({passed(row)}, {given})"
         return told(row, [f"{page}", call, "\t})"])
     reads = f"{'stat' if row.tells == 'task' else lower(row.tells)}Of({may_be_absent}status, {row.tells})"
     return [f"\t{row.tells} := new(C.struct_pidtab_{row.tells})", *beside(row, row.tells), *told(row, [reads])]

@@ -46,7 +46,8 @@ export class Workplace extends Calls {
   }
 
   list() {
-    return nameTasks(this._table._labels, super.list());
+    const listing = super.list();
+    return nameTasks(this._table._labels, listing);
   }
 }
 

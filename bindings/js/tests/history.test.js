@@ -142,7 +142,10 @@ test("a history goes on where a text ends", { skip }, () => {
 test("a closed table, and a closed seat", { skip }, () => {
   const { kept, seats } = recorded();
   seats[0].close();
-  assert.throws(() => seats[0].getpid(1), { name: "TableClosed", message: "the seat was closed" });
+  seats[0].close();
+  for (const call of [() => seats[0].getpid(1), () => seats[0].list(), () => seats[0].told.fork(1), () => seats[0].ask.stat(1), () => seats[0].forkAt(1, { child: 9, root: 9 })]) {
+    assert.throws(call, { name: "TableClosed", message: "the seat was closed" });
+  }
   assert.equal(seats[1].getpid(1), 1);
   kept.close();
   for (const call of [() => seats[1].getpid(1), () => kept.counts(), () => kept.list(), () => kept.seat(), () => kept.checkpointAt(0)]) {
