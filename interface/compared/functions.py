@@ -13,7 +13,7 @@ DECLARED = r"^(?!static)\w[\w ]*[ *]pidtab_(\w+)\("
 FILES = {
     "python": tuple(f"bindings/python/pidtab/{name}.py" for name in ("calls", "native", "shared", "table")),
     "rust": tuple(f"bindings/rust/src/{name}.rs" for name in ("blocks", "calls", "history", "options", "saved", "seat", "table", "threads")),
-    "go": tuple(f"bindings/go/{name}.go" for name in ("calls", "dump", "replica", "saved", "saver", "shared", "table", "values")),
+    "go": tuple(f"bindings/go/{name}.go" for name in ("calls", "dump", "history", "replica", "saved", "saver", "table", "values", "workplace")),
     "javascript": ("bindings/js/pidtab.d.ts",),
 }
 PATHS = (*HEADERS, *(path for paths in FILES.values() for path in paths))
@@ -29,9 +29,9 @@ ALONE = {"python": r"^class {}\b", "go": r"^(?:func|type) {}\b", "javascript": r
 
 
 def has_method(language, text, owner, method):
-    """Whether the package has the method. In Go those of the calls are methods of a table and a seat too."""
+    """Whether the package has the method. In Go those of calls and workplaces are methods of a table and a seat too."""
     if language == "go":
-        return re.search(rf"^func \(\w+ \*?(?:{owner}|calls)\) {method}\(", text, re.MULTILINE)
+        return re.search(rf"^func \(\w+ \*?(?:{owner}|calls|workplace)\) {method}\(", text, re.MULTILINE)
     body, declared = BODIES[language]
     found = re.finditer(body.replace("{}", owner).replace("{{", "{").replace("}}", "}"), text, re.MULTILINE)
     return any(re.search(declared.replace("{}", method), it.group(1), re.MULTILINE) for it in found)
