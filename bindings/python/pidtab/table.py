@@ -185,6 +185,9 @@ class Table(Saving, Waiting, NumberCalls):
         if hold is not None:
             hold.check_free()
         self._hold = self._file = None
+        # From here on no call finds it, not even where somebody has the hold yet.
+        vars(self).pop("_call", None)
+        vars(self).pop("_line", None)
         if hold is not None:
             self._end_saver(hold)
             self._end_waits(hold)
@@ -229,7 +232,7 @@ class Table(Saving, Waiting, NumberCalls):
         """
         workers = self.workers if self.keep else None
         copied = Table.from_dump(self.dump(), self.library, keep=self.keep, workers=workers, threads=self.threads)
-        copied._labels.by_root.update(self._labels.copy().by_root)
+        copied._labels = self._labels.copy()
         return copied
 
     def at(self, ordinal: int) -> "Table":

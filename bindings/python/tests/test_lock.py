@@ -13,22 +13,17 @@ from pidtab.lock import Lock
 from tests.alarms import Awaiting, alarms
 from tests.test_ends import OTHERS, in_child
 from tests.test_history import run_all
-from tests.ways import for_threads, need_library
+from tests.ways import TwoSeats, for_threads
 
 # Seconds: longer than any wait here takes, and long enough that a thread that waits has begun.
 LONG, SHORT = 20.0, 0.1
 
 
-class Locks(unittest.TestCase):
-    """A table for two workers, which is closed after the test, when nobody has its lock."""
-
-    @classmethod
-    def setUpClass(cls) -> None:
-        need_library()
+class Locks(TwoSeats):
+    """Nobody has the lock of the table after the test."""
 
     def setUp(self) -> None:
-        self.table = for_threads(2)
-        self.addCleanup(self.table.close)
+        super().setUp()
         self.addCleanup(self.check_free)
 
     def check_free(self) -> None:
@@ -43,13 +38,12 @@ class InOneGo(Locks):
     """What a thread does that has the lock."""
 
     def test_no_call_of_another_thread_comes_between(self) -> None:
-        seats = [self.table.seat(), self.table.seat()]
-        other = threading.Thread(target=lambda: [seats[1].fork(1) for _ in range(200)])
+        other = threading.Thread(target=lambda: [self.other.fork(1) for _ in range(200)])
         with self.table.lock() as held:
             self.assertIs(held, self.table)
             other.start()
             for _ in range(20):
-                seats[0].fork(1)
+                self.seat.fork(1)
                 self.table.fork(1)
                 time.sleep(0.001)
             self.assertEqual(self.table.counts(), Counts(0, 40))
@@ -57,8 +51,8 @@ class InOneGo(Locks):
         self.assertEqual([it.worker for it in self.table.entries()], [0] * 40 + [1] * 200)
 
     def test_all_that_asks(self) -> None:
+        seat = self.seat
         with self.table.lock() as table:
-            seat = table.seat()
             self.assertEqual((seat.fork(1), table.told.fork(1).answer, table.would.fork(1)), (Forked(2, 2), Forked(3, 3), Forked(4, 4)))
             self.assertEqual((table.answers(["fork 1", "getpid 4"]), seat.line("getpid 1"), seat.ordinal), (("child 4 root 4", "4"), "1", 4))
             self.assertTrue(table.fork_at(1, table.would.fork(1)))
@@ -78,7 +72,7 @@ class InOneGo(Locks):
     def test_a_table_without_a_history(self) -> None:
         with Table(threads=True) as table:
             with table.lock():
-                self.assertEqual((table.fork(1).root, table.answers(["fork 1"] * 2)), (2, ("child 3 root 3", "child 4 root 4")))
+                self.assertEqual((table.seat().worker, table.fork(1).root, table.answers(["fork 1"] * 2)), (0, 2, ("child 3 root 3", "child 4 root 4")))
             self.assertEqual(table.fork(1).root, 5)
 
     def test_two_tables_at_once(self) -> None:

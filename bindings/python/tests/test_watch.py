@@ -14,7 +14,7 @@ import unittest
 import weakref
 from collections.abc import Callable
 from pathlib import Path
-from types import FrameType, SimpleNamespace
+from types import FrameType
 from unittest import mock
 
 from pidtab import Table, TableClosed, WaitingEnded
