@@ -110,7 +110,7 @@ class History(Held):
     def _made_by(self, replica: Held, following: ctypes.c_uint64) -> int:
         """The status of a replica's calls, which is not freed meanwhile."""
         hold = replica._check_open()
-        return self._status("pidtab_follow", hold.at, following)
+        return self._status("pidtab_follow", hold.here, following)
 
     def _first_block(self, start: int | None) -> Sequence[Entry]:
         """The first block from the start on, or from the first kept entry, which may be cut away before it is read."""

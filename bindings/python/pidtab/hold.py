@@ -71,13 +71,18 @@ class Held(Owner):
             raise TableClosed("the table was closed")
         return hold
 
-    def _check_waits(self) -> Hold:
-        """The open table, where this thread may wait for another one."""
+    def _check_free(self) -> Hold:
+        """The open table, whose lock this thread does not have."""
         hold = self._check_open()
-        if not self.threads:
-            raise state_of(NO_THREADS)
         hold.check_free()
         return hold
+
+    def _check_waits(self) -> Hold:
+        """The same of a table for threads."""
+        if not self.threads:
+            self._check_open()
+            raise state_of(NO_THREADS)
+        return self._check_free()
 
     def _status(self, name: str, *arguments: object) -> int:
         """What a function answers. Nothing is raised from here except that there is no table, or no function: a kept fault would keep it open."""

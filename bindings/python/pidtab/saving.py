@@ -48,7 +48,7 @@ class Saving(History):
 
         A device that fails is an OSError. After it, and after an interrupt, the next save goes on with the same byte.
         """
-        functions, path = self._check_open().functions, os.path.abspath(os.fsdecode(path))
+        functions, path = self._check_free().functions, os.path.abspath(os.fsdecode(path))
         with self._saving:
             file = self._file_at(path, functions)
             file.make_ready()
@@ -152,4 +152,4 @@ class Saving(History):
     def _append(self, file: SavedFile) -> int:
         """The status of an append."""
         hold = self._check_open()
-        return int(hold.functions.pidtab_saved_append(file.at, hold.here))
+        return int(hold.functions.pidtab_saved_append(file.at, hold.at))

@@ -211,8 +211,8 @@ class Table(Saving, Waiting, NumberCalls):
         """The lock of the table, for several calls in one go: within `with table.lock():` no other thread is in the table, and this one asks it, and makes its
         calls, as ever.
 
-        All others wait meanwhile, and Ctrl-C for them too. What waits for another thread, as `wait_changed`, and `close` are a RuntimeError within it. Of a
-        table of one thread it is a `NoThreads`.
+        All others wait meanwhile, and Ctrl-C for them too. What may wait for another thread, as `wait_changed` and `save`, and `close` are a RuntimeError
+        within it. Of a table of one thread it is a `NoThreads`.
         """
         self._check_waits()
         return Lock(self)

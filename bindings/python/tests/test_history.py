@@ -467,13 +467,16 @@ class Asking(unittest.TestCase):
 class Misuse(unittest.TestCase):
     """What is no use of a table has its error."""
 
+    THREADS = True
+    SHOWN = " threads=True"
+
     @classmethod
     def setUpClass(cls) -> None:
         need_library()
 
     def open(self, workers: int = 2, **settings: Any) -> Table:
         """A new table, which is closed after the test."""
-        table = for_threads(workers, **settings)
+        table = for_threads(workers, threads=self.THREADS, **settings)
         self.addCleanup(table.close)
         return table
 
@@ -483,7 +486,7 @@ class Misuse(unittest.TestCase):
         table.close()
         with table:
             pass
-        self.assertEqual(repr(table), "<pidtab.Table pid_max=32768 keep=pidtab.ALL workers=2 threads=True, closed>")
+        self.assertEqual(repr(table), f"<pidtab.Table pid_max=32768 keep=pidtab.ALL workers=2{self.SHOWN}, closed>")
 
     def test_a_table_that_was_closed(self) -> None:
         with self.open() as table:
@@ -537,7 +540,7 @@ class Misuse(unittest.TestCase):
                 take(self.open())
 
     def test_what_it_shows_of_itself(self) -> None:
-        self.assertEqual(repr(self.open(pid_max=301, keep=9)), "<pidtab.Table pid_max=301 keep=9 workers=2 threads=True, open>")
+        self.assertEqual(repr(self.open(pid_max=301, keep=9)), f"<pidtab.Table pid_max=301 keep=9 workers=2{self.SHOWN}, open>")
         self.assertEqual(repr(Table.__new__(Table)), "<pidtab.Table pid_max=32768, closed>")
         self.assertEqual(repr(Seat.__new__(Seat)), "<pidtab.Seat worker=-1 pid_max=32768, closed>")
 
@@ -556,6 +559,13 @@ class Misuse(unittest.TestCase):
             self.assertEqual(seat.answers(["getpid 1"]), ("no memory",))
         with mock.patch("pidtab.table.load_library", return_value=functions), self.assertRaisesRegex(MemoryError, "no memory"):
             for_threads()
+
+
+class MisuseByOneThread(Misuse):
+    """The same of a table of one thread with its history."""
+
+    THREADS = False
+    SHOWN = ""
 
 
 class Libraries(unittest.TestCase):

@@ -64,10 +64,10 @@ class InOneGo(Locks):
             table.checkpoint()
         self.assertEqual((self.table.counts(), self.table.fork(1).root), (Counts(6, 6), 6))
 
-    def test_a_save(self) -> None:
-        with self.table.lock() as table:
-            table.fork(1)
-            self.assertEqual(table.save(os.devnull).calls, 1)
+    def test_a_replica_whose_lock_it_has(self) -> None:
+        self.table.fork(1)
+        with Table(threads=True) as replica, replica.lock():
+            self.assertEqual((self.table.follow(replica, 0), replica.dump()), (1, self.table.dump()))
 
     def test_a_table_without_a_history(self) -> None:
         with Table(threads=True) as table:
@@ -93,6 +93,7 @@ class Ends(Locks):
             self.table.lock().__enter__, lambda: self.table.wait_changed(0), lambda: asyncio.run(self.table.changed(0)), self.table.end_waiting,
             lambda: self.table.serve(os.devnull), lambda: self.table.wait_saved(0), lambda: self.table.bound_unsaved(1), self.table.end_saving,
             self.table.close, self.table.lock,
+            lambda: self.table.save(os.devnull),
         ]  # fmt: skip
         with self.table.lock():
             for wait in waits:

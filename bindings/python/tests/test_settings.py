@@ -216,7 +216,7 @@ class WhatIsLacked(OfLibrary):
             table = self.open(**settings)
             table.close()
             table.close()
-            for method in of_histories(table) + of_threads(table) if table.threads else of_threads(table):
+            for method in of_threads(table) + (of_histories(table) if table.keep else []):
                 with self.assertRaisesRegex(TableClosed, "^the table was closed$"):
                     method()
 
