@@ -2,7 +2,7 @@
 
 import ctypes
 from collections.abc import Iterator, Sequence
-from typing import NamedTuple
+from typing import TYPE_CHECKING, NamedTuple
 
 from pidtab.answers import ANSWERS
 from pidtab.bounds import GREATEST_NUMBER, check_range
@@ -10,6 +10,9 @@ from pidtab.faults import NotKept
 from pidtab.hold import Held
 from pidtab.native import check, state_of, unpack
 from pidtab.raw import AGAIN, DIFFERS, NO_HISTORY, PidtabCall, PidtabEntry, PidtabReply
+
+if TYPE_CHECKING:
+    from pidtab.table import Table
 
 # How many entries are read in one go, while others wait.
 BLOCK = 1024
@@ -89,7 +92,7 @@ class History(Held):
             check(status, "checkpoint")
         return status != AGAIN
 
-    def follow(self, replica: Held, start: int) -> int:
+    def follow(self, replica: "Table", start: int) -> int:
         """Has another table, which began as this one did, make the calls from the ordinal on that are recorded by now. The ordinal after them.
 
         So `replica.dump()` is the text of the state there, and no call waits for it. The replica is `Table(pid_max)` and the start 0, or the table of
@@ -107,7 +110,7 @@ class History(Held):
         check(status, f"call {following.value}")
         return following.value
 
-    def _made_by(self, replica: Held, following: ctypes.c_uint64) -> int:
+    def _made_by(self, replica: "Table", following: ctypes.c_uint64) -> int:
         """The status of a replica's calls, which is not freed meanwhile."""
         hold = replica._check_open()
         return self._status("pidtab_follow", hold.here, following)

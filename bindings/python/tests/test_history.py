@@ -320,8 +320,7 @@ class Histories(TwoSeats):
     def test_many_entries_are_read_in_blocks(self) -> None:
         many = 2 * BLOCK + 3
         self.seat.answers(["getpid 1"] * many)
-        hold = self.table._check_open()
-        with mock.patch.object(self.table, "_check_open", return_value=hold) as entered:
+        with mock.patch.object(self.table, "_status", wraps=self.table._status) as entered:
             self.assertEqual([it.ordinal for it in self.table.entries()], list(range(many)))
         # The counts twice, and three blocks.
         self.assertEqual(entered.call_count, 5)

@@ -2,6 +2,7 @@
 
 import asyncio
 import os
+import threading
 import unittest
 from collections.abc import Callable
 from typing import Any
@@ -258,6 +259,30 @@ class Busy(OfLibrary):
             table.follow(replica, 0)
         at.in_use = 0
         self.assertEqual((table.follow(replica, 0), replica.dump()), (1, table.dump()))
+
+    def test_two_threads(self) -> None:
+        # One follows without the interpreter's lock. Whichever finds the other one there is told so.
+        with for_threads(1) as table:
+            for _ in range(50):
+                table.answers(["fork 1", "exit 2 0", "wait 1 any"] * 500)
+            faults: list[BaseException] = []
+            while not faults:
+                replica = self.open()
+                thread = threading.Thread(target=self.keep_fault, args=(faults, lambda: table.follow(replica, 0)))
+                thread.start()
+                while thread.is_alive():
+                    self.keep_fault(faults, lambda: replica.getpid(1))
+                thread.join()
+        for fault in faults:
+            self.assertIsInstance(fault, TableBusy)
+            self.assertRegex(str(fault), BUSY)
+
+    def keep_fault(self, faults: list[BaseException], call: Callable[[], object]) -> None:
+        """Makes a call, and keeps what it raises."""
+        try:
+            call()
+        except Exception as fault:
+            faults.append(fault)
 
     def test_one_that_is_busy_is_not_freed(self) -> None:
         table = self.open()
