@@ -322,70 +322,44 @@ repository: ## tests the pages with their examples, the tools, the Makefile and 
 	$(call tested,python3,tests,PIDTAB='$(PIDTAB)' PIDTAB_LIBRARY='$(SHARED)' PYTHONPATH=bindings/python \
 		python3 -B -m unittest discover -v -s tests -t tests)
 
-# From C, under the sanitizers for addresses and undefined behaviour, and under that for threads.
+# From C, under the sanitizers for addresses and undefined behaviour, and under that for threads. A test is its file, the C around the proved functions, and
+# what else it is built of: $(call c_test,FLAGS,NAME,FILES,ARGUMENTS). What allocates is built by itself where a test refuses memory, or has its use wait.
 HELD = -Dmalloc=test_malloc -Drealloc=test_realloc
-CASES_TEST = test_cases shared guard guard_record heap
-RECORD_TEST = test_record guard guard_record
-REPLICA_TEST = test_replica guard guard_replica
-NUMBERS_TEST = test_numbers guard heap
-DUMP_TEST = test_dump guard
-DUMP_SEEDS_TEST = test_dump_seeds guard heap
-DUMP_RECORD_TEST = test_dump_record shared guard guard_record
-THREADS_TEST = test_threads guard guard_record
-READERS_TEST = test_readers shared guard guard_record
-CALLS_TEST = test_calls shared guard guard_record
-PAGE_TEST = test_page shared guard guard_record
-SPACE_TEST = test_space shared guard guard_record
-EFFECTS_TEST = test_effects shared guard guard_record
-EFFECTS_SEEDS_TEST = test_effects_seeds guard heap
-CONTROL_TEST = test_control shared guard guard_record
-WOULD_TEST = test_would shared guard guard_record
-SHARED_TEST = test_shared shared guard guard_record heap
-FOLLOW_TEST = test_follow shared guard guard_record heap
-WATCH_TEST = test_watch saved_file shared guard guard_record heap
-SAVED_TEST = test_saved guard_record heap
-SAVED_FILE_TEST = test_saved_file shared guard guard_record
-SAVED_THREADS_TEST = test_saved_threads saved_file shared guard guard_record heap
-SAVER_TEST = test_saver saved_file shared guard guard_record heap
 DEVICES = -Dread=test_read -Dwrite=test_write
+GUARDED = guard guard_replica settings follow
+HEAP = heap threads
+in_c = $(1:%=bindings/c/%.c)
+held_heap = for it in $(HEAP); do $(CC) $(1) $(HELD) $(3) -c -o $(OUT)/$(2)_$$it.o bindings/c/$$it.c || exit 1; done
+of_held = $(HEAP:%=$(OUT)/$(1)_%.o)
+c_test = $(CC) $(1) -o $(OUT)/$(2) bindings/c/$(2).c $(call in_c,$(GUARDED)) $(3) $(OUT)/proved.a && $(RUN) $(OUT)/$(2) $(4)
 # What is the same for each machine.
 SAME_EVERYWHERE = bindings/c/test_names && tools/guard --check && bindings/c/test_guard
 bindings-c:
 	$(call tested,$(firstword $(CC)),$(LIBRARY),\
 		$(SAME_EVERYWHERE) && $(MAKE) -s $(OUT)/proved.a && \
-		$(CC) $(CHECKED) $(HELD) -c -o $(OUT)/test_heap.o bindings/c/heap.c && \
-		$(CC) $(CHECKED) -o $(OUT)/test bindings/c/test.c bindings/c/guard.c $(OUT)/test_heap.o $(OUT)/proved.a && $(RUN) $(OUT)/test && \
-		$(CC) $(TESTED) -o $(OUT)/test_fields bindings/c/test_fields.c bindings/c/heap.c $(OUT)/proved.a && $(RUN) $(OUT)/test_fields && \
-		$(CC) $(CHECKED) -o $(OUT)/test_cases $(CASES_TEST:%=bindings/c/%.c) $(OUT)/proved.a && $(RUN) $(OUT)/test_cases interface/cases/*.cases && \
-		$(CC) $(CHECKED) -o $(OUT)/test_record $(RECORD_TEST:%=bindings/c/%.c) $(OUT)/test_heap.o $(OUT)/proved.a && $(RUN) $(OUT)/test_record && \
-		$(CC) $(CHECKED) -o $(OUT)/test_replica $(REPLICA_TEST:%=bindings/c/%.c) $(OUT)/test_heap.o $(OUT)/proved.a && $(RUN) $(OUT)/test_replica && \
-		$(CC) $(CHECKED) -o $(OUT)/test_numbers $(NUMBERS_TEST:%=bindings/c/%.c) $(OUT)/proved.a && $(RUN) $(OUT)/test_numbers && \
-		$(CC) $(CHECKED) -o $(OUT)/test_dump $(DUMP_TEST:%=bindings/c/%.c) $(OUT)/test_heap.o $(OUT)/proved.a && $(RUN) $(OUT)/test_dump && \
-		$(CC) $(CHECKED) -o $(OUT)/test_dump_seeds $(DUMP_SEEDS_TEST:%=bindings/c/%.c) $(OUT)/proved.a && $(RUN) $(OUT)/test_dump_seeds && \
-		$(CC) $(CHECKED) -o $(OUT)/test_effects_seeds $(EFFECTS_SEEDS_TEST:%=bindings/c/%.c) $(OUT)/proved.a && $(RUN) $(OUT)/test_effects_seeds && \
-		$(CC) $(CHECKED) -o $(OUT)/test_dump_record $(DUMP_RECORD_TEST:%=bindings/c/%.c) $(OUT)/test_heap.o $(OUT)/proved.a && $(RUN) $(OUT)/test_dump_record && \
-		$(CC) $(THREADED) $(HELD) -Dfree=test_free -c -o $(OUT)/held_heap.o bindings/c/heap.c && \
-		$(CC) $(THREADED) -o $(OUT)/test_threads $(THREADS_TEST:%=bindings/c/%.c) $(OUT)/held_heap.o $(OUT)/proved.a && $(RUN) $(OUT)/test_threads && \
+		$(call held_heap,$(CHECKED),refusing) && \
+		for it in test test_history test_replica test_dump test_dump_history; do \
+			$(call c_test,$(CHECKED),$$it,$(call of_held,refusing)) || exit 1; done && \
+		for it in test_numbers test_dump_seeds test_effects_seeds test_saved; do \
+			$(call c_test,$(CHECKED),$$it,$(call in_c,$(HEAP))) || exit 1; done && \
+		$(call c_test,$(TESTED),test_fields,$(call in_c,$(HEAP))) && \
+		$(call c_test,$(CHECKED),test_cases,$(call in_c,$(HEAP)),interface/cases/*.cases) && \
+		$(call held_heap,$(THREADED),waiting,-Dfree=test_free) && \
+		$(call c_test,$(THREADED),test_threads,$(call of_held,waiting)) && \
 		for sanitizer in '$(TESTED)' '$(THREADED)'; do \
-			$(CC) $$sanitizer $(HELD) -Dfree=test_free -c -o $(OUT)/readers_heap.o bindings/c/heap.c && \
-			$(CC) $$sanitizer -o $(OUT)/test_readers $(READERS_TEST:%=bindings/c/%.c) $(OUT)/readers_heap.o $(OUT)/proved.a && \
-			$(RUN) $(OUT)/test_readers || exit 1; done && \
+			$(call held_heap,$$sanitizer,readers,-Dfree=test_free) && \
+			$(call c_test,$$sanitizer,test_readers,$(call of_held,readers)) || exit 1; done && \
 		for sanitizer in '$(CHECKED)' '$(THREADED)'; do \
-			$(CC) $$sanitizer $(HELD) -c -o $(OUT)/calls_heap.o bindings/c/heap.c && \
-			$(CC) $$sanitizer -o $(OUT)/test_calls $(CALLS_TEST:%=bindings/c/%.c) $(OUT)/calls_heap.o $(OUT)/proved.a && $(RUN) $(OUT)/test_calls && \
-			$(CC) $$sanitizer -o $(OUT)/test_page $(PAGE_TEST:%=bindings/c/%.c) $(OUT)/calls_heap.o $(OUT)/proved.a && $(RUN) $(OUT)/test_page && \
-			$(CC) $$sanitizer -o $(OUT)/test_space $(SPACE_TEST:%=bindings/c/%.c) $(OUT)/calls_heap.o $(OUT)/proved.a && $(RUN) $(OUT)/test_space && \
-			$(CC) $$sanitizer -o $(OUT)/test_control $(CONTROL_TEST:%=bindings/c/%.c) $(OUT)/calls_heap.o $(OUT)/proved.a && $(RUN) $(OUT)/test_control && \
-			$(CC) $$sanitizer -o $(OUT)/test_effects $(EFFECTS_TEST:%=bindings/c/%.c) $(OUT)/calls_heap.o $(OUT)/proved.a && $(RUN) $(OUT)/test_effects && \
-			$(CC) $$sanitizer -o $(OUT)/test_would $(WOULD_TEST:%=bindings/c/%.c) $(OUT)/calls_heap.o $(OUT)/proved.a && $(RUN) $(OUT)/test_would && \
-			$(CC) $$sanitizer -o $(OUT)/test_shared $(SHARED_TEST:%=bindings/c/%.c) $(OUT)/proved.a && $(RUN) $(OUT)/test_shared && \
-			$(CC) $$sanitizer -o $(OUT)/test_follow $(FOLLOW_TEST:%=bindings/c/%.c) $(OUT)/proved.a && $(RUN) $(OUT)/test_follow && \
-			$(CC) $$sanitizer -o $(OUT)/test_watch $(WATCH_TEST:%=bindings/c/%.c) $(OUT)/proved.a && $(RUN) $(OUT)/test_watch && \
-			$(CC) $$sanitizer -o $(OUT)/test_saved_threads $(SAVED_THREADS_TEST:%=bindings/c/%.c) $(OUT)/proved.a && $(RUN) $(OUT)/test_saved_threads && \
-			$(CC) $$sanitizer -o $(OUT)/test_saver $(SAVER_TEST:%=bindings/c/%.c) $(OUT)/proved.a && $(RUN) $(OUT)/test_saver || exit 1; done && \
-		$(CC) $(CHECKED) -o $(OUT)/test_saved $(SAVED_TEST:%=bindings/c/%.c) $(OUT)/proved.a && $(RUN) $(OUT)/test_saved && \
+			$(call held_heap,$$sanitizer,calls) && \
+			for it in test_calls test_page test_space test_control test_effects test_would; do \
+				$(call c_test,$$sanitizer,$$it,$(call of_held,calls)) || exit 1; done && \
+			$(call c_test,$$sanitizer,test_settings,$(call in_c,saved_file) $(call of_held,calls)) && \
+			for it in test_workers test_follow; do \
+				$(call c_test,$$sanitizer,$$it,$(call in_c,$(HEAP))) || exit 1; done && \
+			for it in test_watch test_saved_threads test_saver; do \
+				$(call c_test,$$sanitizer,$$it,$(call in_c,saved_file $(HEAP))) || exit 1; done || exit 1; done && \
 		$(CC) $(CHECKED) $(DEVICES) -c -o $(OUT)/test_devices.o bindings/c/saved_file.c && \
-		$(CC) $(CHECKED) -o $(OUT)/test_saved_file $(SAVED_FILE_TEST:%=bindings/c/%.c) $(OUT)/test_heap.o $(OUT)/test_devices.o $(OUT)/proved.a && $(RUN) $(OUT)/test_saved_file)
+		$(call c_test,$(CHECKED),test_saved_file,$(OUT)/test_devices.o $(call of_held,refusing)))
 
 bindings-rust:
 	$(call tested,cargo,out/libpidtab.a,cd bindings/rust && cargo test --offline --quiet)

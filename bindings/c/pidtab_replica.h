@@ -106,13 +106,15 @@ uint32_t pidtab_replica_open(struct pidtab_replica *replica, uint64_t pid_max, u
 /* Frees the replica, and leaves the table. One that is not open stays so. DONE; one that is BUSY is not closed. */
 uint32_t pidtab_replica_close(struct pidtab_replica *replica);
 
-/* Applies the next entry of the log to the replica and its table. position is that of the entry in the log: it rises from entry to entry. The calls
- * of an entry are made if its session is open and its number is one more than that of the session's last entry that was made. A line that is none of
- * the script language, or has more than 200 bytes, is answered `bad line`, and a call is answered `spent` where the table has no stamp left.
+/* Applies the next entry of the log to the replica and its table, which keeps no history. position is that of the entry in the log: it rises from
+ * entry to entry. The calls of an entry are made if its session is open and its number is one more than that of the session's last entry that was
+ * made. A line that is none of the script language, or has more than 200 bytes, is answered `bad line`, and a call is answered `spent` where the
+ * table has no stamp left.
  *
- * DONE; CLOSED where the replica or the table is not open; NOT_RECOVERABLE; NOT_RISING; NO_ENTRY; OTHER_SETTINGS; MISSING; DIVERGED; NO_MEMORY where
- * there was none for a session. NOT_RECOVERABLE says that there was no memory amid the calls of this entry or of one before: close both, open them
- * anew, and give them the log from its beginning, or from a snapshot. Of each status but DONE, applied is as it was. */
+ * DONE; CLOSED where the replica or the table is not open; OUT_OF_RANGE where the table keeps a history; NOT_RECOVERABLE; NOT_RISING; NO_ENTRY;
+ * OTHER_SETTINGS; MISSING; DIVERGED; NO_MEMORY where there was none for a session. NOT_RECOVERABLE says that there was no memory amid the calls of
+ * this entry or of one before: close both, open them anew, and give them the log from its beginning, or from a snapshot. Of each status but DONE,
+ * applied is as it was. */
 uint32_t pidtab_replica_apply(struct pidtab_replica *replica, struct pidtab *table, uint64_t position, const void *entry, size_t length, struct pidtab_applied *applied);
 
 /* Writes the answers to the calls of the entry that was applied last, each with a newline after it; none where its calls were not made. DONE, CLOSED,

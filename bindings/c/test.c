@@ -4,11 +4,12 @@
 #include "test_heap.h"
 
 #include <errno.h>
-#include <pthread.h>
 
 /* The header against the archive, as far as a compiler can see it. */
-_Static_assert(sizeof(struct pidtab) == 16, "pidtab");
-_Static_assert(offsetof(struct pidtab, is_open) == 8 && offsetof(struct pidtab, in_use) == 9, "is_open");
+_Static_assert(sizeof(struct pidtab) == 32 && offsetof(struct pidtab, at) == 0, "pidtab");
+_Static_assert(offsetof(struct pidtab, is_open) == 8 && offsetof(struct pidtab, in_use) == 9 && offsetof(struct pidtab, threads) == 24, "pidtab");
+_Static_assert(offsetof(struct pidtab_settings, pid_max) == 0 && offsetof(struct pidtab_settings, workers) == 4, "pidtab_settings");
+_Static_assert(offsetof(struct pidtab_settings, first_stamp) == 8 && offsetof(struct pidtab_settings, keep) == 16, "pidtab_settings");
 _Static_assert(sizeof(struct pidtab_call) == 32, "pidtab_call");
 _Static_assert(offsetof(struct pidtab_call, id) == 8 && offsetof(struct pidtab_call, pgid) == 28, "pidtab_call");
 _Static_assert(sizeof(struct pidtab_reply) == 168, "pidtab_reply");
@@ -215,7 +216,7 @@ static void no_refusal(void)
 static void each_status(void)
 {
 	static const uint32_t statuses[] = { PIDTAB_DONE, PIDTAB_CLOSED, PIDTAB_NO_MEMORY, PIDTAB_BUSY, PIDTAB_OUT_OF_RANGE,
-		PIDTAB_NO_ROOM, PIDTAB_EMPTY_LINE, PIDTAB_BAD_LINE, PIDTAB_SPENT, PIDTAB_NOT_KEPT, PIDTAB_AGAIN, PIDTAB_NO_HISTORY, PIDTAB_DIFFERS, PIDTAB_BAD_TEXT };
+		PIDTAB_NO_ROOM, PIDTAB_EMPTY_LINE, PIDTAB_BAD_LINE, PIDTAB_SPENT, PIDTAB_NOT_KEPT, PIDTAB_AGAIN, PIDTAB_NO_HISTORY, PIDTAB_NO_THREADS, PIDTAB_DIFFERS, PIDTAB_BAD_TEXT };
 	const unsigned count = sizeof statuses / sizeof statuses[0];
 	unsigned known = 0;
 

@@ -1,9 +1,11 @@
 /* What the tests share. */
 #include "pidtab.h"
 
+#include <pthread.h>
 #include <stdio.h>
 #include <stdlib.h>
 #include <string.h>
+#include <time.h>
 
 #define CHECK(what) check((what), #what, __FILE__, __LINE__)
 
@@ -13,6 +15,32 @@ static inline void check(bool holds, const char *what, const char *file, int lin
 		return;
 	fprintf(stderr, "%s:%d: not so: %s\n", file, line, what);
 	exit(1);
+}
+
+/* Opens a table with a history: of so many entries, for any number of threads; or all of it, for one. */
+static inline uint32_t open_threads(struct pidtab *table, uint32_t pid_max, uint64_t first_stamp, uint32_t workers, uint64_t keep)
+{
+	const struct pidtab_settings settings = { pid_max, workers, first_stamp, keep, true };
+	return pidtab_open_with(table, &settings);
+}
+
+static inline uint32_t open_history(struct pidtab *table, uint32_t pid_max, uint64_t first_stamp, uint32_t workers)
+{
+	const struct pidtab_settings settings = { pid_max, workers, first_stamp, PIDTAB_KEEP_ALL, false };
+	return pidtab_open_with(table, &settings);
+}
+
+/* The same of a text. */
+static inline uint32_t load_threads(struct pidtab *table, const void *text, size_t length, const uint64_t *counts, uint32_t workers, uint64_t keep, struct pidtab_fault *fault)
+{
+	const struct pidtab_settings settings = { .workers = workers, .keep = keep, .threads = true };
+	return pidtab_load_with(table, text, length, &settings, counts, fault);
+}
+
+static inline uint32_t load_history(struct pidtab *table, const void *text, size_t length, const uint64_t *counts, uint32_t workers, struct pidtab_fault *fault)
+{
+	const struct pidtab_settings settings = { .workers = workers, .keep = PIDTAB_KEEP_ALL };
+	return pidtab_load_with(table, text, length, &settings, counts, fault);
 }
 
 /* The answer to a line, with a zero byte after it. */

@@ -1,6 +1,5 @@
 /* Tests of many calls in one turn: beside as many single calls, with each status, with want of memory at each allocation, and in threads. */
 #include "test.h"
-#include "pidtab_shared.h"
 #include "test_heap.h"
 
 #define MOST 512
@@ -33,39 +32,39 @@ static bool is_filled(const void *room, size_t size)
 	return size == 0;
 }
 
-static void counts_are(struct pidtab_record *record, uint64_t first_kept, uint64_t recorded)
+static void counts_are(struct pidtab *table, uint64_t first_kept, uint64_t recorded)
 {
 	uint64_t first = first_kept + 1, all = recorded + 1;
 
-	CHECK(pidtab_record_counts(record, &first, &all) == PIDTAB_DONE && first == first_kept && all == recorded);
+	CHECK(pidtab_counts(table, &first, &all) == PIDTAB_DONE && first == first_kept && all == recorded);
 }
 
 /* Lists, texts and entries are the same. */
-static void same(struct pidtab_record *one, struct pidtab_record *other)
+static void same(struct pidtab *one, struct pidtab *other)
 {
 	static char texts[2][1 << 17];
 	size_t sizes[2] = { 0, 1 }, counts[2] = { 0, 1 };
-	struct pidtab_record *records[] = { one, other };
+	struct pidtab *tables[] = { one, other };
 
 	memset(entries, 0, sizeof entries);
 	for (int i = 0; i < 2; i++) {
-		CHECK(pidtab_record_dump(records[i], texts[i], sizeof texts[0], &sizes[i]) == PIDTAB_DONE);
-		CHECK(pidtab_record_read(records[i], 0, entries[i], MOST, &counts[i]) == PIDTAB_DONE);
+		CHECK(pidtab_dump(tables[i], texts[i], sizeof texts[0], &sizes[i]) == PIDTAB_DONE);
+		CHECK(pidtab_read(tables[i], 0, entries[i], MOST, &counts[i]) == PIDTAB_DONE);
 	}
 	CHECK(sizes[0] == sizes[1] && memcmp(texts[0], texts[1], sizes[0]) == 0);
 	CHECK(counts[0] == counts[1] && memcmp(entries[0], entries[1], counts[0] * sizeof entries[0][0]) == 0);
 }
 
-static void opened(struct pidtab_record *record)
+static void opened(struct pidtab *table)
 {
-	*record = (struct pidtab_record)PIDTAB_RECORD_INIT;
-	CHECK(pidtab_record_open(record, 32768, 1, WORKERS) == PIDTAB_DONE);
+	*table = (struct pidtab)PIDTAB_INIT;
+	CHECK(open_history(table, 32768, 1, WORKERS) == PIDTAB_DONE);
 }
 
-/* Turns of 0 to 40 calls on one record, and each call alone on the other. */
+/* Turns of 0 to 40 calls on one table, and each call alone on the other. */
 static void as_single_calls(void)
 {
-	struct pidtab_record one, other;
+	struct pidtab one, other;
 	uint64_t ordinal, place, all = 0;
 
 	opened(&one);
@@ -81,86 +80,86 @@ static void as_single_calls(void)
 		ordinal = place = 77;
 		fill(replies, sizeof replies);
 		fill(alone, sizeof alone);
-		CHECK(pidtab_record_calls(&one, worker, calls + from, count, replies, count, &made, &ordinal) == PIDTAB_DONE && made == count);
+		CHECK(pidtab_calls(&one, worker, calls + from, count, replies, count, &made, &ordinal) == PIDTAB_DONE && made == count);
 		for (size_t i = 0; i < count; i++, all++)
-			CHECK(pidtab_record_call(&other, worker, calls + from + i, &alone[i], &place) == PIDTAB_DONE && place == all);
+			CHECK(pidtab_call_by(&other, worker, calls + from + i, &alone[i], &place) == PIDTAB_DONE && place == all);
 		CHECK(ordinal == place && memcmp(replies, alone, sizeof replies) == 0);
 	}
 	same(&one, &other);
 	counts_are(&one, 0, MOST);
-	pidtab_record_close(&one);
-	pidtab_record_close(&other);
+	pidtab_close(&one);
+	pidtab_close(&other);
 }
 
 /* What a turn that makes no call leaves as it is. */
-static void makes_none(struct pidtab_record *record, uint32_t worker, size_t count, size_t room, uint32_t status)
+static void makes_none(struct pidtab *table, uint32_t worker, size_t count, size_t room, uint32_t status)
 {
 	size_t made = 77;
 	uint64_t ordinal = 77;
 
 	fill(replies, sizeof replies);
-	CHECK(pidtab_record_calls(record, worker, calls, count, replies, room, &made, &ordinal) == status);
+	CHECK(pidtab_calls(table, worker, calls, count, replies, room, &made, &ordinal) == status);
 	CHECK(made == 0 && ordinal == 77 && is_filled(replies, sizeof replies));
 }
 
 static void none_is_made(void)
 {
-	struct pidtab_record record = PIDTAB_RECORD_INIT;
+	struct pidtab table = PIDTAB_INIT;
 
 	for (size_t i = 0; i < 5; i++)
 		calls[i] = (struct pidtab_call){ .operation = PIDTAB_FORK, .caller = 1 };
-	makes_none(&record, 0, 5, 5, PIDTAB_CLOSED);
-	opened(&record);
-	record.in_use = UINT8_MAX;
-	makes_none(&record, 0, 5, 5, PIDTAB_BUSY);
-	record.in_use = 1;
-	makes_none(&record, 0, 5, 5, PIDTAB_BUSY);
-	record.in_use = 0;
-	makes_none(&record, WORKERS, 5, 5, PIDTAB_OUT_OF_RANGE);
-	makes_none(&record, WORKERS, 0, 0, PIDTAB_OUT_OF_RANGE);
-	makes_none(&record, 0, 0, 0, PIDTAB_DONE);
-	makes_none(&record, 0, 0, 5, PIDTAB_DONE);
-	makes_none(&record, 0, 5, 4, PIDTAB_NO_ROOM);
-	makes_none(&record, 0, 1, 0, PIDTAB_NO_ROOM);
+	makes_none(&table, 0, 5, 5, PIDTAB_CLOSED);
+	opened(&table);
+	table.in_use = UINT8_MAX;
+	makes_none(&table, 0, 5, 5, PIDTAB_BUSY);
+	table.in_use = 1;
+	makes_none(&table, 0, 5, 5, PIDTAB_BUSY);
+	table.in_use = 0;
+	makes_none(&table, WORKERS, 5, 5, PIDTAB_OUT_OF_RANGE);
+	makes_none(&table, WORKERS, 0, 0, PIDTAB_OUT_OF_RANGE);
+	makes_none(&table, 0, 0, 0, PIDTAB_DONE);
+	makes_none(&table, 0, 0, 5, PIDTAB_DONE);
+	makes_none(&table, 0, 5, 4, PIDTAB_NO_ROOM);
+	makes_none(&table, 0, 1, 0, PIDTAB_NO_ROOM);
 	for (size_t i = 0; i < 5; i++) {
 		struct pidtab_call bad[] = { { .operation = 19, .caller = 1 }, { .operation = PIDTAB_FORK, .caller = 1, .choice = 2 },
 			{ .operation = PIDTAB_EXIT, .caller = 1, .number = 256 }, { .operation = PIDTAB_WAIT, .caller = 1, .choice = 4 } };
 		struct pidtab_call good = calls[i];
 		calls[i] = bad[i % 4];
-		makes_none(&record, 0, 5, 5, PIDTAB_OUT_OF_RANGE);
-		makes_none(&record, 0, 5, 0, PIDTAB_OUT_OF_RANGE);
+		makes_none(&table, 0, 5, 5, PIDTAB_OUT_OF_RANGE);
+		makes_none(&table, 0, 5, 0, PIDTAB_OUT_OF_RANGE);
 		calls[i] = good;
 	}
-	counts_are(&record, 0, 0);
-	pidtab_record_close(&record);
+	counts_are(&table, 0, 0);
+	pidtab_close(&table);
 }
 
 /* There is room for more replies than calls, and stamps for fewer. */
 static void the_last_stamps(void)
 {
-	struct pidtab_record record = PIDTAB_RECORD_INIT;
+	struct pidtab table = PIDTAB_INIT;
 	size_t made = 77;
 	uint64_t ordinal = 77;
 
-	CHECK(pidtab_record_open(&record, 32768, UINT64_MAX - 3, 2) == PIDTAB_DONE);
+	CHECK(open_history(&table, 32768, UINT64_MAX - 3, 2) == PIDTAB_DONE);
 	fill(replies, sizeof replies);
-	CHECK(pidtab_record_calls(&record, 1, calls, 5, replies, 9, &made, &ordinal) == PIDTAB_SPENT && made == 3 && ordinal == 2);
+	CHECK(pidtab_calls(&table, 1, calls, 5, replies, 9, &made, &ordinal) == PIDTAB_SPENT && made == 3 && ordinal == 2);
 	for (size_t i = 0; i < 3; i++)
 		CHECK(replies[i].kind == PIDTAB_FORKED && replies[i].first == i + 2);
 	CHECK(is_filled(replies + 3, sizeof replies - 3 * sizeof replies[0]));
-	makes_none(&record, 1, 5, 5, PIDTAB_SPENT);
-	makes_none(&record, 1, 0, 0, PIDTAB_DONE);
+	makes_none(&table, 1, 5, 5, PIDTAB_SPENT);
+	makes_none(&table, 1, 0, 0, PIDTAB_DONE);
 	calls[4].operation = 99;
-	makes_none(&record, 1, 5, 5, PIDTAB_OUT_OF_RANGE);
-	counts_are(&record, 0, 3);
-	pidtab_record_close(&record);
+	makes_none(&table, 1, 5, 5, PIDTAB_OUT_OF_RANGE);
+	counts_are(&table, 0, 3);
+	pidtab_close(&table);
 }
 
 /* Forks, groups and queries: each finds no memory in turn, and the calls before it were made. The rest is made later. */
 static void want_of_memory(void)
 {
 	const size_t count = 300;
-	struct pidtab_record one, other;
+	struct pidtab one, other;
 	uint64_t ordinal, place;
 	size_t made = 0, whole = 0;
 
@@ -175,24 +174,24 @@ static void want_of_memory(void)
 		fill(replies, sizeof replies);
 		ordinal = 77;
 		refuse_at = at;
-		status = pidtab_record_calls(&one, 2, calls, count, replies, count, &made, &ordinal);
+		status = pidtab_calls(&one, 2, calls, count, replies, count, &made, &ordinal);
 		refuse_at = 0;
 		CHECK(status == (made < count ? PIDTAB_NO_MEMORY : PIDTAB_DONE) && ordinal == (made == 0 ? 77 : made - 1) && made >= whole);
 		whole = made;
 		CHECK(is_filled(replies + made, (MOST - made) * sizeof replies[0]));
 		for (size_t i = 0; i < made; i++)
-			CHECK(pidtab_record_call(&other, 2, &calls[i], &alone[i], &place) == PIDTAB_DONE);
+			CHECK(pidtab_call_by(&other, 2, &calls[i], &alone[i], &place) == PIDTAB_DONE);
 		CHECK(memcmp(replies, alone, made * sizeof replies[0]) == 0);
 		same(&one, &other);
-		CHECK(pidtab_record_calls(&one, 2, calls + made, count - made, replies + made, count - made, &done, &ordinal) == PIDTAB_DONE);
+		CHECK(pidtab_calls(&one, 2, calls + made, count - made, replies + made, count - made, &done, &ordinal) == PIDTAB_DONE);
 		CHECK(done == count - made && ordinal == count - 1);
-		pidtab_record_close(&one);
-		pidtab_record_close(&other);
+		pidtab_close(&one);
+		pidtab_close(&other);
 		CHECK(at > 9 || made < count);
 	}
 }
 
-static struct pidtab_shared shared;
+static struct pidtab shared;
 
 /* Turns of so many forks, waits and queries, whose replies are those of a table that has nobody else's children. */
 static void *takes_turns(void *unused)
@@ -201,7 +200,7 @@ static void *takes_turns(void *unused)
 	struct pidtab_reply told[A_TURN];
 	uint32_t worker;
 
-	CHECK(unused == NULL && pidtab_shared_seat(&shared, &worker) == PIDTAB_DONE);
+	CHECK(unused == NULL && pidtab_seat(&shared, &worker) == PIDTAB_DONE);
 	for (int i = 0; i < A_TURN; i++)
 		mine[i] = (struct pidtab_call){ .operation = PIDTAB_GETPID, .caller = 1 };
 	mine[0] = mine[A_TURN - 1] = (struct pidtab_call){ .operation = PIDTAB_COUNT };
@@ -209,7 +208,7 @@ static void *takes_turns(void *unused)
 	for (uint64_t turn = 0, last = 0, ordinal = 77; turn < TURNS; turn++, last = ordinal) {
 		size_t made = 77;
 
-		CHECK(pidtab_shared_calls(&shared, worker, mine, A_TURN, told, A_TURN, &made, &ordinal) == PIDTAB_DONE && made == A_TURN);
+		CHECK(pidtab_calls(&shared, worker, mine, A_TURN, told, A_TURN, &made, &ordinal) == PIDTAB_DONE && made == A_TURN);
 		CHECK((turn == 0 || ordinal > last) && (ordinal + 1) % A_TURN == 0);
 		CHECK(told[2].kind == PIDTAB_FORKED && told[A_TURN - 1].first == told[0].first + 1);
 	}
@@ -224,15 +223,15 @@ static void turns_are_whole(void)
 	pthread_t threads[WORKERS];
 	size_t count = 0;
 
-	CHECK(told && pidtab_shared_open(&shared, 32768, 1, WORKERS, 0) == PIDTAB_DONE);
+	CHECK(told && open_threads(&shared, 32768, 1, WORKERS, PIDTAB_KEEP_ALL) == PIDTAB_DONE);
 	for (int i = 0; i < WORKERS; i++)
 		CHECK(pthread_create(&threads[i], NULL, takes_turns, NULL) == 0);
 	for (int i = 0; i < WORKERS; i++)
 		CHECK(pthread_join(threads[i], NULL) == 0);
-	CHECK(pidtab_shared_read(&shared, 0, told, all, &count) == PIDTAB_DONE && count == all);
+	CHECK(pidtab_read(&shared, 0, told, all, &count) == PIDTAB_DONE && count == all);
 	for (size_t i = 0; i < all; i++)
 		CHECK(told[i].worker == told[i - i % A_TURN].worker && (told[i].call.operation == PIDTAB_FORK) == (i % A_TURN == 2));
-	pidtab_shared_close(&shared);
+	pidtab_close(&shared);
 	free(told);
 }
 
@@ -243,18 +242,18 @@ static void a_bound_is_kept(void)
 	uint64_t first_kept, recorded, ordinal, all = 0;
 	size_t made;
 
-	CHECK(pidtab_shared_open(&shared, 32768, 1, 1, 10) == PIDTAB_DONE);
+	CHECK(open_threads(&shared, 32768, 1, 1, 10) == PIDTAB_DONE);
 	for (size_t i = 0; i < MOST; i++)
 		calls[i] = call;
 	for (size_t count = 0; count < 30; count++, all += count) {
-		CHECK(pidtab_shared_calls(&shared, 0, calls, count, replies, count, &made, &ordinal) == PIDTAB_DONE && made == count);
-		CHECK(pidtab_shared_call(&shared, 0, &call, replies, &ordinal) == PIDTAB_DONE && ordinal == all + count);
-		CHECK(pidtab_shared_counts(&shared, &first_kept, &recorded) == PIDTAB_DONE && recorded == all + count + 1);
+		CHECK(pidtab_calls(&shared, 0, calls, count, replies, count, &made, &ordinal) == PIDTAB_DONE && made == count);
+		CHECK(pidtab_call_by(&shared, 0, &call, replies, &ordinal) == PIDTAB_DONE && ordinal == all + count);
+		CHECK(pidtab_counts(&shared, &first_kept, &recorded) == PIDTAB_DONE && recorded == all + count + 1);
 		CHECK(first_kept == (recorded > 10 ? recorded - 10 : 0));
 	}
 	made = 77;
-	CHECK(pidtab_shared_calls(&shared, 1, calls, 3, replies, 3, &made, &ordinal) == PIDTAB_OUT_OF_RANGE && made == 0);
-	pidtab_shared_close(&shared);
+	CHECK(pidtab_calls(&shared, 1, calls, 3, replies, 3, &made, &ordinal) == PIDTAB_OUT_OF_RANGE && made == 0);
+	pidtab_close(&shared);
 }
 
 int main(void)

@@ -1,7 +1,8 @@
-/* The cases of interface/cases, whose README says what each step is: by lines, by values and by methods, on tables and on one that threads
- * share. Its arguments are the files. */
+/* The cases of interface/cases, whose README says what each step is: by lines, by values and by methods, on tables without a history and on one with it that
+ * has threads. Its arguments are the files. */
+#include "proved.h"
+
 #include "test.h"
-#include "pidtab_shared.h"
 
 #include <errno.h>
 #include <inttypes.h>
@@ -55,7 +56,7 @@ static const char *const queries[] = { "getpid", "nspid", "getppid", "count", "g
 /* What a case has open: tables whose calls are made by lines, by values and by methods, if it is not of a history alone; and one with a
  * history, whose workers are all seated. */
 static struct pidtab tables[3];
-static struct pidtab_shared shared;
+static struct pidtab shared;
 static bool has_tables, is_open, is_whole;
 static uint32_t worker, workers, bound;
 static uint64_t calls, kept;
@@ -123,7 +124,7 @@ static void close_all(void)
 	for (int i = 0; i < 3 && has_tables; i++)
 		CHECK(pidtab_close(&tables[i]) == PIDTAB_DONE);
 	if (is_open)
-		pidtab_shared_close(&shared);
+		pidtab_close(&shared);
 	has_tables = is_open = is_whole = false;
 	worker = 0;
 }
@@ -134,9 +135,18 @@ static void take_seats(void)
 	uint32_t seat;
 
 	for (uint32_t i = 0; i < workers; i++)
-		CHECK(pidtab_shared_seat(&shared, &seat) == PIDTAB_DONE && seat == i);
-	CHECK(pidtab_shared_seat(&shared, &seat) == PIDTAB_OUT_OF_RANGE);
+		CHECK(pidtab_seat(&shared, &seat) == PIDTAB_DONE && seat == i);
+	CHECK(pidtab_seat(&shared, &seat) == PIDTAB_OUT_OF_RANGE);
 	is_open = true;
+}
+
+/* Opens the one with a history. A 0 is a default there, and refused by the proved function. */
+static uint32_t open_shared(uint64_t first_stamp)
+{
+	const struct pidtab_settings settings = { bound, workers, first_stamp, kept == 0 ? PIDTAB_KEEP_ALL : kept, true };
+	struct pidtab none = PIDTAB_INIT;
+
+	return bound == 0 || workers == 0 || first_stamp == 0 ? proved_open_with(&none, &settings) : pidtab_open_with(&shared, &settings);
 }
 
 static void open_all(const uint64_t settings[4])
@@ -146,7 +156,7 @@ static void open_all(const uint64_t settings[4])
 	close_all();
 	bound = (uint32_t)settings[0], workers = (uint32_t)settings[1], kept = settings[3], calls = 0;
 	has_tables = settings[1] == 1 && settings[2] == 1 && settings[3] == 0;
-	status = pidtab_shared_open(&shared, bound, settings[2], workers, kept);
+	status = open_shared(settings[2]);
 	for (int i = 0; i < 3 && has_tables; i++)
 		CHECK(pidtab_open(&tables[i], bound) == status);
 	if (done(status))
@@ -162,7 +172,7 @@ static void load_all(const uint64_t *counts, size_t many)
 
 	close_all();
 	has_tables = many == 1 && counts[0] == 0 && kept == 0;
-	status = pidtab_shared_load(&shared, text, strlen(text), counts, many, kept, &fault);
+	status = load_threads(&shared, text, strlen(text), counts, (uint32_t)many, kept == 0 ? PIDTAB_KEEP_ALL : kept, &fault);
 	for (int i = 0; i < 3 && has_tables; i++)
 		CHECK(pidtab_load(&tables[i], text, strlen(text), &other) == status && other.line == fault.line && other.kind == fault.kind);
 	workers = (uint32_t)many;
@@ -183,12 +193,12 @@ static void reload(void)
 	char *again = calloc(1, TEXT);
 	size_t size;
 
-	CHECK(again && pidtab_shared_dump(&shared, text, TEXT - 1, &size) == PIDTAB_DONE);
+	CHECK(again && pidtab_dump(&shared, text, TEXT - 1, &size) == PIDTAB_DONE);
 	text[size] = 0;
 	for (int i = 0; i < 3 && has_tables; i++)
 		CHECK(pidtab_dump(&tables[i], again, TEXT, &size) == PIDTAB_DONE && strlen(text) == size && memcmp(text, again, size) == 0);
 	for (uint32_t i = 0; i < workers; i++)
-		CHECK(pidtab_shared_worker(&shared, i, &counts[i]) == PIDTAB_DONE);
+		CHECK(pidtab_worker(&shared, i, &counts[i]) == PIDTAB_DONE);
 	bool had_tables = has_tables;
 	uint32_t at = worker;
 	load_all(counts, workers);
@@ -280,12 +290,12 @@ static void make_call(const char *line)
 	uint64_t ordinal, by;
 	size_t size = 0;
 
-	status = pidtab_shared_line(&shared, worker, line, strlen(line), told, PIDTAB_LONGEST_ANSWER, &size, &ordinal);
+	status = pidtab_line_by(&shared, worker, line, strlen(line), told, PIDTAB_LONGEST_ANSWER, &size, &ordinal);
 	told[size] = 0;
 	CHECK(!has_tables || (ask(&tables[0], line, answer) == status && strcmp(answer, told) == 0));
 	if (!done(status))
 		return;
-	CHECK(ordinal == calls++ && pidtab_shared_entry(&shared, ordinal, &by, &call, &reply) == PIDTAB_DONE && by == worker);
+	CHECK(ordinal == calls++ && pidtab_entry(&shared, ordinal, &by, &call, &reply) == PIDTAB_DONE && by == worker);
 	CHECK(pidtab_call_line(&call, said, PIDTAB_LONGEST_CALL, &size) == PIDTAB_DONE && size == strlen(line) && memcmp(said, line, size) == 0);
 	say(said, &reply);
 	CHECK(strcmp(said, told) == 0);
@@ -293,24 +303,24 @@ static void make_call(const char *line)
 	for (const char *const *it = queries; *it; it++)
 		if (strcspn(line, " ") == strlen(*it) && strncmp(line, *it, strlen(*it)) == 0)
 			asked = PIDTAB_DONE;
-	CHECK(pidtab_shared_ask(&shared, &call, &other) == asked && (asked != PIDTAB_DONE || same_reply(&reply, &other)));
+	CHECK(pidtab_ask(&shared, &call, &other) == asked && (asked != PIDTAB_DONE || same_reply(&reply, &other)));
 	if (has_tables)
 		make_again(&call, &reply, asked);
 }
 
-/* The call of a line, as a record of its own has it. */
+/* The call of a line, as a table of its own has it. */
 static struct pidtab_call call_of(const char *line)
 {
-	struct pidtab_record scratch = PIDTAB_RECORD_INIT;
+	struct pidtab scratch = PIDTAB_INIT;
 	char answer[PIDTAB_LONGEST_ANSWER];
 	struct pidtab_call call;
 	struct pidtab_reply reply;
 	uint64_t ordinal, by;
 	size_t size;
 
-	CHECK(pidtab_record_open(&scratch, 301, 1, 1) == PIDTAB_DONE);
-	CHECK(pidtab_record_line(&scratch, 0, line, strlen(line), answer, sizeof answer, &size, &ordinal) == PIDTAB_DONE);
-	CHECK(pidtab_record_entry(&scratch, ordinal, &by, &call, &reply) == PIDTAB_DONE && pidtab_record_close(&scratch) == PIDTAB_DONE);
+	CHECK(open_history(&scratch, 301, 1, 1) == PIDTAB_DONE);
+	CHECK(pidtab_line_by(&scratch, 0, line, strlen(line), answer, sizeof answer, &size, &ordinal) == PIDTAB_DONE);
+	CHECK(pidtab_entry(&scratch, ordinal, &by, &call, &reply) == PIDTAB_DONE && pidtab_close(&scratch) == PIDTAB_DONE);
 	return call;
 }
 
@@ -340,9 +350,9 @@ static void make_told(const char *line)
 	uint64_t ordinal, by, count, again;
 	char answer[PIDTAB_LONGEST_ANSWER + 1];
 
-	if (!done(pidtab_shared_call_told(&shared, worker, &call, &reply, &ordinal, effects, EFFECTS, &count)))
+	if (!done(pidtab_call_told_by(&shared, worker, &call, &reply, &ordinal, effects, EFFECTS, &count)))
 		return;
-	CHECK(ordinal == calls++ && pidtab_shared_entry(&shared, ordinal, &by, &recorded, &other) == PIDTAB_DONE && by == worker && same_reply(&reply, &other));
+	CHECK(ordinal == calls++ && pidtab_entry(&shared, ordinal, &by, &recorded, &other) == PIDTAB_DONE && by == worker && same_reply(&reply, &other));
 	say(told, &reply);
 	for (int i = 1; i < 3 && has_tables; i++) {
 		CHECK(pidtab_call_told(&tables[i], &call, &other, others, EFFECTS, &again) == PIDTAB_DONE && same_reply(&reply, &other));
@@ -381,59 +391,57 @@ struct answered {
 	uint64_t ids[LISTED], count;
 };
 
-#define ASKED(name, ...) (table ? pidtab_##name(table, __VA_ARGS__) : pidtab_shared_##name(&shared, __VA_ARGS__))
-
 /* Written by tools/interface: questions. */
 static bool ask_question(const char *word, const struct pidtab *table, const uint64_t *n, size_t room, struct answered *to)
 {
 	if (strcmp(word, "stat") == 0) {
 		to->tells = TELLS_TASK;
-		to->status = ASKED(stat, (uint32_t)n[0], (uint32_t)n[1], &to->task);
+		to->status = pidtab_stat(table, (uint32_t)n[0], (uint32_t)n[1], &to->task);
 		return true;
 	}
 	if (strcmp(word, "children") == 0) {
 		to->tells = TELLS_NUMBERS;
-		to->status = ASKED(page, (uint32_t)n[0], PIDTAB_CHILDREN, (uint32_t)n[1], (uint32_t)n[2], to->numbers, room, &to->reply);
+		to->status = pidtab_page(table, (uint32_t)n[0], PIDTAB_CHILDREN, (uint32_t)n[1], (uint32_t)n[2], to->numbers, room, &to->reply);
 		return true;
 	}
 	if (strcmp(word, "group_members") == 0) {
 		to->tells = TELLS_NUMBERS;
-		to->status = ASKED(page, (uint32_t)n[0], PIDTAB_GROUP_MEMBERS, (uint32_t)n[1], (uint32_t)n[2], to->numbers, room, &to->reply);
+		to->status = pidtab_page(table, (uint32_t)n[0], PIDTAB_GROUP_MEMBERS, (uint32_t)n[1], (uint32_t)n[2], to->numbers, room, &to->reply);
 		return true;
 	}
 	if (strcmp(word, "session_members") == 0) {
 		to->tells = TELLS_NUMBERS;
-		to->status = ASKED(page, (uint32_t)n[0], PIDTAB_SESSION_MEMBERS, (uint32_t)n[1], (uint32_t)n[2], to->numbers, room, &to->reply);
+		to->status = pidtab_page(table, (uint32_t)n[0], PIDTAB_SESSION_MEMBERS, (uint32_t)n[1], (uint32_t)n[2], to->numbers, room, &to->reply);
 		return true;
 	}
 	if (strcmp(word, "namespace_members") == 0) {
 		to->tells = TELLS_NUMBERS;
-		to->status = ASKED(page, (uint32_t)n[0], PIDTAB_NAMESPACE_MEMBERS, (uint32_t)n[1], (uint32_t)n[2], to->numbers, room, &to->reply);
+		to->status = pidtab_page(table, (uint32_t)n[0], PIDTAB_NAMESPACE_MEMBERS, (uint32_t)n[1], (uint32_t)n[2], to->numbers, room, &to->reply);
 		return true;
 	}
 	if (strcmp(word, "namespace_own") == 0) {
 		to->tells = TELLS_NUMBERS;
-		to->status = ASKED(page, (uint32_t)n[0], PIDTAB_NAMESPACE_OWN, (uint32_t)n[1], (uint32_t)n[2], to->numbers, room, &to->reply);
+		to->status = pidtab_page(table, (uint32_t)n[0], PIDTAB_NAMESPACE_OWN, (uint32_t)n[1], (uint32_t)n[2], to->numbers, room, &to->reply);
 		return true;
 	}
 	if (strcmp(word, "space") == 0) {
 		to->tells = TELLS_SPACE;
-		to->status = ASKED(space, n[0], &to->space);
+		to->status = pidtab_space(table, n[0], &to->space);
 		return true;
 	}
 	if (strcmp(word, "spaces_inside") == 0) {
 		to->tells = TELLS_IDS;
-		to->status = ASKED(inside, PIDTAB_SPACES, n[0], n[1], to->ids, room, &to->count);
+		to->status = pidtab_inside(table, PIDTAB_SPACES, n[0], n[1], to->ids, room, &to->count);
 		return true;
 	}
 	if (strcmp(word, "controls_inside") == 0) {
 		to->tells = TELLS_IDS;
-		to->status = ASKED(inside, PIDTAB_CONTROLS, n[0], n[1], to->ids, room, &to->count);
+		to->status = pidtab_inside(table, PIDTAB_CONTROLS, n[0], n[1], to->ids, room, &to->count);
 		return true;
 	}
 	if (strcmp(word, "control_tasks") == 0) {
 		to->tells = TELLS_NUMBERS;
-		to->status = ASKED(control_tasks, (uint32_t)n[0], n[1], (uint32_t)n[2], to->numbers, room, &to->reply);
+		to->status = pidtab_control_tasks(table, (uint32_t)n[0], n[1], (uint32_t)n[2], to->numbers, room, &to->reply);
 		return true;
 	}
 	return false;
@@ -507,13 +515,13 @@ static bool read_question(const char *word, const uint64_t *numbers)
 {
 	struct answered it = { 0 }, other = { 0 }, cut = { 0 };
 
-	if (!ask_question(word, NULL, numbers, LISTED, &it))
+	if (!ask_question(word, &shared, numbers, LISTED, &it))
 		return false;
 	for (int i = 0; i < 3 && has_tables; i++) {
 		other = (struct answered){ 0 };
 		CHECK(ask_question(word, &tables[i], numbers, LISTED, &other) && same_answer(&it, &other));
 	}
-	CHECK(ask_question(word, NULL, numbers, 1, &cut) && cut.status == it.status && same_reply(&cut.reply, &it.reply) && cut.count == it.count);
+	CHECK(ask_question(word, &shared, numbers, 1, &cut) && cut.status == it.status && same_reply(&cut.reply, &it.reply) && cut.count == it.count);
 	CHECK(cut.numbers[0] == it.numbers[0] && cut.ids[0] == it.ids[0] && cut.numbers[1] == 0 && cut.ids[1] == 0);
 	if (!done(it.status))
 		return true;
@@ -537,25 +545,25 @@ static bool read_history(const char *word, const uint64_t *numbers)
 	size_t size = 0;
 
 	if (strcmp(word, "counts") == 0) {
-		if (done(pidtab_shared_counts(&shared, &first, &second)))
+		if (done(pidtab_counts(&shared, &first, &second)))
 			sprintf(told, "%" PRIu64 " %" PRIu64, first, second);
 	} else if (strcmp(word, "worker") == 0) {
-		if (done(pidtab_shared_worker(&shared, (uint32_t)numbers[0], &first)))
+		if (done(pidtab_worker(&shared, (uint32_t)numbers[0], &first)))
 			sprintf(told, "%" PRIu64, first);
 	} else if (strcmp(word, "entry") == 0) {
-		if (done(pidtab_shared_entry(&shared, numbers[0], &first, &call, &reply))) {
+		if (done(pidtab_entry(&shared, numbers[0], &first, &call, &reply))) {
 			char line[PIDTAB_LONGEST_CALL], answer[PIDTAB_LONGEST_ANSWER + 1];
 			CHECK(pidtab_call_line(&call, line, sizeof line, &size) == PIDTAB_DONE);
 			say(answer, &reply);
 			sprintf(told, "%" PRIu64 " %.*s: %s", first, (int)size, line, answer);
 		}
 	} else if (strcmp(word, "read") == 0) {
-		if (done(pidtab_shared_read(&shared, numbers[0], entries, numbers[1], &size)))
+		if (done(pidtab_read(&shared, numbers[0], entries, numbers[1], &size)))
 			sprintf(told, "%zu", size);
 	} else if (strcmp(word, "checkpoint") == 0) {
-		strcpy(told, done(pidtab_shared_checkpoint(&shared)) ? "DONE" : told);
+		strcpy(told, done(pidtab_checkpoint(&shared)) ? "DONE" : told);
 	} else if (strcmp(word, "checkpoint_at") == 0) {
-		if (done(pidtab_shared_checkpoint_at(&shared, numbers[0])))
+		if (done(pidtab_checkpoint_at(&shared, numbers[0])))
 			strcpy(told, "DONE");
 	} else {
 		return false;
@@ -567,40 +575,40 @@ static bool read_history(const char *word, const uint64_t *numbers)
 static bool same_text(const char *word)
 {
 	char *found = calloc(1, TEXT);
-	struct pidtab_record *record = pidtab_shared_lock(&shared);
+	struct pidtab *held = pidtab_lock(&shared);
 	bool is_list = strcmp(word, "list") == 0, is_dump = strcmp(word, "dump") == 0;
 	size_t size = 0;
-	uint32_t status = is_list ? pidtab_record_list(record, found, TEXT, &size) : is_dump ? pidtab_record_dump(record, found, TEXT, &size)
-		: pidtab_record_opening(record, found, TEXT, &size);
+	uint32_t status = is_list ? pidtab_list(held, found, TEXT, &size) : is_dump ? pidtab_dump(held, found, TEXT, &size)
+		: pidtab_opening(held, found, TEXT, &size);
 	bool same = status == PIDTAB_DONE && size == strlen(text) && memcmp(found, text, size) == 0;
 
-	pidtab_shared_unlock(&shared);
+	pidtab_unlock(&shared);
 	for (int i = 0; i < 3 && has_tables && (is_list || is_dump); i++)
 		CHECK((is_list ? pidtab_list : pidtab_dump)(&tables[i], found, TEXT, &size) == PIDTAB_DONE && size == strlen(text) && memcmp(found, text, size) == 0);
 	free(found);
 	return same;
 }
 
-/* The history on a second record: the same replies, counts and list; or it stops at an entry with another reply, or of a worker that is none. */
+/* The history on a second table: the same replies, counts and list; or it stops at an entry with another reply, or of a worker that is none. */
 static void replay(const char *change, uint64_t at)
 {
-	struct pidtab_record again = PIDTAB_RECORD_INIT;
+	struct pidtab again = PIDTAB_INIT;
 	bool differs = change && strcmp(change, "differs") == 0;
 	uint64_t first, recorded;
 	size_t count, place;
 
-	CHECK(pidtab_shared_read(&shared, 0, entries, ENTRIES, &count) == PIDTAB_DONE && pidtab_record_open(&again, bound, 1, workers) == PIDTAB_DONE);
+	CHECK(pidtab_read(&shared, 0, entries, ENTRIES, &count) == PIDTAB_DONE && open_history(&again, bound, 1, workers) == PIDTAB_DONE);
 	if (change)
 		*(differs ? &entries[at].reply.second : &entries[at].worker) += workers;
-	CHECK(pidtab_record_replay(&again, entries, count, &place) == (!change ? PIDTAB_DONE : differs ? (uint32_t)PIDTAB_DIFFERS : PIDTAB_OUT_OF_RANGE));
-	CHECK(pidtab_record_counts(&again, &first, &recorded) == PIDTAB_DONE && first == 0);
+	CHECK(pidtab_replay(&again, entries, count, &place) == (!change ? PIDTAB_DONE : differs ? (uint32_t)PIDTAB_DIFFERS : PIDTAB_OUT_OF_RANGE));
+	CHECK(pidtab_counts(&again, &first, &recorded) == PIDTAB_DONE && first == 0);
 	CHECK(place == (change ? at : count) && recorded == (change ? at + differs : count));
 	if (!change) {
-		CHECK(pidtab_record_list(&again, text, TEXT - 1, &count) == PIDTAB_DONE);
+		CHECK(pidtab_list(&again, text, TEXT - 1, &count) == PIDTAB_DONE);
 		text[count] = 0;
 		CHECK(same_text("list"));
 	}
-	CHECK(pidtab_record_close(&again) == PIDTAB_DONE);
+	CHECK(pidtab_close(&again) == PIDTAB_DONE);
 }
 
 /* No table is made of the text with a byte changed, or with its end cut off. */
@@ -632,7 +640,7 @@ static void end_case(void)
 {
 	uint64_t first = 1, recorded;
 
-	if (is_whole && pidtab_shared_counts(&shared, &first, &recorded) == PIDTAB_DONE && first == 0)
+	if (is_whole && pidtab_counts(&shared, &first, &recorded) == PIDTAB_DONE && first == 0)
 		replay(NULL, 0);
 }
 

@@ -1,6 +1,5 @@
 /* Tests of the live tasks of a control group: by hand, and beside a search that reads each task by itself. */
 #include "test.h"
-#include "pidtab_shared.h"
 #include "test_heap.h"
 #include "test_tasks.h"
 #include "test_page.h"
@@ -242,13 +241,13 @@ static void are_as_searched(void)
 	CHECK(several > 50 && nested > 50 && fewer > 50 && short_of_room > 50 && no_group > 50);
 }
 
-static struct pidtab_record record = PIDTAB_RECORD_INIT;
+static struct pidtab kept = PIDTAB_INIT;
 
 static uint32_t read_recorded(const void *asked, uint32_t from, struct page *it, size_t room)
 {
 	const struct asked *of = asked;
 
-	return pidtab_record_control_tasks(&record, of->caller, of->control, from, it->numbers, room, &it->reply);
+	return pidtab_control_tasks(&kept, of->caller, of->control, from, it->numbers, room, &it->reply);
 }
 
 /* The stamps are used up, and a read uses none. */
@@ -263,18 +262,18 @@ static void of_a_record(void)
 	clear(&it);
 	CHECK(read_recorded(&root, 0, &it, MOST) == PIDTAB_CLOSED);
 	is_untold(&it);
-	CHECK(pidtab_record_open(&record, 32768, UINT64_MAX - 1, 1) == PIDTAB_DONE);
-	CHECK(pidtab_record_call(&record, 0, &fork, &reply, &ordinal) == PIDTAB_DONE && pidtab_record_call(&record, 0, &fork, &reply, &ordinal) == PIDTAB_SPENT);
+	CHECK(open_history(&kept, 32768, UINT64_MAX - 1, 1) == PIDTAB_DONE);
+	CHECK(pidtab_call_by(&kept, 0, &fork, &reply, &ordinal) == PIDTAB_DONE && pidtab_call_by(&kept, 0, &fork, &reply, &ordinal) == PIDTAB_SPENT);
 	pages_have(read_recorded, &root, (const uint32_t[]){ 1, 2 }, 2);
 	pages_want_memory(read_recorded, &root, MOST, (const uint32_t[]){ 1, 2 }, 2);
 	CHECK(read_recorded(&nobody, 0, &it, MOST) == PIDTAB_DONE && it.reply.kind == PIDTAB_REFUSED && it.reply.refusal == PIDTAB_NO_CONTROL);
-	record.in_use = UINT8_MAX;
+	kept.in_use = UINT8_MAX;
 	clear(&it);
 	CHECK(read_recorded(&root, 0, &it, MOST) == PIDTAB_BUSY);
 	is_untold(&it);
-	record.in_use = 0;
-	CHECK(pidtab_record_counts(&record, &first_kept, &recorded) == PIDTAB_DONE && recorded == 1);
-	CHECK(pidtab_record_close(&record) == PIDTAB_DONE);
+	kept.in_use = 0;
+	CHECK(pidtab_counts(&kept, &first_kept, &recorded) == PIDTAB_DONE && recorded == 1);
+	CHECK(pidtab_close(&kept) == PIDTAB_DONE);
 }
 
 int main(void)

@@ -1,6 +1,5 @@
 /* Tests of calls that tell what they did, by hand. */
 #include "test.h"
-#include "pidtab_shared.h"
 #include "test_heap.h"
 #include "test_text.h"
 #include "test_effects.h"
@@ -299,16 +298,16 @@ static void others_have_none(void)
 	close_table();
 }
 
-/* Two stamps are left: a table goes on by the text of a record. A call that finds no room takes none. */
+/* Two stamps are left: a table without a history goes on by the text of one with it. A call that finds no room takes none. */
 static void spent(void)
 {
-	struct pidtab_record record = PIDTAB_RECORD_INIT;
+	struct pidtab kept = PIDTAB_INIT;
 	struct pidtab_fault fault;
 	struct pidtab_call exits = exit_of(2, 0);
 	size_t size = 0;
 
-	CHECK(pidtab_record_open(&record, 32768, UINT64_MAX - 2, 1) == PIDTAB_DONE);
-	CHECK(pidtab_record_dump(&record, texts[0], sizeof texts[0], &size) == PIDTAB_DONE && pidtab_record_close(&record) == PIDTAB_DONE);
+	CHECK(open_history(&kept, 32768, UINT64_MAX - 2, 1) == PIDTAB_DONE);
+	CHECK(pidtab_dump(&kept, texts[0], sizeof texts[0], &size) == PIDTAB_DONE && pidtab_close(&kept) == PIDTAB_DONE);
 	CHECK(pidtab_load(&table, texts[0], size, &fault) == PIDTAB_DONE);
 	forks(1, 0, 2);
 	HAS(exits, 4, ENDED(2, 0));
@@ -392,12 +391,12 @@ static void want_of_memory(void)
 	close_table();
 }
 
-static struct pidtab_record record = PIDTAB_RECORD_INIT;
+static struct pidtab kept = PIDTAB_INIT;
 
 static uint32_t make_recorded(struct told *it, uint32_t worker, struct pidtab_call call, size_t room)
 {
 	clear(it);
-	return pidtab_record_call_told(&record, worker, &call, &it->reply, &it->ordinal, it->effects, room, &it->count);
+	return pidtab_call_told_by(&kept, worker, &call, &it->reply, &it->ordinal, it->effects, room, &it->count);
 }
 
 /* Nothing is made, and nothing recorded. */
@@ -405,11 +404,11 @@ static void record_status_is(uint32_t worker, struct pidtab_call call, size_t ro
 {
 	struct told it;
 	uint64_t first_kept, was = 0, recorded = 0;
-	uint32_t counted = pidtab_record_counts(&record, &first_kept, &was);
+	uint32_t counted = pidtab_counts(&kept, &first_kept, &was);
 
 	CHECK(make_recorded(&it, worker, call, room) == status && it.ordinal == UNTOLD);
 	is_untold(&it, status == PIDTAB_NO_ROOM ? 4 : UNTOLD);
-	CHECK(pidtab_record_counts(&record, &first_kept, &recorded) == counted && recorded == was);
+	CHECK(pidtab_counts(&kept, &first_kept, &recorded) == counted && recorded == was);
 }
 
 static void open_record(uint64_t first_stamp)
@@ -418,8 +417,8 @@ static void open_record(uint64_t first_stamp)
 	struct pidtab_reply reply;
 	uint64_t ordinal;
 
-	CHECK(pidtab_record_open(&record, 32768, first_stamp, 2) == PIDTAB_DONE);
-	CHECK(pidtab_record_call(&record, 0, &fork, &reply, &ordinal) == PIDTAB_DONE && reply.second == 2);
+	CHECK(open_history(&kept, 32768, first_stamp, 2) == PIDTAB_DONE);
+	CHECK(pidtab_call_by(&kept, 0, &fork, &reply, &ordinal) == PIDTAB_DONE && reply.second == 2);
 }
 
 static void each_status_of_a_record(void)
@@ -435,20 +434,20 @@ static void each_status_of_a_record(void)
 	record_status_is(2, exit_of(2, 6), 0, PIDTAB_OUT_OF_RANGE);
 	record_status_is(0, exit_of(2, 6), 0, PIDTAB_NO_ROOM);
 	record_status_is(0, exit_of(2, 6), 3, PIDTAB_NO_ROOM);
-	record.in_use = 1;
+	kept.in_use = 1;
 	CHECK(make_recorded(&it, 0, exit_of(2, 6), MOST) == PIDTAB_BUSY && it.ordinal == UNTOLD);
 	is_untold(&it, UNTOLD);
-	record.in_use = 0;
+	kept.in_use = 0;
 	CHECK(make_recorded(&it, 1, exit_of(2, 6), 4) == PIDTAB_DONE && it.ordinal == 1 && it.reply.kind == PIDTAB_OK);
 	CHECK(it.count == 1 && memcmp(it.effects, &ended, sizeof ended) == 0 && is_rest_untold(&it, 1));
-	CHECK(pidtab_record_read(&record, 1, &entry, 1, &count) == PIDTAB_DONE && count == 1 && entry.worker == 1 && is_same_reply(&entry.reply, &it.reply));
+	CHECK(pidtab_read(&kept, 1, &entry, 1, &count) == PIDTAB_DONE && count == 1 && entry.worker == 1 && is_same_reply(&entry.reply, &it.reply));
 	CHECK(entry.call.operation == PIDTAB_EXIT && entry.call.caller == 2 && entry.call.number == 6);
-	CHECK(pidtab_record_close(&record) == PIDTAB_DONE);
+	CHECK(pidtab_close(&kept) == PIDTAB_DONE);
 	/* One stamp was left, and the fork took it. */
 	open_record(UINT64_MAX - 1);
 	record_status_is(0, exit_of(2, 6), MOST, PIDTAB_SPENT);
 	record_status_is(2, exit_of(2, 6), MOST, PIDTAB_OUT_OF_RANGE);
-	CHECK(pidtab_record_close(&record) == PIDTAB_DONE);
+	CHECK(pidtab_close(&kept) == PIDTAB_DONE);
 }
 
 /* Each allocation finds no memory in turn: so many. At last the call is made, and has so many effects. */
@@ -485,16 +484,16 @@ static void want_of_memory_for_a_record(void)
 		refused += recorded_at_last((struct pidtab_call){ .operation = PIDTAB_FORK, .caller = 1 }, 0);
 	}
 	CHECK(refused > MANY);
-	CHECK(pidtab_record_counts(&record, &first_kept, &recorded) == PIDTAB_DONE && recorded == 3 * (MANY - 2) + 1);
-	CHECK(pidtab_record_close(&record) == PIDTAB_DONE);
+	CHECK(pidtab_counts(&kept, &first_kept, &recorded) == PIDTAB_DONE && recorded == 3 * (MANY - 2) + 1);
+	CHECK(pidtab_close(&kept) == PIDTAB_DONE);
 }
 
-static struct pidtab_shared shared;
+static struct pidtab shared;
 
 static uint32_t share(struct told *it, uint32_t worker, struct pidtab_call call, size_t room)
 {
 	clear(it);
-	return pidtab_shared_call_told(&shared, worker, &call, &it->reply, &it->ordinal, it->effects, room, &it->count);
+	return pidtab_call_told_by(&shared, worker, &call, &it->reply, &it->ordinal, it->effects, room, &it->count);
 }
 
 /* A fork that has no effects. The id of a new namespace is the stamp of the fork: the first call has 1, and the ordinal 0. */
@@ -514,7 +513,7 @@ static void *ends_namespaces(void *unused)
 {
 	uint32_t worker;
 
-	CHECK(unused == NULL && pidtab_shared_seat(&shared, &worker) == PIDTAB_DONE);
+	CHECK(unused == NULL && pidtab_seat(&shared, &worker) == PIDTAB_DONE);
 	for (int round = 0; round < ROUNDS; round++) {
 		struct pidtab_effect wanted[2 + 2 * INSIDE], waited[2];
 		uint64_t space;
@@ -547,7 +546,7 @@ static void threads_end_namespaces(void)
 	struct pidtab_reply reply;
 	struct told it;
 
-	CHECK(pidtab_shared_open(&shared, 32768, 1, WORKERS, 10) == PIDTAB_DONE);
+	CHECK(open_threads(&shared, 32768, 1, WORKERS, 10) == PIDTAB_DONE);
 	CHECK(share(&it, WORKERS, wait_1, MOST) == PIDTAB_OUT_OF_RANGE);
 	is_untold(&it, UNTOLD);
 	for (int i = 0; i < WORKERS; i++)
@@ -555,9 +554,9 @@ static void threads_end_namespaces(void)
 	for (int i = 0; i < WORKERS; i++)
 		CHECK(pthread_join(threads[i], NULL) == 0);
 	/* None that found no room was recorded, and no more are kept than may be. */
-	CHECK(pidtab_shared_counts(&shared, &first_kept, &recorded) == PIDTAB_DONE && recorded == WORKERS * ROUNDS * (INSIDE + 3) && first_kept == recorded - 10);
-	CHECK(pidtab_shared_ask(&shared, &count_all, &reply) == PIDTAB_DONE && reply.first == 1);
-	pidtab_shared_close(&shared);
+	CHECK(pidtab_counts(&shared, &first_kept, &recorded) == PIDTAB_DONE && recorded == WORKERS * ROUNDS * (INSIDE + 3) && first_kept == recorded - 10);
+	CHECK(pidtab_ask(&shared, &count_all, &reply) == PIDTAB_DONE && reply.first == 1);
+	pidtab_close(&shared);
 }
 
 int main(void)

@@ -14,7 +14,7 @@
 #define ENTRY "calls 4 1 2 4 a23d48e1e3a92dc8\nfork 1\ngetpid 2"
 
 struct held {
-	struct pidtab table, followed, record, replayed;
+	struct pidtab table, followed, recorded, replayed;
 	struct pidtab_replica replica, late;
 };
 static struct held *held;
@@ -78,11 +78,12 @@ static void calls_by(struct pidtab *table, uint32_t worker)
 		TRY(6, proved_getsid_of(table, call.caller, call.number, &number));
 		TRY(7, proved_next_of(table, call.caller, call.choice, call.number, &number));
 		TRY(8, proved_count_of(table, call.id, &number));
-		TRY(9, proved_call_keeping(table, worker, &call, 64, &reply, &ordinal));
+		TRY(9, proved_call(table, &call, &reply));
+		TRY(11, proved_call_keeping(table, worker, &call, 64, &reply, &ordinal));
 		CHECK(proved_would(table, &a_fork, &reply) == PIDTAB_DONE);
 		TRY(10, proved_fork_at_by(table, worker, 1, false, (uint32_t)reply.first, (uint32_t)reply.second, &reply, &ordinal));
 	}
-	each_was_done(11);
+	each_was_done(12);
 }
 
 /* A table without a history has worker 0 alone, and no history to tell or to cut. No function of the headers asks for that. */
@@ -103,18 +104,18 @@ static void on_table(void)
 	CHECK(proved_replay(&held->table, &entry, 1, &count) == PIDTAB_NO_HISTORY && proved_calls(&held->table, 0, &call, 1, &reply, 1, &count, &first) == PIDTAB_NO_HISTORY);
 }
 
-static void on_record(void)
+static void on_recorded(void)
 {
 	struct pidtab_call calls[2] = { random_call(), random_call() };
 	struct pidtab_reply reply, replies[2];
 	uint64_t ordinal;
 	size_t made;
 
-	calls_by(&held->record, 1);
-	CHECK(proved_calls(&held->record, 1, calls, 2, replies, 2, &made, &ordinal) == PIDTAB_DONE);
-	CHECK(proved_keep(&held->record, 5) == PIDTAB_DONE && proved_checkpoint(&held->record) == PIDTAB_DONE);
-	CHECK(proved_call_by(&held->record, 0, &(struct pidtab_call){ .operation = PIDTAB_GETPID, .caller = 1 }, &reply, &ordinal) == PIDTAB_DONE);
-	CHECK(proved_checkpoint_at(&held->record, ordinal + 1) == PIDTAB_DONE);
+	calls_by(&held->recorded, 1);
+	CHECK(proved_calls(&held->recorded, 1, calls, 2, replies, 2, &made, &ordinal) == PIDTAB_DONE);
+	CHECK(proved_keep(&held->recorded, 5) == PIDTAB_DONE && proved_checkpoint(&held->recorded) == PIDTAB_DONE);
+	CHECK(proved_call_by(&held->recorded, 0, &(struct pidtab_call){ .operation = PIDTAB_GETPID, .caller = 1 }, &reply, &ordinal) == PIDTAB_DONE);
+	CHECK(proved_checkpoint_at(&held->recorded, ordinal + 1) == PIDTAB_DONE);
 }
 
 static void on_replayed(void)
@@ -131,7 +132,7 @@ static void on_replica(void)
 	struct pidtab_applied applied;
 	size_t size = 0, used = 0;
 
-	CHECK(proved_replica_apply(&held->replica, &held->record, 3, SETTINGS, strlen(SETTINGS), &applied) == PIDTAB_OUT_OF_RANGE);
+	CHECK(proved_replica_apply(&held->replica, &held->recorded, 3, SETTINGS, strlen(SETTINGS), &applied) == PIDTAB_OUT_OF_RANGE);
 	CHECK(proved_replica_apply(&held->replica, &held->followed, 3, SETTINGS, strlen(SETTINGS), &applied) == PIDTAB_DONE);
 	CHECK(proved_replica_apply(&held->replica, &held->followed, 4, "open", 4, &applied) == PIDTAB_DONE);
 	CHECK(proved_replica_apply(&held->replica, &held->followed, 6, ENTRY, strlen(ENTRY), &applied) == PIDTAB_DONE);
@@ -147,28 +148,48 @@ static void closing_is_stopped(void)
 
 	if (child == 0) {
 		signal(SIGSEGV, SIG_DFL);
-		proved_close(&held->record);
+		proved_close(&held->recorded);
 		_exit(0);
 	}
 	CHECK(child > 0 && waitpid(child, &status, 0) == child && WIFSIGNALED(status) && WTERMSIG(status) == SIGSEGV);
 }
 
+static uint32_t opened(struct pidtab *table, uint32_t pid_max, uint32_t workers, uint64_t first_stamp, uint64_t keep)
+{
+	const struct pidtab_settings settings = { pid_max, workers, first_stamp, keep, false };
+
+	return proved_open_with(table, &settings);
+}
+
+/* A 0 is a default for the functions of the headers alone. */
+static void no_defaults(void)
+{
+	struct pidtab none = PIDTAB_INIT;
+	struct pidtab_fault fault = { 7, 7 };
+
+	CHECK(opened(&none, 0, 1, 1, 1) == PIDTAB_OUT_OF_RANGE && opened(&none, 32768, 0, 1, 1) == PIDTAB_OUT_OF_RANGE);
+	CHECK(opened(&none, 32768, 1, 0, 1) == PIDTAB_OUT_OF_RANGE && opened(&none, 32768, 0, 1, 0) == PIDTAB_OUT_OF_RANGE);
+	CHECK(proved_load_with(&none, "", 0, &(uint64_t){ 0 }, 0, true, &fault) == PIDTAB_OUT_OF_RANGE && fault.line == 0 && fault.kind == 0);
+	CHECK(none.at == NULL && !none.is_open);
+}
+
 int main(void)
 {
+	no_defaults();
 	held = mmap(NULL, sizeof *held, PROT_READ | PROT_WRITE, MAP_PRIVATE | MAP_ANONYMOUS, -1, 0);
-	CHECK(held != MAP_FAILED && proved_open(&held->table, 32768) == PIDTAB_DONE && proved_open(&held->followed, 4194304) == PIDTAB_DONE);
-	CHECK(proved_open_with(&held->record, 32768, 1, 2) == PIDTAB_DONE && proved_open_with(&held->replayed, 32768, 1, 1) == PIDTAB_DONE);
+	CHECK(held != MAP_FAILED && opened(&held->table, 32768, 1, 1, 0) == PIDTAB_DONE && opened(&held->followed, 4194304, 1, 1, 0) == PIDTAB_DONE);
+	CHECK(opened(&held->recorded, 32768, 2, 1, 1) == PIDTAB_DONE && opened(&held->replayed, 32768, 1, 1, 1) == PIDTAB_DONE);
 	CHECK(proved_replica_open(&held->replica, 4194304, 1) == PIDTAB_DONE && proved_replica_open(&held->late, 4194304, 1) == PIDTAB_DONE);
 	signal(SIGSEGV, tell);
 	protect(PROT_READ);
 	on_table();
-	on_record();
+	on_recorded();
 	on_replayed();
 	on_replica();
 	closing_is_stopped();
 	protect(PROT_READ | PROT_WRITE);
 	proved_close(&held->table), proved_close(&held->followed);
-	proved_close(&held->record), proved_close(&held->replayed);
+	proved_close(&held->recorded), proved_close(&held->replayed);
 	proved_replica_close(&held->replica), proved_replica_close(&held->late);
 	return 0;
 }

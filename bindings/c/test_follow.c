@@ -1,7 +1,6 @@
 /* A dump for which no call waits: while threads make calls, a replica follows them and is dumped. Each text is that of the state at the
  * ordinal that was told with it: a table that makes the calls up to there, alone, has the same text. */
 #include "test.h"
-#include "pidtab_shared.h"
 
 #include <sched.h>
 #include <stdatomic.h>
@@ -10,7 +9,7 @@
 #define DUMPS 6
 #define AHEAD 20000
 
-static struct pidtab_shared shared;
+static struct pidtab shared;
 
 /* How many calls were made, how many of them the last dump had, and whether there are dumps enough. */
 static atomic_ullong made, dumped;
@@ -28,7 +27,7 @@ static void makes(uint32_t worker, struct pidtab_call call, struct pidtab_reply 
 {
 	uint64_t ordinal;
 
-	CHECK(pidtab_shared_call(&shared, worker, &call, reply, &ordinal) == PIDTAB_DONE);
+	CHECK(pidtab_call_by(&shared, worker, &call, reply, &ordinal) == PIDTAB_DONE);
 	atomic_fetch_add(&made, 1);
 }
 
@@ -38,7 +37,7 @@ static void *serves(void *unused)
 	struct pidtab_reply reply;
 	uint32_t worker;
 
-	CHECK(pidtab_shared_seat(&shared, &worker) == PIDTAB_DONE);
+	CHECK(pidtab_seat(&shared, &worker) == PIDTAB_DONE);
 	for (int i = 0; !atomic_load(&enough); i++) {
 		makes(worker, (struct pidtab_call){ .operation = PIDTAB_FORK, .caller = 1, .choice = i % 100 == 0 }, &reply);
 		uint32_t child = (uint32_t)reply.second;
@@ -60,7 +59,7 @@ static void dump(struct pidtab *table, struct text *text)
 
 static void follow(struct pidtab *replica, uint64_t *next, struct text *text)
 {
-	CHECK(pidtab_shared_follow(&shared, replica, next) == PIDTAB_DONE);
+	CHECK(pidtab_follow(&shared, replica, next) == PIDTAB_DONE);
 	dump(replica, text);
 	text->next = *next;
 	atomic_store(&dumped, *next);
@@ -79,7 +78,7 @@ static void check_texts(void)
 	CHECK(pidtab_open(&alone, 4194304) == PIDTAB_DONE);
 	for (int i = 0; i < DUMPS; i++) {
 		for (; done < texts[i].next; done++) {
-			CHECK(pidtab_shared_read(&shared, done, &entry, 1, &count) == PIDTAB_DONE && count == 1);
+			CHECK(pidtab_read(&shared, done, &entry, 1, &count) == PIDTAB_DONE && count == 1);
 			CHECK(pidtab_call(&alone, &entry.call, &reply) == PIDTAB_DONE);
 		}
 		dump(&alone, &text);
@@ -97,7 +96,7 @@ static void under_load(void)
 	uint64_t next = 0;
 
 	CHECK(pidtab_open(&replica, 4194304) == PIDTAB_DONE);
-	CHECK(pidtab_shared_open(&shared, 4194304, 1, WORKERS, 0) == PIDTAB_DONE);
+	CHECK(open_threads(&shared, 4194304, 1, WORKERS, PIDTAB_KEEP_ALL) == PIDTAB_DONE);
 	for (int i = 0; i < WORKERS; i++)
 		CHECK(pthread_create(&threads[i], NULL, serves, NULL) == 0);
 	for (int i = 0; i < DUMPS - 1; i++) {
@@ -112,7 +111,7 @@ static void under_load(void)
 	CHECK(next == atomic_load(&made));
 	check_texts();
 	pidtab_close(&replica);
-	pidtab_shared_close(&shared);
+	pidtab_close(&shared);
 }
 
 /* A replica that is closed, one that lacks a call which was cut away, and one that is none. */
@@ -123,25 +122,25 @@ static void refuses(void)
 	struct pidtab_reply reply;
 	uint64_t next = 0;
 
-	CHECK(pidtab_shared_open(&shared, 32768, 1, 1, 3) == PIDTAB_DONE);
+	CHECK(open_threads(&shared, 32768, 1, 1, 3) == PIDTAB_DONE);
 	for (int i = 0; i < 3; i++)
 		makes(0, fork_1, &reply);
-	CHECK(pidtab_shared_follow(&shared, &replica, &next) == PIDTAB_CLOSED && next == 0);
+	CHECK(pidtab_follow(&shared, &replica, &next) == PIDTAB_CLOSED && next == 0);
 	CHECK(pidtab_open(&replica, 32768) == PIDTAB_DONE);
-	CHECK(pidtab_shared_follow(&shared, &replica, &next) == PIDTAB_DONE && next == 3);
+	CHECK(pidtab_follow(&shared, &replica, &next) == PIDTAB_DONE && next == 3);
 	makes(0, fork_1, &reply);
-	CHECK(pidtab_shared_follow(&shared, &replica, &next) == PIDTAB_DONE && next == 4);
+	CHECK(pidtab_follow(&shared, &replica, &next) == PIDTAB_DONE && next == 4);
 	CHECK(pidtab_call(&replica, &fork_1, &reply) == PIDTAB_DONE && reply.first == 6);
 	makes(0, fork_1, &reply);
 	CHECK(reply.first == 6);
-	CHECK(pidtab_shared_follow(&shared, &replica, &next) == PIDTAB_DIFFERS && next == 5);
+	CHECK(pidtab_follow(&shared, &replica, &next) == PIDTAB_DIFFERS && next == 5);
 	for (next = 1; next < 9; next += 5)
-		CHECK(pidtab_shared_follow(&shared, &replica, &next) == PIDTAB_NOT_KEPT && next % 5 == 1);
+		CHECK(pidtab_follow(&shared, &replica, &next) == PIDTAB_NOT_KEPT && next % 5 == 1);
 	pidtab_close(&replica);
-	pidtab_shared_close(&shared);
+	pidtab_close(&shared);
 }
 
-/* A replica that begins as a loaded record does, by the same text. */
+/* A replica that begins as a loaded table does, by the same text. */
 static void goes_on_from_a_text(void)
 {
 	const struct pidtab_call fork_1 = { .operation = PIDTAB_FORK, .caller = 1 };
@@ -155,10 +154,10 @@ static void goes_on_from_a_text(void)
 	CHECK(pidtab_open(&before, 32768) == PIDTAB_DONE);
 	CHECK(pidtab_call(&before, &fork_1, &reply) == PIDTAB_DONE && pidtab_call(&before, &fork_1, &reply) == PIDTAB_DONE);
 	dump(&before, &text);
-	CHECK(pidtab_shared_load(&shared, text.bytes, text.size, counts, 1, 2, &fault) == PIDTAB_DONE);
+	CHECK(load_threads(&shared, text.bytes, text.size, counts, 1, 2, &fault) == PIDTAB_DONE);
 	CHECK(pidtab_load(&replica, text.bytes, text.size, &fault) == PIDTAB_DONE);
 	makes(0, fork_1, &reply);
-	CHECK(pidtab_shared_follow(&shared, &replica, &next) == PIDTAB_DONE && next == 3);
+	CHECK(pidtab_follow(&shared, &replica, &next) == PIDTAB_DONE && next == 3);
 	CHECK(pidtab_call(&before, &fork_1, &reply) == PIDTAB_DONE);
 	dump(&before, &told);
 	dump(&replica, &other);
@@ -168,7 +167,7 @@ static void goes_on_from_a_text(void)
 	free(other.bytes);
 	pidtab_close(&before);
 	pidtab_close(&replica);
-	pidtab_shared_close(&shared);
+	pidtab_close(&shared);
 }
 
 int main(void)

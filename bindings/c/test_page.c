@@ -1,6 +1,5 @@
 /* Tests of pages: the children of a task, and the members of a process group or of a session, beside a search that reads each task by itself. */
 #include "test.h"
-#include "pidtab_shared.h"
 #include "test_heap.h"
 #include "test_tasks.h"
 #include "test_page.h"
@@ -311,42 +310,42 @@ static void are_as_searched(void)
 
 static void of_a_record(void)
 {
-	struct pidtab_record record = PIDTAB_RECORD_INIT;
+	struct pidtab kept = PIDTAB_INIT;
 	struct pidtab_call fork = { .operation = PIDTAB_FORK, .caller = 1 };
 	uint64_t ordinal, first_kept, recorded;
 	struct pidtab_reply reply;
 	struct page it;
 
 	clear(&it);
-	CHECK(pidtab_record_page(&record, 1, PIDTAB_CHILDREN, 0, 0, it.numbers, MOST, &it.reply) == PIDTAB_CLOSED);
-	CHECK(pidtab_record_open(&record, 32768, UINT64_MAX - 2, 1) == PIDTAB_DONE);
-	CHECK(pidtab_record_page(&record, 1, 5, 0, 0, it.numbers, MOST, &it.reply) == PIDTAB_OUT_OF_RANGE);
+	CHECK(pidtab_page(&kept, 1, PIDTAB_CHILDREN, 0, 0, it.numbers, MOST, &it.reply) == PIDTAB_CLOSED);
+	CHECK(open_history(&kept, 32768, UINT64_MAX - 2, 1) == PIDTAB_DONE);
+	CHECK(pidtab_page(&kept, 1, 5, 0, 0, it.numbers, MOST, &it.reply) == PIDTAB_OUT_OF_RANGE);
 	is_untold(&it);
-	CHECK(pidtab_record_call(&record, 0, &fork, &reply, &ordinal) == PIDTAB_DONE && pidtab_record_call(&record, 0, &fork, &reply, &ordinal) == PIDTAB_DONE);
+	CHECK(pidtab_call_by(&kept, 0, &fork, &reply, &ordinal) == PIDTAB_DONE && pidtab_call_by(&kept, 0, &fork, &reply, &ordinal) == PIDTAB_DONE);
 	/* The stamps are used up, and a page uses none. */
-	CHECK(pidtab_record_call(&record, 0, &fork, &reply, &ordinal) == PIDTAB_SPENT);
+	CHECK(pidtab_call_by(&kept, 0, &fork, &reply, &ordinal) == PIDTAB_SPENT);
 	for (int turn = 0; turn < 2; turn++) {
 		clear(&it);
-		CHECK(pidtab_record_page(&record, 1, PIDTAB_CHILDREN, 0, 0, it.numbers, MOST, &it.reply) == PIDTAB_DONE);
+		CHECK(pidtab_page(&kept, 1, PIDTAB_CHILDREN, 0, 0, it.numbers, MOST, &it.reply) == PIDTAB_DONE);
 		has_told(&it, MOST, (const uint32_t[]){ 2, 3 }, 2);
 		clear(&it);
 		refuse_at = 1;
-		CHECK(pidtab_record_page(&record, 1, PIDTAB_GROUP_MEMBERS, 0, 0, it.numbers, MOST, &it.reply) == PIDTAB_NO_MEMORY);
+		CHECK(pidtab_page(&kept, 1, PIDTAB_GROUP_MEMBERS, 0, 0, it.numbers, MOST, &it.reply) == PIDTAB_NO_MEMORY);
 		CHECK(refuse_at == 0);
 		is_untold(&it);
 	}
-	CHECK(pidtab_record_page(&record, 4, PIDTAB_CHILDREN, 0, 0, it.numbers, MOST, &it.reply) == PIDTAB_DONE && it.reply.refusal == PIDTAB_NO_CALLER);
-	CHECK(pidtab_record_counts(&record, &first_kept, &recorded) == PIDTAB_DONE && recorded == 2);
-	CHECK(pidtab_record_close(&record) == PIDTAB_DONE);
+	CHECK(pidtab_page(&kept, 4, PIDTAB_CHILDREN, 0, 0, it.numbers, MOST, &it.reply) == PIDTAB_DONE && it.reply.refusal == PIDTAB_NO_CALLER);
+	CHECK(pidtab_counts(&kept, &first_kept, &recorded) == PIDTAB_DONE && recorded == 2);
+	CHECK(pidtab_close(&kept) == PIDTAB_DONE);
 }
 
-static struct pidtab_shared shared;
+static struct pidtab shared;
 
 /* A page of the children, or of the live tasks of the root control group from 2 on: they are the same. */
 static uint32_t read_shared(bool by_control, uint32_t *numbers, size_t room, struct pidtab_reply *reply)
 {
-	return by_control ? pidtab_shared_control_tasks(&shared, 1, 0, 2, numbers, room, reply)
-			  : pidtab_shared_page(&shared, 1, PIDTAB_CHILDREN, 0, 0, numbers, room, reply);
+	return by_control ? pidtab_control_tasks(&shared, 1, 0, 2, numbers, room, reply)
+			  : pidtab_page(&shared, 1, PIDTAB_CHILDREN, 0, 0, numbers, room, reply);
 }
 
 /* They are 2, 3, 4 and so on, never fewer than before: what a page tells is of one moment. */
@@ -374,15 +373,15 @@ static void threads_read_beside_a_writer(void)
 	struct pidtab_reply reply;
 	uint32_t worker;
 
-	CHECK(pidtab_shared_open(&shared, 32768, 1, 1, 10) == PIDTAB_DONE && pidtab_shared_seat(&shared, &worker) == PIDTAB_DONE);
+	CHECK(open_threads(&shared, 32768, 1, 1, 10) == PIDTAB_DONE && pidtab_seat(&shared, &worker) == PIDTAB_DONE);
 	for (int i = 0; i < READERS; i++)
 		CHECK(pthread_create(&readers[i], NULL, reads_pages, NULL) == 0);
 	for (int i = 0; i < FORKS; i++)
-		CHECK(pidtab_shared_call(&shared, worker, &fork, &reply, &ordinal) == PIDTAB_DONE && reply.kind == PIDTAB_FORKED);
+		CHECK(pidtab_call_by(&shared, worker, &fork, &reply, &ordinal) == PIDTAB_DONE && reply.kind == PIDTAB_FORKED);
 	for (int i = 0; i < READERS; i++)
 		CHECK(pthread_join(readers[i], NULL) == 0);
-	CHECK(pidtab_shared_counts(&shared, &first_kept, &recorded) == PIDTAB_DONE && recorded == FORKS);
-	pidtab_shared_close(&shared);
+	CHECK(pidtab_counts(&shared, &first_kept, &recorded) == PIDTAB_DONE && recorded == FORKS);
+	pidtab_close(&shared);
 }
 
 int main(void)

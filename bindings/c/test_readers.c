@@ -1,12 +1,12 @@
-/* Tests of queries at the same time: each is answered while another is in the middle of one, a call is not; a change of a shared record
+/* Tests of queries at the same time: each is answered while another is in the middle of one, a call is not; a change of a table with threads
  * waits for them, and none passes it; many beside a writer see whole states; and none writes to the memory of a table. Built with and
  * without the sanitizer for threads. */
+#include "threads.h"
+
 #include "test.h"
 #include "test_hold.h"
-#include "pidtab_shared.h"
 
 #include <sys/mman.h>
-#include <time.h>
 #include <unistd.h>
 
 /* The heap that heap.c is built with here. One use waits until it is told to go on, where that is wanted. At first it is of two parts, which
@@ -71,8 +71,8 @@ static const struct pidtab_call getpid_1 = { .operation = PIDTAB_GETPID, .caller
 	count_all = { .operation = PIDTAB_COUNT };
 
 static struct pidtab table = PIDTAB_INIT;
-static struct pidtab_record record = PIDTAB_RECORD_INIT;
-static struct pidtab_shared shared;
+static struct pidtab kept = PIDTAB_INIT;
+static struct pidtab shared;
 
 /* Room for a list or a text, one for each thread. */
 struct text {
@@ -87,21 +87,21 @@ static void *lists(void *at)
 	return NULL;
 }
 
-static void *lists_record(void *at)
+static void *lists_recorded(void *at)
 {
 	struct text *text = at;
-	CHECK(pidtab_record_list(&record, text->bytes, sizeof text->bytes, &text->size) == PIDTAB_DONE);
+	CHECK(pidtab_list(&kept, text->bytes, sizeof text->bytes, &text->size) == PIDTAB_DONE);
 	return NULL;
 }
 
 static void *lists_shared(void *at)
 {
 	struct text *text = at;
-	CHECK(pidtab_shared_list(&shared, text->bytes, sizeof text->bytes, &text->size) == PIDTAB_DONE);
+	CHECK(pidtab_list(&shared, text->bytes, sizeof text->bytes, &text->size) == PIDTAB_DONE);
 	return NULL;
 }
 
-/* Each query of a table, and of a record: two tasks are there. */
+/* Each query of a table, without a history and with one: two tasks are there. */
 static void ask_table(const struct pidtab *it)
 {
 	struct pidtab_reply reply;
@@ -122,7 +122,7 @@ static void ask_table(const struct pidtab *it)
 	CHECK(pidtab_dump(it, text.bytes, sizeof text.bytes, &text.size) == PIDTAB_DONE && strncmp(text.bytes, "pidtab table 1 ", 15) == 0);
 }
 
-static void ask_record(const struct pidtab_record *it)
+static void ask_recorded(const struct pidtab *it)
 {
 	struct pidtab_reply reply;
 	struct pidtab_task task;
@@ -134,19 +134,19 @@ static void ask_record(const struct pidtab_record *it)
 	uint64_t ids[2], inside;
 	size_t count;
 
-	CHECK(pidtab_record_ask(it, &count_all, &reply) == PIDTAB_DONE && reply.kind == PIDTAB_COUNTED && reply.first == 2);
-	CHECK(pidtab_record_stat(it, 1, 2, &task) == PIDTAB_DONE && task.error == 0 && task.levels[0] == 2);
-	CHECK(pidtab_record_page(it, 1, PIDTAB_GROUP_MEMBERS, 0, 0, numbers, 2, &reply) == PIDTAB_DONE && reply.first == 2 && numbers[1] == 2);
-	CHECK(pidtab_record_space(it, 0, &space) == PIDTAB_DONE && space.init == 1 && pidtab_record_space(it, 1, &space) == PIDTAB_OUT_OF_RANGE);
-	CHECK(pidtab_record_inside(it, PIDTAB_CONTROLS, 0, 0, ids, 2, &inside) == PIDTAB_DONE && inside == 0);
-	CHECK(pidtab_record_control_tasks(it, 1, 0, 0, numbers, 2, &reply) == PIDTAB_DONE && reply.first == 2 && numbers[1] == 2);
-	CHECK(pidtab_record_counts(it, &first_kept, &recorded) == PIDTAB_DONE && first_kept == 0 && recorded == 1);
-	CHECK(pidtab_record_worker(it, 0, &calls) == PIDTAB_DONE && calls == 1);
-	CHECK(pidtab_record_entry(it, 0, &entry.worker, &entry.call, &entry.reply) == PIDTAB_DONE && entry.reply.first == 2);
-	CHECK(pidtab_record_read(it, 0, &entry, 1, &count) == PIDTAB_DONE && count == 1 && entry.call.operation == PIDTAB_FORK);
-	CHECK(pidtab_record_list(it, text.bytes, sizeof text.bytes, &text.size) == PIDTAB_DONE && strncmp(text.bytes, "task 1 ", 7) == 0);
-	CHECK(pidtab_record_opening(it, text.bytes, sizeof text.bytes, &text.size) == PIDTAB_DONE && strncmp(text.bytes, "task 1 ", 7) == 0);
-	CHECK(pidtab_record_dump(it, text.bytes, sizeof text.bytes, &text.size) == PIDTAB_DONE && strncmp(text.bytes, "pidtab table 1 ", 15) == 0);
+	CHECK(pidtab_ask(it, &count_all, &reply) == PIDTAB_DONE && reply.kind == PIDTAB_COUNTED && reply.first == 2);
+	CHECK(pidtab_stat(it, 1, 2, &task) == PIDTAB_DONE && task.error == 0 && task.levels[0] == 2);
+	CHECK(pidtab_page(it, 1, PIDTAB_GROUP_MEMBERS, 0, 0, numbers, 2, &reply) == PIDTAB_DONE && reply.first == 2 && numbers[1] == 2);
+	CHECK(pidtab_space(it, 0, &space) == PIDTAB_DONE && space.init == 1 && pidtab_space(it, 1, &space) == PIDTAB_OUT_OF_RANGE);
+	CHECK(pidtab_inside(it, PIDTAB_CONTROLS, 0, 0, ids, 2, &inside) == PIDTAB_DONE && inside == 0);
+	CHECK(pidtab_control_tasks(it, 1, 0, 0, numbers, 2, &reply) == PIDTAB_DONE && reply.first == 2 && numbers[1] == 2);
+	CHECK(pidtab_counts(it, &first_kept, &recorded) == PIDTAB_DONE && first_kept == 0 && recorded == 1);
+	CHECK(pidtab_worker(it, 0, &calls) == PIDTAB_DONE && calls == 1);
+	CHECK(pidtab_entry(it, 0, &entry.worker, &entry.call, &entry.reply) == PIDTAB_DONE && entry.reply.first == 2);
+	CHECK(pidtab_read(it, 0, &entry, 1, &count) == PIDTAB_DONE && count == 1 && entry.call.operation == PIDTAB_FORK);
+	CHECK(pidtab_list(it, text.bytes, sizeof text.bytes, &text.size) == PIDTAB_DONE && strncmp(text.bytes, "task 1 ", 7) == 0);
+	CHECK(pidtab_opening(it, text.bytes, sizeof text.bytes, &text.size) == PIDTAB_DONE && strncmp(text.bytes, "task 1 ", 7) == 0);
+	CHECK(pidtab_dump(it, text.bytes, sizeof text.bytes, &text.size) == PIDTAB_DONE && strncmp(text.bytes, "pidtab table 1 ", 15) == 0);
 }
 
 static void open_both(void)
@@ -155,8 +155,8 @@ static void open_both(void)
 	uint64_t ordinal;
 
 	CHECK(pidtab_open(&table, 32768) == PIDTAB_DONE && pidtab_fork(&table, 1, false, NULL) == 2);
-	CHECK(pidtab_record_open(&record, 32768, 1, 2) == PIDTAB_DONE);
-	CHECK(pidtab_record_call(&record, 0, &fork_1, &reply, &ordinal) == PIDTAB_DONE && reply.first == 2);
+	CHECK(open_history(&kept, 32768, 1, 2) == PIDTAB_DONE);
+	CHECK(pidtab_call_by(&kept, 0, &fork_1, &reply, &ordinal) == PIDTAB_DONE && reply.first == 2);
 }
 
 static pthread_t begin_held(void *(*works)(void *), struct text *text)
@@ -190,13 +190,13 @@ static void beside_a_query(void)
 	CHECK(first.size == second.size && memcmp(first.bytes, second.bytes, first.size) == 0);
 	CHECK(pidtab_fork(&table, 1, false, NULL) == 3 && table.in_use == 0);
 
-	other = begin_held(lists_record, &first);
-	ask_record(&record);
-	CHECK(pidtab_record_call(&record, 0, &fork_1, &reply, &ordinal) == PIDTAB_BUSY && reply.kind == 77 && ordinal == 77);
-	CHECK(pidtab_record_checkpoint(&record) == PIDTAB_BUSY && pidtab_record_close(&record) == PIDTAB_BUSY);
+	other = begin_held(lists_recorded, &first);
+	ask_recorded(&kept);
+	CHECK(pidtab_call_by(&kept, 0, &fork_1, &reply, &ordinal) == PIDTAB_BUSY && reply.kind == 77 && ordinal == 77);
+	CHECK(pidtab_checkpoint(&kept) == PIDTAB_BUSY && pidtab_close(&kept) == PIDTAB_BUSY);
 	end_held(other);
-	CHECK(pidtab_record_checkpoint(&record) == PIDTAB_DONE && record.in_use == 0);
-	CHECK(pidtab_close(&table) == PIDTAB_DONE && pidtab_record_close(&record) == PIDTAB_DONE);
+	CHECK(pidtab_checkpoint(&kept) == PIDTAB_DONE && kept.in_use == 0);
+	CHECK(pidtab_close(&table) == PIDTAB_DONE && pidtab_close(&kept) == PIDTAB_DONE);
 }
 
 /* Each query, where a write to what the table has taken of the heap would end this process. */
@@ -206,7 +206,7 @@ static void none_writes_to_the_table(void)
 	CHECK(mprotect(parts[0], PART, PROT_READ) == 0);
 	sealed = true;
 	ask_table(&table);
-	ask_record(&record);
+	ask_recorded(&kept);
 	sealed = false;
 	CHECK(mprotect(parts[0], PART, PROT_READ | PROT_WRITE) == 0);
 	beside_a_query();
@@ -218,7 +218,7 @@ static void *calls_shared(void *unused)
 {
 	struct pidtab_reply reply;
 	uint64_t ordinal;
-	CHECK(pidtab_shared_call(&shared, 0, &fork_1, &reply, &ordinal) == PIDTAB_DONE);
+	CHECK(pidtab_call_by(&shared, 0, &fork_1, &reply, &ordinal) == PIDTAB_DONE);
 	calls_made++;
 	return unused;
 }
@@ -226,7 +226,7 @@ static void *calls_shared(void *unused)
 static void *asks_shared(void *seen)
 {
 	struct pidtab_reply reply;
-	CHECK(pidtab_shared_ask(&shared, &count_all, &reply) == PIDTAB_DONE);
+	CHECK(pidtab_ask(&shared, &count_all, &reply) == PIDTAB_DONE);
 	*(uint64_t *)seen = reply.first;
 	queries_made++;
 	return NULL;
@@ -245,13 +245,13 @@ static void a_change_waits(void)
 	struct pidtab_task task;
 	pthread_t lister, caller, asker;
 
-	CHECK(pidtab_shared_open(&shared, 32768, 1, 1, 0) == PIDTAB_DONE);
+	CHECK(open_threads(&shared, 32768, 1, 1, PIDTAB_KEEP_ALL) == PIDTAB_DONE);
 	lister = begin_held(lists_shared, &text);
 	asks_shared(&seen);
-	CHECK(seen == 1 && pidtab_shared_stat(&shared, 1, 0, &task) == PIDTAB_DONE);
-	CHECK(pidtab_shared_counts(&shared, &first_kept, &recorded) == PIDTAB_DONE && recorded == 0);
+	CHECK(seen == 1 && pidtab_stat(&shared, 1, 0, &task) == PIDTAB_DONE);
+	CHECK(pidtab_counts(&shared, &first_kept, &recorded) == PIDTAB_DONE && recorded == 0);
 	CHECK(pthread_create(&caller, NULL, calls_shared, NULL) == 0);
-	while (__atomic_load_n(&shared.queries, __ATOMIC_RELAXED) == 1)
+	while (__atomic_load_n(&threads_of(&shared)->queries, __ATOMIC_RELAXED) == 1)
 		rest(50);
 	CHECK(pthread_create(&asker, NULL, asks_shared, &seen) == 0);
 	rest(50);
@@ -260,7 +260,7 @@ static void a_change_waits(void)
 	CHECK(pthread_join(caller, NULL) == 0 && pthread_join(asker, NULL) == 0);
 	CHECK(calls_made == 1 && queries_made == 2 && seen == 2);
 	CHECK(strncmp(text.bytes, "task 1 ", 7) == 0 && !strstr(text.bytes, "\ntask 2 "));
-	pidtab_shared_close(&shared);
+	pidtab_close(&shared);
 }
 
 #define READERS 16
@@ -279,13 +279,13 @@ static void *reads(void *at)
 	size_t count;
 
 	while (!is_over) {
-		CHECK(pidtab_shared_ask(&shared, &count_all, &reply) == PIDTAB_DONE && (reply.first == 1 || reply.first == 2));
-		CHECK(pidtab_shared_stat(&shared, 1, 0, &task) == PIDTAB_DONE && task.error == 0 && task.levels[0] == 1);
-		CHECK(pidtab_shared_counts(&shared, &first_kept, &recorded) == PIDTAB_DONE && recorded >= before);
+		CHECK(pidtab_ask(&shared, &count_all, &reply) == PIDTAB_DONE && (reply.first == 1 || reply.first == 2));
+		CHECK(pidtab_stat(&shared, 1, 0, &task) == PIDTAB_DONE && task.error == 0 && task.levels[0] == 1);
+		CHECK(pidtab_counts(&shared, &first_kept, &recorded) == PIDTAB_DONE && recorded >= before);
 		before = recorded;
 		if (recorded > 0)
-			CHECK(pidtab_shared_read(&shared, recorded - 1, &entry, 1, &count) == PIDTAB_DONE && count == 1 && entry.worker == 0);
-		CHECK(pidtab_shared_list(&shared, text->bytes, sizeof text->bytes, &text->size) == PIDTAB_DONE && text->bytes[text->size - 1] == '\n');
+			CHECK(pidtab_read(&shared, recorded - 1, &entry, 1, &count) == PIDTAB_DONE && count == 1 && entry.worker == 0);
+		CHECK(pidtab_list(&shared, text->bytes, sizeof text->bytes, &text->size) == PIDTAB_DONE && text->bytes[text->size - 1] == '\n');
 		queries_made += 5;
 		rest(1);
 	}
@@ -296,7 +296,7 @@ static void made(struct pidtab_call call)
 {
 	struct pidtab_reply reply;
 	uint64_t ordinal;
-	CHECK(pidtab_shared_call(&shared, 0, &call, &reply, &ordinal) == PIDTAB_DONE && reply.kind != PIDTAB_REFUSED);
+	CHECK(pidtab_call_by(&shared, 0, &call, &reply, &ordinal) == PIDTAB_DONE && reply.kind != PIDTAB_REFUSED);
 }
 
 /* The writer comes to its end beside queries. */
@@ -307,22 +307,22 @@ static void many_beside_a_writer(void)
 	struct pidtab_reply reply;
 	uint64_t ordinal;
 
-	CHECK(texts && pidtab_shared_open(&shared, 32768, 1, 1, 0) == PIDTAB_DONE);
+	CHECK(texts && open_threads(&shared, 32768, 1, 1, PIDTAB_KEEP_ALL) == PIDTAB_DONE);
 	queries_made = 0;
 	for (int i = 0; i < READERS; i++)
 		CHECK(pthread_create(&readers[i], NULL, reads, &texts[i]) == 0);
 	while (queries_made < 5 * READERS)
 		rest(1);
 	for (uint64_t i = 0; i < ROUNDS; i++) {
-		CHECK(pidtab_shared_call(&shared, 0, &fork_1, &reply, &ordinal) == PIDTAB_DONE && ordinal == 3 * i);
+		CHECK(pidtab_call_by(&shared, 0, &fork_1, &reply, &ordinal) == PIDTAB_DONE && ordinal == 3 * i);
 		made((struct pidtab_call){ .operation = PIDTAB_EXIT, .caller = (uint32_t)reply.second, .number = 7 });
 		made((struct pidtab_call){ .operation = PIDTAB_WAIT, .caller = 1 });
 	}
 	is_over = true;
 	for (int i = 0; i < READERS; i++)
 		CHECK(pthread_join(readers[i], NULL) == 0);
-	CHECK(shared.queries == 0);
-	pidtab_shared_close(&shared);
+	CHECK(threads_of(&shared)->queries == 0);
+	pidtab_close(&shared);
 	free(texts);
 }
 

@@ -420,26 +420,26 @@ static const struct { struct pidtab_call call; const char *line; } lines[] = {
 /* A line makes the same call as the numbers that it is of, with the same reply: on two records, whose entries are compared. */
 static void lines_are_read_back(void)
 {
-	struct pidtab_record numbers = PIDTAB_RECORD_INIT, words = PIDTAB_RECORD_INIT;
+	struct pidtab numbers = PIDTAB_INIT, words = PIDTAB_INIT;
 	char line[PIDTAB_LONGEST_CALL + 1], answer[PIDTAB_LONGEST_ANSWER];
 	struct pidtab_entry made = { .worker = 7 }, read = { .worker = 8 };
 	uint64_t ordinal;
 	size_t size, count, longest = 0;
 
-	CHECK(pidtab_record_open(&numbers, 32768, 1, 1) == PIDTAB_DONE && pidtab_record_open(&words, 32768, 1, 1) == PIDTAB_DONE);
+	CHECK(open_history(&numbers, 32768, 1, 1) == PIDTAB_DONE && open_history(&words, 32768, 1, 1) == PIDTAB_DONE);
 	for (uint64_t i = 0; i < LINES; i++) {
 		memset(line, 'x', sizeof line);
 		CHECK(pidtab_call_line(&lines[i].call, line, sizeof line - 1, &size) == PIDTAB_DONE);
 		CHECK(size == strlen(lines[i].line) && memcmp(line, lines[i].line, size) == 0 && line[size] == 'x');
 		longest = size > longest ? size : longest;
-		CHECK(pidtab_record_call(&numbers, 0, &lines[i].call, &made.reply, &ordinal) == PIDTAB_DONE && ordinal == i);
-		CHECK(pidtab_record_line(&words, 0, line, size, answer, sizeof answer, &size, &ordinal) == PIDTAB_DONE && ordinal == i);
-		CHECK(pidtab_record_read(&numbers, i, &made, 1, &count) == PIDTAB_DONE && pidtab_record_read(&words, i, &read, 1, &count) == PIDTAB_DONE);
+		CHECK(pidtab_call_by(&numbers, 0, &lines[i].call, &made.reply, &ordinal) == PIDTAB_DONE && ordinal == i);
+		CHECK(pidtab_line_by(&words, 0, line, size, answer, sizeof answer, &size, &ordinal) == PIDTAB_DONE && ordinal == i);
+		CHECK(pidtab_read(&numbers, i, &made, 1, &count) == PIDTAB_DONE && pidtab_read(&words, i, &read, 1, &count) == PIDTAB_DONE);
 		CHECK(same_entry(&made, &read) && same_call(&made.call, &lines[i].call));
 	}
 	CHECK(longest == PIDTAB_LONGEST_CALL);
-	pidtab_record_close(&numbers);
-	pidtab_record_close(&words);
+	pidtab_close(&numbers);
+	pidtab_close(&words);
 }
 
 static void is_no_line(struct pidtab_call call)

@@ -12,6 +12,15 @@ static inline int new_file(void)
 	return file;
 }
 
+/* What a table is opened with, for one thread or for many. */
+static const struct pidtab_settings of_one = { .keep = PIDTAB_KEEP_ALL };
+static const struct pidtab_settings of_many = { .keep = PIDTAB_KEEP_ALL, .threads = true };
+
+static inline struct pidtab_settings settings_of(const struct pidtab_saved_head *head, uint64_t keep, bool threads)
+{
+	return (struct pidtab_settings){ head->pid_max, head->workers, head->first_stamp, keep, threads };
+}
+
 static inline bool same_call(const struct pidtab_call *a, const struct pidtab_call *b)
 {
 	return a->operation == b->operation && a->caller == b->caller && a->id == b->id && a->number == b->number && a->choice == b->choice
@@ -29,12 +38,12 @@ static inline bool same_entry(const struct pidtab_entry *a, const struct pidtab_
 	return a->worker == b->worker && same_call(&a->call, &b->call) && same_reply(&a->reply, &b->reply);
 }
 
-static inline void same_lists(struct pidtab_record *one, struct pidtab_record *other)
+static inline void same_lists(const struct pidtab *one, const struct pidtab *other)
 {
 	static char texts[2][1 << 20];
 	size_t sizes[2] = { 0, 1 };
 
-	CHECK(pidtab_record_list(one, texts[0], sizeof texts[0], &sizes[0]) == PIDTAB_DONE);
-	CHECK(pidtab_record_list(other, texts[1], sizeof texts[1], &sizes[1]) == PIDTAB_DONE);
+	CHECK(pidtab_list(one, texts[0], sizeof texts[0], &sizes[0]) == PIDTAB_DONE);
+	CHECK(pidtab_list(other, texts[1], sizeof texts[1], &sizes[1]) == PIDTAB_DONE);
 	CHECK(sizes[0] > 20 && sizes[0] == sizes[1] && memcmp(texts[0], texts[1], sizes[0]) == 0);
 }

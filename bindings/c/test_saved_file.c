@@ -57,8 +57,8 @@ ssize_t test_read(int file, void *bytes, size_t size)
 
 static const struct pidtab_saved_head head = { .pid_max = 32768, .workers = 3, .first_stamp = 1 };
 
-/* A record of which all is saved, and its file's bytes. Entry i is at places[i], and the end at places[calls]. */
-static struct pidtab_record whole = PIDTAB_RECORD_INIT;
+/* A table of which all is saved, and its file's bytes. Entry i is at places[i], and the end at places[calls]. */
+static struct pidtab whole = PIDTAB_INIT;
 static struct pidtab_entry entries[MOST_CALLS];
 static size_t calls, places[MOST_CALLS + 1];
 static unsigned char bytes[MOST_BYTES];
@@ -79,24 +79,24 @@ static bool has(int file, const void *wanted, size_t size)
 	return pread(file, found, sizeof found, 0) == (ssize_t)size && memcmp(found, wanted, size) == 0;
 }
 
-static void makes(struct pidtab_record *record, uint32_t worker, struct pidtab_call call)
+static void makes(struct pidtab *table, uint32_t worker, struct pidtab_call call)
 {
 	struct pidtab_reply reply;
 	uint64_t ordinal;
 
-	CHECK(pidtab_record_call(record, worker, &call, &reply, &ordinal) == PIDTAB_DONE);
+	CHECK(pidtab_call_by(table, worker, &call, &reply, &ordinal) == PIDTAB_DONE);
 }
 
 /* A namespace in the other, down to the last level, and the numbers of the innermost task as each level sees them: 33 to 2. */
-static void make_calls(struct pidtab_record *record)
+static void make_calls(struct pidtab *table)
 {
-	CHECK(pidtab_record_open(record, head.pid_max, head.first_stamp, head.workers) == PIDTAB_DONE);
+	CHECK(open_history(table, head.pid_max, head.first_stamp, head.workers) == PIDTAB_DONE);
 	for (uint32_t i = 1; i <= 32; i++)
-		makes(record, i % 3, (struct pidtab_call){ .operation = PIDTAB_FORK, .caller = i, .choice = 1 });
+		makes(table, i % 3, (struct pidtab_call){ .operation = PIDTAB_FORK, .caller = i, .choice = 1 });
 	for (uint32_t i = 1; i <= 32; i++)
-		makes(record, i % 2, (struct pidtab_call){ .operation = PIDTAB_NSPID, .caller = i, .number = 34 - i });
-	makes(record, 2, (struct pidtab_call){ .operation = PIDTAB_SETPGID, .caller = 1, .pid = 0, .pgid = -1 });
-	makes(record, 2, (struct pidtab_call){ .operation = PIDTAB_MK, .id = 0 });
+		makes(table, i % 2, (struct pidtab_call){ .operation = PIDTAB_NSPID, .caller = i, .number = 34 - i });
+	makes(table, 2, (struct pidtab_call){ .operation = PIDTAB_SETPGID, .caller = 1, .pid = 0, .pgid = -1 });
+	makes(table, 2, (struct pidtab_call){ .operation = PIDTAB_MK, .id = 0 });
 }
 
 /* What the bytes of the whole have to be, by the functions for bytes. */
@@ -105,7 +105,7 @@ static void reckon_bytes(void)
 	uint64_t sum;
 	size_t size, at;
 
-	CHECK(pidtab_record_read(&whole, 0, entries, MOST_CALLS, &calls) == PIDTAB_DONE && calls == 66);
+	CHECK(pidtab_read(&whole, 0, entries, MOST_CALLS, &calls) == PIDTAB_DONE && calls == 66);
 	CHECK(entries[32].reply.kind == PIDTAB_LEVELS && entries[32].reply.count == 33 && entries[63].reply.count == 2);
 	CHECK(pidtab_saved_put_head(&head, bytes, sizeof bytes, &size, &sum) == PIDTAB_DONE);
 	at = size;
@@ -116,22 +116,22 @@ static void reckon_bytes(void)
 	places[calls] = at;
 }
 
-/* The record has the first so many entries of the whole. */
-static void has_entries(struct pidtab_record *record, size_t wanted)
+/* The table has the first so many entries of the whole. */
+static void has_entries(struct pidtab *table, size_t wanted)
 {
 	static struct pidtab_entry found[MOST_CALLS];
 	size_t count = 0;
 
-	CHECK(pidtab_record_read(record, 0, found, MOST_CALLS, &count) == PIDTAB_DONE && count == wanted);
+	CHECK(pidtab_read(table, 0, found, MOST_CALLS, &count) == PIDTAB_DONE && count == wanted);
 	for (size_t i = 0; i < count; i++)
 		CHECK(same_entry(&found[i], &entries[i]));
 }
 
-static bool is_closed(struct pidtab_record *record)
+static bool is_closed(struct pidtab *table)
 {
 	uint64_t first_kept, recorded;
 
-	return pidtab_record_counts(record, &first_kept, &recorded) == PIDTAB_CLOSED;
+	return pidtab_counts(table, &first_kept, &recorded) == PIDTAB_CLOSED;
 }
 
 /* How many entries are whole in so many bytes. */
@@ -144,14 +144,14 @@ static size_t whole_in(size_t size)
 	return count;
 }
 
-/* Loads what is in the file: the status, with what the load says of the place, and the record closed. */
+/* Loads what is in the file: the status, with what the load says of the place, and the table closed. */
 static uint32_t load_status(int file, struct pidtab_saved *saved)
 {
-	struct pidtab_record record = PIDTAB_RECORD_INIT;
-	uint32_t status = pidtab_saved_load(saved, file, &record, 0);
+	struct pidtab table = PIDTAB_INIT;
+	uint32_t status = pidtab_saved_load(saved, file, &table, &of_one);
 
-	CHECK(status == PIDTAB_DONE || is_closed(&record));
-	CHECK(pidtab_record_close(&record) == PIDTAB_DONE);
+	CHECK(status == PIDTAB_DONE || is_closed(&table));
+	CHECK(pidtab_close(&table) == PIDTAB_DONE);
 	return status;
 }
 
@@ -167,14 +167,14 @@ static uint32_t status_of(const void *from, size_t size, struct pidtab_saved *sa
 
 static void saved_and_loaded(void)
 {
-	struct pidtab_record again = PIDTAB_RECORD_INIT;
+	struct pidtab again = PIDTAB_INIT;
 	struct pidtab_saved saved;
 	int file = new_file();
 
 	CHECK(pidtab_saved_begin(&saved, file, &head) == PIDTAB_DONE && saved.next == 0 && saved.bytes == 48 && has(file, bytes, 48));
 	CHECK(pidtab_saved_append(&saved, &whole) == PIDTAB_DONE && saved.next == calls && saved.bytes == places[calls] && saved.error == 0);
 	CHECK(has(file, bytes, places[calls]) && pidtab_saved_append(&saved, &whole) == PIDTAB_DONE && has(file, bytes, places[calls]));
-	CHECK(pidtab_saved_load(&saved, file, &again, 0) == PIDTAB_DONE);
+	CHECK(pidtab_saved_load(&saved, file, &again, &of_one) == PIDTAB_DONE);
 	CHECK(saved.next == calls && saved.bytes == places[calls] && saved.left_out == 0);
 	has_entries(&again, calls);
 	same_lists(&whole, &again);
@@ -182,18 +182,18 @@ static void saved_and_loaded(void)
 	makes(&again, 0, (struct pidtab_call){ .operation = PIDTAB_FORK, .caller = 1 });
 	CHECK(pidtab_saved_trim(&saved) == PIDTAB_DONE && pidtab_saved_append(&saved, &again) == PIDTAB_DONE && saved.next == calls + 1);
 	CHECK(load_status(file, &saved) == PIDTAB_DONE && saved.next == calls + 1);
-	CHECK(pidtab_record_close(&again) == PIDTAB_DONE && close(file) == 0);
+	CHECK(pidtab_close(&again) == PIDTAB_DONE && close(file) == 0);
 }
 
 /* The entries that were whole are loaded, and the file is gone on with as if nothing had been. */
 static void cut_at(size_t size)
 {
-	struct pidtab_record again = PIDTAB_RECORD_INIT;
+	struct pidtab again = PIDTAB_INIT;
 	struct pidtab_saved saved;
 	size_t count = whole_in(size);
 	int file = file_of(bytes, size);
 
-	CHECK(pidtab_saved_load(&saved, file, &again, 0) == PIDTAB_DONE && saved.next == count && saved.bytes == places[count]);
+	CHECK(pidtab_saved_load(&saved, file, &again, &of_one) == PIDTAB_DONE && saved.next == count && saved.bytes == places[count]);
 	CHECK(saved.left_out == size - places[count] && has(file, bytes, size));
 	CHECK(saved.head.pid_max == head.pid_max && saved.head.workers == head.workers && saved.head.first_stamp == head.first_stamp);
 	has_entries(&again, count);
@@ -201,17 +201,17 @@ static void cut_at(size_t size)
 	CHECK(lseek(file, 0, SEEK_SET) == 0 && pidtab_saved_append(&saved, &whole) == (saved.left_out ? (uint32_t)PIDTAB_TORN : PIDTAB_DONE));
 	CHECK(lseek(file, 0, SEEK_SET) == 0 && pidtab_saved_trim(&saved) == PIDTAB_DONE && saved.left_out == size - places[count]);
 	CHECK(pidtab_saved_append(&saved, &whole) == PIDTAB_DONE && pidtab_saved_trim(&saved) == PIDTAB_DONE && has(file, bytes, places[calls]));
-	CHECK(pidtab_record_close(&again) == PIDTAB_DONE && close(file) == 0);
+	CHECK(pidtab_close(&again) == PIDTAB_DONE && close(file) == 0);
 }
 
 /* A file that ends within its head is begun anew. */
 static void cut_in_the_head_at(size_t size)
 {
-	struct pidtab_record again = PIDTAB_RECORD_INIT;
+	struct pidtab again = PIDTAB_INIT;
 	struct pidtab_saved saved;
 	int file = file_of(bytes, size);
 
-	CHECK(pidtab_saved_load(&saved, file, &again, 0) == PIDTAB_TORN && is_closed(&again));
+	CHECK(pidtab_saved_load(&saved, file, &again, &of_one) == PIDTAB_TORN && is_closed(&again));
 	CHECK(saved.next == 0 && saved.bytes == 0 && saved.left_out == size && pidtab_saved_append(&saved, &whole) == PIDTAB_TORN);
 	CHECK(size == 0 || pidtab_saved_begin(&(struct pidtab_saved){ 0 }, file, &head) == PIDTAB_NOT_EMPTY);
 	CHECK(pidtab_saved_trim(&saved) == PIDTAB_DONE && has(file, "", 0) && pidtab_saved_append(&saved, &whole) == PIDTAB_TORN);
@@ -222,17 +222,18 @@ static void cut_in_the_head_at(size_t size)
 /* The same in one go: the calls that are lost are made again, and the file is the whole. */
 static void resumed_at(size_t size)
 {
-	struct pidtab_record again = PIDTAB_RECORD_INIT;
+	struct pidtab again = PIDTAB_INIT;
+	const struct pidtab_settings settings = settings_of(&head, PIDTAB_KEEP_ALL, false);
 	struct pidtab_saved saved;
 	size_t count = whole_in(size);
 	int file = file_of(bytes, size);
 
-	CHECK(pidtab_saved_resume(&saved, file, &head, &again, 0) == PIDTAB_DONE && saved.next == count);
+	CHECK(pidtab_saved_resume(&saved, file, &again, &settings) == PIDTAB_DONE && saved.next == count);
 	CHECK(saved.left_out == size - (size < 48 ? 0 : places[count]) && has(file, bytes, places[count]) && saved.head.workers == head.workers);
 	for (size_t i = count; i < calls; i++)
 		makes(&again, (uint32_t)entries[i].worker, entries[i].call);
 	CHECK(pidtab_saved_append(&saved, &again) == PIDTAB_DONE && has(file, bytes, places[calls]));
-	CHECK(pidtab_record_close(&again) == PIDTAB_DONE && close(file) == 0);
+	CHECK(pidtab_close(&again) == PIDTAB_DONE && close(file) == 0);
 }
 
 static void cut_at_every_byte(void)
@@ -248,9 +249,10 @@ static void cut_at_every_byte(void)
 
 static uint32_t resume_status(int file, const struct pidtab_saved_head *fresh)
 {
-	struct pidtab_record again = PIDTAB_RECORD_INIT;
+	struct pidtab again = PIDTAB_INIT;
+	const struct pidtab_settings settings = settings_of(fresh, PIDTAB_KEEP_ALL, false);
 	struct pidtab_saved saved;
-	uint32_t status = pidtab_saved_resume(&saved, file, fresh, &again, 0);
+	uint32_t status = pidtab_saved_resume(&saved, file, &again, &settings);
 
 	CHECK(status != PIDTAB_DONE && is_closed(&again) && pidtab_saved_append(&saved, &again) != PIDTAB_DONE);
 	return status;
@@ -259,11 +261,11 @@ static uint32_t resume_status(int file, const struct pidtab_saved_head *fresh)
 /* What no file is resumed of: it stays as it is, except for a torn front of a head. */
 static void not_resumed(void)
 {
-	const struct pidtab_saved_head no_workers = { .pid_max = 32768, .first_stamp = 1 };
+	const struct pidtab_saved_head many_workers = { .pid_max = 32768, .workers = PIDTAB_MOST_WORKERS + 1, .first_stamp = 1 };
 	int torn = file_of(bytes, 7), other = file_of("fork 1\n", 7);
 	int pipes[2];
 
-	CHECK(resume_status(torn, &no_workers) == PIDTAB_OUT_OF_RANGE && has(torn, bytes, 7));
+	CHECK(resume_status(torn, &many_workers) == PIDTAB_OUT_OF_RANGE && has(torn, bytes, 7));
 	CHECK(resume_status(other, &head) == PIDTAB_NOT_SAVED && has(other, "fork 1\n", 7));
 	CHECK(resume_status(-1, &head) == PIDTAB_DEVICE);
 	device.left = 20;
@@ -274,21 +276,21 @@ static void not_resumed(void)
 	CHECK(resume_status(pipes[0], &head) == PIDTAB_DEVICE && close(pipes[0]) == 0 && close(torn) == 0 && close(other) == 0);
 }
 
-/* The settings of the file are those that count, and an open record stays as it is. */
+/* The settings of the file are those that count, and an open table stays as it is. */
 static void resumed_with_other_settings(void)
 {
-	const struct pidtab_saved_head others = { .pid_max = 301, .workers = 1, .first_stamp = 9 };
-	static struct pidtab_shared shared;
+	const struct pidtab_settings others = { 301, 1, 9, PIDTAB_KEEP_ALL, true };
+	static struct pidtab shared;
 	struct pidtab_saved saved;
 	int file = file_of(bytes, places[calls] - 1), empty = new_file();
 
-	CHECK(pidtab_saved_resume_shared(&saved, file, &others, &shared, 0) == PIDTAB_DONE && saved.next == calls - 1 && saved.left_out == 47);
+	CHECK(pidtab_saved_resume(&saved, file, &shared, &others) == PIDTAB_DONE && saved.next == calls - 1 && saved.left_out == 47);
 	CHECK(saved.head.pid_max == 32768 && saved.head.workers == 3 && saved.head.first_stamp == 1 && has(file, bytes, places[calls - 1]));
-	pidtab_shared_close(&shared);
-	CHECK(pidtab_saved_resume_shared(&saved, empty, &others, &shared, 0) == PIDTAB_DONE && saved.head.pid_max == 301 && saved.bytes == 48);
-	CHECK(pidtab_saved_append_shared(&saved, &shared) == PIDTAB_DONE);
-	pidtab_shared_close(&shared);
-	CHECK(ftruncate(empty, 0) == 0 && pidtab_saved_resume(&saved, empty, &others, &whole, 0) == PIDTAB_BUSY && has(empty, "", 0));
+	pidtab_close(&shared);
+	CHECK(pidtab_saved_resume(&saved, empty, &shared, &others) == PIDTAB_DONE && saved.head.pid_max == 301 && saved.bytes == 48);
+	CHECK(pidtab_saved_append(&saved, &shared) == PIDTAB_DONE);
+	pidtab_close(&shared);
+	CHECK(ftruncate(empty, 0) == 0 && pidtab_saved_resume(&saved, empty, &whole, &others) == PIDTAB_BUSY && has(empty, "", 0));
 	CHECK(close(file) == 0 && close(empty) == 0);
 }
 
@@ -347,7 +349,7 @@ static void swapped_doubled_and_dropped(void)
 static void zeroes_at_the_end(void)
 {
 	static unsigned char others[MOST_BYTES];
-	struct pidtab_record again = PIDTAB_RECORD_INIT;
+	struct pidtab again = PIDTAB_INIT;
 	struct pidtab_saved saved;
 
 	for (size_t at = 48; at < places[calls]; at += 16) {
@@ -356,9 +358,9 @@ static void zeroes_at_the_end(void)
 		memcpy(others, bytes, at);
 		for (size_t size = places[calls]; size <= sizeof others; size += 5003) {
 			int file = file_of(others, size);
-			CHECK(pidtab_saved_load(&saved, file, &again, 0) == PIDTAB_DONE && saved.next == count && saved.left_out == size - places[count]);
+			CHECK(pidtab_saved_load(&saved, file, &again, &of_one) == PIDTAB_DONE && saved.next == count && saved.left_out == size - places[count]);
 			CHECK(pidtab_saved_trim(&saved) == PIDTAB_DONE && pidtab_saved_append(&saved, &whole) == PIDTAB_DONE);
-			CHECK(has(file, bytes, places[calls]) && pidtab_record_close(&again) == PIDTAB_DONE && close(file) == 0);
+			CHECK(has(file, bytes, places[calls]) && pidtab_close(&again) == PIDTAB_DONE && close(file) == 0);
 		}
 		/* A byte after them is none that was cut off. */
 		others[sizeof others - 1] = 1;
@@ -534,14 +536,14 @@ static void other_replies(void)
 static void not_gone_on_with(void)
 {
 	static unsigned char forged[MOST_BYTES];
-	struct pidtab_record empty = PIDTAB_RECORD_INIT;
+	struct pidtab empty = PIDTAB_INIT;
 	struct pidtab_saved saved;
 	struct pidtab_entry other = entries[0];
 
 	other.reply.first++;
 	CHECK(status_of(forged, forge(&other, 0, forged), &saved) == PIDTAB_DIFFERS && saved.next == 0);
-	CHECK(pidtab_record_open(&empty, head.pid_max, head.first_stamp, head.workers) == PIDTAB_DONE);
-	CHECK(pidtab_saved_append(&saved, &empty) == PIDTAB_DEVICE && saved.error == EBADF && pidtab_record_close(&empty) == PIDTAB_DONE);
+	CHECK(open_history(&empty, head.pid_max, head.first_stamp, head.workers) == PIDTAB_DONE);
+	CHECK(pidtab_saved_append(&saved, &empty) == PIDTAB_DEVICE && saved.error == EBADF && pidtab_close(&empty) == PIDTAB_DONE);
 }
 
 static void calls_that_cannot_be_made(void)
@@ -576,13 +578,14 @@ static void stamps_that_are_used_up(void)
 /* A process that goes on with the file, and says of each call that it is saved, until it is killed. */
 static _Noreturn void lives(int file, int tells)
 {
-	struct pidtab_record record = PIDTAB_RECORD_INIT;
+	const struct pidtab_settings settings = settings_of(&head, 64, false);
+	struct pidtab table = PIDTAB_INIT;
 	struct pidtab_saved saved;
 
-	CHECK(pidtab_saved_resume(&saved, file, &head, &record, 64) == PIDTAB_DONE);
+	CHECK(pidtab_saved_resume(&saved, file, &table, &settings) == PIDTAB_DONE);
 	for (uint64_t i = saved.next;; i++) {
-		makes(&record, i % 3, (struct pidtab_call){ .operation = i % 2 ? PIDTAB_SETSID : PIDTAB_NEXT, .caller = 1, .number = (uint32_t)i });
-		CHECK(pidtab_saved_append(&saved, &record) == PIDTAB_DONE && write(tells, &saved.next, sizeof saved.next) == sizeof saved.next);
+		makes(&table, i % 3, (struct pidtab_call){ .operation = i % 2 ? PIDTAB_SETSID : PIDTAB_NEXT, .caller = 1, .number = (uint32_t)i });
+		CHECK(pidtab_saved_append(&saved, &table) == PIDTAB_DONE && write(tells, &saved.next, sizeof saved.next) == sizeof saved.next);
 	}
 }
 
@@ -624,47 +627,47 @@ static void killed_again_and_again(void)
 /* What is cut away unsaved is told; what is saved may be cut. */
 static void histories_that_are_cut(void)
 {
-	struct pidtab_record record = PIDTAB_RECORD_INIT;
+	struct pidtab table = PIDTAB_INIT;
 	struct pidtab_saved saved, late;
 	int file = new_file(), other = new_file();
 
-	make_calls(&record);
-	CHECK(pidtab_saved_begin(&saved, file, &head) == PIDTAB_DONE && pidtab_saved_append(&saved, &record) == PIDTAB_DONE);
-	CHECK(pidtab_record_checkpoint_at(&record, saved.next) == PIDTAB_DONE);
-	makes(&record, 1, (struct pidtab_call){ .operation = PIDTAB_FORK, .caller = 1 });
-	CHECK(pidtab_saved_append(&saved, &record) == PIDTAB_DONE && saved.next == calls + 1);
-	CHECK(pidtab_saved_begin(&late, other, &head) == PIDTAB_DONE && pidtab_saved_append(&late, &record) == PIDTAB_NOT_KEPT && has(other, bytes, 48));
+	make_calls(&table);
+	CHECK(pidtab_saved_begin(&saved, file, &head) == PIDTAB_DONE && pidtab_saved_append(&saved, &table) == PIDTAB_DONE);
+	CHECK(pidtab_checkpoint_at(&table, saved.next) == PIDTAB_DONE);
+	makes(&table, 1, (struct pidtab_call){ .operation = PIDTAB_FORK, .caller = 1 });
+	CHECK(pidtab_saved_append(&saved, &table) == PIDTAB_DONE && saved.next == calls + 1);
+	CHECK(pidtab_saved_begin(&late, other, &head) == PIDTAB_DONE && pidtab_saved_append(&late, &table) == PIDTAB_NOT_KEPT && has(other, bytes, 48));
 	CHECK(pidtab_saved_append(&saved, &whole) == PIDTAB_NOT_KEPT && saved.next == calls + 1);
 	CHECK(load_status(file, &saved) == PIDTAB_DONE && saved.next == calls + 1);
-	CHECK(pidtab_record_close(&record) == PIDTAB_DONE && pidtab_saved_append(&late, &record) == PIDTAB_CLOSED);
+	CHECK(pidtab_close(&table) == PIDTAB_DONE && pidtab_saved_append(&late, &table) == PIDTAB_CLOSED);
 	CHECK(close(file) == 0 && close(other) == 0);
 }
 
 /* A load that keeps few entries, of the same calls. It takes sixteen at a time. */
 static void loaded_with_cuts(void)
 {
-	struct pidtab_record again = PIDTAB_RECORD_INIT;
+	struct pidtab again = PIDTAB_INIT;
 	struct pidtab_saved saved;
 	uint64_t first_kept, recorded;
 	int file = file_of(bytes, places[calls]);
 
-	CHECK(pidtab_saved_load(&saved, file, &again, 33) == PIDTAB_DONE && saved.next == calls);
-	CHECK(pidtab_record_counts(&again, &first_kept, &recorded) == PIDTAB_DONE && first_kept == 48 && recorded == calls);
-	CHECK(pidtab_record_close(&again) == PIDTAB_DONE && pidtab_saved_load(&saved, file, &again, 16) == PIDTAB_DONE && saved.next == calls);
-	CHECK(pidtab_record_counts(&again, &first_kept, &recorded) == PIDTAB_DONE && first_kept == 64 && recorded == calls);
+	CHECK(pidtab_saved_load(&saved, file, &again, &(struct pidtab_settings){ .keep = 33 }) == PIDTAB_DONE && saved.next == calls);
+	CHECK(pidtab_counts(&again, &first_kept, &recorded) == PIDTAB_DONE && first_kept == 48 && recorded == calls);
+	CHECK(pidtab_close(&again) == PIDTAB_DONE && pidtab_saved_load(&saved, file, &again, &(struct pidtab_settings){ .keep = 16 }) == PIDTAB_DONE && saved.next == calls);
+	CHECK(pidtab_counts(&again, &first_kept, &recorded) == PIDTAB_DONE && first_kept == 64 && recorded == calls);
 	same_lists(&whole, &again);
 	makes(&again, 0, (struct pidtab_call){ .operation = PIDTAB_GETPID, .caller = 1 });
 	CHECK(pidtab_saved_append(&saved, &again) == PIDTAB_DONE && saved.next == calls + 1);
-	/* A record that is open already stays as it is. */
-	CHECK(pidtab_saved_load(&saved, file, &again, 0) == PIDTAB_BUSY && saved.bytes == 0);
-	CHECK(pidtab_record_counts(&again, &first_kept, &recorded) == PIDTAB_DONE && recorded == calls + 1);
-	CHECK(pidtab_record_close(&again) == PIDTAB_DONE && close(file) == 0);
+	/* A table that is open already stays as it is. */
+	CHECK(pidtab_saved_load(&saved, file, &again, &of_one) == PIDTAB_BUSY && saved.bytes == 0);
+	CHECK(pidtab_counts(&again, &first_kept, &recorded) == PIDTAB_DONE && recorded == calls + 1);
+	CHECK(pidtab_close(&again) == PIDTAB_DONE && close(file) == 0);
 }
 
 /* Each allocation of a load is refused in turn, till it finds all that it asks for. */
 static void want_of_memory(void)
 {
-	struct pidtab_record again = PIDTAB_RECORD_INIT;
+	struct pidtab again = PIDTAB_INIT;
 	struct pidtab_saved saved;
 	int at = 0, file = file_of(bytes, places[calls]);
 	bool opened = false, made = false;
@@ -672,29 +675,29 @@ static void want_of_memory(void)
 
 	do {
 		refuse_at = ++at;
-		status = pidtab_saved_load(&saved, file, &again, 0);
+		status = pidtab_saved_load(&saved, file, &again, &of_one);
 		refuse_at = 0;
 		CHECK(status == PIDTAB_DONE || (status == PIDTAB_NO_MEMORY && is_closed(&again)));
 		opened |= status != PIDTAB_DONE && saved.bytes == 0;
 		made |= status != PIDTAB_DONE && saved.bytes == places[saved.next] && saved.bytes != 0;
 	} while (status != PIDTAB_DONE);
 	CHECK(at > 3 && opened && made && saved.next == calls);
-	CHECK(pidtab_record_close(&again) == PIDTAB_DONE && close(file) == 0);
+	CHECK(pidtab_close(&again) == PIDTAB_DONE && close(file) == 0);
 }
 
-/* A shared record that is not loaded is not open. */
-static void not_loaded_shared(void)
+/* A table with threads that is not loaded is not open. */
+static void not_loaded_for_threads(void)
 {
-	struct pidtab_shared shared;
+	struct pidtab shared = PIDTAB_INIT;
 	static unsigned char forged[MOST_BYTES];
 	struct pidtab_saved saved;
 	struct pidtab_entry other = entries[1];
 	int file = file_of("fork 1\n", 7);
 
-	CHECK(pidtab_saved_load_shared(&saved, file, &shared, 0) == PIDTAB_NOT_SAVED && close(file) == 0);
+	CHECK(pidtab_saved_load(&saved, file, &shared, &of_many) == PIDTAB_NOT_SAVED && is_closed(&shared) && close(file) == 0);
 	other.reply.first++;
 	file = file_of(forged, forge(&other, 1, forged));
-	CHECK(pidtab_saved_load_shared(&saved, file, &shared, 0) == PIDTAB_DIFFERS && saved.next == 1 && close(file) == 0);
+	CHECK(pidtab_saved_load(&saved, file, &shared, &of_many) == PIDTAB_DIFFERS && saved.next == 1 && is_closed(&shared) && close(file) == 0);
 }
 
 int main(void)
@@ -725,7 +728,7 @@ int main(void)
 	histories_that_are_cut();
 	loaded_with_cuts();
 	want_of_memory();
-	not_loaded_shared();
-	CHECK(pidtab_record_close(&whole) == PIDTAB_DONE);
+	not_loaded_for_threads();
+	CHECK(pidtab_close(&whole) == PIDTAB_DONE);
 	return 0;
 }

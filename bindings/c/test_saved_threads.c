@@ -1,4 +1,4 @@
-/* Sixteen threads make calls on a record, and one saves them meanwhile; what it has saved, loaded again, leaves the same list. */
+/* Sixteen threads make calls on a table, and one saves them meanwhile; what it has saved, loaded again, leaves the same list. */
 #include "test_saved.h"
 
 #include <stdatomic.h>
@@ -7,7 +7,7 @@
 #define WORKERS 16
 #define EACH 5000
 
-static struct pidtab_shared shared;
+static struct pidtab shared;
 static atomic_int at_work;
 
 /* A namespace of the worker's own, and in it a child after the other. */
@@ -18,15 +18,15 @@ static void *serves(void *unused)
 	uint64_t ordinal;
 	uint32_t worker, own;
 
-	CHECK(pidtab_shared_seat(&shared, &worker) == PIDTAB_DONE && pidtab_shared_call(&shared, worker, &call, &reply, &ordinal) == PIDTAB_DONE);
+	CHECK(pidtab_seat(&shared, &worker) == PIDTAB_DONE && pidtab_call_by(&shared, worker, &call, &reply, &ordinal) == PIDTAB_DONE);
 	own = (uint32_t)reply.second;
 	for (int i = 0; i < EACH; i++) {
 		call = (struct pidtab_call){ .operation = PIDTAB_FORK, .caller = own };
-		CHECK(pidtab_shared_call(&shared, worker, &call, &reply, &ordinal) == PIDTAB_DONE && reply.kind == PIDTAB_FORKED);
+		CHECK(pidtab_call_by(&shared, worker, &call, &reply, &ordinal) == PIDTAB_DONE && reply.kind == PIDTAB_FORKED);
 		call = (struct pidtab_call){ .operation = PIDTAB_EXIT, .caller = (uint32_t)reply.second, .number = worker };
-		CHECK(pidtab_shared_call(&shared, worker, &call, &reply, &ordinal) == PIDTAB_DONE && reply.kind == PIDTAB_OK);
+		CHECK(pidtab_call_by(&shared, worker, &call, &reply, &ordinal) == PIDTAB_DONE && reply.kind == PIDTAB_OK);
 		call = (struct pidtab_call){ .operation = PIDTAB_WAIT, .caller = own };
-		CHECK(pidtab_shared_call(&shared, worker, &call, &reply, &ordinal) == PIDTAB_DONE && reply.second == worker);
+		CHECK(pidtab_call_by(&shared, worker, &call, &reply, &ordinal) == PIDTAB_DONE && reply.second == worker);
 	}
 	atomic_fetch_sub(&at_work, 1);
 	return unused;
@@ -40,8 +40,8 @@ static void *saves(void *at)
 
 	do {
 		last = atomic_load(&at_work) == 0;
-		CHECK(pidtab_saved_append_shared(saved, &shared) == PIDTAB_DONE);
-		uint32_t cut = pidtab_shared_checkpoint_at(&shared, saved->next);
+		CHECK(pidtab_saved_append(saved, &shared) == PIDTAB_DONE);
+		uint32_t cut = pidtab_checkpoint_at(&shared, saved->next);
 		CHECK(cut == PIDTAB_DONE || cut == PIDTAB_AGAIN);
 	} while (!last);
 	return NULL;
@@ -61,39 +61,39 @@ static void all_at_once(struct pidtab_saved *saved)
 }
 
 /* The counts of the workers are the same too. */
-static void same_counts(struct pidtab_shared *other)
+static void same_counts(struct pidtab *other)
 {
 	uint64_t here, there;
 
 	for (uint32_t i = 0; i < WORKERS; i++) {
-		CHECK(pidtab_shared_worker(&shared, i, &here) == PIDTAB_DONE && here == 1 + 3 * EACH);
-		CHECK(pidtab_shared_worker(other, i, &there) == PIDTAB_DONE && there == here);
+		CHECK(pidtab_worker(&shared, i, &here) == PIDTAB_DONE && here == 1 + 3 * EACH);
+		CHECK(pidtab_worker(other, i, &there) == PIDTAB_DONE && there == here);
 	}
 }
 
 static void saved_while_threads_make_calls(void)
 {
 	const struct pidtab_saved_head sixteen = { .pid_max = 32768, .workers = WORKERS, .first_stamp = 5 };
-	static struct pidtab_shared again;
+	static struct pidtab again;
 	struct pidtab_saved saved;
 	uint32_t worker;
 	int file = new_file();
 
-	CHECK(pidtab_shared_open(&shared, sixteen.pid_max, sixteen.first_stamp, sixteen.workers, 0) == PIDTAB_DONE);
+	CHECK(open_threads(&shared, sixteen.pid_max, sixteen.first_stamp, sixteen.workers, PIDTAB_KEEP_ALL) == PIDTAB_DONE);
 	CHECK(pidtab_saved_begin(&saved, file, &sixteen) == PIDTAB_DONE);
 	all_at_once(&saved);
 	CHECK(saved.next == WORKERS * (1 + 3 * EACH) && saved.bytes == 48 * (1 + saved.next));
-	CHECK(pidtab_saved_load_shared(&saved, file, &again, 4096) == PIDTAB_DONE);
+	CHECK(pidtab_saved_load(&saved, file, &again, &(struct pidtab_settings){ .keep = 4096, .threads = true }) == PIDTAB_DONE);
 	CHECK(saved.next == WORKERS * (1 + 3 * EACH) && saved.left_out == 0);
-	same_lists(pidtab_shared_lock(&shared), pidtab_shared_lock(&again));
-	pidtab_shared_unlock(&shared);
-	pidtab_shared_unlock(&again);
+	same_lists(pidtab_lock(&shared), pidtab_lock(&again));
+	pidtab_unlock(&shared);
+	pidtab_unlock(&again);
 	same_counts(&again);
 	/* The workers take their seats again, and the file goes on. */
-	CHECK(pidtab_shared_seat(&again, &worker) == PIDTAB_DONE && worker == 0);
-	CHECK(pidtab_saved_append_shared(&saved, &again) == PIDTAB_DONE && close(file) == 0);
-	pidtab_shared_close(&shared);
-	pidtab_shared_close(&again);
+	CHECK(pidtab_seat(&again, &worker) == PIDTAB_DONE && worker == 0);
+	CHECK(pidtab_saved_append(&saved, &again) == PIDTAB_DONE && close(file) == 0);
+	pidtab_close(&shared);
+	pidtab_close(&again);
 }
 
 int main(void)

@@ -1,4 +1,4 @@
-/* The saver of a shared record: who waits for it, whom it holds up, and that busy threads let it have the lock. */
+/* The saver of a table with threads: who waits for it, whom it holds up, and that busy threads let it have the lock. */
 #include "test_saved.h"
 
 #include <errno.h>
@@ -14,20 +14,20 @@
 #define BOUND 16
 
 static const struct pidtab_saved_head head = { .pid_max = 32768, .workers = THREADS, .first_stamp = 1 };
-static struct pidtab_shared shared;
+static struct pidtab shared;
 static struct pidtab_saved saved;
 static int file;
 
 static void begin(void)
 {
 	file = new_file();
-	CHECK(pidtab_shared_open(&shared, head.pid_max, head.first_stamp, head.workers, 0) == PIDTAB_DONE);
+	CHECK(open_threads(&shared, head.pid_max, head.first_stamp, head.workers, PIDTAB_KEEP_ALL) == PIDTAB_DONE);
 	CHECK(pidtab_saved_begin(&saved, file, &head) == PIDTAB_DONE);
 }
 
 static void end(void)
 {
-	pidtab_shared_close(&shared);
+	pidtab_close(&shared);
 	CHECK(close(file) == 0);
 }
 
@@ -37,14 +37,14 @@ static uint32_t asks(uint32_t worker, uint64_t *ordinal)
 	const struct pidtab_call call = { .operation = PIDTAB_GETPID, .caller = 1 };
 	struct pidtab_reply reply;
 
-	return pidtab_shared_call(&shared, worker, &call, &reply, ordinal);
+	return pidtab_call_by(&shared, worker, &call, &reply, ordinal);
 }
 
 static uint64_t count_recorded(void)
 {
 	uint64_t first_kept, recorded;
 
-	CHECK(pidtab_shared_counts(&shared, &first_kept, &recorded) == PIDTAB_DONE);
+	CHECK(pidtab_counts(&shared, &first_kept, &recorded) == PIDTAB_DONE);
 	return recorded;
 }
 
@@ -83,7 +83,7 @@ static void *answers_what_is_saved(void *unused)
 	uint32_t worker;
 	uint64_t ordinal;
 
-	CHECK(pidtab_shared_seat(&shared, &worker) == PIDTAB_DONE);
+	CHECK(pidtab_seat(&shared, &worker) == PIDTAB_DONE);
 	for (int i = 0; i < EACH; i++) {
 		CHECK(asks(worker, &ordinal) == PIDTAB_DONE && pidtab_saved_wait(&shared, ordinal) == PIDTAB_DONE);
 		CHECK(count_in_file() > ordinal);
@@ -94,18 +94,18 @@ static void *answers_what_is_saved(void *unused)
 /* No thread has more than one call that is not saved, so a cut leaves as many as there are threads. */
 static void all_is_saved_and_cut(void)
 {
-	static struct pidtab_shared again;
+	static struct pidtab again;
 	uint64_t first_kept, recorded;
 
 	begin();
 	beside_the_saver(answers_what_is_saved, KEEP);
 	CHECK(saved.next == THREADS * EACH && count_in_file() == saved.next);
-	CHECK(pidtab_shared_counts(&shared, &first_kept, &recorded) == PIDTAB_DONE && recorded == saved.next);
+	CHECK(pidtab_counts(&shared, &first_kept, &recorded) == PIDTAB_DONE && recorded == saved.next);
 	CHECK(recorded - first_kept < KEEP + THREADS);
-	CHECK(pidtab_saved_load_shared(&saved, file, &again, 0) == PIDTAB_DONE && saved.next == recorded);
+	CHECK(pidtab_saved_load(&saved, file, &again, &of_many) == PIDTAB_DONE && saved.next == recorded);
 	/* What was loaded is saved. */
 	CHECK(pidtab_saved_wait(&again, recorded - 1) == PIDTAB_DONE);
-	pidtab_shared_close(&again);
+	pidtab_close(&again);
 	end();
 }
 
@@ -115,7 +115,7 @@ static void *keeps_the_bound(void *unused)
 	uint32_t worker;
 	uint64_t ordinal;
 
-	CHECK(pidtab_shared_seat(&shared, &worker) == PIDTAB_DONE);
+	CHECK(pidtab_seat(&shared, &worker) == PIDTAB_DONE);
 	for (int i = 0; i < EACH; i++)
 		CHECK(asks(worker, &ordinal) == PIDTAB_DONE && ordinal < count_in_file() + BOUND);
 	return unused;
@@ -140,10 +140,10 @@ static void *keeps_the_bound_by_turns(void *unused)
 
 	for (size_t i = 0; i < 2 * BOUND; i++)
 		calls[i] = (struct pidtab_call){ .operation = PIDTAB_GETPID, .caller = 1 };
-	CHECK(pidtab_shared_seat(&shared, &worker) == PIDTAB_DONE);
+	CHECK(pidtab_seat(&shared, &worker) == PIDTAB_DONE);
 	for (size_t left = EACH, count = 1, made; left > 0; left -= made, count = count * 5 % (2 * BOUND) + 1) {
 		count = count < left ? count : left;
-		CHECK(pidtab_shared_calls(&shared, worker, calls, count, replies, count, &made, &ordinal) == PIDTAB_DONE && made == count);
+		CHECK(pidtab_calls(&shared, worker, calls, count, replies, count, &made, &ordinal) == PIDTAB_DONE && made == count);
 		CHECK(ordinal < count_in_file() + (count < BOUND ? BOUND : count));
 	}
 	return unused;
@@ -175,7 +175,7 @@ static void *makes_one_too_many(void *unused)
 	size_t size;
 
 	reaches_the_bound();
-	CHECK(pidtab_shared_line(&shared, 0, "getpid 1", 8, answer, sizeof answer, &size, &ordinal) == PIDTAB_DONE && ordinal == BOUND);
+	CHECK(pidtab_line_by(&shared, 0, "getpid 1", 8, answer, sizeof answer, &size, &ordinal) == PIDTAB_DONE && ordinal == BOUND);
 	return unused;
 }
 
@@ -188,7 +188,7 @@ static void *tells_one_too_many(void *unused)
 	uint64_t ordinal, count;
 
 	reaches_the_bound();
-	CHECK(pidtab_shared_call_told(&shared, 0, &call, &reply, &ordinal, effects, 0, &count) == PIDTAB_DONE && ordinal == BOUND && count == 0);
+	CHECK(pidtab_call_told_by(&shared, 0, &call, &reply, &ordinal, effects, 0, &count) == PIDTAB_DONE && ordinal == BOUND && count == 0);
 	return unused;
 }
 
@@ -203,7 +203,7 @@ static void let_go(void *(*makes)(void *), bool by_append)
 	while (count_recorded() < BOUND)
 		sched_yield();
 	if (by_append)
-		CHECK(pidtab_saved_append_shared(&saved, &shared) == PIDTAB_DONE && saved.next == BOUND);
+		CHECK(pidtab_saved_append(&saved, &shared) == PIDTAB_DONE && saved.next == BOUND);
 	else
 		pidtab_saved_bound(&shared, 0);
 	CHECK(pthread_join(thread, NULL) == 0 && count_recorded() == BOUND + 1);
@@ -236,7 +236,7 @@ static void fails_and_goes_on(void)
 	errno = 0;
 	CHECK(pidtab_saved_wait(&shared, 0) == PIDTAB_DEVICE && errno == EPIPE);
 	CHECK(asks(0, &ordinal) == PIDTAB_DEVICE && count_recorded() == 1);
-	CHECK(dup2(kept, file) == file && close(kept) == 0 && pidtab_saved_append_shared(&saved, &shared) == PIDTAB_DONE);
+	CHECK(dup2(kept, file) == file && close(kept) == 0 && pidtab_saved_append(&saved, &shared) == PIDTAB_DONE);
 	CHECK(pidtab_saved_wait(&shared, 0) == PIDTAB_DONE && asks(0, &ordinal) == PIDTAB_DONE && ordinal == 1);
 	end();
 }
@@ -248,12 +248,12 @@ static void not_on_the_disk(void)
 	int ends[2];
 
 	CHECK(pipe(ends) == 0);
-	CHECK(pidtab_shared_open(&shared, head.pid_max, head.first_stamp, head.workers, 0) == PIDTAB_DONE);
+	CHECK(open_threads(&shared, head.pid_max, head.first_stamp, head.workers, PIDTAB_KEEP_ALL) == PIDTAB_DONE);
 	CHECK(pidtab_saved_begin(&saved, ends[1], &head) == PIDTAB_DONE && asks(0, &ordinal) == PIDTAB_DONE);
 	CHECK(pidtab_saved_serve(&saved, &shared, 0, true) == PIDTAB_DEVICE && saved.error == EINVAL && saved.next == 1);
 	CHECK(pidtab_saved_wait(&shared, 0) == PIDTAB_DEVICE && errno == EINVAL);
-	CHECK(pidtab_saved_append_shared(&saved, &shared) == PIDTAB_DONE && pidtab_saved_wait(&shared, 0) == PIDTAB_DONE);
-	pidtab_shared_close(&shared);
+	CHECK(pidtab_saved_append(&saved, &shared) == PIDTAB_DONE && pidtab_saved_wait(&shared, 0) == PIDTAB_DONE);
+	pidtab_close(&shared);
 	CHECK(close(ends[0]) == 0 && close(ends[1]) == 0);
 }
 
@@ -306,7 +306,7 @@ static void *is_busy(void *unused)
 	uint32_t worker;
 	uint64_t ordinal;
 
-	CHECK(pidtab_shared_seat(&shared, &worker) == PIDTAB_DONE);
+	CHECK(pidtab_seat(&shared, &worker) == PIDTAB_DONE);
 	atomic_store(&tasks[worker], gettid());
 	while (!atomic_load(&is_over))
 		CHECK(asks(worker, &ordinal) == PIDTAB_DONE);
@@ -323,17 +323,17 @@ static void *counts(void *found)
 /* All busy threads wait for the lock, and after them one that counts: how many calls come before it. */
 static uint64_t calls_before_the_count(void)
 {
-	struct pidtab_record *record = pidtab_shared_lock(&shared);
+	struct pidtab *table = pidtab_lock(&shared);
 	uint64_t first_kept, before, found;
 	pthread_t thread;
 
 	for (int i = 0; i < THREADS; i++)
 		wait_until_asleep(&tasks[i]);
-	CHECK(pidtab_record_counts(record, &first_kept, &before) == PIDTAB_DONE);
+	CHECK(pidtab_counts(table, &first_kept, &before) == PIDTAB_DONE);
 	atomic_store(&tasks[THREADS], 0);
 	CHECK(pthread_create(&thread, NULL, counts, &found) == 0);
 	wait_until_asleep(&tasks[THREADS]);
-	pidtab_shared_unlock(&shared);
+	pidtab_unlock(&shared);
 	CHECK(pthread_join(thread, NULL) == 0);
 	return found - before;
 }

@@ -1,6 +1,5 @@
 /* Tests of reads of namespaces, and of what is directly inside one, or inside a control group: by hand, and beside the list. */
 #include "test.h"
-#include "pidtab_shared.h"
 #include "test_heap.h"
 #include "test_tasks.h"
 
@@ -503,35 +502,35 @@ static void are_as_listed(void)
 
 static void of_a_record(void)
 {
-	struct pidtab_record record = PIDTAB_RECORD_INIT;
+	struct pidtab kept = PIDTAB_INIT;
 	struct pidtab_call fork = { .operation = PIDTAB_FORK, .caller = 1, .choice = 1 };
 	struct pidtab_space was = blank(), told = blank(), wanted = { UINT64_MAX - 2, 0, 1, 2, 0 };
 	uint64_t ordinal, first_kept, recorded, ids[3] = { 7, 7, 7 }, count;
 	struct pidtab_reply reply;
 
-	CHECK(pidtab_record_space(&record, 0, &told) == PIDTAB_CLOSED && pidtab_record_inside(&record, PIDTAB_SPACES, 0, 0, ids, 3, &count) == PIDTAB_CLOSED);
-	CHECK(pidtab_record_open(&record, 32768, UINT64_MAX - 2, 1) == PIDTAB_DONE);
-	CHECK(pidtab_record_space(&record, UINT64_MAX - 2, &told) == PIDTAB_OUT_OF_RANGE && is_same(&told, &was));
-	CHECK(pidtab_record_call(&record, 0, &fork, &reply, &ordinal) == PIDTAB_DONE && pidtab_record_call(&record, 0, &fork, &reply, &ordinal) == PIDTAB_DONE);
+	CHECK(pidtab_space(&kept, 0, &told) == PIDTAB_CLOSED && pidtab_inside(&kept, PIDTAB_SPACES, 0, 0, ids, 3, &count) == PIDTAB_CLOSED);
+	CHECK(open_history(&kept, 32768, UINT64_MAX - 2, 1) == PIDTAB_DONE);
+	CHECK(pidtab_space(&kept, UINT64_MAX - 2, &told) == PIDTAB_OUT_OF_RANGE && is_same(&told, &was));
+	CHECK(pidtab_call_by(&kept, 0, &fork, &reply, &ordinal) == PIDTAB_DONE && pidtab_call_by(&kept, 0, &fork, &reply, &ordinal) == PIDTAB_DONE);
 	/* The stamps are used up, and a read uses none. */
-	CHECK(pidtab_record_call(&record, 0, &fork, &reply, &ordinal) == PIDTAB_SPENT);
+	CHECK(pidtab_call_by(&kept, 0, &fork, &reply, &ordinal) == PIDTAB_SPENT);
 	for (int turn = 0; turn < 2; turn++) {
 		told = blank();
-		CHECK(pidtab_record_space(&record, UINT64_MAX - 2, &told) == PIDTAB_DONE && is_same(&told, &wanted));
+		CHECK(pidtab_space(&kept, UINT64_MAX - 2, &told) == PIDTAB_DONE && is_same(&told, &wanted));
 		wanted = (struct pidtab_space){ UINT64_MAX - 1, 0, 1, 3, 0 };
-		CHECK(pidtab_record_space(&record, UINT64_MAX - 1, &told) == PIDTAB_DONE && is_same(&told, &wanted));
+		CHECK(pidtab_space(&kept, UINT64_MAX - 1, &told) == PIDTAB_DONE && is_same(&told, &wanted));
 		wanted = (struct pidtab_space){ UINT64_MAX - 2, 0, 1, 2, 0 };
 	}
-	CHECK(pidtab_record_inside(&record, PIDTAB_SPACES, 0, 0, ids, 3, &count) == PIDTAB_DONE && count == 2 && ids[0] == UINT64_MAX - 2 && ids[1] == UINT64_MAX - 1 && ids[2] == 7);
-	CHECK(pidtab_record_counts(&record, &first_kept, &recorded) == PIDTAB_DONE && recorded == 2);
-	record.in_use = UINT8_MAX;
+	CHECK(pidtab_inside(&kept, PIDTAB_SPACES, 0, 0, ids, 3, &count) == PIDTAB_DONE && count == 2 && ids[0] == UINT64_MAX - 2 && ids[1] == UINT64_MAX - 1 && ids[2] == 7);
+	CHECK(pidtab_counts(&kept, &first_kept, &recorded) == PIDTAB_DONE && recorded == 2);
+	kept.in_use = UINT8_MAX;
 	told = blank();
-	CHECK(pidtab_record_space(&record, 0, &told) == PIDTAB_BUSY && is_same(&told, &was));
-	record.in_use = 0;
-	CHECK(pidtab_record_close(&record) == PIDTAB_DONE);
+	CHECK(pidtab_space(&kept, 0, &told) == PIDTAB_BUSY && is_same(&told, &was));
+	kept.in_use = 0;
+	CHECK(pidtab_close(&kept) == PIDTAB_DONE);
 }
 
-static struct pidtab_shared shared;
+static struct pidtab shared;
 
 /* The first fork makes the namespace 1 with the init 2, and so on. What was read once is there for good. */
 static void *reads_spaces(void *unused)
@@ -540,11 +539,11 @@ static void *reads_spaces(void *unused)
 
 	for (uint64_t id = 1; id <= FORKS;) {
 		struct pidtab_space told = blank(), wanted = { id, 0, 1, (uint32_t)id + 1, 0 };
-		uint32_t status = pidtab_shared_space(&shared, id, &told);
+		uint32_t status = pidtab_space(&shared, id, &told);
 
 		CHECK(unused == NULL && (status == PIDTAB_OUT_OF_RANGE || (status == PIDTAB_DONE && is_same(&told, &wanted))));
 		/* Those that are in the root namespace are 1, 2 and so on, never fewer than were read. */
-		CHECK(pidtab_shared_inside(&shared, PIDTAB_SPACES, 0, 0, ids, FORKS, &count) == PIDTAB_DONE && count + 1 >= id && count <= FORKS);
+		CHECK(pidtab_inside(&shared, PIDTAB_SPACES, 0, 0, ids, FORKS, &count) == PIDTAB_DONE && count + 1 >= id && count <= FORKS);
 		for (uint64_t i = 0; i < count; i++)
 			CHECK(ids[i] == i + 1);
 		id += status == PIDTAB_DONE;
@@ -561,16 +560,16 @@ static void threads_read_beside_a_writer(void)
 	struct pidtab_reply reply;
 	uint32_t worker;
 
-	CHECK(pidtab_shared_open(&shared, 32768, 1, 1, 10) == PIDTAB_DONE && pidtab_shared_seat(&shared, &worker) == PIDTAB_DONE);
+	CHECK(open_threads(&shared, 32768, 1, 1, 10) == PIDTAB_DONE && pidtab_seat(&shared, &worker) == PIDTAB_DONE);
 	for (int i = 0; i < READERS; i++)
 		CHECK(pthread_create(&readers[i], NULL, reads_spaces, NULL) == 0);
 	for (int i = 0; i < FORKS; i++)
-		CHECK(pidtab_shared_call(&shared, worker, &fork, &reply, &ordinal) == PIDTAB_DONE && reply.kind == PIDTAB_FORKED);
+		CHECK(pidtab_call_by(&shared, worker, &fork, &reply, &ordinal) == PIDTAB_DONE && reply.kind == PIDTAB_FORKED);
 	for (int i = 0; i < READERS; i++)
 		CHECK(pthread_join(readers[i], NULL) == 0);
-	CHECK(pidtab_shared_counts(&shared, &first_kept, &recorded) == PIDTAB_DONE && recorded == FORKS);
-	CHECK(pidtab_shared_space(&shared, FORKS + 1, &told) == PIDTAB_OUT_OF_RANGE && is_same(&told, &was));
-	pidtab_shared_close(&shared);
+	CHECK(pidtab_counts(&shared, &first_kept, &recorded) == PIDTAB_DONE && recorded == FORKS);
+	CHECK(pidtab_space(&shared, FORKS + 1, &told) == PIDTAB_OUT_OF_RANGE && is_same(&told, &was));
+	pidtab_close(&shared);
 }
 
 int main(void)

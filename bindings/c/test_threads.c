@@ -3,8 +3,6 @@
 #include "test.h"
 #include "test_hold.h"
 
-#include <pthread.h>
-
 /* The heap that heap.c is built with here: one use of it waits. */
 void *test_malloc(size_t size)
 {
@@ -137,13 +135,13 @@ static void each_function_is_busy(void)
 	CHECK(pidtab_control_tasks(&table, 1, 0, 0, &number, 1, &reply) == PIDTAB_BUSY && reply.kind == 77 && number == 7);
 }
 
-static struct pidtab_record record = PIDTAB_RECORD_INIT;
+static struct pidtab kept = PIDTAB_INIT;
 
 static struct pidtab_entry saved;
 
-static void *opens_record(void *unused)
+static void *opens_kept(void *unused)
 {
-	CHECK(pidtab_record_open(&record, 32768, 1, 2) == PIDTAB_DONE);
+	CHECK(open_history(&kept, 32768, 1, 2) == PIDTAB_DONE);
 	return unused;
 }
 
@@ -154,7 +152,7 @@ static void *calls(void *unused)
 	uint64_t ordinal;
 
 	while (hold)
-		CHECK(pidtab_record_call(&record, 0, &fork_1, &reply, &ordinal) == PIDTAB_DONE && reply.kind == PIDTAB_FORKED);
+		CHECK(pidtab_call_by(&kept, 0, &fork_1, &reply, &ordinal) == PIDTAB_DONE && reply.kind == PIDTAB_FORKED);
 	return unused;
 }
 
@@ -164,7 +162,7 @@ static void *tells_a_recorded_end(void *unused)
 	struct pidtab_reply reply;
 	uint64_t ordinal, count;
 
-	CHECK(pidtab_record_call_told(&record, 1, &exit_2, &reply, &ordinal, effects, 4, &count) == PIDTAB_DONE && count == 1 && effects[0].number == 2);
+	CHECK(pidtab_call_told_by(&kept, 1, &exit_2, &reply, &ordinal, effects, 4, &count) == PIDTAB_DONE && count == 1 && effects[0].number == 2);
 	return unused;
 }
 
@@ -175,7 +173,7 @@ static void *writes_lines(void *unused)
 	uint64_t ordinal;
 
 	while (hold)
-		CHECK(pidtab_record_line(&record, 1, "fork 1", 6, answer, sizeof answer, &size, &ordinal) == PIDTAB_DONE);
+		CHECK(pidtab_line_by(&kept, 1, "fork 1", 6, answer, sizeof answer, &size, &ordinal) == PIDTAB_DONE);
 	return unused;
 }
 
@@ -184,15 +182,15 @@ static void *replays(void *unused)
 	size_t place;
 
 	while (hold)
-		CHECK(pidtab_record_replay(&record, &saved, 1, &place) == PIDTAB_DONE);
+		CHECK(pidtab_replay(&kept, &saved, 1, &place) == PIDTAB_DONE);
 	return unused;
 }
 
-static void *lists_record(void *unused)
+static void *lists_kept(void *unused)
 {
 	static char text[1 << 20];
 	size_t size = 0;
-	CHECK(pidtab_record_list(&record, text, sizeof text, &size) == PIDTAB_DONE && size > 100);
+	CHECK(pidtab_list(&kept, text, sizeof text, &size) == PIDTAB_DONE && size > 100);
 	return unused;
 }
 
@@ -200,21 +198,21 @@ static void *lists_opening(void *unused)
 {
 	static char text[1 << 20];
 	size_t size = 0;
-	CHECK(pidtab_record_opening(&record, text, sizeof text, &size) == PIDTAB_DONE && size > 24);
+	CHECK(pidtab_opening(&kept, text, sizeof text, &size) == PIDTAB_DONE && size > 24);
 	return unused;
 }
 
-static void *dumps_record(void *unused)
+static void *dumps_kept(void *unused)
 {
-	CHECK(pidtab_record_dump(&record, text, sizeof text, &length) == PIDTAB_DONE && strncmp(text, "pidtab table 1 ", 15) == 0);
+	CHECK(pidtab_dump(&kept, text, sizeof text, &length) == PIDTAB_DONE && strncmp(text, "pidtab table 1 ", 15) == 0);
 	return unused;
 }
 
-static void *loads_record(void *unused)
+static void *loads_kept(void *unused)
 {
 	static const uint64_t counts[2] = { 0, 1 };
 	struct pidtab_fault fault;
-	CHECK(pidtab_record_load(&record, text, length, counts, 2, &fault) == PIDTAB_DONE);
+	CHECK(load_history(&kept, text, length, counts, 2, &fault) == PIDTAB_DONE);
 	return unused;
 }
 
@@ -225,14 +223,14 @@ static void forks_for_a_cut(void)
 	struct pidtab_reply reply;
 	uint64_t ordinal;
 
-	CHECK(pidtab_record_call_keeping(&record, 0, &call, 8, &reply, &ordinal) == PIDTAB_DONE);
+	CHECK(pidtab_call_by(&kept, 0, &call, &reply, &ordinal) == PIDTAB_DONE && pidtab_keep(&kept, 8) == PIDTAB_DONE);
 }
 
 static void *cuts(void *unused)
 {
 	while (hold) {
 		forks_for_a_cut();
-		CHECK(pidtab_record_checkpoint(&record) == PIDTAB_DONE);
+		CHECK(pidtab_checkpoint(&kept) == PIDTAB_DONE);
 	}
 	return unused;
 }
@@ -242,19 +240,19 @@ static void *cuts_at(void *unused)
 	uint64_t first, recorded;
 	while (hold) {
 		forks_for_a_cut();
-		CHECK(pidtab_record_counts(&record, &first, &recorded) == PIDTAB_DONE);
-		CHECK(pidtab_record_checkpoint_at(&record, recorded) == PIDTAB_DONE);
+		CHECK(pidtab_counts(&kept, &first, &recorded) == PIDTAB_DONE);
+		CHECK(pidtab_checkpoint_at(&kept, recorded) == PIDTAB_DONE);
 	}
 	return unused;
 }
 
-static void *closes_record(void *unused)
+static void *closes_kept(void *unused)
 {
-	CHECK(pidtab_record_close(&record) == PIDTAB_DONE);
+	CHECK(pidtab_close(&kept) == PIDTAB_DONE);
 	return unused;
 }
 
-static void each_call_of_a_record_is_busy(void)
+static void each_call_of_a_history_is_busy(void)
 {
 	char room[PIDTAB_LONGEST_ANSWER] = "kept";
 	size_t size = 7;
@@ -264,20 +262,21 @@ static void each_call_of_a_record_is_busy(void)
 	struct pidtab_fault fault = { 77, 77 };
 	struct pidtab_effect effect = { .number = 77 };
 	uint64_t count = 77;
+	uint32_t seat = 77;
 
-	CHECK(pidtab_record_open(&record, 32768, 1, 2) == PIDTAB_BUSY && pidtab_record_open(&record, 0, 0, 0) == PIDTAB_BUSY);
-	CHECK(pidtab_record_call(&record, 0, &call, &reply, &one) == PIDTAB_BUSY);
-	CHECK(pidtab_record_call_keeping(&record, 0, &call, 1, &reply, &one) == PIDTAB_BUSY && pidtab_record_keep(&record, 0) == PIDTAB_BUSY);
-	CHECK(pidtab_record_line(&record, 0, "getpid 1", 8, room, sizeof room, &size, &one) == PIDTAB_BUSY);
-	CHECK(pidtab_record_call_told(&record, 0, &call, &reply, &one, &effect, 1, &count) == PIDTAB_BUSY && effect.number == 77 && count == 77);
-	CHECK(pidtab_record_replay(&record, &saved, 1, &size) == PIDTAB_BUSY);
-	CHECK(pidtab_record_checkpoint(&record) == PIDTAB_BUSY && pidtab_record_checkpoint_at(&record, 0) == PIDTAB_BUSY);
-	CHECK(pidtab_record_load(&record, room, sizeof room, &one, 1, &fault) == PIDTAB_BUSY && fault.kind == 0 && fault.line == 0);
-	CHECK(pidtab_record_close(&record) == PIDTAB_BUSY);
+	CHECK(open_history(&kept, 32768, 1, 2) == PIDTAB_BUSY && open_history(&kept, 300, 1, 17) == PIDTAB_BUSY);
+	CHECK(pidtab_call_by(&kept, 0, &call, &reply, &one) == PIDTAB_BUSY);
+	CHECK(pidtab_keep(&kept, 0) == PIDTAB_BUSY && pidtab_seat(&kept, &seat) == PIDTAB_BUSY && seat == 77);
+	CHECK(pidtab_line_by(&kept, 0, "getpid 1", 8, room, sizeof room, &size, &one) == PIDTAB_BUSY);
+	CHECK(pidtab_call_told_by(&kept, 0, &call, &reply, &one, &effect, 1, &count) == PIDTAB_BUSY && effect.number == 77 && count == 77);
+	CHECK(pidtab_replay(&kept, &saved, 1, &size) == PIDTAB_BUSY);
+	CHECK(pidtab_checkpoint(&kept) == PIDTAB_BUSY && pidtab_checkpoint_at(&kept, 0) == PIDTAB_BUSY);
+	CHECK(load_history(&kept, room, sizeof room, &one, 1, &fault) == PIDTAB_BUSY && fault.kind == 0 && fault.line == 0);
+	CHECK(pidtab_close(&kept) == PIDTAB_BUSY);
 	CHECK(one == 7 && size == 7 && strcmp(room, "kept") == 0 && reply.kind == 77);
 }
 
-static void each_function_of_a_record_is_busy(void)
+static void each_function_of_a_history_is_busy(void)
 {
 	char room[PIDTAB_LONGEST_ANSWER] = "kept";
 	size_t size = 7;
@@ -290,18 +289,18 @@ static void each_function_of_a_record_is_busy(void)
 	uint64_t id = 7, count = 77;
 	struct pidtab_entry entry = { .worker = 77 };
 
-	each_call_of_a_record_is_busy();
-	CHECK(pidtab_record_ask(&record, &call, &reply) == PIDTAB_BUSY && pidtab_record_stat(&record, 1, 0, &task) == PIDTAB_BUSY);
-	CHECK(pidtab_record_page(&record, 1, PIDTAB_CHILDREN, 0, 0, &number, 1, &reply) == PIDTAB_BUSY && reply.kind == 77 && number == 7);
-	CHECK(pidtab_record_space(&record, 0, &space) == PIDTAB_BUSY && space.level == 77);
-	CHECK(pidtab_record_inside(&record, PIDTAB_SPACES, 0, 0, &id, 1, &count) == PIDTAB_BUSY && id == 7 && count == 77);
-	CHECK(pidtab_record_control_tasks(&record, 1, 0, 0, &number, 1, &reply) == PIDTAB_BUSY && reply.kind == 77 && number == 7);
-	CHECK(pidtab_record_counts(&record, &one, &other) == PIDTAB_BUSY && pidtab_record_worker(&record, 0, &one) == PIDTAB_BUSY);
-	CHECK(pidtab_record_entry(&record, 0, &one, &call, &reply) == PIDTAB_BUSY);
-	CHECK(pidtab_record_read(&record, 0, &entry, 1, &size) == PIDTAB_BUSY);
-	CHECK(pidtab_record_list(&record, room, sizeof room, &size) == PIDTAB_BUSY);
-	CHECK(pidtab_record_opening(&record, room, sizeof room, &size) == PIDTAB_BUSY);
-	CHECK(pidtab_record_dump(&record, room, sizeof room, &size) == PIDTAB_BUSY);
+	each_call_of_a_history_is_busy();
+	CHECK(pidtab_ask(&kept, &call, &reply) == PIDTAB_BUSY && pidtab_stat(&kept, 1, 0, &task) == PIDTAB_BUSY);
+	CHECK(pidtab_page(&kept, 1, PIDTAB_CHILDREN, 0, 0, &number, 1, &reply) == PIDTAB_BUSY && reply.kind == 77 && number == 7);
+	CHECK(pidtab_space(&kept, 0, &space) == PIDTAB_BUSY && space.level == 77);
+	CHECK(pidtab_inside(&kept, PIDTAB_SPACES, 0, 0, &id, 1, &count) == PIDTAB_BUSY && id == 7 && count == 77);
+	CHECK(pidtab_control_tasks(&kept, 1, 0, 0, &number, 1, &reply) == PIDTAB_BUSY && reply.kind == 77 && number == 7);
+	CHECK(pidtab_counts(&kept, &one, &other) == PIDTAB_BUSY && pidtab_worker(&kept, 0, &one) == PIDTAB_BUSY);
+	CHECK(pidtab_entry(&kept, 0, &one, &call, &reply) == PIDTAB_BUSY);
+	CHECK(pidtab_read(&kept, 0, &entry, 1, &size) == PIDTAB_BUSY);
+	CHECK(pidtab_list(&kept, room, sizeof room, &size) == PIDTAB_BUSY);
+	CHECK(pidtab_opening(&kept, room, sizeof room, &size) == PIDTAB_BUSY);
+	CHECK(pidtab_dump(&kept, room, sizeof room, &size) == PIDTAB_BUSY);
 	CHECK(one == 7 && other == 7 && size == 7 && strcmp(room, "kept") == 0 && reply.kind == 77 && entry.worker == 77 && task.count == 77);
 }
 
@@ -344,22 +343,22 @@ static void save_a_call(void)
 	uint64_t ordinal;
 	size_t count;
 
-	CHECK(pidtab_record_call(&record, 0, &call, &reply, &ordinal) == PIDTAB_DONE && reply.first == 1);
-	CHECK(pidtab_record_read(&record, ordinal, &saved, 1, &count) == PIDTAB_DONE && count == 1);
+	CHECK(pidtab_call_by(&kept, 0, &call, &reply, &ordinal) == PIDTAB_DONE && reply.first == 1);
+	CHECK(pidtab_read(&kept, ordinal, &saved, 1, &count) == PIDTAB_DONE && count == 1);
 }
 
-static void in_the_middle_of_each_of_a_record(void)
+static void in_the_middle_of_each_of_a_history(void)
 {
-	void *(*const queries[])(void *) = { lists_record, lists_opening, dumps_record };
-	void *(*const others[])(void *) = { calls, tells_a_recorded_end, writes_lines, replays, cuts, cuts_at, closes_record, loads_record, closes_record };
+	void *(*const queries[])(void *) = { lists_kept, lists_opening, dumps_kept };
+	void *(*const others[])(void *) = { calls, tells_a_recorded_end, writes_lines, replays, cuts, cuts_at, closes_kept, loads_kept, closes_kept };
 
-	while_another(opens_record, each_function_of_a_record_is_busy);
+	while_another(opens_kept, each_function_of_a_history_is_busy);
 	save_a_call();
 	for (size_t i = 0; i < sizeof queries / sizeof queries[0]; i++)
-		while_another(queries[i], each_call_of_a_record_is_busy);
+		while_another(queries[i], each_call_of_a_history_is_busy);
 	for (size_t i = 0; i < sizeof others / sizeof others[0]; i++)
-		while_another(others[i], each_function_of_a_record_is_busy);
-	CHECK(record.at == NULL && !record.is_open && !record.in_use);
+		while_another(others[i], each_function_of_a_history_is_busy);
+	CHECK(kept.at == NULL && !kept.is_open && !kept.in_use);
 }
 
 #define THREADS 8
@@ -398,7 +397,7 @@ static void eight_at_once(void)
 int main(void)
 {
 	in_the_middle_of_each();
-	in_the_middle_of_each_of_a_record();
+	in_the_middle_of_each_of_a_history();
 	eight_at_once();
 	return 0;
 }

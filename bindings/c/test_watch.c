@@ -1,5 +1,5 @@
 /* Who waits until a call is recorded: one or many, beside a saver, with a deadline, and until the waits end. While threads make calls, a
- * replica follows them by such waits to the end, and has the text of the record. */
+ * replica follows them by such waits to the end, and has the text of the table. */
 #include "test_saved.h"
 
 #include <limits.h>
@@ -11,11 +11,11 @@
 #define WAITERS 8
 
 static const struct pidtab_saved_head head = { .pid_max = 32768, .workers = WORKERS, .first_stamp = 1 };
-static struct pidtab_shared shared;
+static struct pidtab shared;
 
 static void begin(void)
 {
-	CHECK(pidtab_shared_open(&shared, head.pid_max, head.first_stamp, head.workers, 0) == PIDTAB_DONE);
+	CHECK(open_threads(&shared, head.pid_max, head.first_stamp, head.workers, PIDTAB_KEEP_ALL) == PIDTAB_DONE);
 }
 
 /* A getpid of worker 0. */
@@ -25,7 +25,7 @@ static void asks(void)
 	struct pidtab_reply reply;
 	uint64_t ordinal;
 
-	CHECK(pidtab_shared_call(&shared, 0, &call, &reply, &ordinal) == PIDTAB_DONE);
+	CHECK(pidtab_call_by(&shared, 0, &call, &reply, &ordinal) == PIDTAB_DONE);
 }
 
 /* A deadline in so many milliseconds. */
@@ -46,7 +46,7 @@ static uint64_t waited(uint64_t ordinal, const struct timespec *until)
 {
 	uint64_t recorded = UINT64_MAX;
 
-	CHECK(pidtab_shared_wait(&shared, ordinal, until, &recorded) == PIDTAB_DONE);
+	CHECK(pidtab_await(&shared, ordinal, until, &recorded) == PIDTAB_DONE);
 	return recorded;
 }
 
@@ -62,7 +62,7 @@ static void *waits(void *at)
 {
 	struct waiter *waiter = at;
 
-	waiter->status = pidtab_shared_wait(&shared, waiter->ordinal, waiter->until, &waiter->recorded);
+	waiter->status = pidtab_await(&shared, waiter->ordinal, waiter->until, &waiter->recorded);
 	return NULL;
 }
 
@@ -96,8 +96,8 @@ static void is_there_already(void)
 	asks();
 	asks();
 	CHECK(waited(0, NULL) == 2 && waited(1, NULL) == 2);
-	CHECK(pidtab_shared_checkpoint(&shared) == PIDTAB_DONE && waited(0, NULL) == 2);
-	pidtab_shared_close(&shared);
+	CHECK(pidtab_checkpoint(&shared) == PIDTAB_DONE && waited(0, NULL) == 2);
+	pidtab_close(&shared);
 }
 
 /* A call wakes each that waits for it, and no query, cut or empty turn does. */
@@ -113,9 +113,9 @@ static void each_is_woken(void)
 		start(&waiters[i], 0);
 	start(&late, 1);
 	let_sleep();
-	CHECK(pidtab_shared_ask(&shared, &query, &reply) == PIDTAB_DONE && pidtab_shared_checkpoint(&shared) == PIDTAB_DONE);
-	pidtab_shared_lock(&shared);
-	pidtab_shared_unlock(&shared);
+	CHECK(pidtab_ask(&shared, &query, &reply) == PIDTAB_DONE && pidtab_checkpoint(&shared) == PIDTAB_DONE);
+	pidtab_lock(&shared);
+	pidtab_unlock(&shared);
 	soon = in(20);
 	CHECK(waited(0, &soon) == 0);
 	asks();
@@ -123,7 +123,7 @@ static void each_is_woken(void)
 		told(&waiters[i], PIDTAB_DONE, 1);
 	asks();
 	told(&late, PIDTAB_DONE, 2);
-	pidtab_shared_close(&shared);
+	pidtab_close(&shared);
 }
 
 /* Calls that are made under the lock wake too, a call by a line, and one that tells its effects. */
@@ -131,7 +131,7 @@ static void calls_of_each_kind(void)
 {
 	const struct pidtab_call call = { .operation = PIDTAB_GETPID, .caller = 1 };
 	char answer[PIDTAB_LONGEST_ANSWER];
-	struct pidtab_record *record;
+	struct pidtab *table;
 	struct pidtab_effect effects[1];
 	struct pidtab_reply reply;
 	struct waiter waiter;
@@ -141,20 +141,20 @@ static void calls_of_each_kind(void)
 	begin();
 	start(&waiter, 1);
 	let_sleep();
-	record = pidtab_shared_lock(&shared);
+	table = pidtab_lock(&shared);
 	for (int i = 0; i < 3; i++)
-		CHECK(pidtab_record_call(record, 1, &call, &reply, &ordinal) == PIDTAB_DONE);
-	pidtab_shared_unlock(&shared);
+		CHECK(pidtab_call_by(table, 1, &call, &reply, &ordinal) == PIDTAB_DONE);
+	pidtab_unlock(&shared);
 	told(&waiter, PIDTAB_DONE, 3);
 	start(&waiter, 3);
 	let_sleep();
-	CHECK(pidtab_shared_line(&shared, 0, "getpid 1", 8, answer, sizeof answer, &size, &ordinal) == PIDTAB_DONE);
+	CHECK(pidtab_line_by(&shared, 0, "getpid 1", 8, answer, sizeof answer, &size, &ordinal) == PIDTAB_DONE);
 	told(&waiter, PIDTAB_DONE, 4);
 	start(&waiter, 4);
 	let_sleep();
-	CHECK(pidtab_shared_call_told(&shared, 0, &call, &reply, &ordinal, effects, 0, &count) == PIDTAB_DONE);
+	CHECK(pidtab_call_told_by(&shared, 0, &call, &reply, &ordinal, effects, 0, &count) == PIDTAB_DONE);
 	told(&waiter, PIDTAB_DONE, 5);
-	pidtab_shared_close(&shared);
+	pidtab_close(&shared);
 }
 
 /* A deadline that has come is done, and says that no more were recorded. It never comes too early. */
@@ -171,14 +171,14 @@ static void deadlines(void)
 	soon = in(30);
 	CHECK(waited(0, &soon) == 0 && clock_gettime(CLOCK_REALTIME, &now) == 0);
 	CHECK(now.tv_sec > soon.tv_sec || (now.tv_sec == soon.tv_sec && now.tv_nsec >= soon.tv_nsec));
-	CHECK(pidtab_shared_wait(&shared, 0, &wrong, &recorded) == PIDTAB_OUT_OF_RANGE);
-	CHECK(pidtab_shared_wait(&shared, 0, &negative, &recorded) == PIDTAB_OUT_OF_RANGE && recorded == 7);
+	CHECK(pidtab_await(&shared, 0, &wrong, &recorded) == PIDTAB_OUT_OF_RANGE);
+	CHECK(pidtab_await(&shared, 0, &negative, &recorded) == PIDTAB_OUT_OF_RANGE && recorded == 7);
 	start_until(&waiter, 0, &never);
 	let_sleep();
 	asks();
 	told(&waiter, PIDTAB_DONE, 1);
 	CHECK(waited(0, &past) == 1 && waited(0, &never) == 1 && waited(1, &past) == 1);
-	pidtab_shared_close(&shared);
+	pidtab_close(&shared);
 }
 
 /* The end is for all waits, those that come later too; what was recorded is told still. */
@@ -192,14 +192,14 @@ static void ended(void)
 	start(&one, 1);
 	start(&other, UINT64_MAX);
 	let_sleep();
-	pidtab_shared_end(&shared);
+	pidtab_end(&shared);
 	told(&one, PIDTAB_CLOSED, 1);
 	told(&other, PIDTAB_CLOSED, 1);
 	asks();
 	CHECK(waited(0, NULL) == 2 && waited(1, &past) == 2);
 	start(&one, 2);
 	told(&one, PIDTAB_CLOSED, 2);
-	pidtab_shared_close(&shared);
+	pidtab_close(&shared);
 }
 
 static struct pidtab_saved saved;
@@ -227,13 +227,13 @@ static void beside_a_saver(void)
 	}
 	start(&waiter, 200);
 	let_sleep();
-	pidtab_shared_end(&shared);
+	pidtab_end(&shared);
 	told(&waiter, PIDTAB_CLOSED, 200);
 	asks();
 	CHECK(pidtab_saved_wait(&shared, 200) == PIDTAB_DONE);
 	pidtab_saved_end(&shared);
 	CHECK(pthread_join(saver, NULL) == 0 && saved.next == 201);
-	pidtab_shared_close(&shared);
+	pidtab_close(&shared);
 	CHECK(close(file) == 0);
 }
 
@@ -249,7 +249,7 @@ static void saver_ended(void)
 	let_sleep();
 	asks();
 	told(&waiter, PIDTAB_DONE, 1);
-	pidtab_shared_close(&shared);
+	pidtab_close(&shared);
 }
 
 /* Children that end. One of three is left a zombie. */
@@ -261,14 +261,14 @@ static void *works(void *unused)
 	uint64_t ordinal;
 	uint32_t worker;
 
-	CHECK(pidtab_shared_seat(&shared, &worker) == PIDTAB_DONE);
+	CHECK(pidtab_seat(&shared, &worker) == PIDTAB_DONE);
 	for (int i = 0; i < EACH; i++) {
-		CHECK(pidtab_shared_call(&shared, worker, &fork, &reply, &ordinal) == PIDTAB_DONE && reply.kind == PIDTAB_FORKED);
+		CHECK(pidtab_call_by(&shared, worker, &fork, &reply, &ordinal) == PIDTAB_DONE && reply.kind == PIDTAB_FORKED);
 		exit.caller = (uint32_t)reply.second;
 		wait.number = (uint32_t)reply.first;
-		CHECK(pidtab_shared_call(&shared, worker, &exit, &reply, &ordinal) == PIDTAB_DONE);
+		CHECK(pidtab_call_by(&shared, worker, &exit, &reply, &ordinal) == PIDTAB_DONE);
 		if (i % 3 != 0)
-			CHECK(pidtab_shared_call(&shared, worker, &wait, &reply, &ordinal) == PIDTAB_DONE);
+			CHECK(pidtab_call_by(&shared, worker, &wait, &reply, &ordinal) == PIDTAB_DONE);
 	}
 	return unused;
 }
@@ -280,10 +280,10 @@ static void *follows(void *at)
 	static uint64_t next;
 	uint64_t recorded, before = 0;
 
-	while (pidtab_shared_wait(&shared, next, NULL, &recorded) == PIDTAB_DONE) {
+	while (pidtab_await(&shared, next, NULL, &recorded) == PIDTAB_DONE) {
 		CHECK(recorded > next && recorded >= before);
 		before = recorded;
-		CHECK(pidtab_shared_follow(&shared, replica, &next) == PIDTAB_DONE && next >= recorded);
+		CHECK(pidtab_follow(&shared, replica, &next) == PIDTAB_DONE && next >= recorded);
 	}
 	return &next;
 }
@@ -297,7 +297,7 @@ static void same_texts(struct pidtab *replica)
 	one = malloc(size);
 	text = malloc(size);
 	CHECK(one && text && pidtab_dump(replica, one, size, &size) == PIDTAB_DONE);
-	CHECK(pidtab_shared_dump(&shared, text, size, &other) == PIDTAB_DONE && other == size && memcmp(one, text, size) == 0);
+	CHECK(pidtab_dump(&shared, text, size, &other) == PIDTAB_DONE && other == size && memcmp(one, text, size) == 0);
 	free(one);
 	free(text);
 }
@@ -315,12 +315,12 @@ static void follows_to_the_end(void)
 		CHECK(pthread_create(&threads[i], NULL, works, NULL) == 0);
 	for (int i = 0; i < WORKERS; i++)
 		CHECK(pthread_join(threads[i], NULL) == 0);
-	pidtab_shared_end(&shared);
+	pidtab_end(&shared);
 	CHECK(pthread_join(follower, &next) == 0);
 	CHECK(*(uint64_t *)next == waited(0, NULL) && *(uint64_t *)next == WORKERS * (2 * EACH + EACH - (EACH + 2) / 3));
 	same_texts(&replica);
 	pidtab_close(&replica);
-	pidtab_shared_close(&shared);
+	pidtab_close(&shared);
 }
 
 int main(void)

@@ -1,6 +1,5 @@
 /* Tests of foretold replies: a call answers as it was told, nothing changes before, and a fork is made as it was told or not at all. */
 #include "test.h"
-#include "pidtab_shared.h"
 #include "test_heap.h"
 
 #define CALLS 20000
@@ -167,66 +166,66 @@ static void want_of_memory(void)
 	pidtab_close(&table);
 }
 
-static struct pidtab_record opened(uint64_t first_stamp)
+static struct pidtab opened(uint64_t first_stamp)
 {
-	struct pidtab_record record = PIDTAB_RECORD_INIT;
+	struct pidtab kept = PIDTAB_INIT;
 
-	CHECK(pidtab_record_open(&record, 32768, first_stamp, 2) == PIDTAB_DONE);
-	return record;
+	CHECK(open_history(&kept, 32768, first_stamp, 2) == PIDTAB_DONE);
+	return kept;
 }
 
-static void recorded_is(struct pidtab_record *record, uint64_t wanted)
+static void recorded_is(struct pidtab *kept, uint64_t wanted)
 {
 	uint64_t first_kept, recorded;
 
-	CHECK(pidtab_record_counts(record, &first_kept, &recorded) == PIDTAB_DONE && first_kept == 0 && recorded == wanted);
+	CHECK(pidtab_counts(kept, &first_kept, &recorded) == PIDTAB_DONE && first_kept == 0 && recorded == wanted);
 }
 
-static void record_fork_is(struct pidtab_record *record, uint32_t worker, uint32_t new_space, uint32_t status)
+static void record_fork_is(struct pidtab *kept, uint32_t worker, uint32_t new_space, uint32_t status)
 {
 	struct pidtab_reply reply = blank();
 	uint64_t ordinal = 77;
 
-	CHECK(pidtab_record_fork_at(record, worker, 1, new_space, 2, 2, &reply, &ordinal) == status && ordinal == 77);
+	CHECK(pidtab_fork_at_by(kept, worker, 1, new_space, 2, 2, &reply, &ordinal) == status && ordinal == 77);
 	is_untold(&reply);
 }
 
 static void each_status_of_a_record(void)
 {
-	struct pidtab_record record = PIDTAB_RECORD_INIT;
+	struct pidtab kept = PIDTAB_INIT;
 	struct pidtab_reply reply = blank();
 	struct pidtab_call call;
 	uint64_t ordinal = 77, worker;
 
-	CHECK(pidtab_record_would(&record, &fork_1, &reply) == PIDTAB_CLOSED);
-	record_fork_is(&record, 0, 0, PIDTAB_CLOSED);
-	record = opened(1);
-	CHECK(pidtab_record_would(&record, &bad[0], &reply) == PIDTAB_OUT_OF_RANGE);
+	CHECK(pidtab_would(&kept, &fork_1, &reply) == PIDTAB_CLOSED);
+	record_fork_is(&kept, 0, 0, PIDTAB_CLOSED);
+	kept = opened(1);
+	CHECK(pidtab_would(&kept, &bad[0], &reply) == PIDTAB_OUT_OF_RANGE);
 	is_untold(&reply);
-	record_fork_is(&record, 0, 2, PIDTAB_OUT_OF_RANGE);
-	record_fork_is(&record, 2, 0, PIDTAB_OUT_OF_RANGE);
-	CHECK(pidtab_record_would(&record, &fork_1, &reply) == PIDTAB_DONE && reply.kind == PIDTAB_FORKED && reply.first == 2 && reply.second == 2);
-	recorded_is(&record, 0);
-	CHECK(pidtab_record_fork_at(&record, 1, 1, 0, 3, 2, &reply, &ordinal) == PIDTAB_DIFFERS && ordinal == 77 && reply.first == 2);
-	recorded_is(&record, 0);
-	CHECK(pidtab_record_fork_at(&record, 1, 1, 0, 2, 2, &reply, &ordinal) == PIDTAB_DONE && ordinal == 0 && reply.first == 2 && reply.second == 2);
-	recorded_is(&record, 1);
-	CHECK(pidtab_record_entry(&record, 0, &worker, &call, &reply) == PIDTAB_DONE && worker == 1 && call.operation == PIDTAB_FORK && reply.first == 2);
-	pidtab_record_close(&record);
+	record_fork_is(&kept, 0, 2, PIDTAB_OUT_OF_RANGE);
+	record_fork_is(&kept, 2, 0, PIDTAB_OUT_OF_RANGE);
+	CHECK(pidtab_would(&kept, &fork_1, &reply) == PIDTAB_DONE && reply.kind == PIDTAB_FORKED && reply.first == 2 && reply.second == 2);
+	recorded_is(&kept, 0);
+	CHECK(pidtab_fork_at_by(&kept, 1, 1, 0, 3, 2, &reply, &ordinal) == PIDTAB_DIFFERS && ordinal == 77 && reply.first == 2);
+	recorded_is(&kept, 0);
+	CHECK(pidtab_fork_at_by(&kept, 1, 1, 0, 2, 2, &reply, &ordinal) == PIDTAB_DONE && ordinal == 0 && reply.first == 2 && reply.second == 2);
+	recorded_is(&kept, 1);
+	CHECK(pidtab_entry(&kept, 0, &worker, &call, &reply) == PIDTAB_DONE && worker == 1 && call.operation == PIDTAB_FORK && reply.first == 2);
+	pidtab_close(&kept);
 	/* One stamp is left: a refused fork takes none, and what is told takes none. */
-	record = opened(UINT64_MAX - 1);
-	CHECK(pidtab_record_fork_at(&record, 0, 1, 0, 9, 9, &reply, &ordinal) == PIDTAB_DIFFERS);
-	CHECK(pidtab_record_fork_at(&record, 0, 1, 0, 2, 2, &reply, &ordinal) == PIDTAB_DONE);
+	kept = opened(UINT64_MAX - 1);
+	CHECK(pidtab_fork_at_by(&kept, 0, 1, 0, 9, 9, &reply, &ordinal) == PIDTAB_DIFFERS);
+	CHECK(pidtab_fork_at_by(&kept, 0, 1, 0, 2, 2, &reply, &ordinal) == PIDTAB_DONE);
 	reply = blank();
-	CHECK(pidtab_record_would(&record, &fork_1, &reply) == PIDTAB_SPENT);
+	CHECK(pidtab_would(&kept, &fork_1, &reply) == PIDTAB_SPENT);
 	is_untold(&reply);
-	record_fork_is(&record, 0, 0, PIDTAB_SPENT);
-	record_fork_is(&record, 2, 0, PIDTAB_OUT_OF_RANGE);
-	recorded_is(&record, 1);
-	pidtab_record_close(&record);
+	record_fork_is(&kept, 0, 0, PIDTAB_SPENT);
+	record_fork_is(&kept, 2, 0, PIDTAB_OUT_OF_RANGE);
+	recorded_is(&kept, 1);
+	pidtab_close(&kept);
 }
 
-static struct pidtab_shared shared;
+static struct pidtab shared;
 
 /* Forks by the numbers that were told. Where another thread was faster, they are told again. */
 static void *forks_as_told(void *unused)
@@ -234,13 +233,13 @@ static void *forks_as_told(void *unused)
 	uint32_t worker;
 	uint64_t ordinal;
 
-	CHECK(unused == NULL && pidtab_shared_seat(&shared, &worker) == PIDTAB_DONE);
+	CHECK(unused == NULL && pidtab_seat(&shared, &worker) == PIDTAB_DONE);
 	for (int made = 0; made < FORKS;) {
 		struct pidtab_reply told, reply;
 		uint32_t status;
 
-		CHECK(pidtab_shared_would(&shared, &fork_1, &told) == PIDTAB_DONE && told.kind == PIDTAB_FORKED);
-		status = pidtab_shared_fork_at(&shared, worker, 1, 0, (uint32_t)told.first, (uint32_t)told.second, &reply, &ordinal);
+		CHECK(pidtab_would(&shared, &fork_1, &told) == PIDTAB_DONE && told.kind == PIDTAB_FORKED);
+		status = pidtab_fork_at_by(&shared, worker, 1, 0, (uint32_t)told.first, (uint32_t)told.second, &reply, &ordinal);
 		CHECK(status == PIDTAB_DONE ? is_same_reply(&told, &reply) : status == PIDTAB_DIFFERS && reply.first > told.first);
 		made += status == PIDTAB_DONE;
 	}
@@ -253,14 +252,14 @@ static void threads_fork_as_told(void)
 	pthread_t threads[WORKERS];
 	uint64_t first_kept, recorded;
 
-	CHECK(pidtab_shared_open(&shared, 32768, 1, WORKERS, 10) == PIDTAB_DONE);
+	CHECK(open_threads(&shared, 32768, 1, WORKERS, 10) == PIDTAB_DONE);
 	for (int i = 0; i < WORKERS; i++)
 		CHECK(pthread_create(&threads[i], NULL, forks_as_told, NULL) == 0);
 	for (int i = 0; i < WORKERS; i++)
 		CHECK(pthread_join(threads[i], NULL) == 0);
-	CHECK(pidtab_shared_counts(&shared, &first_kept, &recorded) == PIDTAB_DONE);
+	CHECK(pidtab_counts(&shared, &first_kept, &recorded) == PIDTAB_DONE);
 	CHECK(recorded == WORKERS * FORKS && first_kept == recorded - 10);
-	pidtab_shared_close(&shared);
+	pidtab_close(&shared);
 }
 
 int main(void)

@@ -2,7 +2,6 @@
 
 from names import camel
 from questions import REPLY, all_arguments, arguments_of
-from tables import words_of
 from written.go_questions import answer_of, taken
 
 C = "bindings/c/test_cases.c"
@@ -25,12 +24,12 @@ def numbers(row, form):
 
 
 def in_c(tables):
-    """The question by the numbers of a step, of a table without a history or of the shared one."""
+    """The question by the numbers of a step."""
     lines = ["static bool ask_question(const char *word, const struct pidtab *table, const uint64_t *n, size_t room, struct answered *to)", "{"]
     for row in asked(tables):
         given = iter(numbers(row, "(uint32_t)n[{}]"))
         passed = [f"PIDTAB_{it.choice}" if it.choice else next(given) for it in all_arguments(row)]
-        ask = f"ASKED({', '.join([words_of(row.exports)[0], *passed, PLACES.get(row.tells, f'&to->{row.tells}')])})"
+        ask = f"pidtab_{row.exports}({', '.join(['table', *passed, PLACES.get(row.tells, f'&to->{row.tells}')])})"
         lines += [f'\tif (strcmp(word, "{row.question}") == 0) {{', f"\t\tto->tells = TELLS_{row.tells.upper()};", f"\t\tto->status = {ask};", "\t\treturn true;", "\t}"]
     return [*lines, "\treturn false;", "}"]
 

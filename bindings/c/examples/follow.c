@@ -1,13 +1,12 @@
 /* Who follows a shared table: a thread that prints each call once it is recorded, with its answer. Built by
  * `cc follow.c -Iout out/libpidtab.a -pthread`. */
-#include "pidtab_shared.h"
 
 #include <inttypes.h>
 #include <stdio.h>
 
 #define ROOM 2
 
-static struct pidtab_shared shared;
+static struct pidtab shared;
 
 static uint32_t print_entry(uint64_t ordinal, const struct pidtab_entry *entry)
 {
@@ -30,7 +29,7 @@ static uint32_t print_recorded(uint64_t *next)
 	uint32_t status;
 
 	do {
-		status = pidtab_shared_read(&shared, *next, entries, ROOM, &count);
+		status = pidtab_read(&shared, *next, entries, ROOM, &count);
 		for (size_t i = 0; status == PIDTAB_DONE && i < count; i++)
 			status = print_entry((*next)++, &entries[i]);
 	} while (status == PIDTAB_DONE && count == ROOM);
@@ -44,7 +43,7 @@ static void *follow(void *followed)
 	uint32_t status;
 
 	do {
-		status = pidtab_shared_wait(&shared, next, NULL, &recorded);
+		status = pidtab_await(&shared, next, NULL, &recorded);
 		if (status == PIDTAB_DONE)
 			status = print_recorded(&next);
 	} while (status == PIDTAB_DONE);
@@ -63,10 +62,10 @@ static uint32_t work(void)
 		{ .operation = PIDTAB_WAIT, .caller = 1, .choice = PIDTAB_CHILD, .number = 2 }, { .operation = PIDTAB_WAIT, .caller = 1, .choice = PIDTAB_ANY } };
 	struct pidtab_reply reply;
 	uint64_t ordinal;
-	uint32_t worker, status = pidtab_shared_seat(&shared, &worker);
+	uint32_t worker, status = pidtab_seat(&shared, &worker);
 
 	for (size_t i = 0; status == PIDTAB_DONE && i < sizeof calls / sizeof calls[0]; i++)
-		status = pidtab_shared_call(&shared, worker, &calls[i], &reply, &ordinal);
+		status = pidtab_call_by(&shared, worker, &calls[i], &reply, &ordinal);
 	return status;
 }
 
@@ -74,7 +73,7 @@ int main(void)
 {
 	pthread_t follower;
 	bool followed = false;
-	uint32_t status = pidtab_shared_open(&shared, 32768, 1, 1, 0);
+	uint32_t status = open_threads(&shared, 32768, 1, 1, PIDTAB_KEEP_ALL);
 
 	if (status != PIDTAB_DONE) {
 		fprintf(stderr, "%s\n", pidtab_text(status));
@@ -84,12 +83,12 @@ int main(void)
 		status = work();
 		if (status != PIDTAB_DONE)
 			fprintf(stderr, "%s\n", pidtab_text(status));
-		pidtab_shared_end(&shared);
+		pidtab_end(&shared);
 		pthread_join(follower, NULL);
 	} else {
 		fprintf(stderr, "there is no thread\n");
 	}
-	pidtab_shared_close(&shared);
+	pidtab_close(&shared);
 	return status != PIDTAB_DONE || !followed;
 }
 

@@ -10,7 +10,7 @@
 #define THREADS 8
 #define REQUESTS 100
 
-static struct pidtab_shared shared;
+static struct pidtab shared;
 static struct pidtab_saved saved;
 
 /* All that the saver does. It cuts the history at 4,096 entries. */
@@ -28,7 +28,7 @@ static uint32_t fork_on_disk(uint32_t worker, struct pidtab_reply *reply)
 {
 	const struct pidtab_call call = { .operation = PIDTAB_FORK, .caller = 1 };
 	uint64_t ordinal;
-	uint32_t status = pidtab_shared_call(&shared, worker, &call, reply, &ordinal);
+	uint32_t status = pidtab_call_by(&shared, worker, &call, reply, &ordinal);
 
 	return status == PIDTAB_DONE ? pidtab_saved_wait(&shared, ordinal) : status;
 }
@@ -38,7 +38,7 @@ static void *answer(void *count)
 	struct pidtab_reply reply;
 	uint32_t worker;
 
-	pidtab_shared_seat(&shared, &worker);
+	pidtab_seat(&shared, &worker);
 	for (int i = 0; i < REQUESTS && fork_on_disk(worker, &reply) == PIDTAB_DONE; i++)
 		++*(int *)count;
 	return NULL;
@@ -50,7 +50,7 @@ int main(void)
 	int file = open("history", O_RDWR | O_CREAT, 0600), counts[THREADS] = { 0 }, answers = 0;
 	pthread_t threads[THREADS], saver;
 
-	if (pidtab_saved_resume_shared(&saved, file, &fresh, &shared, 4096) != PIDTAB_DONE)
+	if (pidtab_saved_resume(&saved, file, &shared, SETTINGS_THREADS(&fresh, 4096)) != PIDTAB_DONE)
 		return 1;
 	pidtab_saved_bound(&shared, 1024);
 	pthread_create(&saver, NULL, save, NULL);
@@ -63,7 +63,7 @@ int main(void)
 	pidtab_saved_end(&shared);
 	pthread_join(saver, NULL);
 	printf("answers: %d, calls in the file: %d\n", answers, (int)saved.next);
-	pidtab_shared_close(&shared);
+	pidtab_close(&shared);
 	close(file);
 	return 0;
 }

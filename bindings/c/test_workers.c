@@ -1,22 +1,17 @@
-/* A record that sixteen threads share: each worker's receipts are the entries of its calls, in order; the counts add up; and the
- * history, replayed on a second record, has the same replies and leaves the same list. */
+/* A table that sixteen threads share: each worker's receipts are the entries of its calls, in order; the counts add up; and the
+ * history, replayed on a second table, has the same replies and leaves the same list. */
 #include "test.h"
-#include "pidtab_shared.h"
 
 #include <errno.h>
 
 #define WORKERS 16
 #define EACH 20000
 
-static struct pidtab_shared shared;
+static struct pidtab shared;
 
 /* The layout that the proved functions have. */
 _Static_assert(sizeof(struct pidtab_entry) == 208 && offsetof(struct pidtab_entry, call) == 8 && offsetof(struct pidtab_entry, reply) == 40, "an entry");
-_Static_assert(offsetof(struct pidtab_shared, record) == sizeof(pthread_mutex_t), "pidtab_shared");
-_Static_assert(offsetof(struct pidtab_shared, queries) == sizeof(pthread_mutex_t) + 16, "pidtab_shared");
-_Static_assert(offsetof(struct pidtab_shared, gate) == sizeof(pthread_mutex_t) + 40, "pidtab_shared");
-_Static_assert(offsetof(struct pidtab_shared, saved) == 3 * sizeof(pthread_mutex_t) + 3 * sizeof(pthread_cond_t) + 40, "pidtab_shared");
-_Static_assert(offsetof(struct pidtab_record, at) == 0 && offsetof(struct pidtab_record, is_open) == sizeof(void *), "a record");
+_Static_assert(offsetof(struct pidtab, at) == 0 && offsetof(struct pidtab, is_open) == sizeof(void *), "a table");
 
 struct receipt {
 	uint64_t ordinal;
@@ -38,7 +33,7 @@ static struct pidtab_reply *makes(struct work *work, struct pidtab_call call)
 	struct receipt *receipt = &work->receipts[work->count++];
 
 	receipt->call = call;
-	CHECK(pidtab_shared_call(&shared, work->worker, &call, &receipt->reply, &receipt->ordinal) == PIDTAB_DONE);
+	CHECK(pidtab_call_by(&shared, work->worker, &call, &receipt->reply, &receipt->ordinal) == PIDTAB_DONE);
 	return &receipt->reply;
 }
 
@@ -47,7 +42,7 @@ static void *serves(void *at)
 {
 	struct work *work = at;
 
-	CHECK(pidtab_shared_seat(&shared, &work->worker) == PIDTAB_DONE && work->worker < WORKERS);
+	CHECK(pidtab_seat(&shared, &work->worker) == PIDTAB_DONE && work->worker < WORKERS);
 	uint32_t own = (uint32_t)makes(work, (struct pidtab_call){ .operation = PIDTAB_FORK, .caller = 1, .choice = 1 })->second;
 	while (work->count + 4 < EACH) {
 		struct pidtab_reply *forked = makes(work, (struct pidtab_call){ .operation = PIDTAB_FORK, .caller = own });
@@ -71,20 +66,20 @@ static void sixteen_at_once(void)
 		CHECK(pthread_create(&threads[i], NULL, serves, &works[i]) == 0);
 	for (int i = 0; i < WORKERS; i++)
 		CHECK(pthread_join(threads[i], NULL) == 0);
-	CHECK(pidtab_shared_seat(&shared, &worker) == PIDTAB_OUT_OF_RANGE);
+	CHECK(pidtab_seat(&shared, &worker) == PIDTAB_OUT_OF_RANGE);
 }
 
 static void the_counts_add_up(void)
 {
 	uint64_t first_kept = 7, recorded = 7, calls = 7, sum = 0;
 
-	CHECK(pidtab_shared_counts(&shared, &first_kept, &recorded) == PIDTAB_DONE);
+	CHECK(pidtab_counts(&shared, &first_kept, &recorded) == PIDTAB_DONE);
 	CHECK(first_kept == 0 && recorded == (uint64_t)WORKERS * EACH);
 	for (uint32_t i = 0; i < WORKERS; i++) {
-		CHECK(pidtab_shared_worker(&shared, i, &calls) == PIDTAB_DONE && calls == EACH);
+		CHECK(pidtab_worker(&shared, i, &calls) == PIDTAB_DONE && calls == EACH);
 		sum += calls;
 	}
-	CHECK(sum == recorded && pidtab_shared_worker(&shared, WORKERS, &calls) == PIDTAB_OUT_OF_RANGE && calls == EACH);
+	CHECK(sum == recorded && pidtab_worker(&shared, WORKERS, &calls) == PIDTAB_OUT_OF_RANGE && calls == EACH);
 }
 
 static bool same_call(const struct pidtab_call *a, const struct pidtab_call *b)
@@ -109,45 +104,45 @@ static void the_receipts_are_the_entries(void)
 
 	for (int i = 0; i < WORKERS; i++)
 		of[works[i].worker] = &works[i];
-	CHECK(pidtab_shared_read(&shared, 0, entries, WORKERS * EACH, &count) == PIDTAB_DONE && count == WORKERS * EACH);
+	CHECK(pidtab_read(&shared, 0, entries, WORKERS * EACH, &count) == PIDTAB_DONE && count == WORKERS * EACH);
 	for (uint64_t i = 0; i < count; i++) {
 		const struct receipt *receipt = &of[entries[i].worker]->receipts[next[entries[i].worker]++];
 		CHECK(receipt->ordinal == i && same_call(&receipt->call, &entries[i].call) && same_reply(&receipt->reply, &entries[i].reply));
-		CHECK(pidtab_shared_entry(&shared, i, &worker, &call, &reply) == PIDTAB_DONE && worker == entries[i].worker);
+		CHECK(pidtab_entry(&shared, i, &worker, &call, &reply) == PIDTAB_DONE && worker == entries[i].worker);
 		CHECK(same_call(&call, &entries[i].call) && same_reply(&reply, &entries[i].reply));
 	}
-	CHECK(pidtab_shared_entry(&shared, count, &worker, &call, &reply) == PIDTAB_NOT_KEPT);
-	CHECK(pidtab_shared_read(&shared, count, entries, 1, &count) == PIDTAB_DONE && count == 0);
-	CHECK(pidtab_shared_read(&shared, (uint64_t)WORKERS * EACH + 1, entries, 1, &count) == PIDTAB_NOT_KEPT);
+	CHECK(pidtab_entry(&shared, count, &worker, &call, &reply) == PIDTAB_NOT_KEPT);
+	CHECK(pidtab_read(&shared, count, entries, 1, &count) == PIDTAB_DONE && count == 0);
+	CHECK(pidtab_read(&shared, (uint64_t)WORKERS * EACH + 1, entries, 1, &count) == PIDTAB_NOT_KEPT);
 }
 
-static void same_lists(struct pidtab_record *one, struct pidtab_record *other)
+static void same_lists(struct pidtab *one, struct pidtab *other)
 {
 	static char texts[2][1 << 20];
 	size_t sizes[2] = { 0, 1 };
 
-	CHECK(pidtab_record_list(one, texts[0], sizeof texts[0], &sizes[0]) == PIDTAB_DONE);
-	CHECK(pidtab_record_list(other, texts[1], sizeof texts[1], &sizes[1]) == PIDTAB_DONE);
+	CHECK(pidtab_list(one, texts[0], sizeof texts[0], &sizes[0]) == PIDTAB_DONE);
+	CHECK(pidtab_list(other, texts[1], sizeof texts[1], &sizes[1]) == PIDTAB_DONE);
 	CHECK(sizes[0] > 100 && sizes[0] == sizes[1] && memcmp(texts[0], texts[1], sizes[0]) == 0);
 }
 
-/* On a second record: the whole history, and then one with a reply that is not that of its call. */
+/* On a second table: the whole history, and then one with a reply that is not that of its call. */
 static void the_history_replays(void)
 {
-	struct pidtab_record again = PIDTAB_RECORD_INIT;
+	struct pidtab again = PIDTAB_INIT;
 	uint64_t first_kept, recorded;
 	size_t place = 7;
 
-	CHECK(pidtab_record_open(&again, 32768, 1, WORKERS) == PIDTAB_DONE);
-	CHECK(pidtab_record_replay(&again, entries, WORKERS * EACH, &place) == PIDTAB_DONE && place == WORKERS * EACH);
-	same_lists(pidtab_shared_lock(&shared), &again);
-	pidtab_shared_unlock(&shared);
-	CHECK(pidtab_record_close(&again) == PIDTAB_DONE && pidtab_record_open(&again, 32768, 1, WORKERS) == PIDTAB_DONE);
+	CHECK(open_history(&again, 32768, 1, WORKERS) == PIDTAB_DONE);
+	CHECK(pidtab_replay(&again, entries, WORKERS * EACH, &place) == PIDTAB_DONE && place == WORKERS * EACH);
+	same_lists(pidtab_lock(&shared), &again);
+	pidtab_unlock(&shared);
+	CHECK(pidtab_close(&again) == PIDTAB_DONE && open_history(&again, 32768, 1, WORKERS) == PIDTAB_DONE);
 	entries[5].reply.first++;
-	CHECK(pidtab_record_replay(&again, entries, 9, &place) == PIDTAB_DIFFERS && place == 5);
-	CHECK(pidtab_record_counts(&again, &first_kept, &recorded) == PIDTAB_DONE && first_kept == 0 && recorded == 6);
-	CHECK(pidtab_record_replay(&again, &(struct pidtab_entry){ .worker = WORKERS }, 1, &place) == PIDTAB_OUT_OF_RANGE && place == 0);
-	CHECK(pidtab_record_close(&again) == PIDTAB_DONE);
+	CHECK(pidtab_replay(&again, entries, 9, &place) == PIDTAB_DIFFERS && place == 5);
+	CHECK(pidtab_counts(&again, &first_kept, &recorded) == PIDTAB_DONE && first_kept == 0 && recorded == 6);
+	CHECK(pidtab_replay(&again, &(struct pidtab_entry){ .worker = WORKERS }, 1, &place) == PIDTAB_OUT_OF_RANGE && place == 0);
+	CHECK(pidtab_close(&again) == PIDTAB_DONE);
 }
 
 /* A cut says how many calls the caller has seen; a query is no call. */
@@ -159,13 +154,13 @@ static void a_cut(void)
 	const uint64_t all = (uint64_t)WORKERS * EACH;
 	uint64_t first_kept, recorded, ordinal;
 
-	CHECK(pidtab_shared_ask(&shared, &call, &reply) == PIDTAB_DONE && reply.kind == PIDTAB_NUMBER && reply.first == 1);
-	CHECK(pidtab_shared_stat(&shared, 1, 0, &task) == PIDTAB_DONE && task.error == 0 && task.count == 1 && task.levels[0] == 1);
-	CHECK(pidtab_shared_stat(&shared, 0, 1, &task) == PIDTAB_DONE && task.error == ESRCH && task.refusal == PIDTAB_NO_CALLER);
-	CHECK(pidtab_shared_checkpoint_at(&shared, all - 1) == PIDTAB_AGAIN);
-	CHECK(pidtab_shared_checkpoint_at(&shared, all) == PIDTAB_DONE);
-	CHECK(pidtab_shared_counts(&shared, &first_kept, &recorded) == PIDTAB_DONE && first_kept == all && recorded == all);
-	CHECK(pidtab_shared_call(&shared, 3, &call, &reply, &ordinal) == PIDTAB_DONE && ordinal == all);
+	CHECK(pidtab_ask(&shared, &call, &reply) == PIDTAB_DONE && reply.kind == PIDTAB_NUMBER && reply.first == 1);
+	CHECK(pidtab_stat(&shared, 1, 0, &task) == PIDTAB_DONE && task.error == 0 && task.count == 1 && task.levels[0] == 1);
+	CHECK(pidtab_stat(&shared, 0, 1, &task) == PIDTAB_DONE && task.error == ESRCH && task.refusal == PIDTAB_NO_CALLER);
+	CHECK(pidtab_checkpoint_at(&shared, all - 1) == PIDTAB_AGAIN);
+	CHECK(pidtab_checkpoint_at(&shared, all) == PIDTAB_DONE);
+	CHECK(pidtab_counts(&shared, &first_kept, &recorded) == PIDTAB_DONE && first_kept == all && recorded == all);
+	CHECK(pidtab_call_by(&shared, 3, &call, &reply, &ordinal) == PIDTAB_DONE && ordinal == all);
 }
 
 struct waiting {
@@ -180,7 +175,7 @@ static void *asks(void *at)
 	const struct pidtab_call call = { .operation = PIDTAB_GETPID, .caller = 1 };
 	struct waiting *it = at;
 
-	it->status = pidtab_shared_call(&shared, it->worker, &call, &it->reply, &it->ordinal);
+	it->status = pidtab_call_by(&shared, it->worker, &call, &it->reply, &it->ordinal);
 	return NULL;
 }
 
@@ -193,13 +188,13 @@ static void calls_while_locked(void)
 	pthread_t threads[WORKERS];
 	uint64_t first_kept, before, recorded;
 
-	CHECK(pidtab_record_counts(pidtab_shared_lock(&shared), &first_kept, &before) == PIDTAB_DONE);
+	CHECK(pidtab_counts(pidtab_lock(&shared), &first_kept, &before) == PIDTAB_DONE);
 	for (uint32_t i = 0; i < WORKERS; i++) {
 		waits[i] = (struct waiting){ .worker = i % 4 == 3 ? WORKERS : i, .reply = { .kind = 77 }, .ordinal = 77 };
 		CHECK(pthread_create(&threads[i], NULL, asks, &waits[i]) == 0);
 	}
 	nanosleep(&moment, NULL);
-	pidtab_shared_unlock(&shared);
+	pidtab_unlock(&shared);
 	for (uint32_t i = 0; i < WORKERS; i++) {
 		const struct waiting *it = &waits[i];
 
@@ -212,21 +207,21 @@ static void calls_while_locked(void)
 		CHECK(it->ordinal - before < WORKERS / 4 * 3 && !seen[it->ordinal - before]);
 		seen[it->ordinal - before] = true;
 	}
-	CHECK(pidtab_shared_counts(&shared, &first_kept, &recorded) == PIDTAB_DONE && recorded - before == WORKERS / 4 * 3);
+	CHECK(pidtab_counts(&shared, &first_kept, &recorded) == PIDTAB_DONE && recorded - before == WORKERS / 4 * 3);
 }
 
 int main(void)
 {
 	works = calloc(WORKERS, sizeof *works);
 	entries = calloc((size_t)WORKERS * EACH, sizeof *entries);
-	CHECK(works && entries && pidtab_shared_open(&shared, 32768, 1, WORKERS, 0) == PIDTAB_DONE);
+	CHECK(works && entries && open_threads(&shared, 32768, 1, WORKERS, PIDTAB_KEEP_ALL) == PIDTAB_DONE);
 	sixteen_at_once();
 	the_counts_add_up();
 	the_receipts_are_the_entries();
 	the_history_replays();
 	a_cut();
 	calls_while_locked();
-	pidtab_shared_close(&shared);
+	pidtab_close(&shared);
 	free(works);
 	free(entries);
 	return 0;
