@@ -2,13 +2,14 @@
 use std::env;
 
 const MACHINES: [&str; 3] = ["x86_64", "aarch64", "riscv64"];
-const FILES: [&str; 7] = [
+const FILES: [&str; 8] = [
     "pidtab.S",
     "heap.c",
     "guard.c",
-    "guard_record.c",
     "guard_replica.c",
-    "shared.c",
+    "settings.c",
+    "follow.c",
+    "threads.c",
     "saved_file.c",
 ];
 
