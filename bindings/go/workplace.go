@@ -48,7 +48,7 @@ func (it *workplace) Line(line string) (string, error) {
 		said, err = answer(line, func(line unsafe.Pointer, length C.size_t, room unsafe.Pointer, size *C.size_t) C.uint32_t {
 			return C.pidtab_line_by(&held.raw, worker, line, length, room, C.PIDTAB_LONGEST_ANSWER, size, &held.ordinal)
 		})
-		at.held.labels.answered(said)
+		held.labels.answered(said)
 		return err
 	})
 	return said, err
@@ -61,7 +61,7 @@ func (it *workplace) ForkAt(caller uint32, newSpace bool, child Child) (bool, er
 	numbers := [...]C.uint32_t{C.uint32_t(caller), number(newSpace), C.uint32_t(child.Number), C.uint32_t(child.Root)}
 	err := at.make(1, func(held *heldTable, worker C.uint32_t) error {
 		status := C.pidtab_fork_at_by(&held.raw, worker, numbers[0], numbers[1], numbers[2], numbers[3], reply, &held.ordinal)
-		return faultOf(uint32(at.noted(status, reply)))
+		return faultOf(uint32(held.noted(status, reply)))
 	})
 	if err == ErrDiffers {
 		return false, nil
@@ -84,7 +84,7 @@ func (it *workplace) Told(call Call) (Reply, []Effect, error) {
 			return C.pidtab_call_told_by(&held.raw, worker, &numbers, reply, &held.ordinal, effects, room, count)
 		})
 		told = effects
-		return named(at.noted(status, reply), call.rangeFault)
+		return named(held.noted(status, reply), call.rangeFault)
 	})
 	if err != nil {
 		return Reply{}, nil, err
@@ -108,7 +108,7 @@ func (it *workplace) Calls(calls []Call) ([]Reply, error) {
 		count := C.size_t(len(calls))
 		status := C.pidtab_calls(&held.raw, worker, &numbers[0], count, &told[0], count, &made, &held.ordinal)
 		for i := range told[:made] {
-			at.held.labels.replied(&told[i])
+			held.labels.replied(&told[i])
 			replies = append(replies, replyOf(&told[i]))
 		}
 		return named(status, func() error { return callsFault(calls) })
@@ -119,7 +119,7 @@ func (it *workplace) Calls(calls []Call) ([]Reply, error) {
 // step makes a call.
 func (at *place) step(call *C.struct_pidtab_call, reply *C.struct_pidtab_reply) error {
 	return at.make(1, func(held *heldTable, worker C.uint32_t) error {
-		status := at.noted(C.pidtab_call_by(&held.raw, worker, call, reply, &held.ordinal), reply)
+		status := held.noted(C.pidtab_call_by(&held.raw, worker, call, reply, &held.ordinal), reply)
 		if status == C.PIDTAB_DONE {
 			return nil
 		}
@@ -150,9 +150,9 @@ func (at *place) make(calls int, do func(held *heldTable, worker C.uint32_t) err
 }
 
 // noted is the status of a call, whose reply may tell a new task.
-func (at *place) noted(status C.uint32_t, reply *C.struct_pidtab_reply) C.uint32_t {
+func (held *heldTable) noted(status C.uint32_t, reply *C.struct_pidtab_reply) C.uint32_t {
 	if status == C.PIDTAB_DONE {
-		at.held.labels.replied(reply)
+		held.labels.replied(reply)
 	}
 	return status
 }
