@@ -126,7 +126,7 @@ FAULTS = [
     ("kinds", "use     | 2 ", "uses    | 2 ", "of 'uses' is no kind"),
     ("bounds", "pidtab_c/src/lib.rt VERSION", "pidtab_c/src/lib.rt       ", "source 'pidtab_c/src/lib.rt' is no constant or -"),
     ("bounds", "| size   | saved     | -                                        | the longest entry", "| sizes  | saved     | - | the longest entry", "type 'sizes' is no type"),
-    ("functions", "\nsaved_end       |", "\nsaved-end       |", "functions 'saved-end' is no functions"),
+    ("functions", "saved_end       |", "saved-end       |", "functions 'saved-end' is no functions"),
     ("functions", "saved_trim      | 0.2.0", "saved_trim      | 0.2", "since '0.2' is no release"),
     ("functions", "CLOSED, NO_HISTORY, AGAIN,", "CLOSED, NO_HISTORY, LATER,", "statuses 'LATER' is not in interface/statuses.tbl"),
     ("questions", "no-caller, no-control |", "no-caller, no-control-group |", "refusals 'no-control-group' is not in interface/refusals.tbl"),
