@@ -568,7 +568,7 @@ pub enum SavedFault {
     /// The saver has ended, and whether the call is saved is not known.
     Ended,
     /// Of a load: `Differs` where the reply is not the saved one; `OutOfRange` where there is no such call or worker, `Spent`, `NoMemory`. Of
-    /// a save: `NotKept` where the call was cut away before it was saved. `Busy`.
+    /// a save: `NotKept` where the call was cut away before it was saved. `NoHistory`, `NoThreads`, `Busy`.
     Table(Error),
 }
 
