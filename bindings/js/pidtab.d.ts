@@ -307,6 +307,7 @@ export class Table implements Calls {
   /** A table as a text of `dump` says: each later call has the answer that it would have had there. Any text may be given: BadText says why it is none.
    * A history begins there. A RangeError where the calls of `recorded` are as many as the stamp of the text. */
   static load(text: string | Uint8Array, settings?: LoadSettings): Table;
+  /** A bigint, or Infinity. */
   readonly keep: Long;
   readonly workers: number;
   readonly firstStamp: bigint;
