@@ -11,7 +11,7 @@ DECLARED = r"^(?!static)\w[\w ]*[ *]pidtab_(\w+)\("
 
 # The files of each package.
 FILES = {
-    "python": tuple(f"bindings/python/pidtab/{name}.py" for name in ("calls", "history", "native", "number_calls", "saving", "seat", "table", "waiting")),
+    "python": tuple(f"bindings/python/pidtab/{name}.py" for name in ("calls", "history", "number_calls", "saving", "seat", "table", "waiting")),
     "rust": tuple(f"bindings/rust/src/{name}.rs" for name in ("blocks", "calls", "history", "options", "saved", "seat", "table", "threads")),
     "go": tuple(f"bindings/go/{name}.go" for name in ("calls", "dump", "history", "replica", "saved", "saver", "table", "values", "workplace")),
     "javascript": ("bindings/js/pidtab.d.ts",),
