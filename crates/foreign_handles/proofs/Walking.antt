@@ -36,7 +36,7 @@ pub use mir.Val.{Val, has_ty, of_list, vcons, vnil, vptr, vstruct}
 pub use prog.Wp.{Env, WpFn}
 pub use seplogic.Ra.Ura.{Ura}
 pub use types.ByLocal.{alloc_all, env, free_all, get, get_in, look_at, pass_all, sets, sets_last, through}
-pub use types.Kit.{!, Goal, Item, Seq, Step, at_ret, await, by, done, drop, feq_i, feq_l, fjoin, fpack, fpick, fsplit, fsplit3, group, join, keep, later}
+pub use types.Kit.{ !, Goal, Item, Seq, Step, at_ret, await, by, done, drop, feq_i, feq_l, fjoin, fpack, fpick, fsplit, fsplit3, group, join, keep, later}
 pub use types.Kit.{move, pick, qed, raw, rewrite, some, split, split3, step, suffices, use0, use1, ‵, ◌$◌, ◌∵◌, ◌⊛◌}
 pub use types.Logic.{Logic, sem}
 pub use types.Part.{agg, look_in, sub, whole}

@@ -1,5 +1,5 @@
 -- `empty` owns nothing.
-use Rattle.foreign_handles.proofs.Walking.{!, Goes-blank, List, None, Option, RattleType, RawPtr, SProp, Stays, Val, WpFn, [], agg, alloc_all, and_then}
+use Rattle.foreign_handles.proofs.Walking.{ !, Goes-blank, List, None, Option, RattleType, RawPtr, SProp, Stays, Val, WpFn, [], agg, alloc_all, and_then}
 use Rattle.foreign_handles.proofs.Walking.{and_tt, by, emp, ent, enter, fact, fact_i, feq_l, fjoin, free_all, fsplit, ftrue, get, ghosts, handle_tells}
 use Rattle.foreign_handles.proofs.Walking.{has_ty, id⊢, keep, look_at, move, no_more, nothing, owns, pass_all, plain, proved_at, ptr_val, qed, raw}
 use Rattle.foreign_handles.proofs.Walking.{rawptr_Lawful, refl, returns, sets, split, stay_dropped, subst, suffices, sym, tables, ty_ptr, types_at, use0}

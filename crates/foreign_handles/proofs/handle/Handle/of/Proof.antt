@@ -1,5 +1,5 @@
 -- `of` keeps the address.
-use Rattle.foreign_handles.proofs.Walking.{!, Goes-blank, List, RattleType, SProp, Some, Stays, Val, WpFn, [], agg, alloc_all, and_then, block_ptr, by, emp}
+use Rattle.foreign_handles.proofs.Walking.{ !, Goes-blank, List, RattleType, SProp, Some, Stays, Val, WpFn, [], agg, alloc_all, and_then, block_ptr, by, emp}
 use Rattle.foreign_handles.proofs.Walking.{ent, enter, fact, fact_i, fjoin, fld, free_all, fsplit, ftrue, get, get_in, ghosts, id⊢, keep, look_at, move}
 use Rattle.foreign_handles.proofs.Walking.{no_more, nothing, of_opd, owns, pass_all, plain, proved_at, qed, raw, refl, returns, sets, split, stay_dropped}
 use Rattle.foreign_handles.proofs.Walking.{stop, sub, subst, suffices, sym, tables, types_at, use0, walk_of, whole, yes, ‵, ◌$◌, ◌++◌, ◌∵◌, ◌∷◌, ◌≡◌, ◌⊛◌}

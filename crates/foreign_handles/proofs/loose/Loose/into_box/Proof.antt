@@ -1,5 +1,5 @@
 -- `into_box` makes the box again.
-use Rattle.foreign_handles.proofs.Walking.{!, Goes-blank, List, RattleType, SProp, Stays, Val, WpFn, [], a_type, alloc_all, and_then, at_ret, await}
+use Rattle.foreign_handles.proofs.Walking.{ !, Goes-blank, List, RattleType, SProp, Stays, Val, WpFn, [], a_type, alloc_all, and_then, at_ret, await}
 use Rattle.foreign_handles.proofs.Walking.{block_ptr, blocks, bounded, by, dcons, dnil, drop, ent, enter, env, exec, fact, feq_i, first, fjoin, fld, flft}
 use Rattle.foreign_handles.proofs.Walking.{framed, free_all, fsplit, ftrue, get, get_in, id⊢, inst_fn, join, keep, later, look_at, move, no, no_more, nothing}
 use Rattle.foreign_handles.proofs.Walking.{of_opd, owns, param, param_laws, pass_all, pick, plain, proved_at, qed, raw, refl, returns, sets, some, split}

@@ -1,5 +1,5 @@
 -- `of` takes the box apart, and keeps its address and its allocator.
-use Rattle.foreign_handles.proofs.Walking.{!, Goes-blank, List, Ptr, RattleType, SProp, Stays, Val, WpFn, [], a_type, agg, alloc_all, and_then, await}
+use Rattle.foreign_handles.proofs.Walking.{ !, Goes-blank, List, Ptr, RattleType, SProp, Stays, Val, WpFn, [], a_type, agg, alloc_all, and_then, await}
 use Rattle.foreign_handles.proofs.Walking.{block_ptr, bounded, box_owns, by, dcons, dnil, drop, emp, ent, enter, fact, fact_i, feq_l, fjoin, fld, flft, fpick}
 use Rattle.foreign_handles.proofs.Walking.{framed, free_all, fsep, fsplit, fst∗, ftrue, get, get_in, handle_tells, heard, id⊢, in_a_block, inst_fn, join}
 use Rattle.foreign_handles.proofs.Walking.{keep, later, layout, look_at, move, never, no, no_more, nothing, null_ptr, of_list, of_opd, owns, param}

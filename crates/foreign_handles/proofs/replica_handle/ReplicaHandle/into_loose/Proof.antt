@@ -1,5 +1,5 @@
 -- `into_loose` gives the address with what is there.
-use Rattle.foreign_handles.proofs.Walking.{!, Goes-blank, IsSome, List, RattleType, SProp, Some, Stays, Val, WpFn, [], agg, alloc_all, and_then, block_ptr}
+use Rattle.foreign_handles.proofs.Walking.{ !, Goes-blank, IsSome, List, RattleType, SProp, Some, Stays, Val, WpFn, [], agg, alloc_all, and_then, block_ptr}
 use Rattle.foreign_handles.proofs.Walking.{by, emp, ent, enter, fact, fact_i, fjoin, fld, free_all, fsplit, ftrue, get, get_in, ghosts, handle_tells, heard}
 use Rattle.foreign_handles.proofs.Walking.{held, id⊢, keep, look_at, move, no_more, nothing, of_opd, owns, pass_all, plain, proved_at, qed, raw, refl}
 use Rattle.foreign_handles.proofs.Walking.{returns, sets, split, stay_dropped, stop, sub, subst, suffices, sym, tables, types_at, use0, walk_of, whole, yes}

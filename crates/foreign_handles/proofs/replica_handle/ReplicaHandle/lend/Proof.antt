@@ -1,5 +1,5 @@
 -- `lend` lends the replica at its address, and the handle follows it.
-use Rattle.foreign_handles.proofs.Walking.{!, Body, Env, Fml, GName, Goes-spent_ref, IsSome, List, Logic, MutRef, Part, Ptr, RattleType, Some, Stays, Ura}
+use Rattle.foreign_handles.proofs.Walking.{ !, Body, Env, Fml, GName, Goes-spent_ref, IsSome, List, Logic, MutRef, Part, Ptr, RattleType, Some, Stays, Ura}
 use Rattle.foreign_handles.proofs.Walking.{Val, [], addr, alloc_all, assign, at_ret, await, block_ptr, blocks, cell_at, copy, done, drop, emp, ends_at, ent}
 use Rattle.foreign_handles.proofs.Walking.{enter, env, exec, fact, fact_i, first, fjoin, fld, flft, follows, fpack, free_all, fsep, fsplit, fsplit3, ftrue}
 use Rattle.foreign_handles.proofs.Walking.{full_share, get, ghosts, group, heard, held, id⊢, join, keep, later, lends_Part, load, lone, look_at, look_in, mem}
