@@ -39,8 +39,8 @@ def has_method(language, text, owner, method):
     if language == "python":
         owner = f"(?:{'|'.join(classes_of(text, owner))})"
     if language == "go":
-        owners = f"(?:{owner}|calls|workplace)" if owner in ("Table", "Seat") else owner
-        return re.search(rf"^func \(\w+ \*?{owners}\) {method}\(", text, re.MULTILINE)
+        owners = "|".join([owner, *(("calls", "workplace") if owner in ("Table", "Seat") else ())])
+        return re.search(rf"^func \(\w+ \*?(?:{owners})\) {method}\(", text, re.MULTILINE)
     body, declared = BODIES[language]
     found = re.finditer(body.replace("{}", owner).replace("{{", "{").replace("}}", "}"), text, re.MULTILINE)
     return any(re.search(declared.replace("{}", method), it.group(1), re.MULTILINE) for it in found)
