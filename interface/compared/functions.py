@@ -11,7 +11,7 @@ DECLARED = r"^(?!static)\w[\w ]*[ *]pidtab_(\w+)\("
 
 # The files of each package.
 FILES = {
-    "python": tuple(f"bindings/python/pidtab/{name}.py" for name in ("calls", "history", "native", "number_calls", "saving", "seat", "table", "waiting")),
+    "python": tuple(f"bindings/python/pidtab/{name}.py" for name in ("calls", "history", "number_calls", "saving", "seat", "table", "waiting")),
     "rust": tuple(f"bindings/rust/src/{name}.rs" for name in ("blocks", "calls", "history", "options", "saved", "seat", "table", "threads")),
     "go": tuple(f"bindings/go/{name}.go" for name in ("calls", "dump", "history", "replica", "saved", "saver", "table", "values", "workplace")),
     "javascript": ("bindings/js/pidtab.d.ts",),
@@ -39,7 +39,8 @@ def has_method(language, text, owner, method):
     if language == "python":
         owner = f"(?:{'|'.join(classes_of(text, owner))})"
     if language == "go":
-        return re.search(rf"^func \(\w+ \*?(?:{owner}|calls|workplace)\) {method}\(", text, re.MULTILINE)
+        owners = f"(?:{owner}|calls|workplace)" if owner in ("Table", "Seat") else owner
+        return re.search(rf"^func \(\w+ \*?{owners}\) {method}\(", text, re.MULTILINE)
     body, declared = BODIES[language]
     found = re.finditer(body.replace("{}", owner).replace("{{", "{").replace("}}", "}"), text, re.MULTILINE)
     return any(re.search(declared.replace("{}", method), it.group(1), re.MULTILINE) for it in found)
