@@ -101,10 +101,13 @@ func (held *heldTable) entries(from uint64, count int) ([]Entry, error) {
 //
 // The table is taken for each 64 entries that are copied, and not while their calls are made. It costs the calls once more. ErrNotKept where a
 // call that it lacks was cut away, or next is not reached yet: it begins anew. ErrDiffers where a reply is not the recorded one: it is no replica.
-// ErrNoMemory and ErrSpent where the call of the answered ordinal was not made. ErrNil.
+// ErrNoMemory and ErrSpent where the call of the answered ordinal was not made. ErrOutOfRange where it is the table itself; ErrNil.
 func (table *Table) Follow(replica *Table, next uint64) (uint64, error) {
 	if replica == nil {
 		return next, ErrNil
+	}
+	if replica.held().body == table.held().body {
+		return next, RangeError{"replica", "the table itself", "another table"}
 	}
 	counts, err := table.Counts()
 	if err == nil && next > counts.Recorded {

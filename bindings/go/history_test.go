@@ -240,6 +240,9 @@ func TestATableThatFollows(t *testing.T) {
 	want(t, "another call", of(table.Follow(replica, 71)), uint64(72), ErrDiffers)
 	want(t, "cut away", of(table.Follow(open(t, Settings{}), 0)), uint64(0), ErrNotKept)
 	want(t, "not reached", of(table.Follow(replica, 92)), uint64(92), ErrNotKept)
+	want(t, "itself", of(table.Follow(table, 92)), uint64(92), RangeError{"replica", "the table itself", "another table"})
+	want(t, "nothing", of(table.Follow(nil, 92)), uint64(92), ErrNil)
+	wantCounts(t, table, 11, 91)
 }
 
 func TestWhatAReplayThatStopsSays(t *testing.T) {

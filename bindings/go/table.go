@@ -210,10 +210,11 @@ func (held *heldTable) forThreads() error {
 	if held.waits {
 		return nil
 	}
-	held.RLock()
-	defer held.RUnlock()
-	if !held.raw.is_open {
-		return ErrClosed
+	if held.share() {
+		defer held.RUnlock()
+		if !held.raw.is_open {
+			return ErrClosed
+		}
 	}
 	return ErrNoThreads
 }
