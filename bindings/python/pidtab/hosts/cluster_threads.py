@@ -83,7 +83,7 @@ class Feed(Crew):
         self.inbox.clear()
 
     def tell(self) -> None:
-        if self.replica.queue:
+        if self.replica.calls.has_new:
             self._appender.wake()
         if self.replica.closing:
             self._crew.clock.poke()
