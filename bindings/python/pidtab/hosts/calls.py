@@ -107,54 +107,51 @@ class HostCalls:
         self._library = load_calls(path)
         # All that the machine knows, to be looked at.
         self.numbers = HostNumbers()
-        self._host = ctypes.pointer(self.numbers)
-        self._library.host_calls_begin(self._host)
+        self._library.host_calls_begin(self.numbers)
 
     def submit(self, call: HostCall, lines: int, size: int, deadline: int) -> bool:
         """Has a call made. It gets its ticket. False once the host has stopped."""
-        return bool(self._library.host_calls_submit(self._host, call, lines, size, deadline))
+        return bool(self._library.host_calls_submit(self.numbers, call, lines, size, deadline))
 
-    def next_put(self) -> PutStep:
-        """What is to be put next: its `kind` is a `Put`."""
-        step = PutStep()
-        self._library.host_calls_next_put(self._host, step)
-        return step
+    def next_put(self, step: PutStep) -> None:
+        """Says what is to be put next: its `kind` is a `Put`."""
+        self._library.host_calls_next_put(self.numbers, step)
 
     def opened(self, session: int) -> bool:
         """The log has told the position of the entry that opens a session."""
-        return bool(self._library.host_calls_opened(self._host, session))
+        return bool(self._library.host_calls_opened(self.numbers, session))
 
     def take(self, call: HostCall) -> int:
         """Gives the call that has its turn to the entry that is made up: a `Taken`."""
-        return int(self._library.host_calls_take(self._host, call))
+        return int(self._library.host_calls_take(self.numbers, call))
 
     def seal(self) -> bool:
         """The entry is put from now on, always the same."""
-        return bool(self._library.host_calls_seal(self._host))
+        return bool(self._library.host_calls_seal(self.numbers))
 
     def acknowledge(self, session: int, sequence: int) -> bool:
         """The log has answered that it has the entry."""
-        return bool(self._library.host_calls_acknowledge(self._host, session, sequence))
+        return bool(self._library.host_calls_acknowledge(self.numbers, session, sequence))
 
     def is_telling(self) -> bool:
         """Whether the call with the ticket `numbers.told` is to be told."""
-        return bool(self._library.host_calls_is_telling(self._host))
+        return bool(self._library.host_calls_is_telling(self.numbers))
 
     def read(self, outcome: LogOutcome, session: int, sequence: int) -> int:
         """An entry of calls was read: a `Reading`."""
-        return int(self._library.host_calls_read(self._host, outcome, session, sequence))
+        return int(self._library.host_calls_read(self.numbers, outcome, session, sequence))
 
     def load(self, position: int, last: int | None) -> int:
         """A snapshot was loaded, with the last number of this host's session, or none where that is not open: a `Reading`."""
-        return int(self._library.host_calls_load(self._host, position, last is not None, last or 0))
+        return int(self._library.host_calls_load(self.numbers, position, last is not None, last or 0))
 
     def tell(self, call: HostCall) -> int:
         """Tells the call that is to be told: a `Told`."""
-        return int(self._library.host_calls_tell(self._host, call))
+        return int(self._library.host_calls_tell(self.numbers, call))
 
     def stop(self) -> None:
         """Nothing is put any more, and each call that is not over is to be told."""
-        self._library.host_calls_stop(self._host)
+        self._library.host_calls_stop(self.numbers)
 
     def cancel(self, call: HostCall) -> bool:
         """Cancels a call, if no entry has it."""

@@ -24,12 +24,13 @@ class OwnCalls:
     def __init__(self, library: str, lock: Changed) -> None:
         self.lock = lock
         self._host = HostCalls(library)
+        self._numbers = self._host.numbers
         # What was added, of which the machine was not told yet; and what it was told of, in this order, until it is over.
         self._added: deque[Submitted] = deque()
         self._waiting: deque[Submitted] = deque()
         # The calls that are not over, by their tickets.
         self._live: dict[int, Part] = {}
-        # What was asked to be put last: of an entry its parts, and its bytes.
+        # What is put, as the machine has said last; the parts of the entry that is made up; and the bytes of the one that is put.
         self._step = PutStep()
         self._parts: list[Part] = []
         self._entry = b""
@@ -40,7 +41,7 @@ class OwnCalls:
     @property
     def session(self) -> int:
         """The one that is open, or 0."""
-        return int(self._host.numbers.session)
+        return int(self._numbers.session)
 
     @property
     def waiting(self) -> Iterator[Submitted]:
@@ -49,8 +50,13 @@ class OwnCalls:
 
     @property
     def has_new(self) -> bool:
-        """Whether something waits for its turn. It needs no lock."""
-        return bool(self._added) or self._host.numbers.taken < self._host.numbers.submitted
+        """Whether something waits for its turn. It needs no lock, as what follows."""
+        return bool(self._added) or self._numbers.taken < self._numbers.submitted
+
+    @property
+    def may_put(self) -> bool:
+        """Whether the machine is to be asked what is put."""
+        return self.has_new or self._numbers.is_putting
 
     @property
     def is_idle(self) -> bool:
@@ -73,20 +79,20 @@ class OwnCalls:
 
     # What is put.
 
-    def has_to_put(self) -> bool:
-        """Whether something goes into the log yet."""
-        return bool(self._added) or self._host.next_put().kind != Put.REST
-
     def next_entry(self, place: tuple[int, str], ended: list[Submitted]) -> bytes | None:
         """What goes into the log now, if anything does. After a try with an unknown end that is the same again. `place` is where this host is."""
-        self._admit()
-        while (step := self._host.next_put()).kind in (Put.TAKE, Put.SEAL):
-            if step.kind == Put.SEAL:
-                self._seal(place)
-            else:
+        self._admit(ended)
+        step = self._step
+        self._host.next_put(step)
+        while step.kind in (Put.TAKE, Put.SEAL):
+            if step.kind == Put.TAKE:
                 self._take(step.first, ended)
-        self._step = step
-        return {Put.REST: None, Put.OPEN: OPEN, Put.ENTRY: self._entry}[Put(step.kind)]
+            else:
+                self._seal(place)
+            self._host.next_put(step)
+        if step.kind == Put.REST:
+            return None
+        return self._entry if step.kind == Put.ENTRY else OPEN
 
     def sent(self, position: int) -> None:
         """The log has answered that it has that entry."""
@@ -96,24 +102,27 @@ class OwnCalls:
             self._host.acknowledge(self._step.first, self._step.second)
             self._entry = b""
 
-    def _admit(self) -> None:
-        """Tells the machine of what was added."""
+    def _admit(self, ended: list[Submitted]) -> None:
+        """Tells the machine of what was added, unless it was cancelled before."""
         while self._added:
             submitted = self._added.popleft()
+            if submitted.parts[0].state == State.CANCELLED:
+                ended.append(submitted)
+                continue
             self._waiting.append(submitted)
-            # The machine never has what was cancelled before.
-            for part in submitted.parts if submitted.parts[0].state == State.QUEUED else ():
+            for part in submitted.parts:
                 if self._host.submit(part, len(part.texts), part.entry_size, ticks_of(submitted.deadline)):
                     self._live[part.ticket] = part
 
     def _take(self, ticket: int, ended: list[Submitted]) -> None:
         """Gives the call that has its turn to the entry that is made up."""
         part = self._live.get(ticket)
-        if part is not None and part.submitted.parts[0].state == State.CANCELLED:
-            self._host.cancel(part)
-        taken = self._host.take(self._call(ticket))
         if part is None:
+            self._host.take(self._over_at(ticket))
             return
+        if part.submitted.parts[0].state == State.CANCELLED:
+            self._host.cancel(part)
+        taken = self._host.take(part)
         if taken in (Taken.BEGINS, Taken.JOINS):
             self._parts.append(part)
             part.submitted.begin()
@@ -146,8 +155,8 @@ class OwnCalls:
 
     def expire(self, time: float) -> list[Submitted]:
         """Gives up what is late, and lets go what is over."""
-        self._admit()
-        ended = []
+        ended: list[Submitted] = []
+        self._admit(ended)
         while self._waiting:
             first = self._waiting[0]
             if not first.done():
@@ -165,18 +174,19 @@ class OwnCalls:
 
     def stop(self) -> list[Submitted]:
         """Nothing is put any more."""
-        self._admit()
+        ended: list[Submitted] = []
+        self._admit(ended)
         self._host.stop()
-        ended = self._tell()
         self._waiting.clear()
-        return ended
+        return ended + self._tell()
 
     def _tell(self, answers: Sequence[str] = ()) -> list[Submitted]:
         """Tells calls what they are told now."""
         ended = []
         while self._host.is_telling():
-            ticket = self._host.numbers.told
-            part, told = self._live.get(ticket), self._host.tell(self._call(ticket))
+            ticket = self._numbers.told
+            part = self._live.get(ticket)
+            told = self._host.tell(self._over_at(ticket) if part is None else part)
             if part is None or told == Told.ENDS:
                 continue
             del self._live[ticket]
@@ -194,7 +204,7 @@ class OwnCalls:
             if self._live.get(part.ticket) is part:
                 del self._live[part.ticket]
 
-    def _call(self, ticket: int) -> HostCall:
-        """The call with a ticket, or what stands for it if it is over."""
+    def _over_at(self, ticket: int) -> HostCall:
+        """What stands for the call with a ticket, which is over."""
         self._over.ticket = ticket
-        return self._live.get(ticket, self._over)
+        return self._over

@@ -480,7 +480,7 @@ class Replica:
     def has_to_send(self) -> bool:
         """Whether something goes into the log yet."""
         with self.changed:
-            return self.calls.has_to_put() and not self.stopped and not (self.closing and self.calls.is_idle)
+            return self.calls.may_put and not self.stopped and not (self.closing and self.calls.is_idle)
 
     def next_entry(self) -> bytes | None:
         """What goes into the log now, if anything does."""

@@ -82,7 +82,7 @@ class OwnThreads(Crew):
     def next_comes(self) -> bool:
         """Waits until there is something to send; False where nothing more comes."""
         it = self.replica
-        it.changed.wait_for(lambda: it.stopped or it.has_to_send() or (it.closing and it.is_idle()))
+        it.changed.wait_for(lambda: it.stopped or it.calls.may_put or (it.closing and it.is_idle()))
         return it.has_to_send()
 
     # The thread that watches the time, and ends the replica.

@@ -14,6 +14,8 @@ from pidtab.hosts.log_entries import LONGEST_LINE, PART_BYTES
 if TYPE_CHECKING:
     from pidtab.hosts.own_calls import OwnCalls
 
+WAITS, ANSWERED = {State.QUEUED, State.ENTERED}, {State.ANSWERED}
+
 # So many ticks of the machine's clock are a second.
 TICKS = 10**9
 
@@ -118,12 +120,12 @@ class Submitted(Future["tuple[str, ...]"]):
         if State.CANCELLED in states:
             self._was_cancelled()
             return False
-        if states & {State.QUEUED, State.ENTERED}:
+        if not states.isdisjoint(WAITS):
             return False
         self.keeps = None
         # It was ended by another thread, where both have found it over.
         with suppress(InvalidStateError):
-            if states != {State.ANSWERED}:
+            if states != ANSWERED:
                 self.set_exception(self._not_known(why, cause))
                 return True
             self.set_result(tuple([answer for part in self.parts for answer in part.answers]))
