@@ -128,7 +128,7 @@ class Game:
         self.came: set[str] = set()
 
     def play(self) -> None:
-        """Plays steps by chance, and then ends."""
+        """Plays steps by chance, and then has all calls over: by a log that goes well, or by a stop."""
         steps = [self.submit, self.submit, self.send, self.send, self.send, self.read_on, self.read_on, self.read_on, self.come_late, self.others]
         steps += [self.cancel, self.pass_time, self.end_session, self.load, self.begin_anew]
         weights = [4, 4, 4, 4, 4, 4, 4, 4, 3, 1, 2, 1, 1, 1, 1]
@@ -137,19 +137,21 @@ class Game:
             if step():
                 self.came.add(step.__name__)
             self.compare()
-        self.settle()
-        if self.random.random() < 0.5:
-            self.python.stop(None, "the table was closed")
-            self.machine.stop()
-            self.compare()
+        self.random.choice([self.settle, self.stop])()
+        self.test.assertEqual([it for it in self.all if not it.submitted.done()], [])
 
     def settle(self) -> None:
-        """The log goes well, and all is read: then each call is over."""
+        """The log goes well, and all is read."""
         for _ in range(4 * STEPS):
             if not self.send(well=True) and not self.read_on():
                 break
             self.compare()
-        self.test.assertEqual([it for it in self.all if not it.submitted.done()], [])
+
+    def stop(self) -> None:
+        """Both end."""
+        self.python.stop(None, "the table was closed")
+        self.machine.stop()
+        self.compare()
 
     def submit(self) -> bool:
         """Some lines are submitted, that go into one part or several."""
@@ -355,10 +357,12 @@ class Beside(unittest.TestCase):
     def test_they_decide_the_same(self) -> None:
         came: set[str] = set()
         for seed in range(RUNS):
-            with self.subTest(seed=seed):
-                game = Game(self, seed)
+            game = Game(self, seed)
+            try:
                 game.play()
-                came |= game.came
+            except AssertionError as fault:
+                raise AssertionError(f"by the seed {seed}: {fault}") from fault
+            came |= game.came
         self.assertEqual(came, {"submit", "send", "read_on", "come_late", "others", "cancel", "pass_time", "end_session", "load", "begin_anew"})
 
 
