@@ -330,41 +330,44 @@ repository: ## tests the pages with their examples, the tools, the Makefile and 
 		python3 -B -m unittest discover -v -s tests -t tests)
 
 # From C, under the sanitizers for addresses and undefined behaviour, and under that for threads. A test is its file, the C around the proved functions, and
-# what else it needs: $(call c_test,FLAGS,NAME,FILES,ARGUMENTS).
+# what else it is built of: $(call c_test,FLAGS,NAME,FILES,ARGUMENTS). What allocates is built by itself where a test refuses memory, or has its use wait.
 HELD = -Dmalloc=test_malloc -Drealloc=test_realloc
 DEVICES = -Dread=test_read -Dwrite=test_write
-GUARDED = guard guard_replica settings follow threads
-c_test = $(CC) $(1) -o $(OUT)/$(2) bindings/c/$(2).c $(GUARDED:%=bindings/c/%.c) $(3) $(OUT)/proved.a && $(RUN) $(OUT)/$(2) $(4)
-HEAP = bindings/c/heap.c
-SAVER = bindings/c/saved_file.c $(HEAP)
+GUARDED = guard guard_replica settings follow
+HEAP = heap threads
+in_c = $(1:%=bindings/c/%.c)
+held_heap = for it in $(HEAP); do $(CC) $(1) $(HELD) $(3) -c -o $(OUT)/$(2)_$$it.o bindings/c/$$it.c || exit 1; done
+of_held = $(HEAP:%=$(OUT)/$(1)_%.o)
+c_test = $(CC) $(1) -o $(OUT)/$(2) bindings/c/$(2).c $(call in_c,$(GUARDED)) $(3) $(OUT)/proved.a && $(RUN) $(OUT)/$(2) $(4)
 # What is the same for each machine.
 SAME_EVERYWHERE = bindings/c/test_names && tools/guard --check && bindings/c/test_guard
 bindings-c:
 	$(call tested,$(firstword $(CC)),$(LIBRARY),\
 		$(SAME_EVERYWHERE) && $(MAKE) -s $(OUT)/proved.a && \
-		$(CC) $(CHECKED) $(HELD) -c -o $(OUT)/test_heap.o $(HEAP) && \
+		$(call held_heap,$(CHECKED),refusing) && \
 		for it in test test_history test_replica test_dump test_dump_history; do \
-			$(call c_test,$(CHECKED),$$it,$(OUT)/test_heap.o) || exit 1; done && \
+			$(call c_test,$(CHECKED),$$it,$(call of_held,refusing)) || exit 1; done && \
 		for it in test_numbers test_dump_seeds test_effects_seeds test_saved; do \
-			$(call c_test,$(CHECKED),$$it,$(HEAP)) || exit 1; done && \
-		$(call c_test,$(TESTED),test_fields,$(HEAP)) && \
+			$(call c_test,$(CHECKED),$$it,$(call in_c,$(HEAP))) || exit 1; done && \
+		$(call c_test,$(TESTED),test_fields,$(call in_c,$(HEAP))) && \
 		$(CC) $(CHECKED) -o $(OUT)/test_host_calls bindings/c/test_host_calls.c $(HOST_CALLS) && $(RUN) $(OUT)/test_host_calls && \
-		$(call c_test,$(CHECKED),test_cases,$(HEAP),interface/cases/*.cases) && \
-		$(CC) $(THREADED) $(HELD) -Dfree=test_free -c -o $(OUT)/held_heap.o $(HEAP) && \
-		$(call c_test,$(THREADED),test_threads,$(OUT)/held_heap.o) && \
+		$(call c_test,$(CHECKED),test_cases,$(call in_c,$(HEAP)),interface/cases/*.cases) && \
+		$(call held_heap,$(THREADED),waiting,-Dfree=test_free) && \
+		$(call c_test,$(THREADED),test_threads,$(call of_held,waiting)) && \
 		for sanitizer in '$(TESTED)' '$(THREADED)'; do \
-			$(CC) $$sanitizer $(HELD) -Dfree=test_free -c -o $(OUT)/readers_heap.o $(HEAP) && \
-			$(call c_test,$$sanitizer,test_readers,$(OUT)/readers_heap.o) || exit 1; done && \
+			$(call held_heap,$$sanitizer,readers,-Dfree=test_free) && \
+			$(call c_test,$$sanitizer,test_readers,$(call of_held,readers)) || exit 1; done && \
 		for sanitizer in '$(CHECKED)' '$(THREADED)'; do \
-			$(CC) $$sanitizer $(HELD) -c -o $(OUT)/calls_heap.o $(HEAP) && \
-			for it in test_settings test_calls test_page test_space test_control test_effects test_would; do \
-				$(call c_test,$$sanitizer,$$it,$(OUT)/calls_heap.o) || exit 1; done && \
+			$(call held_heap,$$sanitizer,calls) && \
+			for it in test_calls test_page test_space test_control test_effects test_would; do \
+				$(call c_test,$$sanitizer,$$it,$(call of_held,calls)) || exit 1; done && \
+			$(call c_test,$$sanitizer,test_settings,$(call in_c,saved_file) $(call of_held,calls)) && \
 			for it in test_workers test_follow; do \
-				$(call c_test,$$sanitizer,$$it,$(HEAP)) || exit 1; done && \
+				$(call c_test,$$sanitizer,$$it,$(call in_c,$(HEAP))) || exit 1; done && \
 			for it in test_watch test_saved_threads test_saver; do \
-				$(call c_test,$$sanitizer,$$it,$(SAVER)) || exit 1; done || exit 1; done && \
+				$(call c_test,$$sanitizer,$$it,$(call in_c,saved_file $(HEAP))) || exit 1; done || exit 1; done && \
 		$(CC) $(CHECKED) $(DEVICES) -c -o $(OUT)/test_devices.o bindings/c/saved_file.c && \
-		$(call c_test,$(CHECKED),test_saved_file,$(OUT)/test_heap.o $(OUT)/test_devices.o))
+		$(call c_test,$(CHECKED),test_saved_file,$(OUT)/test_devices.o $(call of_held,refusing)))
 
 bindings-rust:
 	$(call tested,cargo,out/libpidtab.a,cd bindings/rust && cargo test --offline --quiet)

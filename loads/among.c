@@ -1,4 +1,4 @@
-/* Calls of the library for C by numbers beside 1,000 tasks, for callgrind: among plain|record CALL LEVEL N.
+/* Calls of the library for C by numbers beside 1,000 tasks, for callgrind: among plain|history CALL LEVEL N.
  *
  * CALL is getpid, getppid, getpgid, nspid, next, count or wait, where no child has ended; or cycle: a fork, an exit and a wait; or shell: a fork, a
  * setpgid, an exec, six queries, an exit and a wait. The tasks are children of one that is in a namespace at the level, 0 to 32, and one of them makes
@@ -6,7 +6,7 @@
  * the N, is the cost of one, three or eleven calls; the loop is in it.
  *
  *   cc -O2 -Iout loads/among.c out/libpidtab.a -pthread -o out/among
- *   valgrind --tool=callgrind --callgrind-out-file=/dev/null out/among record getpid 0 12000
+ *   valgrind --tool=callgrind --callgrind-out-file=/dev/null out/among history getpid 0 12000
  */
 #include "tables.h"
 
@@ -16,13 +16,13 @@
 #define LIVE 1000
 #define DEEPEST 32
 
-static make_call *opened(const char *table)
+static make_call *opened(const char *word)
 {
-	if (is_word(table, "plain"))
-		return pidtab_open(&plain, 32768) != PIDTAB_DONE ? NULL : on_plain;
-	if (is_word(table, "record"))
-		return open_history(&record, 32768, 1, 1) != PIDTAB_DONE ? NULL : on_record;
-	return NULL;
+	const struct pidtab_settings settings = { .keep = is_word(word, "history") ? PIDTAB_KEEP_ALL : 0 };
+
+	if (!is_word(word, "plain") && !is_word(word, "history"))
+		return NULL;
+	return pidtab_open_with(&table, &settings) != PIDTAB_DONE ? NULL : settings.keep == 0 ? by_worker_0 : by_worker;
 }
 
 /* Forks a child, and answers its root number; 0 where it is not made. */
@@ -125,7 +125,7 @@ int main(int count, char **words)
 	make_call *make = level >= 0 && level <= DEEPEST && is_load(words[2]) ? opened(words[1]) : NULL;
 
 	if (!make) {
-		fprintf(stderr, "among plain|record getpid|getppid|getpgid|nspid|next|count|wait|cycle|shell LEVEL N\n");
+		fprintf(stderr, "among plain|history getpid|getppid|getpgid|nspid|next|count|wait|cycle|shell LEVEL N\n");
 		return 2;
 	}
 

@@ -1,87 +1,56 @@
 /* Calls of the library for C by numbers, for callgrind: calls TABLE LOAD N.
  *
- * TABLE is plain, record, bounded (a record that keeps 1,000 entries), or shared (with its lock taken for each call). LOAD is getpid; ask, the same as
- * a query that is no call; turns, the same with 100 in a turn, where N is how many turns, of record or shared alone; number, the same by
- * pidtab_getpid_of, of plain alone; nspid, of a task at level 8; or cycle: a fork, an exit and a wait. The difference of the instructions at two
+ * TABLE is plain; history; bounded, which keeps 1,000 entries; or threads, with a history and its lock taken for each call. LOAD is getpid; ask, the same
+ * as a query that is no call; turns, the same with 100 in one go, where N is how many such, of history or threads alone; number, the same by
+ * pidtab_getpid_of; nspid, of a task at level 8; or cycle: a fork, an exit and a wait. The difference of the instructions at two
  * lengths, divided by that of the lengths, is the cost; the loop is in it.
  *
  *   cc -O2 -Iout loads/calls.c out/libpidtab.a -pthread -o out/calls
- *   valgrind --tool=callgrind --callgrind-out-file=/dev/null out/calls record getpid 12000
+ *   valgrind --tool=callgrind --callgrind-out-file=/dev/null out/calls history getpid 12000
  */
 #include "tables.h"
 
 #include <stdio.h>
 #include <stdlib.h>
 
-static struct pidtab shared;
-
-/* So many calls are made in a turn. */
+/* So many calls are made in one go. */
 #define A_TURN 100
 
-/* So many entries are kept of a bounded record. */
-#define KEPT 1000
-
-static uint32_t on_bounded(const struct pidtab_call *call, struct pidtab_reply *reply)
-{
-	uint64_t ordinal;
-	return BOUNDED_(&record, 0, call, KEPT, reply, &ordinal);
-}
-
-static uint32_t on_shared(const struct pidtab_call *call, struct pidtab_reply *reply)
-{
-	uint64_t ordinal;
-	return pidtab_call_by(&shared, 0, call, reply, &ordinal);
-}
-
-static uint32_t turn_on_record(const struct pidtab_call *calls, struct pidtab_reply *replies)
+static uint32_t in_turns(const struct pidtab_call *calls, struct pidtab_reply *replies)
 {
 	uint64_t ordinal;
 	size_t made;
-	return pidtab_calls(&record, 0, calls, A_TURN, replies, A_TURN, &made, &ordinal);
+	return pidtab_calls(&table, 0, calls, A_TURN, replies, A_TURN, &made, &ordinal);
 }
 
-static uint32_t turn_on_shared(const struct pidtab_call *calls, struct pidtab_reply *replies)
+static uint32_t by_ask(const struct pidtab_call *call, struct pidtab_reply *reply)
 {
-	uint64_t ordinal;
-	size_t made;
-	return pidtab_calls(&shared, 0, calls, A_TURN, replies, A_TURN, &made, &ordinal);
+	return pidtab_ask(&table, call, reply);
 }
 
-static uint32_t ask_plain(const struct pidtab_call *call, struct pidtab_reply *reply)
+static uint32_t by_number(const struct pidtab_call *call, struct pidtab_reply *reply)
 {
-	return pidtab_ask(&plain, call, reply);
+	return pidtab_getpid_of(&table, call->caller, &reply->first);
 }
 
-static uint32_t ask_record(const struct pidtab_call *call, struct pidtab_reply *reply)
+/* How the calls of a load are made on the table of the word, which is opened; a plain one has no turns. */
+static make_call *opened(const char *word, const char *load)
 {
-	return pidtab_ask(&record, call, reply);
-}
+	static const struct {
+		const char *word;
+		make_call *make;
+		struct pidtab_settings settings;
+	} tables[] = {
+		{ "plain", by_worker_0, { .keep = 0 } },
+		{ "history", by_worker, { .workers = 16, .keep = PIDTAB_KEEP_ALL } },
+		{ "bounded", by_worker, { .workers = 16, .keep = 1000 } },
+		{ "threads", by_worker, { .workers = 16, .keep = PIDTAB_KEEP_ALL, .threads = true } },
+	};
 
-static uint32_t ask_shared(const struct pidtab_call *call, struct pidtab_reply *reply)
-{
-	return pidtab_ask(&shared, call, reply);
-}
-
-static uint32_t number_of_plain(const struct pidtab_call *call, struct pidtab_reply *reply)
-{
-	return pidtab_getpid_of(&plain, call->caller, &reply->first);
-}
-
-/* Opens the table that the word names, with 16 workers. */
-static make_call *opened(const char *table, const char *load)
-{
-	const bool asks = is_word(load, "ask"), turns = is_word(load, "turns");
-
-	if (is_word(load, "number"))
-		return !is_word(table, "plain") || pidtab_open(&plain, 32768) != PIDTAB_DONE ? NULL : number_of_plain;
-	if (is_word(table, "plain"))
-		return turns || pidtab_open(&plain, 32768) != PIDTAB_DONE ? NULL : asks ? ask_plain : on_plain;
-	if (is_word(table, "record"))
-		return open_history(&record, 32768, 1, 16) != PIDTAB_DONE ? NULL : asks ? ask_record : turns ? turn_on_record : on_record;
-	if (is_word(table, "bounded"))
-		return asks || turns || open_history(&record, 32768, 1, 16) != PIDTAB_DONE ? NULL : on_bounded;
-	if (is_word(table, "shared"))
-		return open_threads(&shared, 32768, 1, 16, PIDTAB_KEEP_ALL) != PIDTAB_DONE ? NULL : asks ? ask_shared : turns ? turn_on_shared : on_shared;
+	for (size_t i = is_word(load, "turns"); i < sizeof tables / sizeof *tables; i++)
+		if (is_word(word, tables[i].word))
+			return pidtab_open_with(&table, &tables[i].settings) != PIDTAB_DONE ? NULL
+				: is_word(load, "turns") ? in_turns : is_word(load, "ask") ? by_ask : is_word(load, "number") ? by_number : tables[i].make;
 	return NULL;
 }
 
@@ -147,7 +116,7 @@ int main(int count, char **words)
 	uint32_t status = 0;
 
 	if (!make) {
-		fprintf(stderr, "calls plain|record|bounded|shared getpid|ask|turns|number|nspid|cycle N\n");
+		fprintf(stderr, "calls plain|history|bounded|threads getpid|ask|turns|number|nspid|cycle N\n");
 		return 2;
 	}
 	if (is_word(words[2], "turns"))

@@ -1,13 +1,15 @@
 /* Threads at one table of the library for C, by the clock: threads N KEEP.
  *
- * Sixteen threads make N calls each: in turn a fork, a getpid, an exit and a wait. First at a shared table that keeps as many
- * entries as pidtab_open is told (0: all), then at a plain table without a history after a pthread_mutex. It prints the calls
+ * Sixteen threads make N calls each: in turn a fork, a getpid, an exit and a wait. First at a table with threads that keeps KEEP entries
+ * (0: all), then at one without a history and without threads, which a pthread_mutex is around. It prints the calls
  * a second of both, each the median of five runs in turn. The calls are the same, so the difference is the history's.
  *
  *   cc -O2 -Iout loads/threads.c out/libpidtab.a -pthread -o out/threads
  *   out/threads 20000 16384
  */
+#include "pidtab.h"
 
+#include <pthread.h>
 #include <stdio.h>
 #include <stdlib.h>
 #include <time.h>
@@ -16,7 +18,7 @@
 #define RUNS 5
 
 static struct pidtab plain;
-static struct pidtab shared;
+static struct pidtab joint;
 static pthread_mutex_t lock = PTHREAD_MUTEX_INITIALIZER;
 static long calls;
 static uint64_t keep;
@@ -32,10 +34,10 @@ static uint32_t on_plain(uint32_t worker, const struct pidtab_call *call, struct
 	return status;
 }
 
-static uint32_t on_shared(uint32_t worker, const struct pidtab_call *call, struct pidtab_reply *reply)
+static uint32_t with_threads(uint32_t worker, const struct pidtab_call *call, struct pidtab_reply *reply)
 {
 	uint64_t ordinal;
-	return pidtab_call_by(&shared, worker, call, reply, &ordinal);
+	return pidtab_call_by(&joint, worker, call, reply, &ordinal);
 }
 
 struct work {
@@ -91,12 +93,14 @@ static double measured(make_call *make)
 	return status == PIDTAB_DONE ? (double)(THREADS * (calls / 4) * 4) / (now() - start) : 0;
 }
 
-static double on_new_shared(void)
+static double on_new_threads(void)
 {
-	if (open_threads(&shared, 32768, 1, THREADS, keep) != PIDTAB_DONE)
+	const struct pidtab_settings settings = { .workers = THREADS, .keep = keep == 0 ? PIDTAB_KEEP_ALL : keep, .threads = true };
+
+	if (pidtab_open_with(&joint, &settings) != PIDTAB_DONE)
 		return 0;
-	double rate = measured(on_shared);
-	pidtab_close(&shared);
+	double rate = measured(with_threads);
+	pidtab_close(&joint);
 	return rate;
 }
 
@@ -126,14 +130,14 @@ int main(int count, char **words)
 	}
 	keep = strtoull(words[2], NULL, 10);
 	for (int run = 0; run < RUNS; run++) {
-		with_history[run] = on_new_shared();
+		with_history[run] = on_new_threads();
 		without[run] = on_new_plain();
 	}
 	qsort(with_history, RUNS, sizeof(double), by_size);
 	qsort(without, RUNS, sizeof(double), by_size);
 	if (with_history[0] == 0 || without[0] == 0)
 		return 1;
-	printf("shared, with a history: %.0f calls a second\n", with_history[RUNS / 2]);
+	printf("threads, with a history: %.0f calls a second\n", with_history[RUNS / 2]);
 	printf("plain, behind a mutex: %.0f calls a second\n", without[RUNS / 2]);
 	printf("ratio %.2f\n", with_history[RUNS / 2] / without[RUNS / 2]);
 	return 0;

@@ -19,7 +19,7 @@ uint32_t pidtab_line(struct pidtab *table, const void *line, size_t length, void
 {
 	uint64_t ordinal;
 
-	if (has_settings(table))
+	if (way_of(table) != QUICK)
 		return slow_line(table, line, length, answer, room, size);
 	if (!enter(&table->in_use))
 		return PIDTAB_BUSY;
@@ -28,10 +28,11 @@ uint32_t pidtab_line(struct pidtab *table, const void *line, size_t length, void
 
 static __attribute__((noinline)) uint32_t slow_list(const struct pidtab *table, void *bytes, size_t room, size_t *size)
 {
+	struct threads *threads = threads_of(table);
 	struct pidtab held;
 
-	share_before_calls(table, &held);
-	return end_query(table, proved_list(&held, bytes, room, size));
+	copy_held(share_before_calls(threads), &held);
+	return end_shared(threads, proved_list(&held, bytes, room, size));
 }
 
 uint32_t pidtab_list(const struct pidtab *table, void *bytes, size_t room, size_t *size)
@@ -48,10 +49,11 @@ uint32_t pidtab_list(const struct pidtab *table, void *bytes, size_t room, size_
 
 static __attribute__((noinline)) uint32_t slow_dump(const struct pidtab *table, void *bytes, size_t room, size_t *size)
 {
+	struct threads *threads = threads_of(table);
 	struct pidtab held;
 
-	share_before_calls(table, &held);
-	return end_query(table, proved_dump(&held, bytes, room, size));
+	copy_held(share_before_calls(threads), &held);
+	return end_shared(threads, proved_dump(&held, bytes, room, size));
 }
 
 uint32_t pidtab_dump(const struct pidtab *table, void *bytes, size_t room, size_t *size)
@@ -76,13 +78,29 @@ static __attribute__((noinline)) uint32_t slow_call(struct pidtab *table, const 
 	return end_call(table, held, proved_call(held, call, reply));
 }
 
-uint32_t pidtab_call(struct pidtab *table, const struct pidtab_call *call, struct pidtab_reply *reply)
+static __attribute__((noinline)) uint32_t keeping_call(struct pidtab *table, const struct pidtab_call *call, struct pidtab_reply *reply)
 {
-	if (has_settings(table))
-		return slow_call(table, call, reply);
+	uint64_t ordinal;
+
+	if (!enter(&table->in_use))
+		return PIDTAB_BUSY;
+	return leave(&table->in_use, proved_call_keeping(table, 0, call, table->keep, reply, &ordinal));
+}
+
+static __attribute__((noinline)) uint32_t quick_call(struct pidtab *table, const struct pidtab_call *call, struct pidtab_reply *reply)
+{
 	if (!enter(&table->in_use))
 		return PIDTAB_BUSY;
 	return leave(&table->in_use, proved_call(table, call, reply));
+}
+
+uint32_t pidtab_call(struct pidtab *table, const struct pidtab_call *call, struct pidtab_reply *reply)
+{
+	const uint8_t way = way_of(table);
+
+	if (way == QUICK)
+		return quick_call(table, call, reply);
+	return way == KEEPING ? keeping_call(table, call, reply) : slow_call(table, call, reply);
 }
 
 static __attribute__((noinline)) uint32_t slow_getpid_of(struct pidtab *table, uint32_t caller, uint64_t *number)
@@ -97,7 +115,7 @@ static __attribute__((noinline)) uint32_t slow_getpid_of(struct pidtab *table, u
 
 uint32_t pidtab_getpid_of(struct pidtab *table, uint32_t caller, uint64_t *number)
 {
-	if (has_settings(table))
+	if (way_of(table) != QUICK)
 		return slow_getpid_of(table, caller, number);
 	if (!enter(&table->in_use))
 		return PIDTAB_BUSY;
@@ -116,7 +134,7 @@ static __attribute__((noinline)) uint32_t slow_getppid_of(struct pidtab *table, 
 
 uint32_t pidtab_getppid_of(struct pidtab *table, uint32_t caller, uint64_t *number)
 {
-	if (has_settings(table))
+	if (way_of(table) != QUICK)
 		return slow_getppid_of(table, caller, number);
 	if (!enter(&table->in_use))
 		return PIDTAB_BUSY;
@@ -135,7 +153,7 @@ static __attribute__((noinline)) uint32_t slow_getpgid_of(struct pidtab *table, 
 
 uint32_t pidtab_getpgid_of(struct pidtab *table, uint32_t caller, uint32_t pid, uint64_t *number)
 {
-	if (has_settings(table))
+	if (way_of(table) != QUICK)
 		return slow_getpgid_of(table, caller, pid, number);
 	if (!enter(&table->in_use))
 		return PIDTAB_BUSY;
@@ -154,7 +172,7 @@ static __attribute__((noinline)) uint32_t slow_getsid_of(struct pidtab *table, u
 
 uint32_t pidtab_getsid_of(struct pidtab *table, uint32_t caller, uint32_t pid, uint64_t *number)
 {
-	if (has_settings(table))
+	if (way_of(table) != QUICK)
 		return slow_getsid_of(table, caller, pid, number);
 	if (!enter(&table->in_use))
 		return PIDTAB_BUSY;
@@ -173,7 +191,7 @@ static __attribute__((noinline)) uint32_t slow_next_of(struct pidtab *table, uin
 
 uint32_t pidtab_next_of(struct pidtab *table, uint32_t caller, uint32_t kind, uint32_t from, uint64_t *number)
 {
-	if (has_settings(table))
+	if (way_of(table) != QUICK)
 		return slow_next_of(table, caller, kind, from, number);
 	if (!enter(&table->in_use))
 		return PIDTAB_BUSY;
@@ -192,7 +210,7 @@ static __attribute__((noinline)) uint32_t slow_count_of(struct pidtab *table, ui
 
 uint32_t pidtab_count_of(struct pidtab *table, uint64_t id, uint64_t *number)
 {
-	if (has_settings(table))
+	if (way_of(table) != QUICK)
 		return slow_count_of(table, id, number);
 	if (!enter(&table->in_use))
 		return PIDTAB_BUSY;
@@ -201,10 +219,11 @@ uint32_t pidtab_count_of(struct pidtab *table, uint64_t id, uint64_t *number)
 
 static __attribute__((noinline)) uint32_t slow_ask(const struct pidtab *table, const struct pidtab_call *call, struct pidtab_reply *reply)
 {
+	struct threads *threads = threads_of(table);
 	struct pidtab held;
 
-	share_as_call(table, &held);
-	return end_query(table, proved_ask(&held, call, reply));
+	copy_held(share_as_call(threads), &held);
+	return end_shared(threads, proved_ask(&held, call, reply));
 }
 
 uint32_t pidtab_ask(const struct pidtab *table, const struct pidtab_call *call, struct pidtab_reply *reply)
@@ -221,10 +240,11 @@ uint32_t pidtab_ask(const struct pidtab *table, const struct pidtab_call *call, 
 
 static __attribute__((noinline)) uint32_t slow_stat(const struct pidtab *table, uint32_t caller, uint32_t number, struct pidtab_task *task)
 {
+	struct threads *threads = threads_of(table);
 	struct pidtab held;
 
-	share_as_call(table, &held);
-	return end_query(table, proved_stat(&held, caller, number, task));
+	copy_held(share_as_call(threads), &held);
+	return end_shared(threads, proved_stat(&held, caller, number, task));
 }
 
 uint32_t pidtab_stat(const struct pidtab *table, uint32_t caller, uint32_t number, struct pidtab_task *task)
@@ -241,10 +261,11 @@ uint32_t pidtab_stat(const struct pidtab *table, uint32_t caller, uint32_t numbe
 
 static __attribute__((noinline)) uint32_t slow_page(const struct pidtab *table, uint32_t caller, uint32_t whom, uint32_t number, uint32_t from, uint32_t *numbers, size_t room, struct pidtab_reply *reply)
 {
+	struct threads *threads = threads_of(table);
 	struct pidtab held;
 
-	share_as_call(table, &held);
-	return end_query(table, proved_page(&held, caller, whom, number, from, numbers, room, reply));
+	copy_held(share_as_call(threads), &held);
+	return end_shared(threads, proved_page(&held, caller, whom, number, from, numbers, room, reply));
 }
 
 uint32_t pidtab_page(const struct pidtab *table, uint32_t caller, uint32_t whom, uint32_t number, uint32_t from, uint32_t *numbers, size_t room, struct pidtab_reply *reply)
@@ -261,10 +282,11 @@ uint32_t pidtab_page(const struct pidtab *table, uint32_t caller, uint32_t whom,
 
 static __attribute__((noinline)) uint32_t slow_space(const struct pidtab *table, uint64_t id, struct pidtab_space *space)
 {
+	struct threads *threads = threads_of(table);
 	struct pidtab held;
 
-	share_as_call(table, &held);
-	return end_query(table, proved_space(&held, id, space));
+	copy_held(share_as_call(threads), &held);
+	return end_shared(threads, proved_space(&held, id, space));
 }
 
 uint32_t pidtab_space(const struct pidtab *table, uint64_t id, struct pidtab_space *space)
@@ -281,10 +303,11 @@ uint32_t pidtab_space(const struct pidtab *table, uint64_t id, struct pidtab_spa
 
 static __attribute__((noinline)) uint32_t slow_inside(const struct pidtab *table, uint32_t tree, uint64_t id, uint64_t from, uint64_t *ids, size_t room, uint64_t *count)
 {
+	struct threads *threads = threads_of(table);
 	struct pidtab held;
 
-	share_as_call(table, &held);
-	return end_query(table, proved_inside(&held, tree, id, from, ids, room, count));
+	copy_held(share_as_call(threads), &held);
+	return end_shared(threads, proved_inside(&held, tree, id, from, ids, room, count));
 }
 
 uint32_t pidtab_inside(const struct pidtab *table, uint32_t tree, uint64_t id, uint64_t from, uint64_t *ids, size_t room, uint64_t *count)
@@ -301,10 +324,11 @@ uint32_t pidtab_inside(const struct pidtab *table, uint32_t tree, uint64_t id, u
 
 static __attribute__((noinline)) uint32_t slow_control_tasks(const struct pidtab *table, uint32_t caller, uint64_t control, uint32_t from, uint32_t *numbers, size_t room, struct pidtab_reply *reply)
 {
+	struct threads *threads = threads_of(table);
 	struct pidtab held;
 
-	share_as_call(table, &held);
-	return end_query(table, proved_control_tasks(&held, caller, control, from, numbers, room, reply));
+	copy_held(share_as_call(threads), &held);
+	return end_shared(threads, proved_control_tasks(&held, caller, control, from, numbers, room, reply));
 }
 
 uint32_t pidtab_control_tasks(const struct pidtab *table, uint32_t caller, uint64_t control, uint32_t from, uint32_t *numbers, size_t room, struct pidtab_reply *reply)
@@ -321,10 +345,11 @@ uint32_t pidtab_control_tasks(const struct pidtab *table, uint32_t caller, uint6
 
 static __attribute__((noinline)) uint32_t slow_would(const struct pidtab *table, const struct pidtab_call *call, struct pidtab_reply *reply)
 {
+	struct threads *threads = threads_of(table);
 	struct pidtab held;
 
-	share_as_call(table, &held);
-	return end_query(table, proved_would(&held, call, reply));
+	copy_held(share_as_call(threads), &held);
+	return end_shared(threads, proved_would(&held, call, reply));
 }
 
 uint32_t pidtab_would(const struct pidtab *table, const struct pidtab_call *call, struct pidtab_reply *reply)
@@ -354,7 +379,7 @@ uint32_t pidtab_fork_at(struct pidtab *table, uint32_t caller, uint32_t new_spac
 {
 	uint64_t ordinal;
 
-	if (has_settings(table))
+	if (way_of(table) != QUICK)
 		return slow_fork_at(table, caller, new_space, child, root, reply);
 	if (!enter(&table->in_use))
 		return PIDTAB_BUSY;
@@ -376,7 +401,7 @@ uint32_t pidtab_call_told(struct pidtab *table, const struct pidtab_call *call, 
 {
 	uint64_t ordinal;
 
-	if (has_settings(table))
+	if (way_of(table) != QUICK)
 		return slow_call_told(table, call, reply, effects, room, count);
 	if (!enter(&table->in_use))
 		return PIDTAB_BUSY;
@@ -393,13 +418,27 @@ static __attribute__((noinline)) uint32_t slow_call_by(struct pidtab *table, uin
 	return end_call(table, held, proved_call_by(held, worker, call, reply, ordinal));
 }
 
-uint32_t pidtab_call_by(struct pidtab *table, uint32_t worker, const struct pidtab_call *call, struct pidtab_reply *reply, uint64_t *ordinal)
+static __attribute__((noinline)) uint32_t keeping_call_by(struct pidtab *table, uint32_t worker, const struct pidtab_call *call, struct pidtab_reply *reply, uint64_t *ordinal)
 {
-	if (has_settings(table))
-		return slow_call_by(table, worker, call, reply, ordinal);
+	if (!enter(&table->in_use))
+		return PIDTAB_BUSY;
+	return leave(&table->in_use, proved_call_keeping(table, worker, call, table->keep, reply, ordinal));
+}
+
+static __attribute__((noinline)) uint32_t quick_call_by(struct pidtab *table, uint32_t worker, const struct pidtab_call *call, struct pidtab_reply *reply, uint64_t *ordinal)
+{
 	if (!enter(&table->in_use))
 		return PIDTAB_BUSY;
 	return leave(&table->in_use, proved_call_by(table, worker, call, reply, ordinal));
+}
+
+uint32_t pidtab_call_by(struct pidtab *table, uint32_t worker, const struct pidtab_call *call, struct pidtab_reply *reply, uint64_t *ordinal)
+{
+	const uint8_t way = way_of(table);
+
+	if (way == QUICK)
+		return quick_call_by(table, worker, call, reply, ordinal);
+	return way == KEEPING ? keeping_call_by(table, worker, call, reply, ordinal) : slow_call_by(table, worker, call, reply, ordinal);
 }
 
 static __attribute__((noinline)) uint32_t slow_calls(struct pidtab *table, uint32_t worker, const struct pidtab_call *calls, size_t count, struct pidtab_reply *replies, size_t room, size_t *made, uint64_t *ordinal)
@@ -416,7 +455,7 @@ static __attribute__((noinline)) uint32_t slow_calls(struct pidtab *table, uint3
 uint32_t pidtab_calls(struct pidtab *table, uint32_t worker, const struct pidtab_call *calls, size_t count, struct pidtab_reply *replies, size_t room, size_t *made, uint64_t *ordinal)
 {
 	*made = 0;
-	if (has_settings(table))
+	if (way_of(table) != QUICK)
 		return slow_calls(table, worker, calls, count, replies, room, made, ordinal);
 	if (!enter(&table->in_use))
 		return PIDTAB_BUSY;
@@ -435,7 +474,7 @@ static __attribute__((noinline)) uint32_t slow_line_by(struct pidtab *table, uin
 
 uint32_t pidtab_line_by(struct pidtab *table, uint32_t worker, const void *line, size_t length, void *answer, size_t room, size_t *size, uint64_t *ordinal)
 {
-	if (has_settings(table))
+	if (way_of(table) != QUICK)
 		return slow_line_by(table, worker, line, length, answer, room, size, ordinal);
 	if (!enter(&table->in_use))
 		return PIDTAB_BUSY;
@@ -454,7 +493,7 @@ static __attribute__((noinline)) uint32_t slow_fork_at_by(struct pidtab *table, 
 
 uint32_t pidtab_fork_at_by(struct pidtab *table, uint32_t worker, uint32_t caller, uint32_t new_space, uint32_t child, uint32_t root, struct pidtab_reply *reply, uint64_t *ordinal)
 {
-	if (has_settings(table))
+	if (way_of(table) != QUICK)
 		return slow_fork_at_by(table, worker, caller, new_space, child, root, reply, ordinal);
 	if (!enter(&table->in_use))
 		return PIDTAB_BUSY;
@@ -473,7 +512,7 @@ static __attribute__((noinline)) uint32_t slow_call_told_by(struct pidtab *table
 
 uint32_t pidtab_call_told_by(struct pidtab *table, uint32_t worker, const struct pidtab_call *call, struct pidtab_reply *reply, uint64_t *ordinal, struct pidtab_effect *effects, size_t room, uint64_t *count)
 {
-	if (has_settings(table))
+	if (way_of(table) != QUICK)
 		return slow_call_told_by(table, worker, call, reply, ordinal, effects, room, count);
 	if (!enter(&table->in_use))
 		return PIDTAB_BUSY;
@@ -482,10 +521,11 @@ uint32_t pidtab_call_told_by(struct pidtab *table, uint32_t worker, const struct
 
 static __attribute__((noinline)) uint32_t slow_counts(const struct pidtab *table, uint64_t *first_kept, uint64_t *recorded)
 {
+	struct threads *threads = threads_of(table);
 	struct pidtab held;
 
-	share_before_calls(table, &held);
-	return end_query(table, proved_counts(&held, first_kept, recorded));
+	copy_held(share_before_calls(threads), &held);
+	return end_shared(threads, proved_counts(&held, first_kept, recorded));
 }
 
 uint32_t pidtab_counts(const struct pidtab *table, uint64_t *first_kept, uint64_t *recorded)
@@ -502,10 +542,11 @@ uint32_t pidtab_counts(const struct pidtab *table, uint64_t *first_kept, uint64_
 
 static __attribute__((noinline)) uint32_t slow_worker(const struct pidtab *table, uint32_t worker, uint64_t *calls)
 {
+	struct threads *threads = threads_of(table);
 	struct pidtab held;
 
-	share_before_calls(table, &held);
-	return end_query(table, proved_worker(&held, worker, calls));
+	copy_held(share_before_calls(threads), &held);
+	return end_shared(threads, proved_worker(&held, worker, calls));
 }
 
 uint32_t pidtab_worker(const struct pidtab *table, uint32_t worker, uint64_t *calls)
@@ -522,10 +563,11 @@ uint32_t pidtab_worker(const struct pidtab *table, uint32_t worker, uint64_t *ca
 
 static __attribute__((noinline)) uint32_t slow_entry(const struct pidtab *table, uint64_t ordinal, uint64_t *worker, struct pidtab_call *call, struct pidtab_reply *reply)
 {
+	struct threads *threads = threads_of(table);
 	struct pidtab held;
 
-	share_before_calls(table, &held);
-	return end_query(table, proved_entry(&held, ordinal, worker, call, reply));
+	copy_held(share_before_calls(threads), &held);
+	return end_shared(threads, proved_entry(&held, ordinal, worker, call, reply));
 }
 
 uint32_t pidtab_entry(const struct pidtab *table, uint64_t ordinal, uint64_t *worker, struct pidtab_call *call, struct pidtab_reply *reply)
@@ -542,10 +584,11 @@ uint32_t pidtab_entry(const struct pidtab *table, uint64_t ordinal, uint64_t *wo
 
 static __attribute__((noinline)) uint32_t slow_read(const struct pidtab *table, uint64_t from, struct pidtab_entry *entries, size_t room, size_t *count)
 {
+	struct threads *threads = threads_of(table);
 	struct pidtab held;
 
-	share_before_calls(table, &held);
-	return end_query(table, proved_read(&held, from, entries, room, count));
+	copy_held(share_before_calls(threads), &held);
+	return end_shared(threads, proved_read(&held, from, entries, room, count));
 }
 
 uint32_t pidtab_read(const struct pidtab *table, uint64_t from, struct pidtab_entry *entries, size_t room, size_t *count)
@@ -602,10 +645,11 @@ uint32_t pidtab_checkpoint_at(struct pidtab *table, uint64_t seen)
 
 static __attribute__((noinline)) uint32_t slow_opening(const struct pidtab *table, void *bytes, size_t room, size_t *size)
 {
+	struct threads *threads = threads_of(table);
 	struct pidtab held;
 
-	share_before_calls(table, &held);
-	return end_query(table, proved_opening(&held, bytes, room, size));
+	copy_held(share_before_calls(threads), &held);
+	return end_shared(threads, proved_opening(&held, bytes, room, size));
 }
 
 uint32_t pidtab_opening(const struct pidtab *table, void *bytes, size_t room, size_t *size)

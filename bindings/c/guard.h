@@ -3,7 +3,7 @@
 #ifndef PIDTAB_GUARD_H
 #define PIDTAB_GUARD_H
 
-#include "proved.h"
+#include "threads.h"
 
 /* The mark is ALONE in a call, and else the number of queries. One more than the most waits until one ends. */
 #define ALONE UINT8_MAX
@@ -53,15 +53,17 @@ static inline void copy_held(const struct pidtab *table, struct pidtab *held)
 	held->is_open = table->is_open;
 }
 
-/* Whether calls go the slow way. */
-static inline bool has_settings(const struct pidtab *table)
+/* Which way the calls of a table go: with neither a bound nor threads, with a bound, or with threads. */
+enum { QUICK, KEEPING, LOCKED };
+
+static inline uint8_t way_of(const struct pidtab *table)
 {
-	return __atomic_load_n(&table->has_settings, __ATOMIC_RELAXED);
+	return __atomic_load_n(&table->way, __ATOMIC_RELAXED);
 }
 
 static inline bool has_threads(const struct pidtab *table)
 {
-	return __atomic_load_n(&table->threads, __ATOMIC_ACQUIRE) != NULL;
+	return threads_of(table) != NULL;
 }
 
 /* Why a table has no lock, or PIDTAB_DONE where it has one. */
@@ -70,26 +72,44 @@ static inline uint32_t unless_threads(const struct pidtab *table)
 	return has_threads(table) ? PIDTAB_DONE : table->is_open ? PIDTAB_NO_THREADS : PIDTAB_CLOSED;
 }
 
-/* Of settings.c. The settings with what 0 stands for. */
-struct pidtab_settings with_defaults(const struct pidtab_settings *settings);
+/* Begins so many calls: `held` is what the proved function works on, the table itself or the one that its lock is around. Where the status is not
+ * PIDTAB_DONE, it does not work, and nothing is ended. */
+static inline uint32_t begin_calls(struct pidtab *table, size_t count, struct pidtab **held)
+{
+	struct threads *threads = threads_of(table);
 
-/* The slow way, by the mark or the lock: `held` is what the proved function works on. Where the status is not PIDTAB_DONE, it does not work, and nothing
- * is ended. A change is what is no call: it goes before the calls, and waits for no saver. */
-uint32_t begin_calls(struct pidtab *table, size_t count, struct pidtab **held);
-uint32_t begin_change(struct pidtab *table, struct pidtab **held);
-/* Keeps the bound after one call, or after any number. */
-uint32_t end_call(struct pidtab *table, struct pidtab *held, uint32_t status);
+	*held = threads != NULL ? &threads->table : table;
+	if (threads != NULL)
+		return lock_for_calls(threads, count);
+	return enter(&table->in_use) ? PIDTAB_DONE : PIDTAB_BUSY;
+}
+
+/* Begins a change that is no call: it goes before the calls, and waits for no saver. */
+static inline uint32_t begin_change(struct pidtab *table, struct pidtab **held)
+{
+	*held = has_threads(table) ? pidtab_lock(table) : table;
+	return *held != table || enter(&table->in_use) ? PIDTAB_DONE : PIDTAB_BUSY;
+}
+
+static inline uint32_t end_change(struct pidtab *table, const struct pidtab *held, uint32_t status)
+{
+	if (held == table)
+		return leave(&table->in_use, status);
+	unlock_changed(threads_of(table));
+	return status;
+}
+
+/* Keeps the bound, and ends one call, or any number of calls. */
+static inline uint32_t end_call(struct pidtab *table, struct pidtab *held, uint32_t status)
+{
+	if (held->keep != 0)
+		proved_keep(held, held->keep);
+	return end_change(table, held, status);
+}
+
+/* Of settings.c. */
 uint32_t end_calls(struct pidtab *table, struct pidtab *held, uint32_t status);
-
-/* Of threads.c, for a table that has threads. Makes the lock around what is held: PIDTAB_DONE or PIDTAB_NO_MEMORY. */
-uint32_t begin_threads(struct pidtab *table, const struct pidtab *held);
-/* Closes the table, and frees its lock. */
-void end_threads(struct pidtab *table);
-/* The lock for so many calls, and the table that it is around; or why they are not to be made. */
-uint32_t lock_for_calls(struct pidtab *table, size_t count, struct pidtab **held);
-/* The lock that queries share, and a copy of what leads to the table: as a call, or before all calls that come then. */
-void share_as_call(const struct pidtab *table, struct pidtab *held);
-void share_before_calls(const struct pidtab *table, struct pidtab *held);
-uint32_t end_query(const struct pidtab *table, uint32_t status);
+/* The settings with what 0 stands for. */
+struct pidtab_settings with_defaults(const struct pidtab_settings *settings);
 
 #endif

@@ -32,14 +32,14 @@ extern "C" {
 struct pidtab {
 	void *at;
 	bool is_open;
-	uint8_t in_use;    /* by queries, or by a call */
-	bool has_settings; /* a bound of its history, or threads */
+	uint8_t in_use; /* by queries, or by a call */
+	uint8_t way;    /* of its calls: with neither a bound nor threads, with a bound, or with threads */
 	uint8_t workers;
-	uint8_t seated;    /* so many of them have a seat */
-	uint64_t keep;     /* at most so many entries are kept; 0: any number */
-	void *threads;     /* its lock, if it has one */
+	uint8_t seated; /* so many of them have a seat */
+	uint64_t keep;  /* at most so many entries are kept; 0: any number */
+	void *threads;  /* its lock, if it has one */
 };
-#define PIDTAB_INIT { 0, false, 0, false, 0, 0, 0, 0 }
+#define PIDTAB_INIT { 0, false, 0, 0, 0, 0, 0, 0 }
 
 /* What a table is opened with. A field that is 0 is what it says. */
 struct pidtab_settings {

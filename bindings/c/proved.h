@@ -8,6 +8,7 @@
 uint32_t proved_open_with(struct pidtab *table, const struct pidtab_settings *settings);
 uint32_t proved_load_with(struct pidtab *table, const void *text, size_t length, const uint64_t *counts, size_t workers, bool keeps_history, struct pidtab_fault *fault);
 void proved_close(struct pidtab *table);
+uint32_t proved_call_keeping(struct pidtab *table, uint32_t worker, const struct pidtab_call *call, uint64_t keep, struct pidtab_reply *reply, uint64_t *ordinal);
 uint32_t proved_line_by(struct pidtab *table, uint32_t worker, const void *line, size_t length, void *answer, size_t room, size_t *size, uint64_t *ordinal);
 uint32_t proved_list(struct pidtab *table, void *bytes, size_t room, size_t *size);
 uint32_t proved_dump(struct pidtab *table, void *bytes, size_t room, size_t *size);

@@ -3,7 +3,7 @@
 #define _FILE_OFFSET_BITS 64
 
 #include "pidtab_saved.h"
-#include "threads.h"
+#include "guard.h"
 
 #include <errno.h>
 #include <string.h>
@@ -283,9 +283,10 @@ uint32_t pidtab_saved_wait(struct pidtab *table, uint64_t ordinal)
 uint32_t pidtab_saved_bound(struct pidtab *table, uint64_t most)
 {
 	struct threads *threads = threads_of(table);
+	uint32_t status = unless_threads(table);
 
-	if (threads == NULL)
-		return unless_threads(table);
+	if (status != PIDTAB_DONE)
+		return status;
 	pidtab_lock(table);
 	threads->most = most;
 	wake_all(table);
@@ -295,9 +296,10 @@ uint32_t pidtab_saved_bound(struct pidtab *table, uint64_t most)
 uint32_t pidtab_saved_end(struct pidtab *table)
 {
 	struct threads *threads = threads_of(table);
+	uint32_t status = unless_threads(table);
 
-	if (threads == NULL)
-		return unless_threads(table);
+	if (status != PIDTAB_DONE)
+		return status;
 	pidtab_lock(table);
 	threads->saving = PIDTAB_ENDED;
 	wake_all(table);

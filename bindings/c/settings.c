@@ -1,4 +1,4 @@
-/* A table is opened by its settings, and closed; and the slow way of its calls, where these ask for a lock or a bound. */
+/* A table is opened by its settings, and closed; its seats, and its bound after many calls. */
 #include "guard.h"
 
 struct pidtab_settings with_defaults(const struct pidtab_settings *settings)
@@ -18,7 +18,7 @@ struct pidtab_settings with_defaults(const struct pidtab_settings *settings)
 static uint32_t settle(struct pidtab *table, struct pidtab *held, const struct pidtab_settings *settings)
 {
 	const uint64_t keep = settings->keep == PIDTAB_KEEP_ALL ? 0 : settings->keep;
-	const struct pidtab settled = { held->at, true, 0, keep != 0, (uint8_t)settings->workers, 0, keep, NULL };
+	const struct pidtab settled = { held->at, true, 0, keep == 0 ? QUICK : KEEPING, (uint8_t)settings->workers, 0, keep, NULL };
 
 	if (settings->threads)
 		return begin_threads(table, &settled);
@@ -26,7 +26,7 @@ static uint32_t settle(struct pidtab *table, struct pidtab *held, const struct p
 	table->workers = settled.workers;
 	table->seated = 0;
 	table->keep = keep;
-	__atomic_store_n(&table->has_settings, settled.has_settings, __ATOMIC_RELAXED);
+	__atomic_store_n(&table->way, settled.way, __ATOMIC_RELAXED);
 	return PIDTAB_DONE;
 }
 
@@ -97,7 +97,7 @@ uint32_t pidtab_load_with(struct pidtab *table, const void *text, size_t length,
 static void forget(struct pidtab *table)
 {
 	__atomic_store_n(&table->threads, NULL, __ATOMIC_RELEASE);
-	__atomic_store_n(&table->has_settings, false, __ATOMIC_RELAXED);
+	__atomic_store_n(&table->way, QUICK, __ATOMIC_RELAXED);
 	table->at = NULL;
 	table->is_open = false;
 	table->workers = table->seated = 0;
@@ -106,12 +106,13 @@ static void forget(struct pidtab *table)
 
 uint32_t pidtab_close(struct pidtab *table)
 {
+	struct threads *threads = threads_of(table);
 	struct pidtab held;
 
 	if (!enter(&table->in_use))
 		return PIDTAB_BUSY;
-	if (has_threads(table)) {
-		end_threads(table);
+	if (threads != NULL) {
+		end_threads(threads);
 	} else {
 		copy_held(table, &held);
 		proved_close(&held);
@@ -135,43 +136,7 @@ uint32_t pidtab_seat(struct pidtab *table, uint32_t *worker)
 	struct pidtab *held;
 	uint32_t status = begin_change(table, &held);
 
-	return status != PIDTAB_DONE ? status : end_calls(table, held, next_seat(held, worker));
-}
-
-/* The mark of a table without threads. */
-static uint32_t begin_alone(struct pidtab *table, struct pidtab **held)
-{
-	*held = table;
-	return enter(&table->in_use) ? PIDTAB_DONE : PIDTAB_BUSY;
-}
-
-uint32_t begin_calls(struct pidtab *table, size_t count, struct pidtab **held)
-{
-	return has_threads(table) ? lock_for_calls(table, count, held) : begin_alone(table, held);
-}
-
-uint32_t begin_change(struct pidtab *table, struct pidtab **held)
-{
-	if (!has_threads(table))
-		return begin_alone(table, held);
-	*held = pidtab_lock(table);
-	return PIDTAB_DONE;
-}
-
-/* Takes the lock or the mark away. */
-static uint32_t end_all(struct pidtab *table, uint32_t status)
-{
-	if (!has_threads(table))
-		return leave(&table->in_use, status);
-	pidtab_unlock(table);
-	return status;
-}
-
-uint32_t end_call(struct pidtab *table, struct pidtab *held, uint32_t status)
-{
-	if (held->keep != 0)
-		proved_keep(held, held->keep);
-	return end_all(table, status);
+	return status != PIDTAB_DONE ? status : end_change(table, held, next_seat(held, worker));
 }
 
 /* Whether first entries are to be cut, and were cut since `first_kept`, which is told anew: a cut that finds no memory is left to later calls. */
@@ -188,5 +153,5 @@ uint32_t end_calls(struct pidtab *table, struct pidtab *held, uint32_t status)
 
 	while (held->keep != 0 && goes_on(held, &first_kept))
 		proved_keep(held, held->keep);
-	return end_all(table, status);
+	return end_change(table, held, status);
 }

@@ -79,10 +79,11 @@ static void calls_by(struct pidtab *table, uint32_t worker)
 		TRY(7, proved_next_of(table, call.caller, call.choice, call.number, &number));
 		TRY(8, proved_count_of(table, call.id, &number));
 		TRY(9, proved_call(table, &call, &reply));
+		TRY(11, proved_call_keeping(table, worker, &call, 64, &reply, &ordinal));
 		CHECK(proved_would(table, &a_fork, &reply) == PIDTAB_DONE);
 		TRY(10, proved_fork_at_by(table, worker, 1, false, (uint32_t)reply.first, (uint32_t)reply.second, &reply, &ordinal));
 	}
-	each_was_done(11);
+	each_was_done(12);
 }
 
 /* A table without a history has worker 0 alone, and no history to tell or to cut. No function of the headers asks for that. */

@@ -7,16 +7,13 @@
  * A mutex is for whoever comes first when it is free, which is a busy thread that has just given it back, and not one that has to
  * wake up. So who is no call, ask or stat goes by a gate: it is seen there by the next one of each thread, which waits until it has the
  * mutex. */
-#include "threads.h"
+#include "guard.h"
 
 #include <stdlib.h>
 #include <time.h>
 
 /* So many are a second. */
 #define NANOSECONDS 1000000000
-
-/* Beside the number of queries: a change waits for them, or is under way. */
-#define CHANGE 0x80000000u
 
 /* So often somebody looks again before he sleeps: most changes and queries take less than a sleep. */
 #define LOOKS 100
@@ -26,123 +23,6 @@ static void look_again(void)
 #if defined(__x86_64__) || defined(__i386__)
 	__builtin_ia32_pause();
 #endif
-}
-
-static void lock_before_calls(struct threads *threads)
-{
-	pthread_mutex_lock(&threads->gate);
-	__atomic_store_n(&threads->is_awaited, true, __ATOMIC_RELAXED);
-	pthread_mutex_lock(&threads->lock);
-	__atomic_store_n(&threads->is_awaited, false, __ATOMIC_RELAXED);
-	pthread_mutex_unlock(&threads->gate);
-}
-
-static void lock_for_call(struct threads *threads)
-{
-	if (__atomic_load_n(&threads->is_awaited, __ATOMIC_RELAXED)) {
-		pthread_mutex_lock(&threads->gate);
-		pthread_mutex_unlock(&threads->gate);
-	}
-	pthread_mutex_lock(&threads->lock);
-}
-
-static uint32_t unlocked(struct threads *threads, uint32_t status)
-{
-	pthread_mutex_unlock(&threads->lock);
-	return status;
-}
-
-static bool is_drained(const struct threads *threads)
-{
-	return __atomic_load_n(&threads->queries, __ATOMIC_ACQUIRE) == CHANGE;
-}
-
-static void wait_for_queries(struct threads *threads)
-{
-	for (int i = 0; i < LOOKS && !is_drained(threads); i++)
-		look_again();
-	if (is_drained(threads))
-		return;
-	pthread_mutex_lock(&threads->drain);
-	while (!is_drained(threads))
-		pthread_cond_wait(&threads->drained, &threads->drain);
-	pthread_mutex_unlock(&threads->drain);
-}
-
-/* This thread has the mutex, and so is the only one that changes. */
-static inline void keep_queries_out(struct threads *threads)
-{
-	if (__atomic_add_fetch(&threads->queries, CHANGE, __ATOMIC_ACQUIRE) != CHANGE)
-		wait_for_queries(threads);
-}
-
-static void let_queries_in(struct threads *threads)
-{
-	__atomic_store_n(&threads->queries, 0, __ATOMIC_RELEASE);
-}
-
-/* Counts a query more, unless there is a change. */
-static bool joins_queries(struct threads *threads)
-{
-	uint32_t queries = __atomic_load_n(&threads->queries, __ATOMIC_RELAXED);
-
-	while ((queries & CHANGE) == 0)
-		if (__atomic_compare_exchange_n(&threads->queries, &queries, queries + 1, true, __ATOMIC_ACQUIRE, __ATOMIC_RELAXED))
-			return true;
-	return false;
-}
-
-static bool joins_soon(struct threads *threads)
-{
-	for (int i = 0; i < LOOKS; i++) {
-		if (joins_queries(threads))
-			return true;
-		look_again();
-	}
-	return false;
-}
-
-/* While this thread has the mutex, there is no change. */
-static void join_behind_change(struct threads *threads)
-{
-	__atomic_fetch_add(&threads->queries, 1, __ATOMIC_ACQUIRE);
-	pthread_mutex_unlock(&threads->lock);
-}
-
-/* A query that waits for a change lets those go before that a call lets go. */
-void share_as_call(const struct pidtab *table, struct pidtab *held)
-{
-	struct threads *threads = threads_of(table);
-
-	if (!joins_soon(threads)) {
-		lock_for_call(threads);
-		join_behind_change(threads);
-	}
-	copy_held(&threads->table, held);
-}
-
-void share_before_calls(const struct pidtab *table, struct pidtab *held)
-{
-	struct threads *threads = threads_of(table);
-
-	if (!joins_soon(threads)) {
-		lock_before_calls(threads);
-		join_behind_change(threads);
-	}
-	copy_held(&threads->table, held);
-}
-
-/* The last query wakes the change that waits. */
-uint32_t end_query(const struct pidtab *table, uint32_t status)
-{
-	struct threads *threads = threads_of(table);
-
-	if (__atomic_sub_fetch(&threads->queries, 1, __ATOMIC_RELEASE) == CHANGE) {
-		pthread_mutex_lock(&threads->drain);
-		pthread_cond_signal(&threads->drained);
-		pthread_mutex_unlock(&threads->drain);
-	}
-	return status;
 }
 
 uint32_t begin_threads(struct pidtab *table, const struct pidtab *held)
@@ -157,17 +37,26 @@ uint32_t begin_threads(struct pidtab *table, const struct pidtab *held)
 		.drain = PTHREAD_MUTEX_INITIALIZER, .drained = PTHREAD_COND_INITIALIZER
 	};
 	table->is_open = true;
-	__atomic_store_n(&table->has_settings, true, __ATOMIC_RELAXED);
+	__atomic_store_n(&table->way, LOCKED, __ATOMIC_RELAXED);
 	__atomic_store_n(&table->threads, threads, __ATOMIC_RELEASE);
 	return PIDTAB_DONE;
 }
 
-void end_threads(struct pidtab *table)
+static void lock_before_calls(struct threads *threads)
 {
-	struct threads *threads = threads_of(table);
+	pthread_mutex_lock(&threads->gate);
+	__atomic_store_n(&threads->is_awaited, true, __ATOMIC_RELAXED);
+	pthread_mutex_lock(&threads->lock);
+	__atomic_store_n(&threads->is_awaited, false, __ATOMIC_RELAXED);
+	pthread_mutex_unlock(&threads->gate);
+}
 
-	proved_close(pidtab_lock(table));
-	pidtab_unlock(table);
+void end_threads(struct threads *threads)
+{
+	lock_before_calls(threads);
+	keep_queries_out(threads);
+	proved_close(&threads->table);
+	pthread_mutex_unlock(&threads->lock);
 	pthread_cond_destroy(&threads->drained);
 	pthread_mutex_destroy(&threads->drain);
 	pthread_cond_destroy(&threads->recorded);
@@ -188,22 +77,80 @@ struct pidtab *pidtab_lock(struct pidtab *table)
 	return &threads->table;
 }
 
-/* Calls may have been recorded: all that sleep look, which are a saver, and who waits for a call. */
-static void wake_sleepers(struct threads *threads)
-{
-	if (!threads->sleeps)
-		return;
-	threads->sleeps = false;
-	pthread_cond_broadcast(&threads->recorded);
-}
-
 void pidtab_unlock(struct pidtab *table)
 {
-	struct threads *threads = threads_of(table);
+	unlock_changed(threads_of(table));
+}
 
-	wake_sleepers(threads);
-	let_queries_in(threads);
+void wait_at_gate(struct threads *threads)
+{
+	pthread_mutex_lock(&threads->gate);
+	pthread_mutex_unlock(&threads->gate);
+}
+
+static bool is_drained(const struct threads *threads)
+{
+	return __atomic_load_n(&threads->queries, __ATOMIC_ACQUIRE) == CHANGE;
+}
+
+void wait_for_queries(struct threads *threads)
+{
+	for (int i = 0; i < LOOKS && !is_drained(threads); i++)
+		look_again();
+	if (is_drained(threads))
+		return;
+	pthread_mutex_lock(&threads->drain);
+	while (!is_drained(threads))
+		pthread_cond_wait(&threads->drained, &threads->drain);
+	pthread_mutex_unlock(&threads->drain);
+}
+
+void wake_change(struct threads *threads)
+{
+	pthread_mutex_lock(&threads->drain);
+	pthread_cond_signal(&threads->drained);
+	pthread_mutex_unlock(&threads->drain);
+}
+
+static bool joins_soon(struct threads *threads)
+{
+	for (int i = 0; i < LOOKS; i++) {
+		look_again();
+		if (joins_queries(threads))
+			return true;
+	}
+	return false;
+}
+
+/* While this thread has the mutex, there is no change. */
+static void join_behind_change(struct threads *threads)
+{
+	__atomic_fetch_add(&threads->queries, 1, __ATOMIC_ACQUIRE);
 	pthread_mutex_unlock(&threads->lock);
+}
+
+/* A query that waits for a change lets those go before that a call lets go. */
+void wait_as_call(struct threads *threads)
+{
+	if (joins_soon(threads))
+		return;
+	lock_for_call(threads);
+	join_behind_change(threads);
+}
+
+void wait_before_calls(struct threads *threads)
+{
+	if (joins_soon(threads))
+		return;
+	lock_before_calls(threads);
+	join_behind_change(threads);
+}
+
+/* All that sleep look, which are a saver, and who waits for a call. */
+void wake_sleepers(struct threads *threads)
+{
+	threads->sleeps = false;
+	pthread_cond_broadcast(&threads->recorded);
 }
 
 void sleep_until_told(struct threads *threads, pthread_cond_t *told)
@@ -240,30 +187,35 @@ static uint32_t await_call(struct threads *threads, uint64_t ordinal, const stru
 uint32_t pidtab_await(struct pidtab *table, uint64_t ordinal, const struct timespec *until, uint64_t *recorded)
 {
 	struct threads *threads = threads_of(table);
+	uint32_t status = unless_threads(table);
 
-	if (threads == NULL)
-		return unless_threads(table);
+	if (status != PIDTAB_DONE)
+		return status;
 	if (until != NULL && (until->tv_nsec < 0 || until->tv_nsec >= NANOSECONDS))
 		return PIDTAB_OUT_OF_RANGE;
 	lock_before_calls(threads);
-	return unlocked(threads, await_call(threads, ordinal, until, recorded));
+	status = await_call(threads, ordinal, until, recorded);
+	pthread_mutex_unlock(&threads->lock);
+	return status;
 }
 
 uint32_t pidtab_end(struct pidtab *table)
 {
 	struct threads *threads = threads_of(table);
+	uint32_t status = unless_threads(table);
 
-	if (threads == NULL)
-		return unless_threads(table);
+	if (status != PIDTAB_DONE)
+		return status;
 	lock_before_calls(threads);
 	threads->is_over = true;
-	wake_sleepers(threads);
-	return unlocked(threads, PIDTAB_DONE);
+	if (threads->sleeps)
+		wake_sleepers(threads);
+	pthread_mutex_unlock(&threads->lock);
+	return PIDTAB_DONE;
 }
 
-/* Waits until the saver is near enough for so many calls: for more than the bound, until it has saved all. A saver that cannot save lets no call
- * go on. */
-static uint32_t wait_for_saver(struct threads *threads, size_t count)
+/* For more calls than the bound, until it has saved all. A saver that cannot save lets no call go on. */
+uint32_t wait_for_saver(struct threads *threads, size_t count)
 {
 	uint64_t first_kept, recorded;
 
@@ -275,18 +227,4 @@ static uint32_t wait_for_saver(struct threads *threads, size_t count)
 		pthread_cond_wait(&threads->told, &threads->lock);
 	}
 	return PIDTAB_DONE;
-}
-
-uint32_t lock_for_calls(struct pidtab *table, size_t count, struct pidtab **held)
-{
-	struct threads *threads = threads_of(table);
-	uint32_t status;
-
-	lock_for_call(threads);
-	status = threads->most == 0 ? (uint32_t)PIDTAB_DONE : wait_for_saver(threads, count);
-	if (status != PIDTAB_DONE)
-		return unlocked(threads, status);
-	keep_queries_out(threads);
-	*held = &threads->table;
-	return status;
 }
