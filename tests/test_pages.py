@@ -13,7 +13,7 @@ from pathlib import Path
 from pidtab import Process, find_program
 from tests.pages import REPOSITORY, displays, fenced, read_page, section
 from tests.programs import ARCHIVE, BUILT, STRICT, need_archive, need_tool, run, run_c, run_go, run_python, run_rust, run_shell
-from tests.ways import need_hypothesis, need_library, need_program, need_shared
+from tests.ways import need_hypothesis, need_library, need_program
 
 PACKAGES = REPOSITORY / "bindings" / "python"
 MANUAL = REPOSITORY / "man"
@@ -127,10 +127,10 @@ class Examples(unittest.TestCase):
         self.check("python", lambda code, folder: run_python(code.replace("pidtab.Process()", "pidtab.Table()"), folder), "## By the program")
 
     def test_python_in_files(self) -> None:
-        need_shared()
+        need_library()
         # One needs a server, which `cluster.test_postgres` has.
         shown = sorted(it for it in (PACKAGES / "examples").glob("*.py") if it.stem != "postgres_log")
-        self.assertEqual([it.stem for it in shown], ["controls", "effects", "end_group", "follow", "hang_up", "reach", "reserve", "saved", "shared", "spaces", "text"])
+        self.assertEqual([it.stem for it in shown], ["controls", "effects", "end_group", "follow", "hang_up", "history", "reach", "reserve", "saved", "spaces", "text"])
         for path in shown:
             with self.subTest(path.name), tempfile.TemporaryDirectory() as folder:
                 code = path.read_text(encoding="utf-8")
@@ -180,7 +180,7 @@ class Readers(unittest.TestCase):
 
     def setUp(self) -> None:
         need_program()
-        need_shared()
+        need_library()
 
     def test_each_page(self) -> None:
         pages = sorted((REPOSITORY / "docs" / "for").glob("*.md"))

@@ -11,7 +11,7 @@ DECLARED = r"^(?!static)\w[\w ]*[ *]pidtab_(\w+)\("
 
 # The files of each package.
 FILES = {
-    "python": tuple(f"bindings/python/pidtab/{name}.py" for name in ("calls", "native", "shared", "table")),
+    "python": tuple(f"bindings/python/pidtab/{name}.py" for name in ("calls", "history", "native", "number_calls", "saving", "seat", "table", "waiting")),
     "rust": tuple(f"bindings/rust/src/{name}.rs" for name in ("blocks", "calls", "lib", "saved", "shared")),
     "go": tuple(f"bindings/go/{name}.go" for name in ("calls", "dump", "replica", "saved", "saver", "shared", "table", "values")),
     "javascript": ("bindings/js/pidtab.d.ts",),
@@ -28,8 +28,16 @@ BODIES = {
 ALONE = {"python": r"^class {}\b", "go": r"^(?:func|type) {}\b", "javascript": r"^export class {}\b"}
 
 
+def classes_of(text, owner):
+    """A class of Python, and those that it is derived from."""
+    found = re.search(rf"^class {owner}\((.*?)\):", text, re.MULTILINE)
+    return [owner, *[it for base in (found[1].split(", ") if found else ()) for it in classes_of(text, re.escape(base))]]
+
+
 def has_method(language, text, owner, method):
-    """Whether the package has the method. In Go those of the calls are methods of a table and a seat too."""
+    """Whether the package has the method. In Go those of the calls are methods of a table and a seat too, and in Python those of all that it is derived from."""
+    if language == "python":
+        owner = f"(?:{'|'.join(classes_of(text, owner))})"
     if language == "go":
         return re.search(rf"^func \(\w+ \*?(?:{owner}|calls)\) {method}\(", text, re.MULTILINE)
     body, declared = BODIES[language]

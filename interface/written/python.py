@@ -27,7 +27,7 @@ def refusals(tables):
 def statuses(tables):
     """What the functions answer."""
     values = {it.name: it.value for it in tables["errnos"]}
-    heads = {"table": [], "record": ["", "# Of a history besides."], "saved": ["", "# Of a saved history besides."], "replica": ["", "# Of a replica besides."]}
+    heads = {"table": [], "saved": ["", "# Of a saved history besides."], "replica": ["", "# Of a replica besides."]}
     lines = []
     for owner, head in heads.items():
         lines += [*head, *[f"{it.name} = {values.get(it.error, 0)}" for it in tables["statuses"] if it.of == owner]]

@@ -43,7 +43,7 @@ def told_type(field):
 def python_structs(tables):
     """The structs as classes of ctypes."""
     lines = []
-    for name in ("pidtab", *[f"pidtab_{it}" for it in (*STRUCTS, "saved", *OF_REPLICA)]):
+    for name in ("pidtab", *[f"pidtab_{it}" for it in ("settings", *STRUCTS, "saved", *OF_REPLICA)]):
         fields = tables["headers"].structs[name]
         lines += ["", "", f"class {python_name(name)}(ctypes.Structure):", f'    """`struct {name}`."""', ""]
         lines += [f"    {it.name}: {told_type(it)}" for it in fields] + ["", "    _fields_ = ["]
@@ -51,29 +51,25 @@ def python_structs(tables):
     return lines[1:]
 
 
-# The dictionaries of functions: which they are, and whether an earlier library may lack them.
-OTHERS = ("shared_lock", "shared_unlock", "call_line", *(f"saved_{it}" for it in ("sum", "put", "put_head", "append", "load", "resume")))
-ADDED = ("shared_calls", "shared_load", "shared_dump", "shared_follow", "shared_wait", "shared_end")
+# Functions that the package for Python does not call.
+OTHERS = ("call_line", "keep", "replay", "opening", *(f"saved_{it}" for it in ("sum", "put", "put_head")))
 
 
 def python_functions(tables):
     """The functions that the package for Python calls, by when they came."""
     since = {name: it.since for it in tables["functions"] for name in words_of(it.functions)}
-    found = [it for it in tables["headers"].functions if not it.is_inline and it.name not in OTHERS and not it.name.startswith("record_") and it.name != "version"]
-    tables_of, shared_of, saved_of = [[it for it in found if it.header.endswith(f"/{name}.h")] for name in ("pidtab", "pidtab_shared", "pidtab_saved")]
-    replica_of = tables["headers"].of("pidtab_replica.h")
+    found = [it for it in tables["headers"].functions if not it.is_inline and it.name not in OTHERS]
+    tables_of, saved_of, replica_of = [[it for it in found if it.header.endswith(f"/{name}.h")] for name in ("pidtab", "pidtab_saved", "pidtab_replica")]
     first = [it for it in tables_of if since.get(it.name) == "0.1.0"]
     groups = (
-        ("FUNCTIONS", "The functions on a table that each library of the interface has.", first, True),
-        ("LATER_FUNCTIONS", "Those that an earlier library may lack.", [it for it in tables_of if it not in first], False),
-        ("SHARED_FUNCTIONS", "Those on a table behind a lock.", [it for it in shared_of if it.name not in ADDED], False),
-        ("LATER_SHARED_FUNCTIONS", "Those of these that an earlier library may lack.", [it for it in shared_of if it.name in ADDED], False),
-        ("SAVED_FUNCTIONS", "Those on the file of its saved history.", saved_of, False),
-        ("REPLICA_FUNCTIONS", "Those on a replica of a log, which an earlier library may lack.", replica_of, False),
+        ("FUNCTIONS", "The functions on a table that each library of the interface has.", first),
+        ("LATER_FUNCTIONS", "Those that an earlier library may lack.", [it for it in tables_of if it not in first]),
+        ("SAVED_FUNCTIONS", "Those of these on the file of a saved history.", saved_of),
+        ("REPLICA_FUNCTIONS", "Those of these on a replica of a log.", replica_of),
     )
     lines = []
-    for name, comment, those, with_version in groups:
-        lines += ["", f"# {comment}", f"{name}: dict[str, Function] = {{", *(["    **VERSION_FUNCTION,"] if with_version else [])]
+    for name, comment, those in groups:
+        lines += ["", f"# {comment}", f"{name}: dict[str, Function] = {{"]
         for it in those:
             taken = [POINTERS.get(kind) or kind.replace("const ", "").replace("struct pidtab_", "").strip(" *").upper() for kind, _, _ in it.arguments]
             lines.append(f'    "pidtab_{it.name}": ({POINTERS[it.result]}, [{", ".join(taken)}]),')

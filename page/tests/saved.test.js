@@ -65,12 +65,12 @@ next 1 session 10,join 8 2,subreaper 1 on,subreaper 1 off,exit 9 255,wait 8 any,
 const WRITE = `
 import json, sys
 import pidtab
-with pidtab.Shared(2, pid_max=400) as shared:
-    seats = [shared.seat() for _ in range(2)]
+with pidtab.Table(400, keep=pidtab.ALL, workers=2) as table:
+    seats = [table.seat() for _ in range(2)]
     for place, line in enumerate(sys.argv[1].split(",")):
         seats[place % 2].answers([line.strip()])
-    shared.save(sys.argv[2])
-    print(json.dumps([[entry.line, entry.answer] for entry in shared.entries()]))
+    table.save(sys.argv[2])
+    print(json.dumps([[entry.line, entry.answer] for entry in table.entries()]))
 `;
 
 test("a history that the library has written", (context) => {

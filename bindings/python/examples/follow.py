@@ -1,30 +1,29 @@
-"""Who follows a shared table: a thread that ships each call once it is recorded."""
+"""Who follows a table: a thread that ships each call once it is recorded."""
 
 import threading
 
 import pidtab
 
 
-def ship(shared: pidtab.Shared) -> None:
+def ship(table: pidtab.Table) -> None:
     shipped = 0
     try:
         while True:
-            shared.wait_changed(shipped)
-            for entry in shared.entries(shipped):
+            table.wait_changed(shipped)
+            for entry in table.entries(shipped):
                 print(entry.ordinal, entry.line, "is", entry.answer)
                 shipped = entry.ordinal + 1
     except pidtab.WaitingEnded:
         print(shipped, "calls")
 
 
-with pidtab.Shared(workers=1) as shared:
-    shipper = threading.Thread(target=ship, args=(shared,))
+with pidtab.Table(keep=pidtab.ALL, threads=True) as table:
+    shipper = threading.Thread(target=ship, args=(table,))
     shipper.start()
-    seat = shared.seat()
-    child = seat.fork(1).child
-    seat.exit(child, 7)
-    seat.wait(1, child)
-    shared.end_waiting()
+    child = table.fork(1).child
+    table.exit(child, 7)
+    table.wait(1, child)
+    table.end_waiting()
     shipper.join()
 
 # It prints

@@ -4,22 +4,21 @@ import os
 
 import pidtab
 
-with pidtab.Shared.resume("history", workers=2) as shared:
-    seat = shared.seat()
-    print(seat.fork(1, new=True), shared.save("history"))
-    print(seat.fork(2), shared.save("history"))
+with pidtab.Table.resume("history") as table:
+    print(table.fork(1, new=True), table.save("history"))
+    print(table.fork(2), table.save("history"))
 
 os.truncate("history", 120)  # as a writer that was stopped amid the second entry leaves it
 
-with pidtab.Shared.load("history") as shared:
-    print(shared.saved, shared.counts())
-    print(shared.seat().fork(2), shared.save("history"))
+with pidtab.Table.load("history") as table:
+    print(table.saved, table.counts())
+    print(table.fork(2), table.save("history"))
 
 with open("history", "r+b") as file:
     file.seek(60)
     file.write(b"x")
 try:
-    pidtab.Shared.load("history")
+    pidtab.Table.load("history")
 except pidtab.BadHistory as fault:
     print(fault.calls, fault.place, str(fault).split(": ")[-1])
 

@@ -14,7 +14,7 @@ from pidtab.lazy import TYPE_CHECKING, names_of
 if TYPE_CHECKING:
     from pidtab.accounts import Accounts
     from pidtab.answers import Forked, Reaped, SpaceStat, Stat
-    from pidtab.bounds import DEFAULT_PID_MAX, GREATEST_PID_MAX, LEAST_PID_MAX
+    from pidtab.bounds import ALL, DEFAULT_PID_MAX, GREATEST_PID_MAX, LEAST_PID_MAX
     from pidtab.calls import Calls, Kind, Queries
     from pidtab.connected import Connected, NotServed, connect
     from pidtab.effects import Adopted, Effect, Ended, Gone, GroupGone, SessionGone, SpaceFell, SpaceGone, Told
@@ -25,6 +25,8 @@ if TYPE_CHECKING:
         LibraryFault,
         LibraryMissing,
         LogFault,
+        NoHistory,
+        NoThreads,
         NotKept,
         NotKnown,
         OtherSettings,
@@ -34,6 +36,7 @@ if TYPE_CHECKING:
         Refusal,
         SaverEnded,
         SeatsTaken,
+        TableBusy,
         TableClosed,
         Unsaved,
         WaitingEnded,
@@ -46,13 +49,14 @@ if TYPE_CHECKING:
     from pidtab.process import Process
     from pidtab.program import find_program
     from pidtab.saved import Saved
-    from pidtab.shared import Seat, Shared
+    from pidtab.seat import Seat
     from pidtab.table import Table
     from pidtab.tree import draw_list
 
 __version__ = "0.2.0.dev0"
 
 __all__ = [
+    "ALL",
     "DEFAULT_PID_MAX",
     "GREATEST_PID_MAX",
     "LEAST_PID_MAX",
@@ -86,6 +90,8 @@ __all__ = [
     "Log",
     "LogFault",
     "MemoryLog",
+    "NoHistory",
+    "NoThreads",
     "NotKept",
     "NotKnown",
     "NotServed",
@@ -106,7 +112,6 @@ __all__ = [
     "Seat",
     "SeatsTaken",
     "SessionGone",
-    "Shared",
     "Space",
     "SpaceFell",
     "SpaceGone",
@@ -114,6 +119,7 @@ __all__ = [
     "Stat",
     "Submitted",
     "Table",
+    "TableBusy",
     "TableClosed",
     "Task",
     "Told",
@@ -138,13 +144,13 @@ if not TYPE_CHECKING:
         {
             "accounts": "Accounts",
             "answers": "Forked Reaped SpaceStat Stat",
-            "bounds": "DEFAULT_PID_MAX GREATEST_PID_MAX LEAST_PID_MAX",
+            "bounds": "ALL DEFAULT_PID_MAX GREATEST_PID_MAX LEAST_PID_MAX",
             "calls": "Calls Kind Queries",
             "connected": "Connected NotServed connect",
             "effects": "Adopted Effect Ended Gone GroupGone SessionGone SpaceFell SpaceGone Told",
             "faults": (
-                "BadHistory BadText Diverged LibraryFault LibraryMissing LogFault NotKept NotKnown OtherSettings ProgramEnded ProgramFault "
-                "ProgramMissing Refusal SaverEnded SeatsTaken TableClosed Unsaved WaitingEnded"
+                "BadHistory BadText Diverged LibraryFault LibraryMissing LogFault NoHistory NoThreads NotKept NotKnown OtherSettings ProgramEnded "
+                "ProgramFault ProgramMissing Refusal SaverEnded SeatsTaken TableBusy TableClosed Unsaved WaitingEnded"
             ),
             "history": "Counts Entry",
             "hosts": "Cluster EtcdLog Following Log MemoryLog Progress Receipt ReplicaAsk Replicated Submitted",
@@ -154,7 +160,7 @@ if not TYPE_CHECKING:
             "process": "Process",
             "program": "find_program",
             "saved": "Saved",
-            "shared": "Seat Shared",
+            "seat": "Seat",
             "table": "Table",
             "tree": "draw_list",
         },

@@ -1,4 +1,4 @@
-"""Lines of calls as numbers, so that many calls are made in one turn."""
+"""Lines of calls as numbers, so that many calls are made in one go."""
 
 import re
 import struct

@@ -12,8 +12,10 @@ GREATEST_PID_MAX = 4194304
 # The end of bounds.
 
 
-class Unnamed(int):
-    """A setting as it is where nobody names one."""
+GREATEST_NUMBER = 2**64 - 1
+
+# The bound of a history that keeps all of it.
+ALL = GREATEST_NUMBER
 
 
 def check_range(name: str, number: SupportsIndex, least: int, greatest: int) -> int:
@@ -22,6 +24,13 @@ def check_range(name: str, number: SupportsIndex, least: int, greatest: int) -> 
     if not least <= number <= greatest:
         raise ValueError(f"{name} is {least} to {greatest}, not {number}")
     return number
+
+
+def check_setting(name: str, number: SupportsIndex, least: int, greatest: int) -> int:
+    """The same, if it is no truth value either: `keep=True` would keep one entry, which nobody means."""
+    if isinstance(number, bool):
+        raise TypeError(f"{name} is a number, not {number}")
+    return check_range(name, number, least, greatest)
 
 
 def check_seconds(name: str, seconds: float) -> float:
@@ -45,4 +54,4 @@ def check_timeout(name: str, seconds: float) -> float:
 
 def check_pid_max(pid_max: SupportsIndex) -> int:
     """The same, if it is an integer in its range."""
-    return check_range("pid_max", pid_max, LEAST_PID_MAX, GREATEST_PID_MAX)
+    return check_setting("pid_max", pid_max, LEAST_PID_MAX, GREATEST_PID_MAX)

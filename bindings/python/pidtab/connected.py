@@ -136,7 +136,7 @@ class Connected(Calls):
         self.path = path_of(address)
         seconds = None if timeout is None else check_seconds("timeout", timeout)
         # One thread asks at a time. It may take it again, for a handler of a signal.
-        self._turn = threading.RLock()
+        self._asking = threading.RLock()
         self._is_amid = self._is_ending = False
         # Who shuts the socket down knows that it is not closed meanwhile, and that its number is not another file's.
         self._end = threading.RLock()
@@ -157,7 +157,7 @@ class Connected(Calls):
             if self._is_open():
                 self._is_ending = True
                 self._socket.shutdown(socket.SHUT_RDWR)
-        with self._turn, self._end:
+        with self._asking, self._end:
             self._finish()
 
     def _leave(self) -> None:
@@ -207,7 +207,7 @@ class Connected(Calls):
     def _exchange(self, requests: Sequence[tuple[bytes, ...]]) -> list[Answer]:
         """The answers to requests, in their order."""
         self._check_owner()
-        with self._turn:
+        with self._asking:
             if not self._is_open():
                 raise TableClosed("the connection was closed")
             if self._is_amid:

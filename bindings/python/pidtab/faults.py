@@ -11,8 +11,20 @@ class TableClosed(RuntimeError):
     """The table was closed, or is that of the process of which this one is a fork."""
 
 
+class TableBusy(RuntimeError):
+    """Another thread is in a function of a table that was opened without `threads`. Nothing was done."""
+
+
+class NoHistory(RuntimeError):
+    """What needs a history was asked of a table that was opened without `keep`."""
+
+
+class NoThreads(RuntimeError):
+    """What needs a lock, or waits for another thread, was asked of a table that was opened without `threads`."""
+
+
 class SeatsTaken(RuntimeError):
-    """Each worker of a shared table has its seat already."""
+    """Each worker of a table has its seat already."""
 
 
 class OtherSettings(UserWarning):
@@ -24,7 +36,7 @@ class NotKept(LookupError):
 
 
 class SaverEnded(RuntimeError):
-    """The saver of a shared table has ended, and whether the call is saved is not known."""
+    """The saver of a table has ended, and whether the call is saved is not known."""
 
 
 class Unsaved(RuntimeError):
@@ -32,7 +44,7 @@ class Unsaved(RuntimeError):
 
 
 class WaitingEnded(RuntimeError):
-    """The waits for calls of a shared table were ended, and the call is not recorded."""
+    """The waits for calls of a table were ended, and the call is not recorded."""
 
 
 class BadHistory(ValueError):

@@ -3,21 +3,16 @@
 import ctypes
 import functools
 import os
-import sys
-from collections.abc import Mapping
-from typing import TypeVar
+from collections.abc import Callable, Mapping
 
 from pidtab.faults import LibraryFault, LibraryMissing
 from pidtab.places import HERE, PREFIX, REPOSITORY
 from pidtab.raw import (
     FUNCTIONS,
     LATER_FUNCTIONS,
-    LATER_SHARED_FUNCTIONS,
     REPLICA_FUNCTIONS,
     SAVED_FUNCTIONS,
-    SHARED_FUNCTIONS,
     VERSION,
-    VERSION_FUNCTION,
     Function,
 )
 
@@ -31,8 +26,6 @@ INSTALLED_LIBRARY = PREFIX / "lib" / SONAME
 
 ADVICE = "build it with `make lib`, or name it by the variable PIDTAB_LIBRARY"
 
-L = TypeVar("L", bound=ctypes.CDLL)
-
 
 def find_library(named: str | os.PathLike[str] | None = None) -> str:
     """The library that is named, or that of the variable PIDTAB_LIBRARY; else that of a wheel, what `make lib` builds, what is installed, or what the loader finds."""
@@ -44,31 +37,20 @@ def find_library(named: str | os.PathLike[str] | None = None) -> str:
     return SONAME if found is None else os.path.abspath(found)
 
 
-def has_lock() -> bool:
-    """Whether one thread of this interpreter runs at a time."""
-    asked = getattr(sys, "_is_gil_enabled", None)
-    return asked is None or bool(asked())
-
-
 @functools.cache
-def load_library(path: str) -> ctypes.PyDLL:
-    """The functions on a table. A PyDLL keeps the interpreter's lock through each call, so that no two threads are in one table."""
-    if not has_lock():
-        raise LibraryFault("an interpreter without its lock would let two threads into one table: pidtab.Shared has a lock of its own")
+def load_library(path: str, threads: bool = False) -> ctypes.CDLL:
+    """The functions. Those for tables of one thread keep the interpreter's lock, so each call is made whole; an earlier library may lack some of them.
+
+    Those for tables of many threads give that lock up for each call, so a wait for the other one holds nobody up.
+    """
+    if threads:
+        return load(ctypes.CDLL, path, FUNCTIONS | LATER_FUNCTIONS | SAVED_FUNCTIONS)
     library = load(ctypes.PyDLL, path, FUNCTIONS)
-    declare_those_there(library, LATER_FUNCTIONS | REPLICA_FUNCTIONS, path)
+    declare_those_there(library, LATER_FUNCTIONS | SAVED_FUNCTIONS | REPLICA_FUNCTIONS, path)
     return library
 
 
-@functools.cache
-def load_shared(path: str) -> ctypes.CDLL:
-    """The functions on a table behind a lock. A CDLL gives the interpreter's lock up for each call, so a wait for the other holds nobody up."""
-    library = load(ctypes.CDLL, path, VERSION_FUNCTION | SHARED_FUNCTIONS | SAVED_FUNCTIONS)
-    declare_those_there(library, LATER_SHARED_FUNCTIONS, path)
-    return library
-
-
-def load(kind: type[L], path: str, functions: Mapping[str, Function]) -> L:
+def load(kind: type[ctypes.CDLL], path: str, functions: Mapping[str, Function]) -> ctypes.CDLL:
     """The library with these functions, if it has the interface that this package is written for."""
     try:
         library = kind(path)
@@ -95,11 +77,12 @@ def declare_those_there(library: ctypes.CDLL, functions: Mapping[str, Function],
     declare_functions(library, {name: it for name, it in functions.items() if hasattr(library, name)}, path)
 
 
-def call_later(library: ctypes.CDLL, path: str, name: str, *arguments: object) -> int:
-    """What a function answers that an earlier library may lack."""
-    if not hasattr(library, name):
+def function_of(library: ctypes.CDLL, path: str, name: str) -> Callable[..., int]:
+    """The function of a name, which an earlier library may lack."""
+    function: Callable[..., int] | None = getattr(library, name, None)
+    if function is None:
         raise LibraryFault(lacks(path, name))
-    return int(getattr(library, name)(*arguments))
+    return function
 
 
 def lacks(path: str, name: str) -> str:

@@ -1,4 +1,4 @@
-"""Waits for calls of a shared table in loops of asyncio: one thread waits in the library for all of them."""
+"""Waits for calls of a table in loops of asyncio: one thread waits in the library for all of them."""
 
 import _thread
 import asyncio

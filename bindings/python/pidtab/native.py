@@ -2,33 +2,33 @@
 
 import ctypes
 import struct
-from abc import abstractmethod
-from collections.abc import Callable, Sequence
+from collections.abc import Callable
 from functools import partial, wraps
 from inspect import signature
 from typing import TYPE_CHECKING, Concatenate, NoReturn, ParamSpec, Protocol, TypeVar
 
 from pidtab import raw
-from pidtab.answers import Forked, Form, SpaceStat, Stat, tell_space, tell_stat
+from pidtab.answers import Form, SpaceStat, Stat, tell_space, tell_stat
 from pidtab.bounds import check_range
 from pidtab.calls import Call, Calls, EachCall, Queries
-from pidtab.effects import Effect, Told, add_effects
-from pidtab.faults import LibraryFault, TableClosed, bad_text, read_fault, refusal_of, say_why
+from pidtab.effects import Effect, Told
+from pidtab.faults import LibraryFault, NoHistory, NoThreads, NotKept, TableBusy, TableClosed, bad_text, read_fault, refusal_of, say_why
 from pidtab.forms import QUERIES
-from pidtab.labels import Labelled
 from pidtab.raw import (
     BAD_LINE,
     BAD_TEXT,
+    BUSY,
     CALL_FIELDS,
     CLOSED,
-    DIFFERS,
     DONE,
+    NO_HISTORY,
     NO_MEMORY,
     NO_ROOM,
+    NO_THREADS,
+    NOT_KEPT,
     OUT_OF_RANGE,
     REFUSED,
     SPENT,
-    Answer,
     PidtabCall,
     PidtabFault,
     PidtabReply,
@@ -48,6 +48,14 @@ GREATEST_ID = 2**64 - 1
 # It always lives, and sees all tasks by their root numbers.
 ROOT_INIT = 1
 
+# What is raised for a status that is about the table itself, and what it says.
+STATES: dict[int, tuple[type[RuntimeError], str]] = {
+    CLOSED: (TableClosed, "the table was closed"),
+    BUSY: (TableBusy, "another thread is in this table, which is one thread's: open it with threads"),
+    NO_HISTORY: (NoHistory, "this table keeps no history: open it with keep"),
+    NO_THREADS: (NoThreads, "this table is one thread's: open it with threads"),
+}
+
 # What the program answers where the library has a status.
 ANSWERS = {BAD_LINE: "bad line", OUT_OF_RANGE: "bad line", NO_MEMORY: "no memory", SPENT: "spent"}
 
@@ -55,10 +63,16 @@ T = TypeVar("T")
 P = ParamSpec("P")
 
 
+def state_of(status: int) -> RuntimeError:
+    """What is raised for a status that is about the table itself."""
+    kind, words = STATES[status]
+    return kind(words)
+
+
 def answer_of(status: int) -> str:
     """The answer that a status stands for, of those that no call was made for."""
-    if status == CLOSED:
-        raise TableClosed("the table was closed")
+    if status in STATES:
+        raise state_of(status)
     if status not in ANSWERS:
         raise LibraryFault(f"the library answered with the status {status}")
     return ANSWERS[status]
@@ -67,6 +81,14 @@ def answer_of(status: int) -> str:
 def fault_of(status: int, line: str) -> Exception:
     """What is raised for a status other than done."""
     return read_fault(line, answer_of(status)) or AssertionError(status)
+
+
+def check(status: int, what: str) -> None:
+    """Raises what a status other than done stands for."""
+    if status == NOT_KEPT:
+        raise NotKept(f"{what} is not kept: it was cut away, or there is no such call yet")
+    if status != DONE:
+        raise fault_of(status, what)
 
 
 def pack(call: Call) -> bytes:
@@ -82,13 +104,13 @@ def unpack(packed: PidtabCall) -> Call:
     return Call._make(CALL_FIELDS.unpack(packed))
 
 
-def read_written(write: Callable[["ctypes.Array[ctypes.c_char]", ctypes.c_size_t], int], what: str) -> str:
-    """The text that is written into a room, whose function answers a status, and its size too where the room is short."""
+def read_written(write: Callable[..., int], what: str) -> str:
+    """The text that is written into a room of a size, by a function that answers a status, and the size too where the room is short."""
     size = ctypes.c_size_t(SHORT_TEXT)
     while True:
         # Until the next try, other threads may make the text longer.
         room = ctypes.create_string_buffer(size.value + size.value // 8)
-        status = write(room, size)
+        status = write(room, len(room), size)
         if status == DONE:
             return ctypes.string_at(room, size.value).decode("ascii")
         if status != NO_ROOM:
@@ -209,7 +231,14 @@ class Asked(Protocol):
         """Sees to it that the table is one of this process."""
 
     def _question(self, name: str) -> Callable[..., int]:
-        """The function of the library that answers a question, which has this name after the kind of the table. It answers a status."""
+        """The function of the library with this name on the table. It answers a status."""
+
+
+class Telling(Asked, Protocol):
+    """A table that makes calls too, and tells what they did."""
+
+    def _make_told(self, call: Call, form: Form[T], effects: list[Effect]) -> T:
+        """Makes a call, and adds what it did."""
 
 
 class OfTable:
@@ -237,7 +266,7 @@ class Would(OfTable, EachCall):
 class Teller(EachCall):
     """Makes a call on a table, and keeps what it did."""
 
-    def __init__(self, table: "NumberCalls") -> None:
+    def __init__(self, table: Telling) -> None:
         self._table = table
         self.effects: list[Effect] = []
 
@@ -264,11 +293,11 @@ class ToldCalls(OfTable):
     `told.exit(2)` has who was killed with a namespace, or who takes the children, and which groups, sessions and namespaces are gone. It costs what the call costs, and some searches for each task that the
     call may touch. An exit, a wait, a setpgid and a setsid take memory for a list: where there is none, it is a MemoryError, and the call was not made.
 
-    Where an interrupt took away what a call of a seat has told, the same call on `shared.at(ordinal)` tells it. As long as somebody has this, the table is
+    Where an interrupt took away what a call of a seat has told, the same call on `table.at(seat.ordinal)` tells it. As long as somebody has this, the table is
     not dropped.
     """
 
-    _table: "NumberCalls"
+    _table: Telling
 
     # Written by tools/interface: told calls.
     fork = telling(EachCall.fork)
@@ -413,7 +442,7 @@ class Ask(OfTable, Queries):
 
 
 class Askable(Protocol):
-    """What has queries that are no calls: `Table`, `Shared`, `Seat` and `Replicated`. It is a type for a caller's own functions."""
+    """What has queries that are no calls: `Table`, `Seat` and `Replicated`. It is a type for a caller's own functions."""
 
     @property
     def ask(self) -> Ask:
@@ -422,100 +451,3 @@ class Askable(Protocol):
 
 class AskableCalls(Calls, Askable):
     """A table with its calls and with queries that are no calls: `Table`, `Seat` and `Replicated`, but no `Process`."""
-
-
-class NumberCalls(Labelled, AskableCalls):
-    """Calls by functions of the library, each of which answers a status."""
-
-    # The function that answers the numbers, which answers a status.
-    _call: Callable[[bytes, PidtabReply], int]
-
-    @abstractmethod
-    def _question(self, name: str) -> Callable[..., int]:
-        """The function of the library that answers a question, as `Asked` has it."""
-
-    @abstractmethod
-    def _line(self, line: bytes, room: "ctypes.Array[ctypes.c_char]", size: ctypes.c_size_t) -> int:
-        """The status of the function that answers the line."""
-
-    @abstractmethod
-    def _list(self, room: "ctypes.Array[ctypes.c_char]", size: ctypes.c_size_t) -> int:
-        """The status of the function that writes the list."""
-
-    @abstractmethod
-    def _forked(self, root: int) -> None:
-        """Sees to it that a new task has no label of another."""
-
-    @abstractmethod
-    def _fork_at(self, caller: int, new: bool, child: int, root: int, reply: PidtabReply) -> int:
-        """The status of the function that makes a fork with these numbers."""
-
-    @abstractmethod
-    def _call_told(self, call: bytes, reply: PidtabReply, *room: object) -> int:
-        """The status of the function that makes a call, and writes into a room what it did."""
-
-    @property
-    def would(self) -> Would:
-        """What each call would answer: `table.would.fork(1)` has the numbers that `table.fork(1)` would give now."""
-        return Would(self)
-
-    @property
-    def told(self) -> ToldCalls:
-        """Calls that tell what they did: `table.told.exit(2)` is made as `table.exit(2)`, and tells who ended, who has another parent, who and what is gone."""
-        return ToldCalls(self)
-
-    def fork_at(self, caller: int, child: Forked, new: bool = False) -> bool:
-        """fork(2), if the child gets exactly these numbers, as `would.fork` has told them. Else nothing changes, and it is False.
-
-        So who prepares for a child before it is there has the one that he has prepared for, or none.
-        """
-        self._check_owner()
-        told = Forked(*child)
-        caller = check_range("caller", caller, 0, GREATEST_PID)
-        number, root = check_range("child", told.child, 0, GREATEST_PID), check_range("root", told.root, 0, GREATEST_PID)
-        status = self._fork_at(caller, bool(new), number, root, PidtabReply())
-        if status == DIFFERS:
-            return False
-        if status != DONE:
-            raise fault_of(status, f"fork {caller}")
-        if self._labels.by_root:
-            self._forked(root)
-        return True
-
-    def _make(self, call: Call, form: Form[T]) -> T:
-        if self._left:
-            self._check_owner()
-        told = make_call(call, form, self._call)
-        if self._labels.by_root and isinstance(told, Forked):
-            self._forked(told.root)
-        return told
-
-    def _make_told(self, call: Call, form: Form[T], effects: list[Effect]) -> T:
-        """Makes a call, and adds what it did."""
-        self._check_owner()
-        told = make_call(call, form, lambda packed, reply: add_effects(effects, partial(self._call_told, packed, reply)))
-        if self._labels.by_root and isinstance(told, Forked):
-            self._forked(told.root)
-        return told
-
-    def _answers(self, lines: Sequence[bytes]) -> tuple[str, ...]:
-        self._check_owner()
-        # Calls of other threads may come between two lines.
-        return tuple([self._answer(line) for line in lines])
-
-    def _answer(self, line: bytes) -> str:
-        room, size = Answer(), ctypes.c_size_t()
-        status = self._line(line, room, size)
-        if status != DONE:
-            return answer_of(status)
-        answer = ctypes.string_at(room, size.value).decode("ascii")
-        if answer.startswith("child ") and self._labels.by_root:
-            self._forked(int(answer.split(" ")[3]))
-        return answer
-
-    def _list_text(self) -> str:
-        self._check_owner()
-        return read_written(self._list, "list")
-
-    def _look(self, task: int) -> Stat:
-        return self.ask.stat(ROOT_INIT, task)

@@ -13,7 +13,7 @@ from pidtab.bounds import DEFAULT_PID_MAX, check_pid_max
 from pidtab.calls import Call, Calls
 from pidtab.faults import ProgramEnded, ProgramFault, ProgramMissing, TableClosed
 from pidtab.program import find_program
-from pidtab.turn import Turn
+from pidtab.exchange import Exchange
 
 # More lines than this in the pipe, and both ends might wait for each other.
 LINES_AHEAD = 100
@@ -58,7 +58,7 @@ class Process(Calls):
         self._lock = threading.Lock()
         self._closed = False
         # What is being asked; an interrupt leaves it here.
-        self._turn: Turn | None = None
+        self._exchange: Exchange | None = None
         # Why nothing more can be asked; empty where it can.
         self._lost = ""
         # A file and not a pipe, so that nobody needs to read while the program runs.
@@ -111,40 +111,40 @@ class Process(Calls):
         with self._lock:
             self._settle()
             for start in range(0, len(lines), LINES_AHEAD):
-                self._turn = Turn(lines[start : start + LINES_AHEAD], len(self._asked))
-                answers += self._play(self._turn)
+                self._exchange = Exchange(lines[start : start + LINES_AHEAD], len(self._asked))
+                answers += self._play(self._exchange)
         return tuple([answer.decode("latin-1") for answer in answers])
 
     def _words(self, command: str) -> tuple[str, ...]:
         return (str(self.program), command, "--pid-max", str(self.pid_max))
 
     def _settle(self) -> None:
-        """Sees to it that the next answer is that of the next line: reads those of a turn that was interrupted, if it was begun."""
+        """Sees to it that the next answer is that of the next line: reads those of an exchange that was interrupted, if it was begun."""
         if self._closed:
             raise TableClosed("the process was closed")
-        if self._turn and self._turn.begun:
-            self._play(self._turn)
-        self._turn = None
+        if self._exchange and self._exchange.begun:
+            self._play(self._exchange)
+        self._exchange = None
         if self._lost:
             raise ProgramEnded(self._lost)
 
-    def _play(self, turn: Turn) -> list[bytes]:
-        """The answers of a turn, of which it does what is left to do, and keeps the lines whose calls were made."""
+    def _play(self, exchange: Exchange) -> list[bytes]:
+        """The answers of an exchange, of which it does what is left to do, and keeps the lines whose calls were made."""
         assert self._child.stdin and self._child.stdout
         # Where the program has ended, what it wrote before is still to be read.
         if not self._child.stdin.closed:
             with suppress(BrokenPipeError):
-                turn.send(self._child.stdin.fileno())
-        whole = turn.receive(self._child.stdout.fileno())
-        answers = turn.answers
+                exchange.send(self._child.stdin.fileno())
+        whole = exchange.receive(self._child.stdout.fileno())
+        answers = exchange.answers
         # Not added but put, as an interrupt may have this done twice.
-        self._asked[turn.place :] = [line + b"\n" for line, answer in zip(turn.lines, answers) if answer not in NOT_MADE]
+        self._asked[exchange.place :] = [line + b"\n" for line, answer in zip(exchange.lines, answers) if answer not in NOT_MADE]
         if not whole:
             self._lost = self._end()
-        self._turn = None
+        self._exchange = None
         if self._lost:
             raise ProgramEnded(self._lost)
-        if len(answers) > len(turn.lines):
+        if len(answers) > len(exchange.lines):
             raise ProgramFault("the program has answered more than it was asked")
         return answers
 

@@ -1,4 +1,4 @@
-"""`bindings/c/pidtab.h`, `pidtab_shared.h`, `pidtab_saved.h` and `pidtab_replica.h`: their numbers, structs and functions."""
+"""`bindings/c/pidtab.h`, `pidtab_saved.h` and `pidtab_replica.h`: their numbers, structs and functions."""
 
 import ctypes
 import struct
@@ -15,11 +15,10 @@ BAD_LINE = 71
 SPENT = 75
 DIFFERS = 74
 BAD_TEXT = 117
-
-# Of a history besides.
 NOT_KEPT = 2
 AGAIN = 11
 NO_HISTORY = 95
+NO_THREADS = 37
 
 # Of a saved history besides.
 DEVICE = 5
@@ -79,11 +78,39 @@ class Pidtab(ctypes.Structure):
     at: int | None
     is_open: bool
     in_use: int
+    has_settings: bool
+    workers: int
+    seated: int
+    keep: int
+    threads: int | None
 
     _fields_ = [
         ("at", ctypes.c_void_p),
         ("is_open", ctypes.c_bool),
         ("in_use", ctypes.c_uint8),
+        ("has_settings", ctypes.c_bool),
+        ("workers", ctypes.c_uint8),
+        ("seated", ctypes.c_uint8),
+        ("keep", ctypes.c_uint64),
+        ("threads", ctypes.c_void_p),
+    ]
+
+
+class PidtabSettings(ctypes.Structure):
+    """`struct pidtab_settings`."""
+
+    pid_max: int
+    workers: int
+    first_stamp: int
+    keep: int
+    threads: bool
+
+    _fields_ = [
+        ("pid_max", ctypes.c_uint32),
+        ("workers", ctypes.c_uint32),
+        ("first_stamp", ctypes.c_uint64),
+        ("keep", ctypes.c_uint64),
+        ("threads", ctypes.c_bool),
     ]
 
 
@@ -328,12 +355,6 @@ class PidtabDigest(ctypes.Structure):
 # The end of structs.
 
 
-class PidtabShared(ctypes.Structure):
-    """Room for a table behind a lock, whose size is the platform's: it has some 350 bytes. While it is open it is never copied."""
-
-    _fields_ = [("room", ctypes.c_uint64 * 64)]
-
-
 # The fields of a call. What does not fit into one is an error here, and would be cut off by a structure of ctypes.
 CALL_FIELDS = struct.Struct("=IIQIIii")
 
@@ -342,7 +363,7 @@ Answer = ctypes.c_char * LONGEST_ANSWER
 
 U32, U64, SIZE_T = ctypes.c_uint32, ctypes.c_uint64, ctypes.c_size_t
 TABLE = ctypes.POINTER(Pidtab)
-SHARED = ctypes.POINTER(PidtabShared)
+SETTINGS = ctypes.POINTER(PidtabSettings)
 SAVED = ctypes.POINTER(PidtabSaved)
 SAVED_HEAD = ctypes.POINTER(PidtabSavedHead)
 CALL = ctypes.POINTER(PidtabCall)
@@ -364,14 +385,12 @@ NUMBER_64 = ctypes.POINTER(U64)
 SIZE = ctypes.POINTER(SIZE_T)
 
 # A function: what it answers, and what it takes.
-Function = tuple[type[ctypes.c_uint32] | None, list[type]]
-
-VERSION_FUNCTION: dict[str, Function] = {"pidtab_version": (U32, [])}
+Function = tuple[type | None, list[type]]
 
 # Written by tools/interface: functions.
 # The functions on a table that each library of the interface has.
 FUNCTIONS: dict[str, Function] = {
-    **VERSION_FUNCTION,
+    "pidtab_version": (U32, []),
     "pidtab_open": (U32, [TABLE, U32]),
     "pidtab_close": (U32, [TABLE]),
     "pidtab_line": (U32, [TABLE, ctypes.c_char_p, SIZE_T, BYTES, SIZE_T, SIZE]),
@@ -381,8 +400,10 @@ FUNCTIONS: dict[str, Function] = {
 
 # Those that an earlier library may lack.
 LATER_FUNCTIONS: dict[str, Function] = {
+    "pidtab_open_with": (U32, [TABLE, SETTINGS]),
     "pidtab_dump": (U32, [TABLE, BYTES, SIZE_T, SIZE]),
     "pidtab_load": (U32, [TABLE, ctypes.c_char_p, SIZE_T, FAULT]),
+    "pidtab_load_with": (U32, [TABLE, ctypes.c_char_p, SIZE_T, SETTINGS, NUMBER_64, FAULT]),
     "pidtab_getpid_of": (U32, [TABLE, U32, NUMBER_64]),
     "pidtab_getppid_of": (U32, [TABLE, U32, NUMBER_64]),
     "pidtab_getpgid_of": (U32, [TABLE, U32, U32, NUMBER_64]),
@@ -399,60 +420,42 @@ LATER_FUNCTIONS: dict[str, Function] = {
     "pidtab_fork_at": (U32, [TABLE, U32, U32, U32, U32, REPLY]),
     "pidtab_call_told": (U32, [TABLE, CALL_BYTES, REPLY, EFFECTS, SIZE_T, NUMBER_64]),
     "pidtab_reply_line": (U32, [REPLY, BYTES, SIZE_T, SIZE]),
+    "pidtab_call_by": (U32, [TABLE, U32, CALL_BYTES, REPLY, NUMBER_64]),
+    "pidtab_calls": (U32, [TABLE, U32, CALL_BYTES, SIZE_T, REPLY, SIZE_T, SIZE, NUMBER_64]),
+    "pidtab_line_by": (U32, [TABLE, U32, ctypes.c_char_p, SIZE_T, BYTES, SIZE_T, SIZE, NUMBER_64]),
+    "pidtab_fork_at_by": (U32, [TABLE, U32, U32, U32, U32, U32, REPLY, NUMBER_64]),
+    "pidtab_call_told_by": (U32, [TABLE, U32, CALL_BYTES, REPLY, NUMBER_64, EFFECTS, SIZE_T, NUMBER_64]),
+    "pidtab_seat": (U32, [TABLE, NUMBER_32]),
+    "pidtab_counts": (U32, [TABLE, NUMBER_64, NUMBER_64]),
+    "pidtab_worker": (U32, [TABLE, U32, NUMBER_64]),
+    "pidtab_entry": (U32, [TABLE, U64, NUMBER_64, CALL, REPLY]),
+    "pidtab_read": (U32, [TABLE, U64, ENTRIES, SIZE_T, SIZE]),
+    "pidtab_checkpoint": (U32, [TABLE]),
+    "pidtab_checkpoint_at": (U32, [TABLE, U64]),
+    "pidtab_follow": (U32, [TABLE, TABLE, NUMBER_64]),
+    "pidtab_lock": (TABLE, [TABLE]),
+    "pidtab_unlock": (None, [TABLE]),
+    "pidtab_await": (U32, [TABLE, U64, ctypes.c_void_p, NUMBER_64]),
+    "pidtab_end": (U32, [TABLE]),
 }
 
-# Those on a table behind a lock.
-SHARED_FUNCTIONS: dict[str, Function] = {
-    "pidtab_shared_open": (U32, [SHARED, U32, U64, U32, U64]),
-    "pidtab_shared_close": (None, [SHARED]),
-    "pidtab_shared_seat": (U32, [SHARED, NUMBER_32]),
-    "pidtab_shared_call": (U32, [SHARED, U32, CALL_BYTES, REPLY, NUMBER_64]),
-    "pidtab_shared_line": (U32, [SHARED, U32, ctypes.c_char_p, SIZE_T, BYTES, SIZE_T, SIZE, NUMBER_64]),
-    "pidtab_shared_ask": (U32, [SHARED, CALL_BYTES, REPLY]),
-    "pidtab_shared_stat": (U32, [SHARED, U32, U32, TASK]),
-    "pidtab_shared_page": (U32, [SHARED, U32, U32, U32, U32, NUMBER_32, SIZE_T, REPLY]),
-    "pidtab_shared_space": (U32, [SHARED, U64, SPACE]),
-    "pidtab_shared_inside": (U32, [SHARED, U32, U64, U64, NUMBER_64, SIZE_T, NUMBER_64]),
-    "pidtab_shared_control_tasks": (U32, [SHARED, U32, U64, U32, NUMBER_32, SIZE_T, REPLY]),
-    "pidtab_shared_would": (U32, [SHARED, CALL_BYTES, REPLY]),
-    "pidtab_shared_fork_at": (U32, [SHARED, U32, U32, U32, U32, U32, REPLY, NUMBER_64]),
-    "pidtab_shared_call_told": (U32, [SHARED, U32, CALL_BYTES, REPLY, NUMBER_64, EFFECTS, SIZE_T, NUMBER_64]),
-    "pidtab_shared_counts": (U32, [SHARED, NUMBER_64, NUMBER_64]),
-    "pidtab_shared_worker": (U32, [SHARED, U32, NUMBER_64]),
-    "pidtab_shared_entry": (U32, [SHARED, U64, NUMBER_64, CALL, REPLY]),
-    "pidtab_shared_read": (U32, [SHARED, U64, ENTRIES, SIZE_T, SIZE]),
-    "pidtab_shared_checkpoint": (U32, [SHARED]),
-    "pidtab_shared_checkpoint_at": (U32, [SHARED, U64]),
-    "pidtab_shared_list": (U32, [SHARED, BYTES, SIZE_T, SIZE]),
-}
-
-# Those of these that an earlier library may lack.
-LATER_SHARED_FUNCTIONS: dict[str, Function] = {
-    "pidtab_shared_load": (U32, [SHARED, ctypes.c_char_p, SIZE_T, NUMBER_64, SIZE_T, U64, FAULT]),
-    "pidtab_shared_calls": (U32, [SHARED, U32, CALL_BYTES, SIZE_T, REPLY, SIZE_T, SIZE, NUMBER_64]),
-    "pidtab_shared_dump": (U32, [SHARED, BYTES, SIZE_T, SIZE]),
-    "pidtab_shared_follow": (U32, [SHARED, TABLE, NUMBER_64]),
-    "pidtab_shared_wait": (U32, [SHARED, U64, ctypes.c_void_p, NUMBER_64]),
-    "pidtab_shared_end": (None, [SHARED]),
-}
-
-# Those on the file of its saved history.
+# Those of these on the file of a saved history.
 SAVED_FUNCTIONS: dict[str, Function] = {
     "pidtab_saved_take_head": (U32, [ctypes.c_char_p, SIZE_T, SAVED_HEAD, SIZE, NUMBER_64]),
     "pidtab_saved_take": (U32, [ctypes.c_char_p, SIZE_T, ENTRIES, SIZE, NUMBER_64]),
     "pidtab_saved_next": (U32, [ctypes.c_char_p, SIZE_T, ctypes.c_bool, ENTRIES, SIZE, NUMBER_64, NUMBER_64]),
     "pidtab_saved_begin": (U32, [SAVED, ctypes.c_int, SAVED_HEAD]),
-    "pidtab_saved_append_shared": (U32, [SAVED, SHARED]),
-    "pidtab_saved_serve": (U32, [SAVED, SHARED, U64, ctypes.c_bool]),
-    "pidtab_saved_wait": (U32, [SHARED, U64]),
-    "pidtab_saved_bound": (None, [SHARED, U64]),
-    "pidtab_saved_end": (None, [SHARED]),
-    "pidtab_saved_load_shared": (U32, [SAVED, ctypes.c_int, SHARED, U64]),
+    "pidtab_saved_append": (U32, [SAVED, TABLE]),
+    "pidtab_saved_serve": (U32, [SAVED, TABLE, U64, ctypes.c_bool]),
+    "pidtab_saved_wait": (U32, [TABLE, U64]),
+    "pidtab_saved_bound": (U32, [TABLE, U64]),
+    "pidtab_saved_end": (U32, [TABLE]),
+    "pidtab_saved_load": (U32, [SAVED, ctypes.c_int, TABLE, SETTINGS]),
     "pidtab_saved_trim": (U32, [SAVED]),
-    "pidtab_saved_resume_shared": (U32, [SAVED, ctypes.c_int, SAVED_HEAD, SHARED, U64]),
+    "pidtab_saved_resume": (U32, [SAVED, ctypes.c_int, TABLE, SETTINGS]),
 }
 
-# Those on a replica of a log, which an earlier library may lack.
+# Those of these on a replica of a log.
 REPLICA_FUNCTIONS: dict[str, Function] = {
     "pidtab_replica_open": (U32, [REPLICA, U64, U64]),
     "pidtab_replica_close": (U32, [REPLICA]),

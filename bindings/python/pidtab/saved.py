@@ -1,4 +1,4 @@
-"""The file of a saved history: the calls of a shared table with their replies. docs/SAVED.md has its form, and the library of C writes it."""
+"""The file of a saved history: the calls of a table with their replies. docs/SAVED.md has its form, and the library of C writes it."""
 
 import ctypes
 import os
@@ -21,10 +21,11 @@ from pidtab.raw import (
     SPENT,
     TORN,
     WRONG_BYTE,
+    Pidtab,
     PidtabSaved,
     PidtabSavedHead,
-    PidtabShared,
 )
+from pidtab.settings import Settings
 
 FilePath = str | os.PathLike[str]
 
@@ -89,13 +90,13 @@ class SavedFile:
         except FileNotFoundError:
             return False
 
-    def load(self, at: PidtabShared, keep: int) -> int:
+    def load(self, at: Pidtab, settings: Settings) -> int:
         """The status of a load of it."""
-        return int(self._functions.pidtab_saved_load_shared(self.at, self.descriptor, at, keep))
+        return int(self._functions.pidtab_saved_load(self.at, self.descriptor, at, settings.packed()))
 
-    def resume(self, head: PidtabSavedHead, at: PidtabShared, keep: int) -> int:
+    def resume(self, at: Pidtab, settings: Settings) -> int:
         """The status of a load that goes on with the file, or begins it."""
-        return int(self._functions.pidtab_saved_resume_shared(self.at, self.descriptor, head, at, keep))
+        return int(self._functions.pidtab_saved_resume(self.at, self.descriptor, at, settings.packed()))
 
     def begin(self, head: PidtabSavedHead) -> None:
         """Writes the head, if the file is empty. What is written of it is taken away where that fails."""

@@ -1,4 +1,4 @@
-"""Waits until a call of a shared table is recorded. A signal may interrupt them, and nobody looks again and again."""
+"""Waits until a call of a table is recorded. A signal may interrupt them, and nobody looks again and again."""
 
 import _thread
 import ctypes

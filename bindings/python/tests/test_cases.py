@@ -7,6 +7,7 @@ from collections.abc import Callable, Iterator
 from typing import Any
 
 from pidtab import (
+    ALL,
     Adopted,
     Ask,
     BadList,
@@ -24,7 +25,6 @@ from pidtab import (
     Seat,
     SeatsTaken,
     SessionGone,
-    Shared,
     SpaceFell,
     SpaceGone,
     SpaceStat,
@@ -37,7 +37,7 @@ from pidtab.calls import Call
 from pidtab.forms import QUERIES, say_answer
 from pidtab.history import Entry
 from tests.pages import REPOSITORY
-from tests.ways import ask, make_call, need_library, need_shared
+from tests.ways import ask, for_threads, make_call, need_library
 
 FILES = sorted((REPOSITORY / "interface" / "cases").glob("*.cases"))
 DEFAULT_BOUND = 32768
@@ -133,42 +133,42 @@ class World:
     def __init__(self, test: unittest.TestCase) -> None:
         self.test = test
         self.tables: list[Calls] = []
-        self.shared: Shared | None = None
+        self.table: Table | None = None
         self.is_whole = False
         self.told: Any = None
 
-    def begin(self, shared: Shared) -> None:
+    def begin(self, table: Table) -> None:
         """All seats are taken, and there is no other."""
         self.close()
-        self.shared, self.at = shared, 0
-        self.seats = [shared.seat() for _ in range(shared.workers)]
-        self.test.assertEqual([seat.worker for seat in self.seats], list(range(shared.workers)))
-        self.test.assertRaises(SeatsTaken, shared.seat)
+        self.table, self.at = table, 0
+        self.seats = [table.seat() for _ in range(table.workers)]
+        self.test.assertEqual([seat.worker for seat in self.seats], list(range(table.workers)))
+        self.test.assertRaises(SeatsTaken, table.seat)
 
     def close(self) -> None:
         """Closes what is open, and makes a whole history again on another table."""
-        if self.shared is not None:
-            if self.is_whole and self.shared.counts().first_kept == 0:
-                self.make_again(self.shared)
-            self.shared.close()
+        if self.table is not None:
+            if self.is_whole and self.table.counts().first_kept == 0:
+                self.make_again(self.table)
+            self.table.close()
         for table in self.tables:
             table.close()
-        self.tables, self.shared, self.is_whole = [], None, False
+        self.tables, self.table, self.is_whole = [], None, False
 
-    def make_again(self, shared: Shared) -> None:
+    def make_again(self, table: Table) -> None:
         """The same answers, counts and list."""
-        entries = list(shared.entries())
-        with Shared(shared.workers, pid_max=shared.pid_max) as again:
+        entries = list(table.entries())
+        with for_threads(table.workers, pid_max=table.pid_max) as again:
             seats = [again.seat() for _ in range(again.workers)]
             self.test.assertEqual([seats[it.worker].answers([it.line])[0] for it in entries], [it.answer for it in entries])
-            self.test.assertEqual((again.counts(), again.list_text()), (shared.counts(), shared.list_text()))
+            self.test.assertEqual((again.counts(), again.list_text()), (table.counts(), table.list_text()))
 
     def open(self, pid_max: int, workers: int, first_stamp: int, keep: int) -> None:
         """Opens what the settings say."""
         is_alone = (workers, first_stamp, keep) == (1, 1, 0)
         if is_alone and not 301 <= pid_max <= 4194304:
             self.test.assertRaises(ValueError, Table, pid_max)
-        self.begin(Shared(workers, pid_max=pid_max, first_stamp=first_stamp, keep=keep))
+        self.begin(for_threads(workers, pid_max=pid_max, first_stamp=first_stamp, keep=keep or ALL))
         self.tables = [Table(pid_max) for _ in range(3)] if is_alone else []
         self.is_whole = first_stamp == 1
         try:
@@ -184,24 +184,24 @@ class World:
                 Table.from_dump(text).close()
             except BadText as fault:
                 with self.test.assertRaisesRegex(BadText, f"^{fault}$"):
-                    Shared.from_dump(text, recorded=counts)
+                    Table.from_dump(text, recorded=counts, keep=ALL)
                 raise
-        self.begin(Shared.from_dump(text, recorded=counts, keep=keep))
+        self.begin(Table.from_dump(text, recorded=counts, keep=keep or ALL, threads=True))
         self.tables = [Table.from_dump(text) for _ in range(3)] if counts == [0] and not keep else []
 
     def reload(self) -> None:
         """Goes on with what is made of the texts."""
-        assert self.shared is not None
-        text, at, tables = self.shared.dump(), self.at, [it for it in self.tables if isinstance(it, Table)]
+        assert self.table is not None
+        text, at, tables = self.table.dump(), self.at, [it for it in self.tables if isinstance(it, Table)]
         self.test.assertEqual([it.dump() for it in tables], [text] * len(tables))
-        counts = [self.shared.worker(it) for it in range(self.shared.workers)]
-        self.load(text, counts, self.shared.keep)
+        counts = [self.table.worker(it) for it in range(self.table.workers)]
+        self.load(text, counts, self.table.keep)
         self.tables, self.at = [Table.from_dump(text) for _ in tables], at
-        self.test.assertEqual(self.shared.dump(), text)
+        self.test.assertEqual(self.table.dump(), text)
 
     def call(self, line: str) -> str:
         """The answer, which is the same by each way."""
-        assert self.shared is not None
+        assert self.table is not None
         seat, answers = self.seats[self.at], set()
         for table in [seat, *self.tables[:1], *self.tables[3:]]:
             try:
@@ -212,8 +212,8 @@ class World:
         if answer.isupper():
             return answer
         assert seat.ordinal is not None
-        self.test.assertEqual(self.shared.entry(seat.ordinal), Entry(seat.ordinal, self.at, line, answer))
-        asked: list[Queries] = [self.shared.ask, seat.ask, *[it.ask for it in self.tables if isinstance(it, Table)][1:]]
+        self.test.assertEqual(self.table.entry(seat.ordinal), Entry(seat.ordinal, self.at, line, answer))
+        asked: list[Queries] = [self.table.ask, seat.ask, *[it.ask for it in self.tables if isinstance(it, Table)][1:]]
         for queries in asked:
             if line.split(" ")[0] in QUERIES:
                 self.test.assertEqual(ask(queries, line), answer)  # type: ignore[arg-type]
@@ -234,15 +234,15 @@ class World:
         others += [[it.answers([line])[0], *said[1:]] for it in self.tables if isinstance(it, Process)]
         for other in others:
             self.test.assertEqual(other, said)
-        assert self.shared is not None and seat.ordinal is not None
-        self.test.assertEqual(self.shared.entry(seat.ordinal), Entry(seat.ordinal, self.at, line, said[0]))
+        assert self.table is not None and seat.ordinal is not None
+        self.test.assertEqual(self.table.entry(seat.ordinal), Entry(seat.ordinal, self.at, line, said[0]))
         return ", ".join(said)
 
     def asked(self, say: Callable[[Ask], str]) -> str:
         """What is read, which is the same of each table."""
-        assert self.shared is not None
+        assert self.table is not None
         told = set()
-        for queries in [self.shared.ask, *[it.ask for it in self.tables if isinstance(it, Table)]]:
+        for queries in [self.table.ask, *[it.ask for it in self.tables if isinstance(it, Table)]]:
             try:
                 told.add(say(queries))
             except Refusal as fault:
@@ -258,20 +258,20 @@ class World:
 
     def read(self, word: str, numbers: list[int]) -> str:
         """What a step of a history tells."""
-        assert self.shared is not None
+        assert self.table is not None
         if word == "counts":
-            return " ".join(map(str, self.shared.counts()))
+            return " ".join(map(str, self.table.counts()))
         if word == "worker":
-            return str(self.shared.worker(*numbers))
+            return str(self.table.worker(*numbers))
         if word == "entry":
-            entry = self.shared.entry(*numbers)
+            entry = self.table.entry(*numbers)
             return f"{entry.worker} {entry.line}: {entry.answer}"
         if word == "read":
             start, most = numbers
-            return str(min(most, len(list(self.shared.entries(start)))))
+            return str(min(most, len(list(self.table.entries(start)))))
         if word == "checkpoint_at":
-            return "DONE" if self.shared.checkpoint_at(*numbers) else "AGAIN"
-        self.shared.checkpoint()
+            return "DONE" if self.table.checkpoint_at(*numbers) else "AGAIN"
+        self.table.checkpoint()
         return "DONE"
 
     def make(self, step: str, text: str) -> str:
@@ -307,9 +307,9 @@ class World:
         elif hasattr(Ask, word) and word not in QUERIES:
             return self.look(word, numbers)
         elif word in ("list", "dump"):
-            assert self.shared is not None
-            for table in [self.shared, *self.tables]:
-                if word == "list" or isinstance(table, (Shared, Table)):
+            assert self.table is not None
+            for table in [self.table, *self.tables]:
+                if word == "list" or isinstance(table, Table):
                     self.test.assertEqual(table.list_text() if word == "list" else table.dump(), text)  # type: ignore[union-attr]
         elif word in ("counts", "worker", "entry", "read", "checkpoint", "checkpoint_at"):
             return self.read(word, numbers)
@@ -330,7 +330,6 @@ class Cases(unittest.TestCase):
     @classmethod
     def setUpClass(cls) -> None:
         need_library()
-        need_shared()
 
     def test_each_file(self) -> None:
         self.assertGreater(len(FILES), 5)

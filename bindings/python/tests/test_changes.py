@@ -9,10 +9,10 @@ import unittest
 from pathlib import Path
 from typing import Any
 
-from pidtab import Changes, Control, Listing, NotKept, Refusal, Shared, Table, TableClosed, read_list
+from pidtab import ALL, Changes, Control, Listing, NotKept, Refusal, Table, TableClosed, read_list
 from tests.pages import EXAMPLES, REPOSITORY, quoted, read_page, rows, section
 from tests.test_tree import WIDE_LIST
-from tests.ways import need_library, need_shared
+from tests.ways import for_threads, need_library
 
 PROGRAM = REPOSITORY / "bindings" / "python" / "bin" / "pidtab-tree"
 BEFORE = """\
@@ -220,12 +220,12 @@ class Copies(unittest.TestCase):
 
 
 class Earlier(unittest.TestCase):
-    """A shared table as it was."""
+    """A table as it was."""
 
     LINES = ("fork 1 new", "mk 0", "fork 2", "move 3 2", "exit 2 0", "wait 1 any")
 
     def setUp(self) -> None:
-        need_shared()
+        need_library()
 
     def lists(self) -> list[Listing]:
         """The lists before each call, and after the last."""
@@ -237,47 +237,47 @@ class Earlier(unittest.TestCase):
         return found
 
     def test_each_call(self) -> None:
-        with Shared(2) as shared:
-            seats = [shared.seat(), shared.seat()]
+        with for_threads(2) as table:
+            seats = [table.seat(), table.seat()]
             for place, line in enumerate(self.LINES):
                 seats[place % 2].line(line)
             for ordinal, listing in enumerate(self.lists()):
-                with shared.at(ordinal) as table:
-                    self.assertEqual(table.list(), listing, ordinal)
-            with shared.at(6) as table:
-                self.assertEqual(table.dump(), shared.dump())
+                with table.at(ordinal) as earlier:
+                    self.assertEqual(earlier.list(), listing, ordinal)
+            with table.at(6) as earlier:
+                self.assertEqual(earlier.dump(), table.dump())
 
     def test_another_first_stamp(self) -> None:
-        with Shared(1, pid_max=400, first_stamp=50) as shared:
-            seat = shared.seat()
+        with for_threads(1, pid_max=400, first_stamp=50) as table:
+            seat = table.seat()
             self.assertEqual((seat.mk(), seat.mk()), (50, 51))
-            with shared.at(1) as table:
-                self.assertEqual((table.mk(), table.pid_max), (51, 400))
+            with table.at(1) as earlier:
+                self.assertEqual((earlier.mk(), earlier.pid_max), (51, 400))
 
     def test_behind_a_text(self) -> None:
         with Table() as table:
             table.answers(self.LINES[:3])
             text = table.dump()
-        with Shared.from_dump(text, recorded=[2, 1]) as shared:
-            seat = shared.seat()
+        with Table.from_dump(text, keep=ALL, recorded=[2, 1]) as table:
+            seat = table.seat()
             seat.answers(self.LINES[3:])
             for ordinal in (3, 4, 6):
-                with shared.at(ordinal) as table:
-                    self.assertEqual(table.list(), self.lists()[ordinal], ordinal)
+                with table.at(ordinal) as earlier:
+                    self.assertEqual(earlier.list(), self.lists()[ordinal], ordinal)
             with self.assertRaisesRegex(NotKept, "the calls of this one begin with 3"):
-                shared.at(2)
+                table.at(2)
 
     def test_what_is_not_kept(self) -> None:
-        with Shared(1) as shared:
-            seat = shared.seat()
+        with for_threads(1) as table:
+            seat = table.seat()
             seat.getpid(1)
             with self.assertRaises(NotKept):
-                shared.at(2)
+                table.at(2)
             with self.assertRaises(ValueError):
-                shared.at(-1)
-            shared.checkpoint()
+                table.at(-1)
+            table.checkpoint()
             with self.assertRaises(NotKept):
-                shared.at(0)
+                table.at(0)
 
 
 if __name__ == "__main__":

@@ -3,17 +3,12 @@
 import random
 import unittest
 
-import pidtab.native
-import pidtab.shared
-import pidtab.table
 from pidtab import Ask, LibraryFault, MemoryLog, Refusal, Replicated, Seat, Table, TableClosed
 from pidtab.native import SHORT_PAGE
 from pidtab.raw import CLOSED, COUNTED, DONE, NO_MEMORY, PidtabReply
 from tests.test_ends import OTHERS, in_child
 from tests.test_interrupts import CallInterrupter
-from tests.ways import Answered, OnEachTable, need_library, numbers_beside_a_writer
-
-FILES = {pidtab.native.__file__, pidtab.shared.__file__, pidtab.table.__file__}
+from tests.ways import FILES_OF_TABLES, Answered, OnEachTable, need_library, numbers_beside_a_writer
 
 SEED = 5
 
@@ -72,10 +67,10 @@ class Controls(OnEachTable):
         self.assertEqual((raised.exception.errno, raised.exception.why), (errno, why))
 
     def test_they_are_no_calls(self) -> None:
-        before = self.shared.counts()
+        before = self.many.counts()
         for ask in self.ways():
             ask.control_tasks(1)
-        self.assertEqual((self.table.mk(), self.shared.counts(), self.seat.ordinal), (12, before, 10))
+        self.assertEqual((self.table.mk(), self.many.counts(), self.seat.ordinal), (12, before, 10))
 
     def test_numbers(self) -> None:
         for ask in self.ways():
@@ -90,7 +85,7 @@ class Controls(OnEachTable):
     def test_closed(self) -> None:
         ways = self.ways()
         self.table.close()
-        self.shared.close()
+        self.many.close()
         for ask in ways:
             with self.assertRaises(TableClosed):
                 ask.control_tasks(1)
@@ -103,7 +98,7 @@ class Controls(OnEachTable):
     def test_interrupts(self) -> None:
         for ask in self.ways():
             places = 0
-            while CallInterrupter(places + 1, FILES).run(lambda: ask.control_tasks(1, 1)):
+            while CallInterrupter(places + 1, FILES_OF_TABLES).run(lambda: ask.control_tasks(1, 1)):
                 places += 1
                 self.assertEqual(ask.control_tasks(1, 1), (2, 4))
             self.assertGreater(places, 4)
@@ -148,7 +143,7 @@ class Others(unittest.TestCase):
             self.assertEqual([one.ask.control_tasks(1), two.ask(now=True).control_tasks(1, 2), two.ask(now=True).control_tasks(1)], [(1,), (2,), (1,)])
 
     def test_threads_beside_a_writer(self) -> None:
-        numbers_beside_a_writer(self, lambda shared: shared.ask.control_tasks(1, start=2))
+        numbers_beside_a_writer(self, lambda table: table.ask.control_tasks(1, start=2))
 
 
 class Reading(unittest.TestCase):

@@ -9,9 +9,9 @@ from types import SimpleNamespace
 from typing import Any
 from unittest import mock
 
-from pidtab import BadText, LibraryFault, NotKept, Refusal, Shared, Table, TableClosed, raw
+from pidtab import ALL, BadText, LibraryFault, NotKept, Refusal, Table, TableClosed, raw
 from pidtab.language import FORMS
-from tests.ways import need_library, need_shared
+from tests.ways import for_threads, need_library
 
 SEED = 40
 RANDOM_LINES = 400
@@ -99,11 +99,11 @@ class Texts(unittest.TestCase):
 
     def test_a_table_that_nobody_has(self) -> None:
         table = Table.from_dump(TEXT)
-        held, finish = table._table, table._finish
-        self.assertTrue(held.is_open)
+        at = table._check_open().at
+        self.assertTrue(at.is_open)
         del table
         gc.collect()
-        self.assertFalse(finish.alive or held.is_open)
+        self.assertFalse(at.is_open)
 
     def test_a_forked_child(self) -> None:
         table = self.table()
@@ -129,7 +129,7 @@ class Texts(unittest.TestCase):
 
     def test_no_memory(self) -> None:
         poor = SimpleNamespace(**{name: mock.Mock(return_value=raw.DONE) for name in raw.FUNCTIONS})
-        poor.pidtab_load = poor.pidtab_dump = mock.Mock(return_value=raw.NO_MEMORY)
+        poor.pidtab_load_with = poor.pidtab_dump = mock.Mock(return_value=raw.NO_MEMORY)
         with mock.patch("pidtab.table.load_library", return_value=poor):
             with self.assertRaisesRegex(MemoryError, "load: no memory"):
                 Table.from_dump(TEXT)
@@ -137,34 +137,34 @@ class Texts(unittest.TestCase):
                 self.table().dump()
 
 
-class SharedTexts(unittest.TestCase):
-    """A table for threads is made of a text, and its history begins there."""
+class TextsOfHistories(unittest.TestCase):
+    """A table with a history is made of a text, and its history begins there."""
 
     @classmethod
     def setUpClass(cls) -> None:
-        need_shared()
+        need_library()
 
-    def shared(self, text: str, *arguments: Any, **settings: Any) -> Shared:
+    def table(self, text: str, **settings: Any) -> Table:
         """A table of the text."""
-        shared = Shared.from_dump(text, *arguments, **settings)
-        self.addCleanup(shared.close)
-        return shared
+        table = Table.from_dump(text, **{"keep": ALL, "threads": True, **settings})
+        self.addCleanup(table.close)
+        return table
 
     def test_the_history_begins_there(self) -> None:
-        shared = self.shared(TEXT, 2)
-        self.assertEqual((shared.workers, shared.pid_max, shared.first_stamp, shared.dump()), (2, 32768, 7, TEXT))
-        seat = shared.seat()
-        self.assertEqual((tuple(shared.counts()), seat.ordinal), ((0, 0), None))
+        table = self.table(TEXT, workers=2)
+        self.assertEqual((table.workers, table.pid_max, table.first_stamp, table.dump()), (2, 32768, 7, TEXT))
+        seat = table.seat()
+        self.assertEqual((tuple(table.counts()), seat.ordinal), ((0, 0), None))
         self.assertEqual((seat.getpgid(2), seat.mk(), seat.fork(1).root, seat.ordinal), (3, 8, 4, 2))
-        self.assertEqual([it.line for it in shared.entries()], ["getpgid 2 0", "mk 0", "fork 1"])
+        self.assertEqual([it.line for it in table.entries()], ["getpgid 2 0", "mk 0", "fork 1"])
 
     def test_the_same_as_the_one_that_was_never_saved(self) -> None:
         chance = random.Random(SEED)
-        with Shared(1, pid_max=301) as never_saved:
+        with for_threads(1, pid_max=301) as never_saved:
             seat = never_saved.seat()
             seat.answers(random_lines(chance, RANDOM_LINES))
             recorded = [never_saved.worker(0)]
-            loaded = self.shared(never_saved.dump(), recorded=recorded)
+            loaded = self.table(never_saved.dump(), recorded=recorded)
             other, behind = loaded.seat(), random_lines(chance, RANDOM_LINES)
             self.assertEqual(other.answers(behind), seat.answers(behind))
             self.assertEqual((loaded.dump(), loaded.counts().recorded), (never_saved.dump(), never_saved.counts().recorded))
@@ -173,47 +173,56 @@ class SharedTexts(unittest.TestCase):
     def test_counts_that_do_not_fit(self) -> None:
         for recorded in ([7], [6, 1], [2**64 - 1, 2**64 - 1]):
             with self.assertRaisesRegex(ValueError, "recorded: .* as many as the stamp"):
-                Shared.from_dump(TEXT, recorded=recorded)
+                Table.from_dump(TEXT, recorded=recorded, keep=1)
         for recorded in ([], [0] * 17):
             with self.assertRaisesRegex(ValueError, "1 to 16, not"):
-                Shared.from_dump(TEXT, recorded=recorded)
-        with self.assertRaises(ValueError):
-            Shared.from_dump(TEXT, recorded=[-1])
-        with self.assertRaises(ValueError):
-            Shared.from_dump(TEXT, 17)
-        for wrong in ("12", [1.5], [None]):
+                Table.from_dump(TEXT, recorded=recorded, keep=1)
+        with self.assertRaisesRegex(ValueError, "^recorded is 0 to 18446744073709551615, not -1$"):
+            Table.from_dump(TEXT, recorded=[-1], keep=1)
+        with self.assertRaisesRegex(ValueError, "^workers is 1 to 16, not 17$"):
+            Table.from_dump(TEXT, workers=17, keep=1)
+        with self.assertRaisesRegex(ValueError, "^recorded has 2 numbers, and workers is 3$"):
+            Table.from_dump(TEXT, workers=3, recorded=[1, 1], keep=1)
+        for wrong in ("12", [1.5], [None], [True]):
             with self.assertRaises(TypeError):
-                Shared.from_dump(TEXT, recorded=wrong)  # type: ignore[arg-type]
+                Table.from_dump(TEXT, recorded=wrong, keep=1)  # type: ignore[arg-type]
+        # As many of both are no fault.
+        self.assertEqual(self.table(TEXT, workers=2, recorded=[1, 0]).worker(0), 1)
+
+    def test_counts_without_a_history(self) -> None:
+        for workers, words in ((4, "workers count"), (None, "the numbers of `recorded` count")):
+            with self.assertRaisesRegex(ValueError, f"^{words} the calls of a history: open it with keep$"):
+                Table.from_dump(TEXT, workers=workers, recorded=None if workers else [0])
 
     def test_it_is_in_no_file(self) -> None:
         for recorded in ([0], [6]):
-            shared = self.shared(TEXT, recorded=recorded)
-            shared.seat().mk()
+            table = self.table(TEXT, recorded=recorded)
+            table.seat().mk()
             path = f"/nowhere/{os.getpid()}"
             with self.assertRaisesRegex(NotKept, "text of another one"):
-                shared.save(path)
-            self.assertIsNone(shared.saved)
+                table.save(path)
+            self.assertIsNone(table.saved)
 
     def test_it_cuts_what_it_has(self) -> None:
-        shared = self.shared(TEXT, 1, keep=2)
-        seat = shared.seat()
+        table = self.table(TEXT, keep=2, threads=False)
+        seat = table.seat()
         for _ in range(5):
             seat.getpid(1)
-        self.assertEqual(tuple(shared.counts()), (3, 5))
+        self.assertEqual(tuple(table.counts()), (3, 5))
         self.assertRaises(Refusal, seat.rm, 99)
 
     def test_a_closed_one(self) -> None:
-        shared = Shared.from_dump(TEXT)
-        shared.close()
-        self.assertRaises(TableClosed, shared.dump)
+        table = self.table(TEXT)
+        table.close()
+        self.assertRaises(TableClosed, table.dump)
 
     def test_the_library_of_an_earlier_release(self) -> None:
-        shared = self.shared(TEXT)
+        table = self.table(TEXT)
         earlier = SimpleNamespace()
-        with mock.patch("pidtab.shared.load_shared", return_value=earlier), self.assertRaisesRegex(LibraryFault, "no function pidtab_shared_load"):
-            Shared.from_dump(TEXT)
-        with mock.patch.object(shared._hold, "functions", earlier), self.assertRaisesRegex(LibraryFault, "no function pidtab_shared_dump"):
-            shared.dump()
+        with mock.patch("pidtab.table.load_library", return_value=earlier), self.assertRaisesRegex(LibraryFault, "no function pidtab_load_with"):
+            self.table(TEXT)
+        with mock.patch.object(table._hold, "functions", earlier), self.assertRaisesRegex(LibraryFault, "no function pidtab_dump"):
+            table.dump()
 
 
 if __name__ == "__main__":

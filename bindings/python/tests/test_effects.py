@@ -11,9 +11,6 @@ from typing import Any
 from unittest import mock
 
 import pidtab.effects
-import pidtab.native
-import pidtab.shared
-import pidtab.table
 from pidtab import (
     Adopted,
     Effect,
@@ -26,7 +23,6 @@ from pidtab import (
     Reaped,
     Seat,
     SessionGone,
-    Shared,
     SpaceFell,
     SpaceGone,
     Table,
@@ -55,9 +51,9 @@ from tests.test_ends import OTHERS, in_child
 from tests.test_interrupts import CallInterrupter
 from tests.test_labels import take_last_number
 from tests.test_would import outcome
-from tests.ways import OnEachTable, need_library, need_shared, open_stand_in
+from tests.ways import FILES_OF_TABLES, OnEachTable, for_threads, need_library, open_stand_in
 
-FILES = {pidtab.effects.__file__, pidtab.native.__file__, pidtab.shared.__file__, pidtab.table.__file__}
+FILES = {pidtab.effects.__file__} | FILES_OF_TABLES
 
 SEED = 7
 THREADS = 3
@@ -193,13 +189,12 @@ class Effects(OnEachTable):
 
     def test_it_is_recorded(self) -> None:
         self.seat.told.exit(6, 4)
-        self.assertEqual((self.seat.ordinal, self.shared.entry(5).line, self.shared.entry(5).answer), (5, "exit 6 4", "ok"))
-        self.assertFalse(hasattr(self.shared, "told"))
+        self.assertEqual((self.seat.ordinal, self.many.entry(5).line, self.many.entry(5).answer), (5, "exit 6 4", "ok"))
 
     def test_a_label_is_of_the_task_before(self) -> None:
-        shared = Shared(1, pid_max=301)
-        self.addCleanup(shared.close)
-        for table in (Table(301), shared.seat()):
+        many = for_threads(1, pid_max=301)
+        self.addCleanup(many.close)
+        for table in (Table(301), many.seat()):
             self.addCleanup(table.close)
             take_last_number(table)
             self.assertEqual(table.told.fork(1), Told(Forked(300, 300), []))
@@ -208,7 +203,7 @@ class Effects(OnEachTable):
     def test_closed(self) -> None:
         held = [self.table.told, self.seat.told]
         self.table.close()
-        self.shared.close()
+        self.many.close()
         for told in held:
             with self.assertRaises(TableClosed):
                 told.exit(6)
@@ -218,7 +213,7 @@ class Effects(OnEachTable):
         self.seat.close()
         with self.assertRaisesRegex(TableClosed, "^the seat was closed$"):
             told.exit(6)
-        self.assertEqual(self.shared.counts().recorded, 5)
+        self.assertEqual(self.many.counts().recorded, 5)
 
     def test_in_a_child(self) -> None:
         for table in self.tables():
@@ -240,7 +235,7 @@ class Effects(OnEachTable):
         if table.ask.stat(1, child).live:
             table.exit(child)
         elif isinstance(table, Seat):
-            with self.shared.at(table.ordinal or 0) as before:
+            with self.many.at(table.ordinal or 0) as before:
                 self.assertEqual(before.told.exit(child, 5), Told(None, [Ended(child, 5)]))
         table.wait(1, pid=child)
 
@@ -258,10 +253,10 @@ class Others(unittest.TestCase):
 
     def test_as_the_lists_before_and_behind_say(self) -> None:
         need_library()
-        need_shared()
+        need_library()
         chance, kinds = random.Random(SEED), Counter[type]()
-        with Table(301) as table, Shared(1, pid_max=301) as shared:
-            seat, roots = shared.seat(), [1]
+        with Table(301) as table, for_threads(1, pid_max=301) as many:
+            seat, roots = many.seat(), [1]
             for _ in range(4000):
                 caller, other = chance.choice(roots), chance.choice(roots)
                 calls: list[Callable[[EachCall], object]] = [
@@ -277,7 +272,7 @@ class Others(unittest.TestCase):
                 self.assertEqual(effects, difference(before, after))
                 kinds.update(map(type, effects))
                 roots = [it.root for it in after.tasks]
-            self.assertEqual(shared.dump(), table.dump())
+            self.assertEqual(many.dump(), table.dump())
         for kind in (Ended, Adopted, Gone, GroupGone, SessionGone, SpaceFell, SpaceGone):
             self.assertGreater(kinds[kind], 50)
 
@@ -291,13 +286,13 @@ class Others(unittest.TestCase):
                 self.assertEqual(table.told.exit(2, 7), Told(None, [Ended(2, 7), *[Adopted(it, 1) for it in children]]))
 
     def test_no_effect_is_lost_beside_threads_that_fork(self) -> None:
-        need_shared()
-        with Shared(THREADS + 1, pid_max=5000) as shared:
-            seat, children = shared.seat(), []
+        need_library()
+        with for_threads(THREADS + 1, pid_max=5000) as many:
+            seat, children = many.seat(), []
             parent = seat.fork(1).root
 
             def fork_children() -> None:
-                worker = shared.seat()
+                worker = many.seat()
                 # It is refused once the parent has ended.
                 while isinstance(child := outcome(lambda: worker.fork(parent)), Forked):
                     children.append(child.root)

@@ -72,8 +72,9 @@ class ForkCases(Cases):
         self.assertEqual(self.table.mk(), 1)
 
     def test_what_it_shows_of_itself(self) -> None:
-        shown = f"<pidtab.{type(self.table).__name__} pid_max=32768, of the parent process>"
-        self.assertEqual(in_child(lambda: repr(self.table)), shown)
+        shown = repr(self.table)
+        self.assertRegex(shown, f"^<pidtab.{type(self.table).__name__} .*pid_max=32768.*, open>$")
+        self.assertEqual(in_child(lambda: repr(self.table)), shown.replace(", open>", ", of the parent process>"))
 
     def test_a_close_in_the_child(self) -> None:
         self.assertIn(in_child(lambda: self.table.close()), ("0", "None"))

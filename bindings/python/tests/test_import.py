@@ -8,7 +8,7 @@ import pidtab
 import pidtab.hosts
 
 HOSTS = ("Cluster", "EtcdLog", "Following", "Log", "MemoryLog", "Progress", "Receipt", "ReplicaAsk", "Replicated", "Submitted")
-# What only hosts of a shared table need: TLS, HTTP, and threads by a pool.
+# What only hosts of a table need: TLS, HTTP, and threads by a pool.
 FOR_HOSTS = {"ssl", "http.client", "concurrent.futures", "pidtab.hosts.cluster", "pidtab.hosts.etcd_log", "pidtab.hosts.replicated"}
 # What only the programs need: command lines, and sockets to a service.
 FOR_COMMANDS = {"argparse", "socket", "pidtab.commands", "pidtab.tree"}
@@ -29,7 +29,7 @@ class Imports(unittest.TestCase):
         self.assertEqual(loaded("import pidtab") & {"ctypes", "dataclasses", "inspect", "re", "typing"}, set())
 
     def test_a_table_brings_no_hosts_and_no_programs(self) -> None:
-        for name in ("Table", "Shared"):
+        for name in ("Table", "Table"):
             found = loaded(f"import pidtab\npidtab.{name}")
             self.assertIn(f"pidtab.{name.lower()}", found)
             self.assertEqual(found & (FOR_HOSTS | FOR_COMMANDS), set())

@@ -20,13 +20,13 @@ from typing import Any
 from unittest import mock
 
 import pidtab.process
-import pidtab.turn
+import pidtab.exchange
 from pidtab import Process
 from tests.alarms import alarms
 from tests.ways import need_program
 
 PACKAGE = Path(__file__).resolve().parents[1]
-FILES = {pidtab.process.__file__, pidtab.turn.__file__}
+FILES = {pidtab.process.__file__, pidtab.exchange.__file__}
 CTRL_C = b"\x03"
 
 

@@ -3,12 +3,12 @@
 import json
 import unittest
 
-from pidtab import Refusal, Shared, Table, TableClosed, read_list
+from pidtab import Refusal, Table, TableClosed, read_list
 from pidtab.accounts import Accounts
 from pidtab.calls import Calls
-from pidtab.native import NumberCalls
+from pidtab.number_calls import NumberCalls
 from pidtab.tree import draw_list
-from tests.ways import need_library, need_shared
+from tests.ways import for_threads, need_library
 
 TREE = """\
 processes
@@ -39,7 +39,7 @@ def take_last_number(table: NumberCalls) -> None:
     table.wait(1)
 
 
-def labels_of(table: Table | Shared | Calls) -> dict[int, str | None]:
+def labels_of(table: Table | Table | Calls) -> dict[int, str | None]:
     """The labels of all tasks that have one."""
     return {task.root: task.label for task in table.list().tasks if task.label}
 
@@ -109,55 +109,55 @@ class SharedLabels(unittest.TestCase):
     """Of a table for threads: one for all seats."""
 
     def setUp(self) -> None:
-        need_shared()
-        self.shared = Shared(2, pid_max=301)
-        self.addCleanup(self.shared.close)
-        self.seats = [self.shared.seat(), self.shared.seat()]
+        need_library()
+        self.table = for_threads(2, pid_max=301)
+        self.addCleanup(self.table.close)
+        self.seats = [self.table.seat(), self.table.seat()]
 
     def test_all_seats_have_them(self) -> None:
         self.seats[0].fork(1)
         self.seats[1].label(2, "web")
-        for table in (self.shared, *self.seats):
+        for table in (self.table, *self.seats):
             self.assertEqual(labels_of(table), {2: "web"})
-        self.assertEqual(self.shared.counts().recorded, 1)
+        self.assertEqual(self.table.counts().recorded, 1)
 
     def test_it_goes_by_the_fork_of_any_seat(self) -> None:
         go_up(self.seats[0])
-        self.shared.label(LAST, "web")
+        self.table.label(LAST, "web")
         self.seats[0].exit(LAST)
         self.seats[0].wait(1)
         self.assertEqual(self.seats[1].fork(1).root, LAST)
-        self.assertEqual(labels_of(self.shared), {})
+        self.assertEqual(labels_of(self.table), {})
 
     def test_it_goes_by_the_fork_of_a_turn(self) -> None:
         go_up(self.seats[0])
-        self.shared.label(LAST, "web")
-        self.shared.label(1, "init")
+        self.table.label(LAST, "web")
+        self.table.label(1, "init")
         _, _, forked, *_ = self.seats[1].answers([f"exit {LAST} 0", "wait 1 any", "fork 1", "getpid 1", "count 0"])
         self.assertEqual(forked, f"child {LAST} root {LAST}")
-        self.assertEqual(labels_of(self.shared), {1: "init"})
+        self.assertEqual(labels_of(self.table), {1: "init"})
 
     def test_who_is_labelled_behind_a_fork_keeps_it(self) -> None:
         # As a thread may label a task before the one that made it goes on.
         self.seats[0].fork(1)
-        self.shared.label(2, "web")
-        self.shared._labels.fork(2, 0)
-        self.assertEqual(labels_of(self.shared), {2: "web"})
-        self.shared._labels.fork(2, 1)
-        self.assertEqual(labels_of(self.shared), {})
+        self.table.label(2, "web")
+        self.table._labels.fork(2, 0)
+        self.assertEqual(labels_of(self.table), {2: "web"})
+        self.table._labels.fork(2, 1)
+        self.assertEqual(labels_of(self.table), {})
 
 
 class Keys(unittest.TestCase):
     def test_beside_each_number(self) -> None:
-        need_shared()
-        with Shared(1) as shared:
-            seat = shared.seat()
+        need_library()
+        with for_threads(1) as table:
+            seat = table.seat()
             seat.answers(["mk 0", "fork 1", "fork 2"])
             accounts = Accounts(Table())
             self.addCleanup(accounts.table.close)
-            accounts.add(shared.entries())
-            shared.label(3, "job")
-            listing = shared.list().with_names({}, accounts.keys)
+            accounts.add(table.entries())
+            table.label(3, "job")
+            listing = table.list().with_names({}, accounts.keys)
         # The stamps of the forks are their places among all calls, from 1 on.
         self.assertEqual([(task.root, task.key, task.label) for task in listing.tasks], [(1, None, None), (2, 2, None), (3, 3, "job")])
         self.assertIn("        3 #3 (job) group 1", draw_list(listing))

@@ -1,4 +1,4 @@
-"""Waits in loops of asyncio: for a call of a shared table, and for the end of a child."""
+"""Waits in loops of asyncio: for a call of a table, and for the end of a child."""
 
 import _thread
 import asyncio
@@ -50,7 +50,7 @@ class Tables(TwoSeats):
 
     def waiting(self) -> int:
         """How many wait in loops."""
-        return len(self.shared.__dict__["_loops"]._waiters)
+        return len(self.table.__dict__["_loops"]._waiters)
 
     def wait_until(self, holds: Callable[[], object]) -> None:
         end = time.monotonic() + LONG
@@ -64,7 +64,7 @@ class Changed(Tables):
         async def main() -> None:
             self.seat.answers(["getpid 1"] * 3)
             with mock.patch("_thread.start_new_thread") as started:
-                self.assertEqual([await self.shared.changed(it) for it in range(3)], [3] * 3)
+                self.assertEqual([await self.table.changed(it) for it in range(3)], [3] * 3)
             self.assertEqual((started.call_count, self.waiting()), (0, 0))
 
         play(main())
@@ -72,7 +72,7 @@ class Changed(Tables):
     def test_many_wait_by_one_thread(self) -> None:
         async def main() -> None:
             with mock.patch("_thread.start_new_thread", wraps=_thread.start_new_thread) as started:
-                tasks = [asyncio.ensure_future(self.shared.changed(it // 100)) for it in range(MANY)]
+                tasks = [asyncio.ensure_future(self.table.changed(it // 100)) for it in range(MANY)]
                 await asyncio.sleep(SHORT)
                 for recorded in range(1, 4):
                     self.other.getpid(1)
@@ -87,8 +87,8 @@ class Changed(Tables):
 
     def test_a_later_wait_for_an_earlier_call(self) -> None:
         async def main() -> None:
-            far = await begin(self.shared.changed(1))
-            near = await begin(self.shared.changed(0))
+            far = await begin(self.table.changed(1))
+            near = await begin(self.table.changed(0))
             self.other.getpid(1)
             self.assertEqual((await near, far.done()), (1, False))
             self.other.getpid(1)
@@ -103,7 +103,7 @@ class Changed(Tables):
             tasks = []
             caller.start()
             for _ in range(MANY):
-                tasks.append(asyncio.ensure_future(self.shared.changed(chance.randrange(MANY))))
+                tasks.append(asyncio.ensure_future(self.table.changed(chance.randrange(MANY))))
                 await asyncio.sleep(0)
             for recorded in await asyncio.gather(*tasks):
                 self.assertLessEqual(recorded, MANY)
@@ -114,13 +114,13 @@ class Changed(Tables):
     def test_a_time_that_is_over_and_a_cancel(self) -> None:
         async def main() -> None:
             with self.assertRaises(asyncio.TimeoutError):
-                await asyncio.wait_for(self.shared.changed(0), SHORT)
-            task = await begin(self.shared.changed(0))
+                await asyncio.wait_for(self.table.changed(0), SHORT)
+            task = await begin(self.table.changed(0))
             task.cancel()
             with self.assertRaises(asyncio.CancelledError):
                 await task
             self.assertEqual(self.waiting(), 0)
-            task = await begin(self.shared.changed(0))
+            task = await begin(self.table.changed(0))
             self.other.getpid(1)
             self.assertEqual(await task, 1)
 
@@ -129,24 +129,24 @@ class Changed(Tables):
     def test_the_end_of_the_waits(self) -> None:
         async def main() -> None:
             self.seat.getpid(1)
-            task = await begin(self.shared.changed(1))
-            self.shared.end_waiting()
+            task = await begin(self.table.changed(1))
+            self.table.end_waiting()
             with self.assertRaisesRegex(WaitingEnded, "^the waits were ended, and call 1 is not recorded$"):
                 await task
             with self.assertRaises(WaitingEnded):
-                await self.shared.changed(1)
-            self.assertEqual(await self.shared.changed(0), 1)
+                await self.table.changed(1)
+            self.assertEqual(await self.table.changed(0), 1)
 
         play(main())
 
     def test_a_close_lets_nobody_wait(self) -> None:
         async def main() -> None:
-            task = await begin(self.shared.changed(0))
-            self.shared.close()
+            task = await begin(self.table.changed(0))
+            self.table.close()
             with self.assertRaises(TableClosed):
                 await task
             with self.assertRaises(TableClosed):
-                await self.shared.changed(0)
+                await self.table.changed(0)
 
         play(main())
 
@@ -154,12 +154,12 @@ class Changed(Tables):
         told: list[int] = []
 
         async def main() -> None:
-            told.append(await self.shared.changed(0))
+            told.append(await self.table.changed(0))
 
         threads = [threading.Thread(target=lambda: play(main())) for _ in range(2)]
         for it in threads:
             it.start()
-        self.wait_until(lambda: "_loops" in self.shared.__dict__ and self.waiting() == 2)
+        self.wait_until(lambda: "_loops" in self.table.__dict__ and self.waiting() == 2)
         self.other.getpid(1)
         for it in threads:
             it.join()
@@ -167,9 +167,9 @@ class Changed(Tables):
 
     def test_a_loop_that_has_ended_meanwhile(self) -> None:
         loop = asyncio.new_event_loop()
-        task = loop.create_task(self.shared.changed(0))
+        task = loop.create_task(self.table.changed(0))
         loop.run_until_complete(asyncio.sleep(SHORT))
-        loops = self.shared.__dict__["_loops"]
+        loops = self.table.__dict__["_loops"]
         loop.close()
         with mock.patch("threading.excepthook") as raised, mock.patch("sys.unraisablehook") as unraised:
             self.other.getpid(1)
@@ -182,9 +182,9 @@ class Changed(Tables):
     def test_misuse(self) -> None:
         async def main() -> None:
             with self.assertRaisesRegex(ValueError, "^ordinal is 0 to 18446744073709551615, not -1$"):
-                await self.shared.changed(-1)
+                await self.table.changed(-1)
             with self.assertRaises(TypeError):
-                await self.shared.changed("1")  # type: ignore[arg-type]
+                await self.table.changed("1")  # type: ignore[arg-type]
 
         play(main())
 
@@ -193,7 +193,7 @@ class Ends(Tables):
     """A child's end, as waitpid(2) waits for it."""
 
     def made(self) -> int:
-        return self.shared.counts().recorded
+        return self.table.counts().recorded
 
     def test_a_child_that_ends_later(self) -> None:
         async def main() -> None:
@@ -238,7 +238,7 @@ class Ends(Tables):
         async def main() -> None:
             child = self.seat.fork(1).child
             # As if a call were recorded after each look.
-            with mock.patch.object(self.shared, "counts", return_value=Counts(0, 0)):
+            with mock.patch.object(self.table, "counts", return_value=Counts(0, 0)):
                 waits = asyncio.ensure_future(self.seat.reap(1, child))
                 for _ in range(MANY):
                     await asyncio.sleep(0)
@@ -267,7 +267,7 @@ class Ends(Tables):
             with self.assertRaises(ValueError):
                 await self.seat.reap(1, child, own=True)
             task = await begin(self.seat.reap(1))
-            self.shared.end_waiting()
+            self.table.end_waiting()
             with self.assertRaises(WaitingEnded):
                 await task
 

@@ -4,17 +4,12 @@ import random
 import unittest
 from collections.abc import Callable
 
-import pidtab.native
-import pidtab.shared
-import pidtab.table
 from pidtab import Ask, MemoryLog, Refusal, Replicated, Seat, Table, TableClosed
 from pidtab.native import SHORT_PAGE
 from pidtab.raw import CHILDREN, CLOSED, COUNTED, DONE, NO_MEMORY, PidtabReply
 from tests.test_ends import OTHERS, in_child
 from tests.test_interrupts import CallInterrupter
-from tests.ways import Answered, OnEachTable, need_library, numbers_beside_a_writer
-
-FILES = {pidtab.native.__file__, pidtab.shared.__file__, pidtab.table.__file__}
+from tests.ways import FILES_OF_TABLES, Answered, OnEachTable, need_library, numbers_beside_a_writer
 
 SEED = 5
 
@@ -79,11 +74,11 @@ class Pages(OnEachTable):
                     self.assertEqual((raised.exception.errno, raised.exception.why), (3, "no-caller"))
 
     def test_they_are_no_calls(self) -> None:
-        before = self.shared.counts()
+        before = self.many.counts()
         for ask in self.ways():
             for ask_list in lists_of(ask):
                 ask_list(1)
-        self.assertEqual((self.table.mk(), self.shared.counts(), self.seat.ordinal), (7, before, 5))
+        self.assertEqual((self.table.mk(), self.many.counts(), self.seat.ordinal), (7, before, 5))
 
     def test_numbers(self) -> None:
         for ask in self.ways():
@@ -99,7 +94,7 @@ class Pages(OnEachTable):
     def test_closed(self) -> None:
         ways = self.ways()
         self.table.close()
-        self.shared.close()
+        self.many.close()
         for ask in ways:
             for ask_list in lists_of(ask):
                 with self.assertRaises(TableClosed):
@@ -113,7 +108,7 @@ class Pages(OnEachTable):
     def test_an_interrupt_behind_each_step(self) -> None:
         for ask in self.ways():
             places = 0
-            while CallInterrupter(places + 1, FILES).run(lambda: ask.children(1)):
+            while CallInterrupter(places + 1, FILES_OF_TABLES).run(lambda: ask.children(1)):
                 places += 1
                 self.assertEqual(ask.children(1), (2, 3))
             self.assertGreater(places, 4)
@@ -165,7 +160,7 @@ class Many(unittest.TestCase):
             self.assertEqual([one.ask.children(1), two.ask(now=True).children(1), two.ask(now=True).session_members(1)], [(2,), (2,), (1, 2)])
 
     def test_threads_beside_a_writer(self) -> None:
-        numbers_beside_a_writer(self, lambda shared: shared.ask.children(1))
+        numbers_beside_a_writer(self, lambda table: table.ask.children(1))
 
 
 class Reading(unittest.TestCase):

@@ -17,14 +17,14 @@ from types import FrameType
 from typing import Any
 from unittest import mock
 
-from pidtab import BadHistory, Counts, Entry, NotKept, OtherSettings, Saved, Seat, SeatsTaken, Shared, TableClosed
+from pidtab import ALL, BadHistory, Counts, Entry, NotKept, OtherSettings, Saved, Seat, SeatsTaken, Table, TableClosed
 from tests.alarms import Awaiting, alarms
 from tests.pages import fenced, read_page, section
 from tests.programs import ARCHIVE, BUILT, STRICT, need_archive, need_tool
 from tests.test_arguments import NO_INTEGERS
 from tests.test_ends import OTHERS, in_child
-from tests.test_shared import run_all
-from tests.ways import need_shared
+from tests.test_history import run_all
+from tests.ways import for_threads, need_library
 
 BLOCK = 48
 
@@ -88,7 +88,7 @@ class Files(unittest.TestCase):
 
     @classmethod
     def setUpClass(cls) -> None:
-        need_shared()
+        need_library()
 
     def setUp(self) -> None:
         folder = tempfile.TemporaryDirectory()
@@ -96,31 +96,31 @@ class Files(unittest.TestCase):
         self.folder = Path(folder.name)
         self.path = self.folder / "history"
 
-    def closed_behind(self, shared: Shared) -> Shared:
+    def closed_behind(self, table: Table) -> Table:
         """The same table, which is closed after the test."""
-        self.addCleanup(shared.close)
-        return shared
+        self.addCleanup(table.close)
+        return table
 
-    def open(self, workers: int = 2, **settings: Any) -> tuple[Shared, list[Seat]]:
+    def open(self, workers: int = 2, **settings: Any) -> tuple[Table, list[Seat]]:
         """A new table, with its seats."""
-        shared = self.closed_behind(Shared(workers, **settings))
-        return shared, [shared.seat() for _ in range(workers)]
+        table = self.closed_behind(for_threads(workers, **settings))
+        return table, [table.seat() for _ in range(workers)]
 
-    def load(self, **settings: Any) -> Shared:
-        """The table of the file."""
-        return self.closed_behind(Shared.load(self.path, **settings))
+    def load(self, **settings: Any) -> Table:
+        """The table of the file, for threads."""
+        return self.closed_behind(Table.load(self.path, **{"threads": True, **settings}))
 
     def whole(self) -> tuple[bytes, list[Entry], str]:
         """The bytes of a saved history with calls of each kind, its entries, and the list that they leave."""
-        shared, seats = self.open()
+        table, seats = self.open()
         make_calls(seats)
-        shared.save(self.folder / "whole")
-        return (self.folder / "whole").read_bytes(), list(shared.entries()), shared.list_text()
+        table.save(self.folder / "whole")
+        return (self.folder / "whole").read_bytes(), list(table.entries()), table.list_text()
 
     def check_bad(self, words: str, calls: int, place: int) -> None:
         """The file is refused with these words and this place, and stays as it is."""
         before = self.path.read_bytes()
-        for load in (Shared.load, Shared.resume):
+        for load in (Table.load, Table.resume):
             with self.assertRaisesRegex(BadHistory, f"^{re.escape(str(self.path))}: {words}$") as caught:
                 load(self.path)
             self.assertEqual((caught.exception.calls, caught.exception.place), (calls, place))
@@ -131,18 +131,18 @@ class Bytes(Files):
     """The form is that of docs/SAVED.md."""
 
     def test_the_example_is_written(self) -> None:
-        shared, (one, other) = self.open()
+        table, (one, other) = self.open()
         self.assertEqual((one.line("fork 1 new"), other.line("nspid 1 2")), ("child 2 root 2", "2 1"))
         self.assertEqual(other.answers(["setpgid 1 0 -1"]), ("EINVAL bad-group",))
-        self.assertEqual(shared.save(self.path), Saved(3, 192, 0))
+        self.assertEqual(table.save(self.path), Saved(3, 192, 0))
         self.assertEqual(self.path.read_bytes(), page_bytes())
 
     def test_the_example_is_read(self) -> None:
         self.path.write_bytes(page_bytes())
-        shared = self.load()
-        self.assertEqual((shared.workers, shared.pid_max, shared.first_stamp, shared.keep), (2, 32768, 1, 0))
+        table = self.load()
+        self.assertEqual((table.workers, table.pid_max, table.first_stamp, table.keep), (2, 32768, 1, ALL))
         wanted = [Entry(0, 0, "fork 1 new", "child 2 root 2"), Entry(1, 1, "nspid 1 2", "2 1"), Entry(2, 1, "setpgid 1 0 -1", "EINVAL bad-group")]
-        self.assertEqual((list(shared.entries()), shared.saved), (wanted, Saved(3, 192, 0)))
+        self.assertEqual((list(table.entries()), table.saved), (wanted, Saved(3, 192, 0)))
 
     def test_the_checksum(self) -> None:
         self.assertEqual(crc(b"123456789"), CHECK)
@@ -166,26 +166,26 @@ COMMANDS = [
 class Loads(Files):
     """A file loads as what was saved, and goes on."""
 
-    def check_loaded(self, shared: Shared, entries: list[Entry], list_text: str) -> None:
+    def check_loaded(self, table: Table, entries: list[Entry], list_text: str) -> None:
         """The table has these entries and this list."""
-        self.assertEqual(list(shared.entries()), entries)
-        self.assertEqual(shared.list_text(), list_text)
-        self.assertEqual([shared.worker(it) for it in range(2)], [len([each for each in entries if each.worker == it]) for it in range(2)])
+        self.assertEqual(list(table.entries()), entries)
+        self.assertEqual(table.list_text(), list_text)
+        self.assertEqual([table.worker(it) for it in range(2)], [len([each for each in entries if each.worker == it]) for it in range(2)])
 
     def test_a_whole_file(self) -> None:
         saved, entries, list_text = self.whole()
         self.path.write_bytes(saved)
-        shared = self.load()
-        self.check_loaded(shared, entries, list_text)
-        self.assertEqual((shared.saved, shared.save(self.path)), (Saved(len(entries), len(saved), 0),) * 2)
+        table = self.load()
+        self.check_loaded(table, entries, list_text)
+        self.assertEqual((table.saved, table.save(self.path)), (Saved(len(entries), len(saved), 0),) * 2)
         self.assertEqual(self.path.read_bytes(), saved)
-        self.assertEqual(shared.seat().worker, 0)
+        self.assertEqual(table.seat().worker, 0)
 
     def test_what_goes_on_is_what_one_table_saves(self) -> None:
         saved, entries, _ = self.whole()
-        shared, seats = self.open()
+        table, seats = self.open()
         seats[0].answers([it.line for it in entries[:5]])
-        shared.save(self.path)
+        table.save(self.path)
         again = self.load()
         make_again([again.seat(), again.seat()], entries[5:9])
         again.save(self.path)
@@ -206,11 +206,11 @@ class Loads(Files):
                 self.check_torn_head(saved[:length])
                 continue
             calls = len([end for end in ends if end <= length]) - 1
-            with Shared.load(self.path) as shared:
+            with Table.load(self.path) as table:
                 told = Saved(calls, ends[calls], length - ends[calls])
-                self.assertEqual((shared.saved, list(shared.entries())), (told, entries[:calls]))
+                self.assertEqual((table.saved, list(table.entries())), (told, entries[:calls]))
                 self.assertEqual(self.path.read_bytes(), saved[:length])
-                self.assertEqual(shared.save(self.path), told)
+                self.assertEqual(table.save(self.path), told)
                 self.assertEqual(self.path.read_bytes(), saved[: ends[calls]])
             if length == ends[calls] + BLOCK // 2:
                 self.check_goes_on(saved[:length], entries[calls:], saved)
@@ -218,20 +218,20 @@ class Loads(Files):
     def check_torn_head(self, torn: bytes) -> None:
         """A file that ends within its head has no history, and is begun where that is asked for."""
         with self.assertRaisesRegex(BadHistory, "^[^:]*: the file ends within its head: there is no history yet$") as caught:
-            Shared.load(self.path)
+            Table.load(self.path)
         self.assertEqual((caught.exception.calls, caught.exception.place), (0, 0))
         self.assertEqual(self.path.read_bytes(), torn)
-        with Shared.resume(self.path, 2) as shared:
-            self.assertEqual((shared.saved, shared.counts()), (Saved(0, BLOCK, len(torn)), Counts(0, 0)))
+        with Table.resume(self.path, workers=2) as table:
+            self.assertEqual((table.saved, table.counts()), (Saved(0, BLOCK, len(torn)), Counts(0, 0)))
         self.assertEqual(self.path.read_bytes(), page_bytes()[:BLOCK])
 
     def check_goes_on(self, torn: bytes, entries: list[Entry], saved: bytes) -> None:
         """After a torn end the calls that it lacks make the whole file."""
-        for load in (Shared.load, Shared.resume):
+        for load in (Table.load, Table.resume):
             self.path.write_bytes(torn)
-            with load(self.path) as shared:
-                make_again([shared.seat(), shared.seat()], entries)
-                shared.save(self.path)
+            with load(self.path) as table:
+                make_again([table.seat(), table.seat()], entries)
+                table.save(self.path)
             self.assertEqual(self.path.read_bytes(), saved)
 
     def test_zeroes_at_the_end(self) -> None:
@@ -239,33 +239,33 @@ class Loads(Files):
         saved, entries, _ = self.whole()
         for zeroes in (1, 47, 48, 49, 4096):
             self.path.write_bytes(saved + bytes(zeroes))
-            with Shared.load(self.path) as shared:
-                self.assertEqual((shared.saved, len(list(shared.entries()))), (Saved(len(entries), len(saved), zeroes), len(entries)))
-            Shared.resume(self.path).close()
+            with Table.load(self.path) as table:
+                self.assertEqual((table.saved, len(list(table.entries()))), (Saved(len(entries), len(saved), zeroes), len(entries)))
+            Table.resume(self.path).close()
             self.assertEqual(self.path.read_bytes(), saved)
         self.path.write_bytes(saved + bytes(48) + b"\1")
         self.check_bad(f"call {len(entries)}, saved at byte {len(saved)}: a byte is not the one that was written", len(entries), len(saved))
 
     def test_stamps_go_on(self) -> None:
-        shared, (one, _) = self.open(first_stamp=1000, pid_max=301)
+        table, (one, _) = self.open(first_stamp=1000, pid_max=301)
         self.assertEqual(one.mk(), 1000)
-        shared.save(self.path)
+        table.save(self.path)
         again = self.load()
         self.assertEqual((again.pid_max, again.first_stamp, again.seat().mk()), (301, 1000, 1001))
 
     def test_entries_that_are_cut_as_it_loads(self) -> None:
-        shared, (one, _) = self.open()
+        table, (one, _) = self.open()
         one.answers(["fork 1"] * 100)
-        shared.save(self.path)
+        table.save(self.path)
         again = self.load(keep=10)
         self.assertGreater(again.counts().first_kept, 80)
-        self.assertEqual((again.counts().recorded, again.keep, again.list()), (100, 0, shared.list()))
+        self.assertEqual((again.counts().recorded, again.keep, again.list()), (100, ALL, table.list()))
         again.seat().fork(1)
         self.assertEqual((again.save(self.path), self.load().counts()), (Saved(101, BLOCK * 102, 0), Counts(0, 101)))
 
     def test_an_empty_history(self) -> None:
-        shared, _ = self.open()
-        self.assertEqual(shared.save(self.path), Saved(0, BLOCK, 0))
+        table, _ = self.open()
+        self.assertEqual(table.save(self.path), Saved(0, BLOCK, 0))
         self.assertEqual(self.load().counts(), Counts(0, 0))
 
 
@@ -282,40 +282,42 @@ class Resumes(Files):
         for made in (False, True):
             if made:
                 self.path.write_bytes(b"")
-            with Shared.resume(self.path, 3, pid_max=400, first_stamp=9) as shared:
-                self.assertEqual((shared.workers, shared.pid_max, shared.first_stamp, shared.saved), (3, 400, 9, Saved(0, BLOCK, 0)))
-                self.assertEqual((shared.seat().mk(), shared.save(self.path)), (9, Saved(1, 2 * BLOCK, 0)))
+            with Table.resume(self.path, workers=3, pid_max=400, first_stamp=9) as table:
+                self.assertEqual((table.workers, table.pid_max, table.first_stamp, table.saved), (3, 400, 9, Saved(0, BLOCK, 0)))
+                self.assertEqual((table.seat().mk(), table.save(self.path)), (9, Saved(1, 2 * BLOCK, 0)))
             self.path.unlink()
 
     def test_the_settings_of_a_file_are_its_own(self) -> None:
-        Shared.resume(self.path, 3, pid_max=400, first_stamp=9).close()
+        Table.resume(self.path, workers=3, pid_max=400, first_stamp=9).close()
         with self.assertWarnsRegex(OtherSettings, f"^{re.escape(str(self.path))}: the settings of a saved history stay: workers is 3, and not 2$") as warned:
-            again = Shared.resume(self.path, 2, pid_max=400)
+            again = Table.resume(self.path, workers=2, pid_max=400)
         self.assertEqual((warned.filename, again.workers, again.pid_max, again.first_stamp), (__file__, 3, 400, 9))
         again.close()
         with self.assertWarnsRegex(OtherSettings, "stay: pid_max is 400, and not 32768, first_stamp is 9, and not 1$"):
-            Shared.resume(self.path, pid_max=32768, first_stamp=1).close()
+            Table.resume(self.path, pid_max=32768, first_stamp=1).close()
         with warnings.catch_warnings():
             warnings.simplefilter("error")
-            Shared.resume(self.path).close()
-            Shared.resume(self.path, 3, pid_max=400, first_stamp=9, keep=5).close()
+            Table.resume(self.path).close()
+            Table.resume(self.path, workers=3, pid_max=400, first_stamp=9, keep=5).close()
 
     def test_more_seats_than_the_file_has_workers(self) -> None:
-        Shared.resume(self.path, 1).close()
-        for again in (self.load(), Shared.resume(self.path)):
+        Table.resume(self.path, workers=1).close()
+        for again in (self.load(), Table.resume(self.path)):
             again.seat()
             with self.assertRaisesRegex(SeatsTaken, "^the one worker has its seat: the saved history has no more, and threads may share a seat$"):
                 again.seat()
             again.close()
 
     def test_numbers(self) -> None:
-        for name, least, greatest in (("workers", 1, 16), ("pid_max", 301, 4194304), ("first_stamp", 1, 2**64 - 1), ("keep", 0, 2**64 - 1)):
+        for name, least, greatest in (("workers", 1, 16), ("pid_max", 301, 4194304), ("first_stamp", 1, 2**64 - 1), ("keep", 1, 2**64 - 1)):
             for value in (least - 1, greatest + 1):
                 with self.assertRaisesRegex(ValueError, f"^{name} is {least} to {greatest}, not {value}$"):
-                    Shared.resume(self.path, **{name: value})  # type: ignore[arg-type]
-            for value in NO_INTEGERS:
-                with self.assertRaisesRegex(TypeError, "cannot be interpreted as an integer"):
-                    Shared.resume(self.path, **{name: value})
+                    Table.resume(self.path, **{name: value})  # type: ignore[arg-type]
+            # None is a setting that is not named.
+            for value in (*NO_INTEGERS, True):
+                if value is not None or name == "keep":
+                    with self.assertRaisesRegex(TypeError, f"cannot be interpreted as an integer|^{name} is a number, not True$"):
+                        Table.resume(self.path, **{name: value})
         self.assertFalse(self.path.exists())
 
 
@@ -373,7 +375,7 @@ class Wrong(Files):
     def test_want_of_memory(self) -> None:
         self.path.write_bytes(page_bytes())
         with mock.patch("pidtab.saved.SavedFile.load", return_value=12), self.assertRaisesRegex(MemoryError, "no memory"):
-            Shared.load(self.path)
+            Table.load(self.path)
 
 
 class OtherLanguages(Files):
@@ -390,13 +392,13 @@ class OtherLanguages(Files):
     def test_written_by_c(self) -> None:
         need_archive()
         subprocess.run([self.build(C_WRITER), self.path], check=True)
-        shared = self.load()
-        self.assertEqual((shared.workers, shared.pid_max, shared.first_stamp), (3, 400, 7))
+        table = self.load()
+        self.assertEqual((table.workers, table.pid_max, table.first_stamp), (3, 400, 7))
         answers = ["child 2 root 2", *(f"child 2 root {number}" for number in range(3, 8)), "7 6 5 4 3 2", "ESRCH no-caller", "control 15"]
         lines = ["fork 1 new", *(f"fork {number} new" for number in range(2, 7)), "nspid 1 7", "getpid 99", "mk 0"]
-        self.assertEqual([it.line for it in shared.entries()], lines)
-        self.assertEqual([it.worker for it in shared.entries()], [place % 3 for place in range(9)])
-        self.assertEqual([it.answer for it in shared.entries()][7:], answers[7:])
+        self.assertEqual([it.line for it in table.entries()], lines)
+        self.assertEqual([it.worker for it in table.entries()], [place % 3 for place in range(9)])
+        self.assertEqual([it.answer for it in table.entries()][7:], answers[7:])
 
     def test_read_by_c(self) -> None:
         need_archive()
@@ -418,16 +420,17 @@ int main(int count, char **words)
 		"fork 1 new", "fork 2 new", "fork 3 new", "fork 4 new", "fork 5 new", "fork 6 new", "nspid 1 7", "getpid 99", "mk 0"
 	};
 	const struct pidtab_saved_head head = { .pid_max = 400, .workers = 3, .first_stamp = 7 };
-	struct pidtab_shared shared;
+	const struct pidtab_settings settings = { .pid_max = 400, .workers = 3, .first_stamp = 7, .keep = PIDTAB_KEEP_ALL };
+	struct pidtab table = PIDTAB_INIT;
 	struct pidtab_saved saved;
 	char answer[PIDTAB_LONGEST_ANSWER];
 	size_t size;
 	uint64_t ordinal;
-	uint32_t status = pidtab_shared_open(&shared, 400, 7, 3, 0) | pidtab_saved_begin(&saved, open(words[count - 1], O_RDWR | O_CREAT, 0600), &head);
+	uint32_t status = pidtab_open_with(&table, &settings) | pidtab_saved_begin(&saved, open(words[count - 1], O_RDWR | O_CREAT, 0600), &head);
 
 	for (uint32_t i = 0; i < 9; i++)
-		status |= pidtab_shared_line(&shared, i % 3, lines[i], strlen(lines[i]), answer, sizeof answer, &size, &ordinal);
-	return (int)(status | pidtab_saved_append_shared(&saved, &shared));
+		status |= pidtab_line_by(&table, i % 3, lines[i], strlen(lines[i]), answer, sizeof answer, &size, &ordinal);
+	return (int)(status | pidtab_saved_append(&saved, &table));
 }
 """
 
@@ -436,59 +439,62 @@ class Misuse(Files):
     """What is no use of a file has its error, and leaves the table and the file."""
 
     def test_what_is_no_path(self) -> None:
-        shared, _ = self.open()
+        table, _ = self.open()
         for path in (None, 3, 1.0, ["history"]):
-            for use in (shared.save, Shared.load, Shared.resume):
+            for use in (table.save, Table.load, Table.resume):
                 with self.assertRaisesRegex(TypeError, "expected str, bytes or os.PathLike object"):
                     use(path)  # type: ignore[arg-type, operator]
         with self.assertRaisesRegex(ValueError, "null"):
-            shared.save("a\0b")
-        self.assertEqual((shared.saved, os.listdir(self.folder)), (None, []))
+            table.save("a\0b")
+        self.assertEqual((table.saved, os.listdir(self.folder)), (None, []))
 
     def test_what_is_no_integer(self) -> None:
         self.path.write_bytes(page_bytes())
         for value in NO_INTEGERS:
             with self.assertRaisesRegex(TypeError, "cannot be interpreted as an integer"):
-                Shared.load(self.path, keep=value)
-        for value in (-1, 2**64):
-            with self.assertRaisesRegex(ValueError, "^keep is 0 to "):
-                Shared.load(self.path, keep=value)
+                Table.load(self.path, keep=value)
+        for value in (-1, 0, 2**64):
+            with self.assertRaisesRegex(ValueError, "^keep is 1 to "):
+                Table.load(self.path, keep=value)
+        for value in (1, None, "no"):
+            with self.assertRaisesRegex(TypeError, "^threads is True or False, not "):
+                Table.load(self.path, threads=value)  # type: ignore[arg-type]
 
     def test_paths_of_each_kind(self) -> None:
-        shared, (one, _) = self.open()
+        table, (one, _) = self.open()
         before = os.getcwd()
         self.addCleanup(os.chdir, before)
         os.chdir(self.folder)
         for path in ("history", b"history", Path("history"), self.path, str(self.path)):
             one.getpid(1)
-            shared.save(path)  # type: ignore[arg-type]
-        self.assertEqual((os.listdir("."), self.load(library=shared.library).counts()), (["history"], Counts(0, 5)))
+            table.save(path)  # type: ignore[arg-type]
+        self.assertEqual((os.listdir("."), self.load(library=table.library).counts()), (["history"], Counts(0, 5)))
 
     def test_a_file_of_others(self) -> None:
-        shared, (one, _) = self.open()
+        table, (one, _) = self.open()
         one.fork(1)
         for text in (b"x", page_bytes(), page_bytes()[:20]):
             self.path.write_bytes(text)
             with self.assertRaisesRegex(FileExistsError, "the file has bytes, and is not the one of this table"):
-                shared.save(self.path)
-            self.assertEqual((self.path.read_bytes(), shared.saved), (text, None))
-        shared.save(self.folder / "own")
+                table.save(self.path)
+            self.assertEqual((self.path.read_bytes(), table.saved), (text, None))
+        table.save(self.folder / "own")
         with self.assertRaises(FileExistsError):
-            shared.save(self.path)
+            table.save(self.path)
         one.fork(1)
-        self.assertEqual(shared.save(self.folder / "own"), Saved(2, 3 * BLOCK, 0))
+        self.assertEqual(table.save(self.folder / "own"), Saved(2, 3 * BLOCK, 0))
 
     def test_a_file_after_another(self) -> None:
         # A file that was moved away is gone on with by no one; the next has all calls.
-        shared, (one, _) = self.open()
+        table, (one, _) = self.open()
         one.fork(1)
-        shared.save(self.path)
+        table.save(self.path)
         self.path.rename(self.folder / "moved")
         one.fork(1)
-        self.assertEqual(shared.save(self.path), Saved(2, 3 * BLOCK, 0))
+        self.assertEqual(table.save(self.path), Saved(2, 3 * BLOCK, 0))
         self.assertEqual(self.path.read_bytes()[: 2 * BLOCK], (self.folder / "moved").read_bytes())
         with self.assertRaises(FileExistsError):
-            shared.save(self.folder / "moved")
+            table.save(self.folder / "moved")
 
     def test_two_tables_at_one_file(self) -> None:
         self.path.write_bytes(page_bytes())
@@ -502,22 +508,22 @@ class Misuse(Files):
         self.assertEqual(self.path.read_bytes(), saved)
 
     def test_what_is_no_file(self) -> None:
-        shared, _ = self.open()
-        for use in (shared.save, Shared.load, Shared.resume):
+        table, _ = self.open()
+        for use in (table.save, Table.load, Table.resume):
             with self.assertRaises(IsADirectoryError):
                 use(self.folder)
             with self.assertRaises((FileNotFoundError, NotADirectoryError)):
                 use(self.folder / "none" / "history")
         with self.assertRaises(FileNotFoundError):
-            Shared.load(self.path)
+            Table.load(self.path)
         self.assertEqual(os.listdir(self.folder), [])
 
     def test_a_device_that_is_full(self) -> None:
-        shared, _ = self.open()
+        table, _ = self.open()
         with self.assertRaises(OSError) as caught:
-            shared.save("/dev/full")
-        self.assertEqual((caught.exception.errno, caught.exception.filename, shared.saved), (errno.ENOSPC, "/dev/full", None))
-        self.assertEqual(shared.save(self.path), Saved(0, BLOCK, 0))
+            table.save("/dev/full")
+        self.assertEqual((caught.exception.errno, caught.exception.filename, table.saved), (errno.ENOSPC, "/dev/full", None))
+        self.assertEqual(table.save(self.path), Saved(0, BLOCK, 0))
 
     def test_a_file_that_may_not_grow(self) -> None:
         # A write is cut short at each length in turn, and the next save goes on after it.
@@ -525,61 +531,61 @@ class Misuse(Files):
         limits = resource.getrlimit(resource.RLIMIT_FSIZE)
         self.addCleanup(resource.setrlimit, resource.RLIMIT_FSIZE, limits)
         for length in range(0, len(saved), 7):
-            shared, seats = self.open()
+            table, seats = self.open()
             make_again(seats, entries)
             resource.setrlimit(resource.RLIMIT_FSIZE, (length, limits[1]))
             with self.assertRaises(OSError) as caught:
-                shared.save(self.path)
+                table.save(self.path)
             self.assertEqual((caught.exception.errno, self.path.stat().st_size), (errno.EFBIG, length if length >= BLOCK else 0))
             resource.setrlimit(resource.RLIMIT_FSIZE, limits)
             if length >= BLOCK:
                 # As many calls count as the file loads.
-                assert shared.saved is not None
-                with Shared.load(self.path) as again:
-                    self.assertEqual(shared.saved.calls, again.counts().recorded)
-            shared.save(self.path)
+                assert table.saved is not None
+                with Table.load(self.path) as again:
+                    self.assertEqual(table.saved.calls, again.counts().recorded)
+            table.save(self.path)
             self.assertEqual(self.path.read_bytes(), saved)
-            shared.close()
+            table.close()
             self.path.unlink()
 
     def test_calls_that_were_cut_away(self) -> None:
-        shared, (one, _) = self.open()
+        table, (one, _) = self.open()
         one.fork(1)
-        shared.checkpoint()
+        table.checkpoint()
         with self.assertRaisesRegex(NotKept, f"^call 0 is not kept: it was cut away before it was saved to {self.path}$"):
-            shared.save(self.path)
-        self.assertEqual((os.listdir(self.folder), shared.saved), ([], None))
+            table.save(self.path)
+        self.assertEqual((os.listdir(self.folder), table.saved), ([], None))
 
     def test_calls_that_are_cut_behind_a_save(self) -> None:
-        shared, (one, _) = self.open()
+        table, (one, _) = self.open()
         one.fork(1)
-        self.assertTrue(shared.checkpoint_at(shared.save(self.path).calls))
+        self.assertTrue(table.checkpoint_at(table.save(self.path).calls))
         one.fork(1)
-        self.assertTrue(shared.checkpoint_at(shared.save(self.path).calls))
+        self.assertTrue(table.checkpoint_at(table.save(self.path).calls))
         one.fork(1)
-        shared.checkpoint()
+        table.checkpoint()
         with self.assertRaisesRegex(NotKept, "^call 2 is not kept"):
-            shared.save(self.path)
+            table.save(self.path)
         self.assertEqual([it.answer for it in self.load().entries()], ["child 2 root 2", "child 3 root 3"])
 
     def test_closed(self) -> None:
-        shared, (one, _) = self.open()
+        table, (one, _) = self.open()
         one.fork(1)
-        shared.save(self.path)
-        shared.close()
+        table.save(self.path)
+        table.close()
         with self.assertRaisesRegex(TableClosed, "^the table was closed$"):
-            shared.save(self.path)
+            table.save(self.path)
         with self.assertRaisesRegex(TableClosed, "^the table was closed$"):
-            shared.save(self.folder / "other")
-        self.assertEqual((shared.saved, os.listdir(self.folder)), (None, ["history"]))
+            table.save(self.folder / "other")
+        self.assertEqual((table.saved, os.listdir(self.folder)), (None, ["history"]))
 
     def test_in_a_forked_child(self) -> None:
-        shared, (one, _) = self.open()
-        shared.save(self.path)
+        table, (one, _) = self.open()
+        table.save(self.path)
         one.fork(1)
-        self.assertEqual(in_child(lambda: shared.save(self.path)), f"closed: {OTHERS}")
-        self.assertEqual(in_child(lambda: Shared.load(self.path).counts()), "Counts(first_kept=0, recorded=0)")
-        self.assertEqual(shared.save(self.path), Saved(1, 2 * BLOCK, 0))
+        self.assertEqual(in_child(lambda: table.save(self.path)), f"closed: {OTHERS}")
+        self.assertEqual(in_child(lambda: Table.load(self.path).counts()), "Counts(first_kept=0, recorded=0)")
+        self.assertEqual(table.save(self.path), Saved(1, 2 * BLOCK, 0))
 
 
 class Ends(Files):
@@ -588,31 +594,31 @@ class Ends(Files):
     def test_no_descriptor_is_left(self) -> None:
         before = len(os.listdir("/proc/self/fd"))
         for _ in range(3):
-            with Shared.resume(self.path) as shared:
-                shared.seat().fork(1)
-                shared.save(self.path)
-            with Shared.load(self.path) as shared:
-                shared.seat().fork(1)
-                shared.save(self.path)
-                shared.save(self.folder / "other")
+            with Table.resume(self.path) as table:
+                table.seat().fork(1)
+                table.save(self.path)
+            with Table.load(self.path) as table:
+                table.seat().fork(1)
+                table.save(self.path)
+                table.save(self.folder / "other")
             (self.folder / "other").unlink()
         (self.folder / "bad").write_bytes(b"x")
-        for use in (Shared.load, Shared.resume, Shared().save):
+        for use in (Table.load, Table.resume, for_threads().save):
             with self.assertRaises((BadHistory, FileExistsError)):
                 use(self.folder / "bad")
-        del shared, use
+        del table, use
         gc.collect()
         self.assertEqual(len(os.listdir("/proc/self/fd")), before)
 
     def test_what_survives_the_machine(self) -> None:
-        shared, (one, _) = self.open()
+        table, (one, _) = self.open()
         with mock.patch("os.fsync", side_effect=lambda it: kinds.append(os.path.isdir(f"/proc/self/fd/{it}"))):
             kinds: list[bool] = []
-            shared.save(self.path)
+            table.save(self.path)
             self.assertEqual(kinds, [])
             for _ in range(2):
                 one.fork(1)
-                shared.save(self.path, sync=True)
+                table.save(self.path, sync=True)
         # The file, and its folder once.
         self.assertEqual(kinds, [False, True, False])
 
@@ -621,23 +627,23 @@ class Threads(Files):
     """Saves amid calls."""
 
     def test_calls_of_many_threads(self) -> None:
-        shared, seats = self.open(8)
+        table, seats = self.open(8)
         work = [threading.Thread(target=lambda it=seat: it.answers(["fork 1", f"fork {it.worker + 1}"] * 500)) for seat in seats]
-        savers = [threading.Thread(target=lambda: [shared.save(self.path) for _ in range(50)]) for _ in range(2)]
+        savers = [threading.Thread(target=lambda: [table.save(self.path) for _ in range(50)]) for _ in range(2)]
         run_all([*work, *savers])
-        self.assertEqual(shared.save(self.path).calls, 8000)
+        self.assertEqual(table.save(self.path).calls, 8000)
         again = self.load()
-        self.assertEqual((list(again.entries()), again.list()), (list(shared.entries()), shared.list()))
+        self.assertEqual((list(again.entries()), again.list()), (list(table.entries()), table.list()))
 
     def test_a_close_amid_saves(self) -> None:
-        shared, seats = self.open()
+        table, seats = self.open()
         told: list[str] = []
 
         def save_till_closed() -> None:
             try:
                 while True:
                     seats[0].fork(1)
-                    shared.save(self.path)
+                    table.save(self.path)
             except TableClosed as fault:
                 told.append(str(fault))
 
@@ -646,7 +652,7 @@ class Threads(Files):
         while not self.path.exists():
             time.sleep(0)
         time.sleep(0.05)
-        shared.close()
+        table.close()
         thread.join(60)
         self.assertEqual(told, ["the table was closed"])
         self.assertEqual(self.load().counts().first_kept, 0)
@@ -655,36 +661,36 @@ class Threads(Files):
 class Interrupts(Awaiting, Files):
     """Ctrl-C amid a save or a load: nothing is lost or doubled."""
 
-    def check_file(self, shared: Shared) -> None:
+    def check_file(self, table: Table) -> None:
         """The file is what a save without interrupts writes."""
-        shared.save(self.path)
+        table.save(self.path)
         path = self.folder / "again"
-        shared.save(path)
+        table.save(path)
         self.assertEqual(self.path.read_bytes(), path.read_bytes())
 
     def test_many_in_a_second(self) -> None:
-        shared, (one, _) = self.open()
+        table, (one, _) = self.open()
         interrupted = 0
         end = time.monotonic() + 1.5
         with alarms(self.interrupt, 0.003, 0.003):
             while time.monotonic() < end:
                 try:
-                    self.save_for_ever(shared, one)
+                    self.save_for_ever(table, one)
                 except KeyboardInterrupt:
                     interrupted += 1
         self.assertGreater(interrupted, 20)
-        self.check_file(shared)
+        self.check_file(table)
 
-    def save_for_ever(self, shared: Shared, seat: Seat) -> None:
+    def save_for_ever(self, table: Table, seat: Seat) -> None:
         """Makes calls and saves them, until it is interrupted."""
         self.awaited = True
         while True:
             seat.answers(["getpid 1"] * 3)
-            shared.save(self.path)
+            table.save(self.path)
 
     def test_new_files(self) -> None:
         # An interrupt as a file is begun leaves one that is empty or begun, and the next save goes on.
-        shared, (one, _) = self.open()
+        table, (one, _) = self.open()
         one.fork(1)
         begun = interrupted = 0
         end = time.monotonic() + 1.5
@@ -693,30 +699,30 @@ class Interrupts(Awaiting, Files):
                 path = self.folder / f"file{begun}"
                 begun += 1
                 # The end of the file before is not interrupted, since nobody would catch that.
-                before = shared._file
+                before = table._file
                 try:
                     self.awaited = True
-                    shared.save(path)
+                    table.save(path)
                 except KeyboardInterrupt:
                     interrupted += 1
                 self.awaited = False
-                self.assertEqual(shared.save(path), Saved(1, 2 * BLOCK, 0))
-                self.assertIsNot(shared._file, before)
+                self.assertEqual(table.save(path), Saved(1, 2 * BLOCK, 0))
+                self.assertIsNot(table._file, before)
         self.assertGreater(interrupted, 20)
         self.assertEqual({(self.folder / f"file{number}").stat().st_size for number in range(begun)}, {2 * BLOCK})
 
     def test_a_load(self) -> None:
-        shared, (one, _) = self.open()
+        table, (one, _) = self.open()
         one.answers(["getpid 1"] * 20000)
-        shared.save(self.path)
+        table.save(self.path)
         before = len(os.listdir("/proc/self/fd"))
         interrupted = 0
-        loaded: Shared | None = None
+        loaded: Table | None = None
         with alarms(self.interrupt, 0.001, 0.001):
             for _ in range(50):
                 try:
                     self.awaited = True
-                    loaded = Shared.load(self.path)
+                    loaded = Table.load(self.path)
                 except KeyboardInterrupt:
                     interrupted += 1
                 # Its end is not interrupted, since nobody would catch that.
@@ -728,21 +734,21 @@ class Interrupts(Awaiting, Files):
         self.assertEqual((len(os.listdir("/proc/self/fd")), self.load().counts()), (before, Counts(0, 20000)))
 
     def test_saves_of_a_handler(self) -> None:
-        shared, (one, other) = self.open()
+        table, (one, other) = self.open()
 
         def save(number: int, frame: FrameType | None) -> None:
             other.fork(1)
-            shared.save(self.path)
+            table.save(self.path)
 
         made = 0
         with alarms(save, 0.002, 0.002):
             # On a busy machine the handler comes later.
-            while made < 300 or shared.worker(1) <= 5:
+            while made < 300 or table.worker(1) <= 5:
                 one.fork(1)
-                shared.save(self.path)
+                table.save(self.path)
                 made += 1
-        self.assertEqual(shared.worker(0), made)
-        self.check_file(shared)
+        self.assertEqual(table.worker(0), made)
+        self.check_file(table)
 
 
 if __name__ == "__main__":

@@ -1,4 +1,4 @@
-"""The saver of a shared table: who waits for it, whom it holds up, and what they are told where it fails or ends."""
+"""The saver of a table: who waits for it, whom it holds up, and what they are told where it fails or ends."""
 
 import errno
 import os
@@ -7,10 +7,11 @@ import threading
 import unittest
 from collections.abc import Callable
 
-from pidtab import Counts, Saved, SaverEnded, Seat, Shared, TableClosed, Unsaved
+from pidtab import Counts, Saved, SaverEnded, Seat, Table, TableClosed, Unsaved
 from tests.test_arguments import NO_INTEGERS
 from tests.test_ends import in_child
 from tests.test_saved import BLOCK, Files
+from tests.ways import for_threads
 
 THREADS = 4
 EACH = 100
@@ -51,58 +52,58 @@ class Savers(Files):
         assert seat.ordinal is not None
         return seat.ordinal
 
-    def beside_the_saver(self, shared: Shared, saver: Later, does: Callable[[], None]) -> None:
+    def beside_the_saver(self, table: Table, saver: Later, does: Callable[[], None]) -> None:
         """Threads do it at once, and the saver ends after them."""
         works = [Later(does) for _ in range(THREADS)]
         self.assertEqual([it.told() for it in works], [None] * THREADS)
-        shared.end_saving()
+        table.end_saving()
         calls = THREADS * EACH
         self.assertEqual((saver.told(), self.in_file()), (Saved(calls, (calls + 1) * BLOCK, 0), calls))
 
     def test_each_answer_is_saved(self) -> None:
-        shared = self.closed_behind(Shared(THREADS))
-        saver = Later(lambda: shared.serve(self.path, keep=64, sync=True))
+        table = self.closed_behind(for_threads(THREADS))
+        saver = Later(lambda: table.serve(self.path, keep=64, sync=True))
 
         def work() -> None:
-            seat = shared.seat()
+            seat = table.seat()
             for _ in range(EACH):
                 ordinal = self.make(seat)
-                shared.wait_saved(ordinal)
+                table.wait_saved(ordinal)
                 self.assertGreater(self.in_file(), ordinal)
 
-        self.beside_the_saver(shared, saver, work)
+        self.beside_the_saver(table, saver, work)
         # No thread had more than one call that was not saved.
-        self.assertLess(THREADS * EACH - shared.counts().first_kept, 64 + THREADS)
+        self.assertLess(THREADS * EACH - table.counts().first_kept, 64 + THREADS)
         again = self.load()
         self.assertIsNone(again.wait_saved(THREADS * EACH - 1))
 
     def test_never_too_far(self) -> None:
-        shared = self.closed_behind(Shared(THREADS))
-        shared.save(self.path)
-        shared.bound_unsaved(BOUND)
-        saver = Later(lambda: shared.serve(self.path))
+        table = self.closed_behind(for_threads(THREADS))
+        table.save(self.path)
+        table.bound_unsaved(BOUND)
+        saver = Later(lambda: table.serve(self.path))
 
         def work() -> None:
-            seat = shared.seat()
+            seat = table.seat()
             for _ in range(EACH):
                 ordinal = self.make(seat)
                 self.assertLess(ordinal, self.in_file() + BOUND)
 
-        self.beside_the_saver(shared, saver, work)
+        self.beside_the_saver(table, saver, work)
 
     def test_a_saver_that_fails(self) -> None:
-        shared, (seat,) = self.open(1)
-        shared.save(self.path)
-        shared.bound_unsaved(1)
+        table, (seat,) = self.open(1)
+        table.save(self.path)
+        table.bound_unsaved(1)
         self.make(seat)
-        waiter = Later(lambda: shared.wait_saved(0))
+        waiter = Later(lambda: table.wait_saved(0))
         limits = resource.getrlimit(resource.RLIMIT_FSIZE)
         self.addCleanup(resource.setrlimit, resource.RLIMIT_FSIZE, limits)
         resource.setrlimit(resource.RLIMIT_FSIZE, (BLOCK, limits[1]))
         with self.assertRaises(OSError) as caught:
-            shared.serve(self.path)
+            table.serve(self.path)
         resource.setrlimit(resource.RLIMIT_FSIZE, limits)
-        for fault in (caught.exception, waiter.told(), Later(lambda: shared.wait_saved(0)).told()):
+        for fault in (caught.exception, waiter.told(), Later(lambda: table.wait_saved(0)).told()):
             assert isinstance(fault, OSError)
             self.assertEqual((fault.errno, fault.filename), (errno.EFBIG, str(self.path)))
         calls: list[Callable[[], object]] = [
@@ -112,59 +113,59 @@ class Savers(Files):
             with self.assertRaisesRegex(Unsaved, "^too many calls are not saved, and the saver has ended or failed$") as refused:
                 call()
             self.assertIsInstance(refused.exception.__cause__, OSError)
-        self.assertEqual(shared.counts(), Counts(0, 1))
+        self.assertEqual(table.counts(), Counts(0, 1))
         # A save that does better lets all go on.
-        self.assertEqual(shared.save(self.path).calls, 1)
-        self.assertIsNone(shared.wait_saved(0))
+        self.assertEqual(table.save(self.path).calls, 1)
+        self.assertIsNone(table.wait_saved(0))
         self.assertEqual(self.make(seat), 1)
 
     def test_a_saver_that_has_ended(self) -> None:
-        shared, (seat,) = self.open(1)
-        shared.bound_unsaved(1)
+        table, (seat,) = self.open(1)
+        table.bound_unsaved(1)
         self.make(seat)
-        waiter = Later(lambda: shared.wait_saved(0))
-        shared.end_saving()
+        waiter = Later(lambda: table.wait_saved(0))
+        table.end_saving()
         self.assertIsInstance(waiter.told(), SaverEnded)
         with self.assertRaises(Unsaved) as refused:
             seat.getpid(1)
         self.assertIsInstance(refused.exception.__cause__, SaverEnded)
         # It has a turn yet.
-        self.assertEqual((shared.serve(self.path).calls, shared.wait_saved(0)), (1, None))
+        self.assertEqual((table.serve(self.path).calls, table.wait_saved(0)), (1, None))
         with self.assertRaisesRegex(SaverEnded, "^the saver has ended, and whether the call is saved is not known$"):
-            shared.wait_saved(1)
+            table.wait_saved(1)
 
     def test_a_close_lets_nobody_wait(self) -> None:
-        shared, (seat,) = self.open(1)
-        saver = Later(lambda: shared.serve(self.path))
+        table, (seat,) = self.open(1)
+        saver = Later(lambda: table.serve(self.path))
         while not self.path.exists():
             os.sched_yield()
-        waiter = Later(lambda: shared.wait_saved(0))
-        shared.close()
+        waiter = Later(lambda: table.wait_saved(0))
+        table.close()
         told = waiter.told()
         self.assertIsInstance(told, TableClosed)
         self.assertIsInstance(saver.told(), (Saved, TableClosed))
-        for call in (lambda: shared.wait_saved(0), lambda: shared.bound_unsaved(1), shared.end_saving, lambda: shared.serve(self.path)):
+        for call in (lambda: table.wait_saved(0), lambda: table.bound_unsaved(1), table.end_saving, lambda: table.serve(self.path)):
             with self.assertRaisesRegex(TableClosed, "^the table was closed$"):
                 call()
 
     def test_in_a_forked_child(self) -> None:
-        shared, _ = self.open(1)
-        shared.bound_unsaved(1)
+        table, _ = self.open(1)
+        table.bound_unsaved(1)
 
         def wait() -> str:
             try:
-                shared.wait_saved(0)
+                table.wait_saved(0)
             except TableClosed as fault:
-                shared.close()
+                table.close()
                 return str(fault)
             return "no fault"
 
         self.assertIn("this table is that of the parent process", in_child(wait))
 
     def test_numbers(self) -> None:
-        shared, _ = self.open(1)
+        table, _ = self.open(1)
         places: list[tuple[Callable[[int], object], str]] = [
-            (shared.wait_saved, "ordinal"), (shared.bound_unsaved, "most"), (lambda it: shared.serve(self.path, keep=it), "keep"),
+            (table.wait_saved, "ordinal"), (table.bound_unsaved, "most"), (lambda it: table.serve(self.path, keep=it), "keep"),
         ]  # fmt: skip
         for method, name in places:
             for value in (-1, 2**64):

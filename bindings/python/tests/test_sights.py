@@ -1,4 +1,4 @@
-"""What a user of a table sees of a shared one too: changes, numbers, labels, what a call would answer, a text and a copy."""
+"""What a user of a table sees of one on many hosts too: changes, numbers, labels, what a call would answer, a text and a copy."""
 
 import logging
 import threading

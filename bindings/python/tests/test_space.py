@@ -4,18 +4,13 @@ import json
 import random
 import unittest
 
-import pidtab.native
-import pidtab.shared
-import pidtab.table
-from pidtab import Ask, LibraryFault, MemoryLog, Refusal, Replicated, Seat, Shared, SpaceStat, Table, TableClosed
+from pidtab import Ask, LibraryFault, MemoryLog, Refusal, Replicated, Seat, SpaceStat, Table, TableClosed
 from pidtab.native import SHORT_PAGE
 from pidtab.raw import CLOSED, DONE, NO_MEMORY, OUT_OF_RANGE, PidtabSpace
 from tests.test_changes import validator
 from tests.test_ends import OTHERS, in_child
 from tests.test_interrupts import CallInterrupter
-from tests.ways import Answered, OnEachTable, need_library, read_beside_a_writer
-
-FILES = {pidtab.native.__file__, pidtab.shared.__file__, pidtab.table.__file__}
+from tests.ways import FILES_OF_TABLES, Answered, OnEachTable, need_library, read_beside_a_writer
 
 SEED = 5
 
@@ -95,17 +90,17 @@ class Spaces(OnEachTable):
                             inside(*[0][:place], none)  # type: ignore[arg-type]
 
     def test_they_are_no_calls(self) -> None:
-        before = self.shared.counts()
+        before = self.many.counts()
         for ask in self.ways():
             ask.space(1)
             ask.spaces_inside()
             ask.controls_inside()
-        self.assertEqual((self.table.mk(), self.shared.counts(), self.seat.ordinal), (7, before, 5))
+        self.assertEqual((self.table.mk(), self.many.counts(), self.seat.ordinal), (7, before, 5))
 
     def test_closed(self) -> None:
         ways = self.ways()
         self.table.close()
-        self.shared.close()
+        self.many.close()
         for ask in ways:
             for read in (ask.space, ask.spaces_inside, ask.controls_inside):
                 with self.assertRaises(TableClosed):
@@ -120,7 +115,7 @@ class Spaces(OnEachTable):
     def test_interrupts(self) -> None:
         for ask in self.ways():
             places = 0
-            while CallInterrupter(places + 1, FILES).run(lambda: ask.space(3)):
+            while CallInterrupter(places + 1, FILES_OF_TABLES).run(lambda: ask.space(3)):
                 places += 1
                 self.assertEqual(ask.space(3), SpaceStat(3, 0, 1, 4, True))
             self.assertGreater(places, 0)
@@ -128,7 +123,7 @@ class Spaces(OnEachTable):
     def test_interrupts_of_what_is_inside(self) -> None:
         for ask in self.ways():
             places = 0
-            while CallInterrupter(places + 1, FILES).run(lambda: ask.spaces_inside()):
+            while CallInterrupter(places + 1, FILES_OF_TABLES).run(lambda: ask.spaces_inside()):
                 places += 1
                 self.assertEqual(ask.spaces_inside(), (1, 3))
             self.assertGreater(places, 4)
@@ -192,13 +187,13 @@ class Others(unittest.TestCase):
             self.assertEqual([one.ask.spaces_inside(), two.ask(now=True).spaces_inside(), two.ask(now=True).controls_inside()], [(id,), (id,), ()])
 
     def test_threads_beside_a_writer(self) -> None:
-        def read(shared: Shared, before: int) -> int:
+        def read(table: Table, before: int) -> int:
             id = before + 1
             try:
-                told = shared.ask.space(id)
+                told = table.ask.space(id)
             except LookupError:
                 return before
-            inside = shared.ask.spaces_inside()
+            inside = table.ask.spaces_inside()
             self.assertEqual((told, inside), (SpaceStat(id, 0, 1, id + 1, False), tuple(range(1, len(inside) + 1))))
             self.assertGreaterEqual(len(inside), id)
             return id

@@ -29,19 +29,19 @@ class Header(unittest.TestCase):
     """The structs are as long as those of the header, of which they are written."""
 
     def test_the_sizes(self) -> None:
-        # Those that bindings/c/test.c and test_shared.c assert.
-        structs = (raw.Pidtab, raw.PidtabCall, raw.PidtabReply, raw.PidtabEntry)
-        self.assertEqual([ctypes.sizeof(it) for it in structs], [16, 32, 168, 208])
+        # Those that bindings/c/test.c asserts.
+        structs = (raw.PidtabCall, raw.PidtabReply, raw.PidtabEntry)
+        self.assertEqual([ctypes.sizeof(it) for it in structs], [32, 168, 208])
         self.assertEqual(raw.CALL_FIELDS.size, 32)
         for packed in (bytes(raw.PidtabCall(*range(1, 8))), b"\xff" * 32):
             fields = raw.PidtabCall.from_buffer_copy(packed)
             self.assertEqual(raw.CALL_FIELDS.unpack(packed), tuple(getattr(fields, name) for name, *_ in fields._fields_))
 
-    def test_the_room_for_a_shared_table(self) -> None:
-        # Its size and its alignment are those of the platform's lock.
-        kind = "struct pidtab_shared"
-        wanted = f"sizeof({kind}) <= {ctypes.sizeof(raw.PidtabShared)} && _Alignof({kind}) <= {ctypes.alignment(raw.PidtabShared)}"
-        code = f'#include "pidtab_shared.h"\n_Static_assert({wanted}, "room");\n'
+    def test_what_the_compiler_says_of_a_table(self) -> None:
+        asserted = []
+        for name, struct in (("pidtab", raw.Pidtab), ("pidtab_settings", raw.PidtabSettings), ("pidtab_saved", raw.PidtabSaved)):
+            asserted.append(f"sizeof(struct {name}) == {ctypes.sizeof(struct)} && _Alignof(struct {name}) == {ctypes.alignment(struct)}")
+        code = '#include "pidtab_saved.h"\n' + "".join(f'_Static_assert({it}, "room");\n' for it in asserted)
         command = [need_tool("cc"), "-std=c11", "-fsyntax-only", f"-I{REPOSITORY / 'bindings' / 'c'}", "-xc", "-"]
         done = subprocess.run(command, input=code, capture_output=True, text=True, check=False)
         self.assertEqual((done.returncode, done.stderr), (0, ""))
@@ -97,10 +97,6 @@ class Libraries(unittest.TestCase):
         with mock.patch("ctypes.PyDLL", return_value=functions), self.assertRaisesRegex(LibraryFault, "later.so has the interface 2"):
             load_library.__wrapped__("later.so")
 
-    def test_an_interpreter_without_its_lock(self) -> None:
-        with mock.patch.object(sys, "_is_gil_enabled", return_value=False, create=True), self.assertRaisesRegex(LibraryFault, "without its lock"):
-            load_library.__wrapped__("any.so")
-
 
 class Statuses(unittest.TestCase):
     """What is raised for each status that a table of a test's size does not come to."""
@@ -140,7 +136,7 @@ class Statuses(unittest.TestCase):
 
     def test_no_memory_for_a_table(self) -> None:
         functions = SimpleNamespace(pidtab_open=mock.Mock(return_value=raw.NO_MEMORY))
-        found = mock.patch.multiple("pidtab.table", find_library=lambda named: "none", load_library=lambda path: functions)
+        found = mock.patch.multiple("pidtab.table", find_library=lambda named: "none", load_library=lambda path, threads: functions)
         with found, self.assertRaises(MemoryError):
             Table()
 
@@ -192,17 +188,17 @@ class Ends(unittest.TestCase):
 
     def test_a_table_that_nobody_has(self) -> None:
         table = Table()
-        held, finish = table._table, table._finish
-        self.assertTrue(held.is_open)
+        at = table._check_open().at
+        self.assertTrue(at.is_open)
         del table
         gc.collect()
-        self.assertFalse(finish.alive)
-        self.assertFalse(held.is_open)
+        self.assertFalse(at.is_open)
 
     def test_a_close_leaves_zeroes(self) -> None:
-        table = Table()
+        table = Table(keep=4, workers=2)
+        at = table._check_open().at
         table.close()
-        self.assertEqual((table._table.at, table._table.is_open), (None, False))
+        self.assertEqual(bytes(at), bytes(ctypes.sizeof(at)))
         table.close()
 
     def test_a_close_amid_calls_of_another_thread(self) -> None:

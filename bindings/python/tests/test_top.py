@@ -9,11 +9,11 @@ import threading
 import unittest
 from pathlib import Path
 
-from pidtab import BadHistory, Entry, Shared, Table
+from pidtab import BadHistory, Entry, Table
 from pidtab.accounts import Accounts
 from pidtab.commands.history_stream import follow_file, follow_service
 from tests.pages import REPOSITORY
-from tests.ways import need_shared
+from tests.ways import for_threads, need_library
 
 PROGRAM = REPOSITORY / "bindings" / "python" / "bin" / "pidtab-top"
 
@@ -55,18 +55,18 @@ class Histories(unittest.TestCase):
     """A folder with a saved history."""
 
     def setUp(self) -> None:
-        need_shared()
+        need_library()
         folder = tempfile.TemporaryDirectory()
         self.addCleanup(folder.cleanup)
         self.path = Path(folder.name, "history")
-        self.shared = Shared(1)
-        self.addCleanup(self.shared.close)
-        self.seat = self.shared.seat()
+        self.table = for_threads(1)
+        self.addCleanup(self.table.close)
+        self.seat = self.table.seat()
 
     def save(self, *lines: str) -> None:
         """Makes calls, and saves them."""
         self.seat.answers(lines)
-        self.shared.save(self.path)
+        self.table.save(self.path)
 
 
 class Counts(Histories):
@@ -75,7 +75,7 @@ class Counts(Histories):
         self.seat.answers(lines)
         accounts = Accounts(Table())
         self.addCleanup(accounts.table.close)
-        accounts.add(self.shared.entries())
+        accounts.add(self.table.entries())
         return accounts
 
     def test_peaks_and_refusals(self) -> None:
@@ -96,7 +96,7 @@ class Counts(Histories):
         self.assertEqual((accounts.peaks, accounts.limited), ({0: 3, 1: 2, 2: 2}, {1: 1}))
         # Where both are full, the nearest one refuses alone.
         self.seat.answers(("limit 2 2", "fork 2"))
-        accounts.add(self.shared.entries(len(refused)))
+        accounts.add(self.table.entries(len(refused)))
         self.assertEqual((accounts.peaks, accounts.limited), ({0: 3, 1: 2, 2: 2}, {1: 1, 2: 1}))
 
     def test_a_group_that_was_removed(self) -> None:
@@ -106,13 +106,13 @@ class Counts(Histories):
         seat = self.seat
         accounts = Accounts(Table(301))
         self.addCleanup(accounts.table.close)
-        with Shared(1, pid_max=301) as shared:
-            seat, keys = shared.seat(), set()
+        with for_threads(1, pid_max=301) as table:
+            seat, keys = table.seat(), set()
             for _ in range(400):
                 child = seat.fork(1).root
                 seat.exit(child)
                 seat.wait(1)
-                accounts.add(shared.entries(seat.ordinal - 2))
+                accounts.add(table.entries(seat.ordinal - 2))
                 keys.add((child, accounts.keys[child]))
         self.assertLess(len({number for number, _ in keys}), 301)
         self.assertEqual((len(keys), max(key for _, key in keys)), (400, 1198))
@@ -156,7 +156,7 @@ class Files(Histories):
             with open(part, "ab") as file:
                 file.write(whole[start : start + 7])
             entries += next(followed.calls)
-        self.assertEqual(entries, list(self.shared.entries()))
+        self.assertEqual(entries, list(self.table.entries()))
         followed.calls.close()  # type: ignore[attr-defined]
 
     def test_bad_files(self) -> None:
@@ -200,7 +200,7 @@ class Service(Histories):
 
     def test_a_text_and_the_calls_behind_it(self) -> None:
         self.save("fork 1")
-        head, text = self.path.read_bytes(), self.shared.dump().encode()
+        head, text = self.path.read_bytes(), self.table.dump().encode()
         self.save("fork 2", "mk 0")
         blocks = self.path.read_bytes()[len(head) :]
         sum = int.from_bytes(head[-8:], "little")
@@ -214,7 +214,7 @@ class Service(Histories):
         self.assertEqual((lines, followed.first_stamp), (["fork 2", "mk 0"], 2))
 
     def test_a_service_that_has_begun_another_log(self) -> None:
-        text = self.shared.dump().encode()
+        text = self.table.dump().encode()
         self.save("fork 1")
         # The checksum goes on from the new head, whatever it was before.
         path = self.serve(self.bulk(text), self.bulk(b"%016x" % 7), self.bulk(self.path.read_bytes()))

@@ -31,8 +31,8 @@ def count(queries: pidtab.Queries) -> int:
     return queries.count() + len(queries.control_tasks(1, 0, 2)) if isinstance(queries, pidtab.Ask) else queries.count()
 
 
-def use(table: pidtab.Table, shared: pidtab.Shared, seat: pidtab.Seat, many: pidtab.Replicated) -> int:
-    asked = parent(table, 1) + parent(shared, 1) + parent(seat, 1) + parent(many, 1) + count(shared.ask) + count(seat)
+def use(table: pidtab.Table, seat: pidtab.Seat, many: pidtab.Replicated) -> int:
+    asked = parent(table, 1) + parent(seat, 1) + parent(many, 1) + count(table.ask) + count(seat) + table.counts().recorded + (seat.ordinal or 0)
     return asked + child(table) + child(seat) + child(many)
 
 
@@ -57,23 +57,42 @@ def fall(table: pidtab.Table, seat: pidtab.Seat) -> int:
     return table.told.fork(1).answer.root + (reaped.answer.child if reaped.answer else 0)
 
 
-def misuse(process: pidtab.Process, shared: pidtab.Shared, calls: pidtab.Calls, table: pidtab.AskableCalls) -> None:
+def keep(text: str) -> pidtab.Table:
+    with pidtab.Table(400, keep=pidtab.ALL, workers=2, threads=True) as table, table.lock() as held:
+        assert held.keep and held.threads and held.workers
+    return pidtab.Table.from_dump(text, keep=4096, recorded=[1, 2])
+
+
+async def wait(table: pidtab.Table, seat: pidtab.Seat) -> int:
+    return await table.changed(0) + (await seat.reap(1)).child
+
+
+def misuse(process: pidtab.Process, calls: pidtab.Calls, table: pidtab.AskableCalls) -> None:
     parent(process, 1)  # wrong
     child(process)  # wrong
-    child(shared)  # wrong
     calls.ask  # wrong
     table.ask.fork(1)  # wrong
     table.ask.control_tasks("1")  # wrong
     table.fork("1")  # wrong
 
 
-def misuse_told(table: pidtab.Table, shared: pidtab.Shared, process: pidtab.Process) -> None:
+def misuse_settings(table: pidtab.Table, seat: pidtab.Seat) -> None:
+    pidtab.Table(400, None, 4096)  # wrong
+    pidtab.Table(keep="all")  # wrong
+    pidtab.Table(threads=4)  # wrong
+    pidtab.Table(worker=4)  # wrong
+    table.follow(seat, 0)  # wrong
+    table.ordinal  # wrong
+    seat.counts()  # wrong
+    seat.lock()  # wrong
+
+
+def misuse_told(table: pidtab.Table, process: pidtab.Process) -> None:
     table.told.exit("2")  # wrong
     table.told.exit(2, own=True)  # wrong
     table.told.wait(1).answer.child  # wrong
     table.told.line("exit 2 0")  # wrong
     table.told.exit(2).effects.number  # wrong
-    shared.told.exit(2)  # wrong
     process.told.exit(2)  # wrong
 """
 

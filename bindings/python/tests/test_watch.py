@@ -1,4 +1,4 @@
-"""Waits until a call of a shared table is recorded: by which thread, how long, what interrupts them, and what ends them."""
+"""Waits until a call of a table is recorded: by which thread, how long, what interrupts them, and what ends them."""
 
 import _thread
 import ctypes
@@ -14,16 +14,17 @@ import unittest
 import weakref
 from collections.abc import Callable
 from pathlib import Path
-from types import FrameType, SimpleNamespace
+from types import FrameType
 from unittest import mock
 
-from pidtab import LibraryFault, Shared, Table, TableClosed, WaitingEnded
+from pidtab import Table, TableClosed, WaitingEnded
 from pidtab.watch import Watch
 from tests.alarms import Awaiting, alarms
 from tests.test_arguments import NO_INTEGERS
 from tests.test_ends import in_child
 from tests.test_saved import Files
 from tests.test_saver import Later
+from tests.ways import for_threads
 
 PACKAGE = Path(__file__).resolve().parents[1]
 THREADS = 4
@@ -48,9 +49,9 @@ class Tables(Files):
 
     def setUp(self) -> None:
         super().setUp()
-        self.shared, (self.seat, self.other) = self.open(2)
+        self.table, (self.seat, self.other) = self.open(2)
         # What would wait for ever is woken.
-        watch = threading.Timer(LONG, self.shared.end_waiting)
+        watch = threading.Timer(LONG, self.table.end_waiting)
         watch.start()
         self.addCleanup(watch.join)
         self.addCleanup(watch.cancel)
@@ -67,46 +68,46 @@ class Tables(Files):
     @property
     def awaited(self) -> set[int]:
         """For which ordinals a thread waits in the library for another."""
-        return self.shared._watch._awaited
+        return self.table._watch._awaited
 
 
 class Waits(Tables):
     def test_what_is_recorded_already(self) -> None:
         self.seat.answers(["getpid 1"] * 3)
         for timeout in (None, 0, LONG):
-            self.assertEqual([self.shared.wait_changed(it, timeout) for it in range(3)], [3] * 3)
-        self.shared.checkpoint()
-        self.assertEqual(self.shared.wait_changed(0), 3)
+            self.assertEqual([self.table.wait_changed(it, timeout) for it in range(3)], [3] * 3)
+        self.table.checkpoint()
+        self.assertEqual(self.table.wait_changed(0), 3)
         self.assertEqual(self.awaited, set())
 
     def test_the_main_thread_waits_for_another(self) -> None:
         for recorded, timeout in ((1, None), (2, LONG), (3, math.inf), (4, 10**400)):
             call = self.soon(lambda: self.seat.getpid(1))
-            self.assertEqual(self.shared.wait_changed(recorded - 1, timeout), recorded)
+            self.assertEqual(self.table.wait_changed(recorded - 1, timeout), recorded)
             self.assertEqual(call.told(), 1)
 
     def test_another_waits_for_the_main_thread(self) -> None:
         for recorded, timeout in ((1, None), (2, LONG)):
-            waiter = Later(lambda: self.shared.wait_changed(recorded - 1, timeout))
+            waiter = Later(lambda: self.table.wait_changed(recorded - 1, timeout))
             time.sleep(SHORT)
             wait_until(lambda timeout=timeout, recorded=recorded: self.awaited == (set() if timeout is None else {recorded - 1}))
             self.seat.getpid(1)
             self.assertEqual(waiter.told(), recorded)
 
     def test_a_query_or_a_cut_wakes_nobody(self) -> None:
-        waiters = [Later(lambda: self.shared.wait_changed(0)), Later(lambda: self.shared.wait_changed(0, LONG))]
+        waiters = [Later(lambda: self.table.wait_changed(0)), Later(lambda: self.table.wait_changed(0, LONG))]
         time.sleep(SHORT)
-        self.shared.ask.getpid(1)
-        self.shared.checkpoint()
-        self.shared.list_text()
+        self.table.ask.getpid(1)
+        self.table.checkpoint()
+        self.table.list_text()
         time.sleep(SHORT)
         self.assertEqual([it._told for it in waiters], [[], []])
         self.seat.line("getpid 1")
         self.assertEqual([it.told() for it in waiters], [1, 1])
 
     def test_many_wait_for_one_and_one_for_many(self) -> None:
-        waiters = [Later(lambda timeout=timeout: self.shared.wait_changed(0, timeout)) for timeout in (None, LONG) * 4]
-        last = Later(lambda: self.shared.wait_changed(2, LONG))
+        waiters = [Later(lambda timeout=timeout: self.table.wait_changed(0, timeout)) for timeout in (None, LONG) * 4]
+        last = Later(lambda: self.table.wait_changed(2, LONG))
         time.sleep(SHORT)
         self.seat.getpid(1)
         self.assertEqual([it.told() for it in waiters], [1] * 8)
@@ -127,86 +128,86 @@ class Waits(Tables):
         self.assertEqual((started.call_count, self.awaited), (1, {1}))
         for timeout in (0, -1, -math.inf):
             with self.assertRaisesRegex(TimeoutError, "^call 1 was not recorded in 0 seconds$"):
-                self.shared.wait_changed(1, timeout)
+                self.table.wait_changed(1, timeout)
         self.seat.getpid(1)
-        self.assertEqual(self.shared.wait_changed(1, 0), 2)
+        self.assertEqual(self.table.wait_changed(1, 0), 2)
         wait_until(lambda: not self.awaited)
 
     def time_over(self) -> None:
         begun = time.monotonic()
         with self.assertRaisesRegex(TimeoutError, "^call 1 was not recorded in 0.05 seconds$"):
-            self.shared.wait_changed(1, SHORT)
+            self.table.wait_changed(1, SHORT)
         self.assertGreaterEqual(time.monotonic() - begun, SHORT)
 
     def test_what_is_no_ordinal_and_no_time(self) -> None:
         for ordinal in NO_INTEGERS:
             with self.assertRaises(TypeError):
-                self.shared.wait_changed(ordinal)
+                self.table.wait_changed(ordinal)
         for ordinal in (-1, 2**64):
             with self.assertRaisesRegex(ValueError, f"^ordinal is 0 to {2**64 - 1}, not {ordinal}$"):
-                self.shared.wait_changed(ordinal)
+                self.table.wait_changed(ordinal)
         for timeout in ("1", True, [1]):
             with self.assertRaisesRegex(TypeError, "^timeout is a number of seconds or None, not "):
-                self.shared.wait_changed(0, timeout)  # type: ignore[arg-type]
+                self.table.wait_changed(0, timeout)  # type: ignore[arg-type]
         with self.assertRaisesRegex(ValueError, "^timeout is a number of seconds or None, not nan$"):
-            self.shared.wait_changed(0, math.nan)
+            self.table.wait_changed(0, math.nan)
 
     def test_the_end_of_the_waits(self) -> None:
         self.seat.getpid(1)
-        waiters = [Later(lambda timeout=timeout: self.shared.wait_changed(1, timeout)) for timeout in (None, LONG)]
-        ended = self.soon(self.shared.end_waiting)
+        waiters = [Later(lambda timeout=timeout: self.table.wait_changed(1, timeout)) for timeout in (None, LONG)]
+        ended = self.soon(self.table.end_waiting)
         with self.assertRaisesRegex(WaitingEnded, "^the waits were ended, and call 2 is not recorded$"):
-            self.shared.wait_changed(2)
+            self.table.wait_changed(2)
         self.assertIsNone(ended.told())
         for it in waiters:
             self.assertIsInstance(it.told(), WaitingEnded)
         # What is recorded is answered still, and the table goes on.
         self.seat.getpid(1)
-        self.assertEqual((self.shared.wait_changed(0), self.shared.wait_changed(1, LONG)), (2, 2))
+        self.assertEqual((self.table.wait_changed(0), self.table.wait_changed(1, LONG)), (2, 2))
         for timeout in (None, 0, LONG):
             with self.assertRaises(WaitingEnded):
-                self.shared.wait_changed(2, timeout)
+                self.table.wait_changed(2, timeout)
         wait_until(lambda: not self.awaited)
 
     def test_a_close_lets_nobody_wait(self) -> None:
-        waiters = [Later(lambda timeout=timeout: self.shared.wait_changed(0, timeout)) for timeout in (None, LONG)]
-        closed = self.soon(self.shared.close)
+        waiters = [Later(lambda timeout=timeout: self.table.wait_changed(0, timeout)) for timeout in (None, LONG)]
+        closed = self.soon(self.table.close)
         with self.assertRaisesRegex(TableClosed, "^the table was closed$"):
-            self.shared.wait_changed(5)
+            self.table.wait_changed(5)
         self.assertIsNone(closed.told())
         for it in waiters:
             self.assertIsInstance(it.told(), TableClosed)
-        for call in (lambda: self.shared.wait_changed(0), lambda: self.shared.wait_changed(0, 0), self.shared.end_waiting):
+        for call in (lambda: self.table.wait_changed(0), lambda: self.table.wait_changed(0, 0), self.table.end_waiting):
             with self.assertRaisesRegex(TableClosed, "^the table was closed$"):
                 call()
         wait_until(lambda: not self.awaited)
 
     def test_in_a_forked_child(self) -> None:
         with self.assertRaises(TimeoutError):
-            self.shared.wait_changed(0, SHORT)
-        for ask in (lambda: self.shared.wait_changed(0), lambda: self.shared.wait_changed(0, 1), self.shared.end_waiting):
+            self.table.wait_changed(0, SHORT)
+        for ask in (lambda: self.table.wait_changed(0), lambda: self.table.wait_changed(0, 1), self.table.end_waiting):
             self.assertIn("this table is that of the parent process", in_child(ask))
         self.seat.getpid(1)
-        self.assertEqual(self.shared.wait_changed(0), 1)
+        self.assertEqual(self.table.wait_changed(0), 1)
 
     def test_beside_a_saver(self) -> None:
-        saver = Later(lambda: self.shared.serve(self.path))
+        saver = Later(lambda: self.table.serve(self.path))
         for recorded in range(1, 50):
-            waiters = [Later(lambda: self.shared.wait_changed(recorded - 1)), Later(lambda: self.shared.wait_changed(recorded - 1, LONG))]
+            waiters = [Later(lambda: self.table.wait_changed(recorded - 1)), Later(lambda: self.table.wait_changed(recorded - 1, LONG))]
             self.seat.getpid(1)
-            self.shared.wait_saved(recorded - 1)
+            self.table.wait_saved(recorded - 1)
             self.assertEqual([it.told() for it in waiters], [recorded] * 2)
         # The end of one is not that of the other.
-        self.shared.end_waiting()
+        self.table.end_waiting()
         self.seat.getpid(1)
-        self.assertIsNone(Later(lambda: self.shared.wait_saved(49)).told())
-        self.shared.end_saving()
+        self.assertIsNone(Later(lambda: self.table.wait_saved(49)).told())
+        self.table.end_saving()
         self.assertEqual(getattr(saver.told(), "calls"), 50)
 
     def test_the_end_of_the_saver_ends_no_wait(self) -> None:
-        waiter = Later(lambda: self.shared.wait_changed(0))
+        waiter = Later(lambda: self.table.wait_changed(0))
         time.sleep(SHORT)
-        self.shared.end_saving()
+        self.table.end_saving()
         time.sleep(SHORT)
         self.assertEqual(waiter._told, [])
         self.seat.getpid(1)
@@ -214,14 +215,14 @@ class Waits(Tables):
 
     def test_one_that_nobody_has_any_more(self) -> None:
         for closes in (True, False):
-            shared = Shared(1)
+            table = for_threads(1)
             with self.assertRaises(TimeoutError):
-                shared.wait_changed(0, SHORT)
-            assert shared._hold is not None
-            hold = weakref.ref(shared._hold)
+                table.wait_changed(0, SHORT)
+            assert table._hold is not None
+            hold = weakref.ref(table._hold)
             if closes:
-                shared.close()
-            del shared
+                table.close()
+            del table
             gc.collect()
             wait_until(lambda hold=hold: hold() is None)
 
@@ -244,18 +245,11 @@ class Waits(Tables):
         recorded_now.set()
         self.assertEqual((waiter.told(), len(looks)), ((0, 1), 4))
 
-    def test_an_earlier_library(self) -> None:
-        earlier = SimpleNamespace()
-        assert self.shared._hold is not None
-        for ask in (lambda: self.shared.wait_changed(0), self.shared.end_waiting):
-            with mock.patch.object(self.shared._hold, "functions", earlier), self.assertRaisesRegex(LibraryFault, "no function pidtab_shared_wait"):
-                ask()
-
     def test_who_follows_to_the_end(self) -> None:
-        shared = self.closed_behind(Shared(THREADS))
+        table = self.closed_behind(for_threads(THREADS))
 
         def serve() -> None:
-            seat = shared.seat()
+            seat = table.seat()
             for number in range(EACH):
                 child = seat.fork(1).child
                 seat.exit(child, 7)
@@ -267,17 +261,17 @@ class Waits(Tables):
                 following = 0
                 try:
                     while True:
-                        recorded = shared.wait_changed(following)
+                        recorded = table.wait_changed(following)
                         self.assertGreater(recorded, following)
-                        following = shared.follow(replica, following)
+                        following = table.follow(replica, following)
                         self.assertGreaterEqual(following, recorded)
                 except WaitingEnded:
                     return following, replica.dump()
 
         follower, threads = Later(follow), [Later(serve) for _ in range(THREADS)]
         self.assertEqual([it.told() for it in threads], [None] * THREADS)
-        shared.end_waiting()
-        self.assertEqual(follower.told(), (THREADS * (3 * EACH - EACH // 3), shared.dump()))
+        table.end_waiting()
+        self.assertEqual(follower.told(), (THREADS * (3 * EACH - EACH // 3), table.dump()))
 
 
 class Signals(Tables):
@@ -290,11 +284,11 @@ class Signals(Tables):
         for timeout in (None, LONG, None):
             begun = time.monotonic()
             with alarms(interrupt, SHORT), self.assertRaises(KeyboardInterrupt):
-                self.shared.wait_changed(0, timeout)
+                self.table.wait_changed(0, timeout)
             self.assertLess(time.monotonic() - begun, LONG / 2)
         wait_until(lambda: self.awaited == {0})
         call = self.soon(lambda: self.seat.getpid(1))
-        self.assertEqual((self.shared.wait_changed(0), call.told()), (1, 1))
+        self.assertEqual((self.table.wait_changed(0), call.told()), (1, 1))
         wait_until(lambda: not self.awaited)
 
     def test_many_interrupts_lose_no_call(self) -> None:
@@ -304,7 +298,7 @@ class Signals(Tables):
             while recorded < EACH:
                 try:
                     awaiting.awaited = True
-                    recorded = self.shared.wait_changed(recorded)
+                    recorded = self.table.wait_changed(recorded)
                     awaiting.awaited = False
                 except KeyboardInterrupt:
                     interrupted += 1
@@ -321,25 +315,25 @@ class Signals(Tables):
                 self.seat.getpid(1)
 
         with alarms(call, SHORT, SHORT):
-            self.assertEqual(self.shared.wait_changed(0), 1)
+            self.assertEqual(self.table.wait_changed(0), 1)
 
     def test_a_handler_that_waits_too(self) -> None:
         told = []
 
         def call(number: int, frame: FrameType | None) -> None:
             self.seat.getpid(1)
-            told.append(self.shared.wait_changed(0))
+            told.append(self.table.wait_changed(0))
             self.seat.getpid(1)
 
         with alarms(call, SHORT):
-            self.assertEqual((self.shared.wait_changed(1), told), (2, [1]))
+            self.assertEqual((self.table.wait_changed(1), told), (2, [1]))
 
     def test_a_handler_that_closes(self) -> None:
-        with alarms(lambda number, frame: self.shared.close(), SHORT), self.assertRaises(TableClosed):
-            self.shared.wait_changed(0)
+        with alarms(lambda number, frame: self.table.close(), SHORT), self.assertRaises(TableClosed):
+            self.table.wait_changed(0)
 
     def test_ctrl_c_ends_a_program(self) -> None:
-        program = "import pidtab; print('waits', flush=True); pidtab.Shared(1).wait_changed(0)"
+        program = "import pidtab; print('waits', flush=True); pidtab.Table(keep=pidtab.ALL, threads=True, workers=1).wait_changed(0)"
         words = {**os.environ, "PYTHONPATH": str(PACKAGE)}
         with subprocess.Popen([sys.executable, "-B", "-c", program], env=words, stdout=subprocess.PIPE, stderr=subprocess.PIPE, text=True) as child:
             assert child.stdout is not None

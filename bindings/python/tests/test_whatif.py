@@ -7,10 +7,10 @@ import tempfile
 import unittest
 from pathlib import Path
 
-from pidtab import BadHistory, Shared, Table
+from pidtab import BadHistory, Table
 from pidtab.commands.whatif import Bound, Log, Logged, World, play
 from tests.pages import REPOSITORY, StoredScript, stored_scripts
-from tests.ways import need_library, need_shared
+from tests.ways import for_threads, need_library
 
 LAUNCHER = REPOSITORY / "bindings" / "python" / "bin" / "pidtabctl"
 
@@ -170,15 +170,15 @@ class Histories(unittest.TestCase):
     """The log is a saved history."""
 
     def setUp(self) -> None:
-        need_shared()
+        need_library()
         folder = tempfile.TemporaryDirectory()
         self.addCleanup(folder.cleanup)
         self.path = Path(folder.name, "history")
 
     def test_a_saved_history(self) -> None:
-        with Shared(1, pid_max=301) as shared:
-            shared.seat().answers(FAMILY)
-            shared.save(self.path)
+        with for_threads(1, pid_max=301) as table:
+            table.seat().answers(FAMILY)
+            table.save(self.path)
         done = whatif("--json", "--pids-max", "3", self.path)
         # The third call has the ordinal 2.
         (bound,) = json.loads(done.stdout)["bounds"]

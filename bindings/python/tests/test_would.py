@@ -5,16 +5,11 @@ import threading
 import unittest
 from collections.abc import Callable
 
-import pidtab.native
-import pidtab.shared
-import pidtab.table
-from pidtab import Forked, Reaped, Refusal, Seat, Shared, Table, TableClosed
+from pidtab import Forked, Reaped, Refusal, Seat, Table, TableClosed
 from tests.test_ends import OTHERS, in_child
 from tests.test_interrupts import CallInterrupter
 from tests.test_labels import take_last_number
-from tests.ways import need_library, need_shared
-
-FILES = {pidtab.native.__file__, pidtab.shared.__file__, pidtab.table.__file__}
+from tests.ways import FILES_OF_TABLES, for_threads, need_library
 
 SEED = 3
 FORKS = 200
@@ -123,27 +118,27 @@ class WouldOfShared(unittest.TestCase):
     """A table that threads share."""
 
     def setUp(self) -> None:
-        need_shared()
+        need_library()
 
     def test_nothing_is_recorded(self) -> None:
-        with Shared() as shared:
-            seat = shared.seat()
-            self.assertEqual([it.would.fork(1) for it in (shared, seat)], [Forked(2, 2)] * 2)
+        with for_threads() as many:
+            seat = many.seat()
+            self.assertEqual([it.would.fork(1) for it in (many, seat)], [Forked(2, 2)] * 2)
             self.assertIs(seat.fork_at(1, Forked(3, 3)), False)
-            self.assertEqual((seat.ordinal, shared.counts().recorded), (None, 0))
+            self.assertEqual((seat.ordinal, many.counts().recorded), (None, 0))
             self.assertIs(seat.fork_at(1, Forked(2, 2)), True)
-            self.assertEqual((seat.ordinal, shared.counts().recorded, shared.entry(0).answer), (0, 1, "child 2 root 2"))
+            self.assertEqual((seat.ordinal, many.counts().recorded, many.entry(0).answer), (0, 1, "child 2 root 2"))
         with self.assertRaises(TableClosed):
-            shared.would.fork(1)
+            many.would.fork(1)
 
     def test_threads_fork_as_told(self) -> None:
-        with Shared(THREADS, keep=10) as shared:
+        with for_threads(THREADS, keep=10) as many:
             made: list[int] = []
 
             def fork_as_told() -> None:
-                seat, count = shared.seat(), 0
+                seat, count = many.seat(), 0
                 while count < FORKS:
-                    told = shared.would.fork(1)
+                    told = many.would.fork(1)
                     if seat.fork_at(1, told):
                         made.append(told.root)
                         count += 1
@@ -154,18 +149,18 @@ class WouldOfShared(unittest.TestCase):
             for it in threads:
                 it.join()
             self.assertEqual(sorted(made), list(range(2, THREADS * FORKS + 2)))
-            self.assertEqual(shared.counts().recorded, THREADS * FORKS)
+            self.assertEqual(many.counts().recorded, THREADS * FORKS)
 
 
 class Misuse(unittest.TestCase):
     """A fork of this process, and an interrupt after each step."""
 
     def setUp(self) -> None:
-        need_shared()
-        table, shared = Table(), Shared()
+        need_library()
+        table, many = Table(), for_threads()
         self.addCleanup(table.close)
-        self.addCleanup(shared.close)
-        self.held: list[Table | Seat] = [table, shared.seat()]
+        self.addCleanup(many.close)
+        self.held: list[Table | Seat] = [table, many.seat()]
 
     def test_a_forked_child_has_no_table(self) -> None:
         for held in self.held:
@@ -176,7 +171,7 @@ class Misuse(unittest.TestCase):
     def interrupt_each(self, ask: Callable[[], object], check: Callable[[], None]) -> None:
         """Asks until no step is left after which an interrupt could come, and checks after each."""
         places = 0
-        while CallInterrupter(places + 1, FILES).run(ask):
+        while CallInterrupter(places + 1, FILES_OF_TABLES).run(ask):
             places += 1
             check()
         self.assertGreater(places, 4)

@@ -7,15 +7,23 @@ import unittest
 from collections.abc import Callable, Sequence
 from functools import partial
 from types import SimpleNamespace
-from typing import TYPE_CHECKING
+from typing import TYPE_CHECKING, Any
 from unittest import mock
 
-from pidtab import Ask, Calls, LibraryFault, Process, ProgramMissing, Refusal, Seat, Shared, Table, find_library, find_program
+import pidtab.hold
+import pidtab.native
+import pidtab.number_calls
+import pidtab.seat
+import pidtab.table
+from pidtab import ALL, Ask, Calls, LibraryFault, Process, ProgramMissing, Refusal, Seat, Table, find_library, find_program
 from pidtab.forms import method_of, say_answer
 from pidtab.hosts.calls import load_calls
-from pidtab.library import load_library, load_shared
+from pidtab.library import load_library
 
 DEFAULT_PID_MAX = 32768
+
+# The modules in which a call of a table, or of a seat, is made.
+FILES_OF_TABLES = {it.__file__ for it in (pidtab.hold, pidtab.native, pidtab.number_calls, pidtab.seat, pidtab.table)}
 
 
 class Way(unittest.TestCase):
@@ -44,7 +52,7 @@ def need_program() -> None:
 def need_library() -> None:
     """Skips what needs the library, where it is not there."""
     try:
-        load_library(find_library())
+        load_library(find_library(), True)
     except LibraryFault as fault:
         raise unittest.SkipTest(str(fault)) from fault
 
@@ -57,12 +65,9 @@ def need_calls() -> None:
         raise unittest.SkipTest(str(fault)) from fault
 
 
-def need_shared() -> None:
-    """Skips what needs the library with its tables for threads, where it is not there."""
-    try:
-        load_shared(find_library())
-    except LibraryFault as fault:
-        raise unittest.SkipTest(str(fault)) from fault
+def for_threads(workers: int = 4, **settings: Any) -> Table:
+    """A table for threads that keeps its history."""
+    return Table(**{"keep": ALL, "workers": workers, "threads": True, **settings})
 
 
 class TwoSeats(unittest.TestCase):
@@ -70,12 +75,12 @@ class TwoSeats(unittest.TestCase):
 
     @classmethod
     def setUpClass(cls) -> None:
-        need_shared()
+        need_library()
 
     def setUp(self) -> None:
-        self.shared = Shared(2)
-        self.addCleanup(self.shared.close)
-        self.seat, self.other = self.shared.seat(), self.shared.seat()
+        self.table = for_threads(2)
+        self.addCleanup(self.table.close)
+        self.seat, self.other = self.table.seat(), self.table.seat()
 
 
 def need_hypothesis() -> None:
@@ -121,12 +126,12 @@ class BySeat(Way):
 
     @classmethod
     def setUpClass(cls) -> None:
-        need_shared()
+        need_library()
 
     def open(self, pid_max: int = DEFAULT_PID_MAX) -> Seat:
-        shared = Shared(1, pid_max=pid_max)
-        self.addCleanup(shared.close)
-        return shared.seat()
+        table = for_threads(1, pid_max=pid_max)
+        self.addCleanup(table.close)
+        return table.seat()
 
 
 def make_call(table: Calls, line: str) -> object:
@@ -148,17 +153,17 @@ READERS = 3
 FORKS = 300
 
 
-def read_beside_a_writer(test: unittest.TestCase, read: Callable[[Shared, int], int], new: bool = False) -> None:
+def read_beside_a_writer(test: unittest.TestCase, read: Callable[[Table, int], int], new: bool = False) -> None:
     """Threads read how many children the root init has by now, each until it has seen all that a seat forks meanwhile. None is ever lost."""
-    need_shared()
-    with Shared(1) as shared:
-        seat, faults = shared.seat(), list[object]()
+    need_library()
+    with for_threads(1) as table:
+        seat, faults = table.seat(), list[object]()
 
         def read_on() -> None:
             before = 0
             try:
                 while before < FORKS:
-                    now = read(shared, before)
+                    now = read(table, before)
                     test.assertGreaterEqual(now, before)
                     before = now
             except Exception as fault:
@@ -171,14 +176,14 @@ def read_beside_a_writer(test: unittest.TestCase, read: Callable[[Shared, int], 
             seat.fork(1, new)
         for it in threads:
             it.join()
-        test.assertEqual((faults, shared.counts().recorded), ([], FORKS))
+        test.assertEqual((faults, table.counts().recorded), ([], FORKS))
 
 
-def numbers_beside_a_writer(test: unittest.TestCase, ask: Callable[[Shared], Sequence[int]]) -> None:
+def numbers_beside_a_writer(test: unittest.TestCase, ask: Callable[[Table], Sequence[int]]) -> None:
     """Threads ask for the numbers of all that are forked, as `read_beside_a_writer` has it: they are those from 2 on, without a gap."""
 
-    def read(shared: Shared, before: int) -> int:
-        told = ask(shared)
+    def read(table: Table, before: int) -> int:
+        told = ask(table)
         test.assertEqual(told, tuple(range(2, len(told) + 2)))
         return len(told)
 
@@ -199,15 +204,14 @@ class Answered:
 
 
 class OnEachTable(unittest.TestCase):
-    """On a table of this process, on one for threads, and at a seat of that."""
+    """On a table of one thread, on one for many with a history, and at a seat of that."""
 
     def setUp(self) -> None:
         need_library()
-        need_shared()
-        self.table, self.shared = Table(), Shared()
+        self.table, self.many = Table(), for_threads()
         self.addCleanup(self.table.close)
-        self.addCleanup(self.shared.close)
-        self.seat = self.shared.seat()
+        self.addCleanup(self.many.close)
+        self.seat = self.many.seat()
         for table in (self.table, self.seat):
             self.fill(table)
 
@@ -217,4 +221,4 @@ class OnEachTable(unittest.TestCase):
 
     def ways(self) -> list[Ask]:
         """What is asked."""
-        return [self.table.ask, self.shared.ask, self.seat.ask]
+        return [self.table.ask, self.many.ask, self.seat.ask]

@@ -10,10 +10,9 @@ from typing import NamedTuple
 
 from pidtab.faults import BadHistory
 from pidtab.history import Entry, read_entry
-from pidtab.library import find_library, load_shared
+from pidtab.library import find_library, load_library
 from pidtab.raw import DONE, TORN, PidtabEntry, PidtabSavedHead
 from pidtab.saved import BAD_ENTRIES, BAD_HEADS, FilePath
-from pidtab.shared import Shared
 from pidtab.table import Table
 
 BLOCK = 48
@@ -94,14 +93,13 @@ class Followed(NamedTuple):
 def follow_file(path: FilePath, library: str | os.PathLike[str] | None = None) -> Followed:
     """The calls of the file of a saved history, from the first on, and then those that are written after."""
     found = find_library(library)
-    blocks = Blocks(load_shared(found))
+    blocks = Blocks(load_library(found, True))
     with open(path, "rb") as file:
         blocks.feed(file.read(BLOCK))
     if blocks.head is None:
         raise bad_history(0, BAD_HEADS[TORN])
     head = blocks.head
-    with Shared(1, pid_max=head.pid_max, first_stamp=head.first_stamp, library=found) as opened:
-        table = Table.from_dump(opened.dump(), found)
+    table = Table(head.pid_max, found, first_stamp=head.first_stamp)
 
     def calls() -> Iterator[list[Entry]]:
         with open(path, "rb") as file:
@@ -177,7 +175,7 @@ def follow_service(path: str, library: str | os.PathLike[str] | None = None) -> 
     service = Service(path)
     try:
         text, sum = service.bulk(), int(service.bulk(), 16)
-        table, blocks = Table.from_dump(text, found), Blocks(load_shared(found), 0, sum)
+        table, blocks = Table.from_dump(text, found), Blocks(load_library(found, True), 0, sum)
     except BaseException:
         service.close()
         raise

@@ -2,6 +2,7 @@
 
 import ctypes
 import weakref
+from functools import partial
 from typing import Literal
 
 from pidtab.faults import LibraryFault
@@ -42,7 +43,7 @@ WHAT: dict[int, Literal["made", "repeated", "gone", "gap"]] = {
 
 def has_replicas(table: object) -> bool:
     """Whether the library of a table has replicas. A table of a kind that is derived from it may answer otherwise, and has none."""
-    return type(table) is Table and hasattr(table._functions, "pidtab_replica_apply")
+    return type(table) is Table and hasattr(table._check_open().functions, "pidtab_replica_apply")
 
 
 class LibraryMachine:
@@ -54,7 +55,7 @@ class LibraryMachine:
         self.table = table
         self.begun = False
         self.position = 0
-        self._functions = table._functions
+        self._functions = table._check_open().functions
         # Each entry goes through these, so they are not looked up by a name.
         self._apply, self._applied = self._functions.pidtab_replica_apply, PidtabApplied()
         self._replica = self._open(settings)
@@ -90,8 +91,7 @@ class LibraryMachine:
     def apply(self, position: int, data: bytes) -> Outcome | None:
         """Applies the next entry. What became of it, if it has calls."""
         applied = self._applied
-        self.table._check_owner()
-        status = self._apply(self._replica, self.table._table, position, data, len(data), applied)
+        status = self._apply(self._replica, self.table._check_open().at, position, data, len(data), applied)
         if status != DONE:
             raise self._refused(status, position, data)
         self.position = position
@@ -103,7 +103,7 @@ class LibraryMachine:
 
     def write(self) -> bytes:
         """All that the entries up to here have made, as the text of a snapshot. The caller sees to it that nobody changes the table."""
-        head = read_written(lambda room, size: self._call(self._replica, "write", room, len(room), size), "snapshot")
+        head = read_written(partial(self._call, self._replica, "write"), "snapshot")
         return (head + self.table.dump()).encode("ascii")
 
     def load(self, position: int, text: bytes) -> None:

@@ -27,7 +27,7 @@ from pidtab.hosts.log_entries import (
     write_settings,
 )
 from pidtab.hosts.snapshot import Snapshot, read_snapshot, write_snapshot
-from pidtab.native import NumberCalls
+from pidtab.number_calls import NumberCalls
 from pidtab.process import Process
 from pidtab.table import Table
 

@@ -7,7 +7,7 @@ from collections.abc import Sequence
 ROOM = 65536
 
 
-class Turn:
+class Exchange:
     """What was written of some lines, and what was read of their answers.
 
     An interrupt, as by Ctrl-C, may come wherever a function of C has just answered, and then its answer is lost. So here a list takes
