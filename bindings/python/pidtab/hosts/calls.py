@@ -4,8 +4,8 @@ import ctypes
 import functools
 from enum import IntEnum
 
-from pidtab.library import declare_functions, load
-from pidtab.raw import VERSION_FUNCTION, Function
+from pidtab.library import load
+from pidtab.raw import Function
 
 
 class State(IntEnum):
@@ -93,11 +93,9 @@ FUNCTIONS: dict[str, Function] = {
 
 
 @functools.cache
-def load_calls(path: str) -> ctypes.PyDLL:
+def load_calls(path: str) -> ctypes.CDLL:
     """The functions of a library. A PyDLL keeps the interpreter's lock: each takes less time than to give it up."""
-    library = load(ctypes.PyDLL, path, VERSION_FUNCTION)
-    declare_functions(library, FUNCTIONS, path)
-    return library
+    return load(ctypes.PyDLL, path, {"pidtab_version": (NUMBER, []), **FUNCTIONS})
 
 
 class HostCalls:
