@@ -73,7 +73,7 @@ class MachineHost:
 
     def load(self, position: int, last: int | None) -> list[HostCall]:
         """A snapshot was loaded: the calls that are told that nobody knows."""
-        assert self._host.load(position, last) not in (Reading.BUSY, Reading.MISSES)
+        assert self._host.load(position, last is not None, last or 0) not in (Reading.BUSY, Reading.MISSES)
         return self._tell()
 
     def stop(self) -> None:

@@ -2,6 +2,7 @@
 
 import ctypes
 import functools
+from collections.abc import Callable
 from enum import IntEnum
 
 from pidtab.library import load
@@ -99,66 +100,31 @@ def load_calls(path: str) -> ctypes.CDLL:
 
 
 class HostCalls:
-    """A host: its struct with the functions on it. One thread at a time uses it. None of these is broken off by an interrupt amid its change."""
+    """A host: its struct, with the functions on it and on its calls, without `host_calls_` before their names. One thread at a time uses it."""
+
+    submit: Callable[[HostCall, int, int, int], bool]
+    next_put: Callable[[PutStep], None]
+    opened: Callable[[int], bool]
+    # A `Taken`.
+    take: Callable[[HostCall], int]
+    seal: Callable[[], bool]
+    acknowledge: Callable[[int, int], bool]
+    is_telling: Callable[[], bool]
+    # Both a `Reading`.
+    read: Callable[[LogOutcome, int, int], int]
+    load: Callable[[int, bool, int], int]
+    # A `Told`.
+    tell: Callable[[HostCall], int]
+    stop: Callable[[], None]
+    cancel: Callable[[HostCall], bool]
+    give_up: Callable[[HostCall], None]
+    expire: Callable[[HostCall, int], bool]
 
     def __init__(self, path: str) -> None:
-        self._library = load_calls(path)
+        library = load_calls(path)
         # All that the machine knows, to be looked at.
         self.numbers = HostNumbers()
-        self._library.host_calls_begin(self.numbers)
-
-    def submit(self, call: HostCall, lines: int, size: int, deadline: int) -> bool:
-        """Has a call made. It gets its ticket. False once the host has stopped."""
-        return bool(self._library.host_calls_submit(self.numbers, call, lines, size, deadline))
-
-    def next_put(self, step: PutStep) -> None:
-        """Says what is to be put next: its `kind` is a `Put`."""
-        self._library.host_calls_next_put(self.numbers, step)
-
-    def opened(self, session: int) -> bool:
-        """The log has told the position of the entry that opens a session."""
-        return bool(self._library.host_calls_opened(self.numbers, session))
-
-    def take(self, call: HostCall) -> int:
-        """Gives the call that has its turn to the entry that is made up: a `Taken`."""
-        return int(self._library.host_calls_take(self.numbers, call))
-
-    def seal(self) -> bool:
-        """The entry is put from now on, always the same."""
-        return bool(self._library.host_calls_seal(self.numbers))
-
-    def acknowledge(self, session: int, sequence: int) -> bool:
-        """The log has answered that it has the entry."""
-        return bool(self._library.host_calls_acknowledge(self.numbers, session, sequence))
-
-    def is_telling(self) -> bool:
-        """Whether the call with the ticket `numbers.told` is to be told."""
-        return bool(self._library.host_calls_is_telling(self.numbers))
-
-    def read(self, outcome: LogOutcome, session: int, sequence: int) -> int:
-        """An entry of calls was read: a `Reading`."""
-        return int(self._library.host_calls_read(self.numbers, outcome, session, sequence))
-
-    def load(self, position: int, last: int | None) -> int:
-        """A snapshot was loaded, with the last number of this host's session, or none where that is not open: a `Reading`."""
-        return int(self._library.host_calls_load(self.numbers, position, last is not None, last or 0))
-
-    def tell(self, call: HostCall) -> int:
-        """Tells the call that is to be told: a `Told`."""
-        return int(self._library.host_calls_tell(self.numbers, call))
-
-    def stop(self) -> None:
-        """Nothing is put any more, and each call that is not over is to be told."""
-        self._library.host_calls_stop(self.numbers)
-
-    def cancel(self, call: HostCall) -> bool:
-        """Cancels a call, if no entry has it."""
-        return bool(self._library.host_calls_cancel(call))
-
-    def give_up(self, call: HostCall) -> None:
-        """Nobody waits for the call any more."""
-        self._library.host_calls_give_up(call)
-
-    def expire(self, call: HostCall, time: int) -> bool:
-        """Gives it up if it is as late as its deadline."""
-        return bool(self._library.host_calls_expire(call, time))
+        library.host_calls_begin(self.numbers)
+        for name, (_, takes) in FUNCTIONS.items():
+            function = getattr(library, name)
+            setattr(self, name.removeprefix("host_calls_"), functools.partial(function, self.numbers) if takes[0] is HOST else function)

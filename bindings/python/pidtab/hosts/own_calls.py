@@ -149,7 +149,7 @@ class OwnCalls:
 
     def load(self, position: int, last: int | None) -> list[Submitted]:
         """A snapshot was loaded, with the last number of this host's session, or none where that is not open."""
-        if self._host.load(position, last) == Reading.MISSES:
+        if self._host.load(position, last is not None, last or 0) == Reading.MISSES:
             raise log_faults.foreign_entry(position, self.session, last)
         return self._tell()
 
