@@ -12,7 +12,7 @@ from pidtab.calls import Calls
 from pidtab.changed import Changed
 from pidtab.faults import Diverged, LogFault, NotKnown, ProgramFault, TableClosed
 from pidtab.hosts.backoff import Backoff
-from pidtab.hosts.crew import Crew
+from pidtab.hosts.crew import CLOSED, Crew
 from pidtab.hosts.log import CutLog, Following, Log, Progress
 from pidtab.hosts.log_entries import (
     ANNOUNCES,
@@ -53,8 +53,6 @@ SOON = 0.02
 
 # At least so many tries of the log are made within the patience, if it answers at once.
 PATIENCE_TRIES = 8
-
-CLOSED = "the table was closed"
 
 # So many submits may wait for answers at once: each takes some 2 KB.
 MOST_WAITING = 100_000
